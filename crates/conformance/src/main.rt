@@ -1,47 +1,54 @@
 //! Whole runs as data: the case files of the folder that this runs in, against the program.
 //!
 //! A case is what is sent, on the program's own input or on many connections, and what is due: each answer's every
-//! byte, and how the run ends. It is run by `top` over streams, a store and gates in memory, with its bytes whole and cut
-//! into pieces in several ways, and gets a line: that all is as due, or the first difference.
+//! byte, and how the run ends. It is run by `top` over streams, a store and gates in memory, with its bytes whole and
+//! cut into pieces in several ways, and gets a line: that all is as due, or the first difference.
 //!
 //! A case file is lines of these forms. What stands ahead of the first case stands ahead of each.
 //!
-//! | line | what it says |
-//! |---|---|
-//! | `# TEXT`, or empty | nothing |
-//! | `== TITLE` | a case begins |
-//! | `$ WORDS` | the words of the command line, where they aren't `confd pipe` |
-//! | `> NAME METHOD PATH [BODY]` | NAME sends a request with her secret `NAME-secret-000001`; a NAME with a point is the token `NAME.SECRET`, `-` sends none |
-//! | `< CODE CONTENT` | an answer is due; `<!` where the connection closes behind it |
-//! | `< CODE HEAD CONTENT` | an answer to HEAD is due: the head alone of what GET would be answered |
-//! | `< CODE Allow: METHODS; CONTENT` | the same with the field Allow |
-//! | `< CODE bytes: CONTENT` | an answer with a paper's content is due, which is no JSON; behind `HEAD` too |
-//! | `< CODE text: CONTENT` | an answer with a report is due, which is plain text; behind `HEAD` too |
-//! | `>>[N] TEXT`, `<<[N] TEXT` | bytes are sent, are due, N times |
-//! | `*N LINE` | N times that line, with the number of the time, from 1, in place of each `\#` |
-//! | `!read [N]`, `!write [N]` | the input fails behind what is sent so far, the output behind what is due so far, or N bytes later |
-//! | `@ ROW` | a row that stands in the store `f` ahead of the run: `KIND MAKER MORE N1 N2 N3 N4 N5 B1 B2`, `-` for no bytes, `#` ahead of hexadecimal digits |
-//! | `@N ROW` | the same in place of row number N, from 0, of those told so far |
-//! | `=@ same`, `=@ ROW` | the rows that are due there behind the run: those that stood there ahead of it; and then this one |
-//! | `!open` | the store can't be opened |
-//! | `!append N`, `!row N` | append number N, from 1, fails, from 2 where rows stand in the store ahead; any other call of the keeper does |
-//! | `!each end`, `!each read`, `!each write` | the case is run once for each place at which the input may end, may fail, the output may fail |
-//! | `!each row` | the case is run once for each row at which the store may end |
-//! | `!whole` | the case is run with its bytes whole alone |
-//! | `=cut`, `=usage`, `=read_fault`, `=write_fault`, `=keeper_fault`, `=listen_fault`, `=no_user` | how the run ends, where that isn't with status 0 |
-//! | `=bad_store ROW KIND` | it ends since that row, from 0, of that kind, is a bad one |
-//! | `=rows N` | N rows are kept by the answer ahead of this line |
-//! | `=unread` | what is sent from here on isn't read, where the bytes come one by one |
-//! | `&[N]` | a connection of `serve` begins, or N that are alike; what stands ahead of the first is of the program's own streams |
-//! | `\| CODE CONTENT` | this may be answered in place of the answer ahead of it, by the way in which workers' turns interleave |
-//! | `=kept ROW` | this row is kept exactly where the answer ahead of it is given, and none in its place |
-//! | `=times N CODE CONTENT` | N answers on all connections together are this one |
-//! | `!gates` | the gates can't be opened |
-//! | `!door N CALL` | call number CALL of door number N fails, both from 1 |
-//! | `=unasked` | no door is asked for this connection |
+//! - `# TEXT`, or empty: nothing
+//! - `== TITLE`: a case begins
+//! - `$ WORDS`: the words of the command line, where they aren't `confd pipe`
+//! - `> NAME METHOD PATH [BODY]`: NAME sends a request with her secret `NAME-secret-000001`; a NAME with a point is
+//!   the token `NAME.SECRET`, `-` sends none
+//! - `< CODE CONTENT`: an answer is due; `<!` where the connection closes behind it
+//! - `< CODE HEAD CONTENT`: an answer to HEAD is due: the head alone of what GET would be answered
+//! - `< CODE Allow: METHODS; CONTENT`: the same with the field Allow
+//! - `< CODE bytes: CONTENT`: an answer with a paper's content is due, which is no JSON; behind `HEAD` too
+//! - `< CODE text: CONTENT`: an answer with a report is due, which is plain text; behind `HEAD` too
+//! - `>>[N] TEXT`, `<<[N] TEXT`: bytes are sent, are due, N times
+//! - `*N LINE`: N times that line, with the number of the time, from 1, in place of each `\#`
+//! - `!read [N]`, `!write [N]`: the input fails behind what is sent so far, the output behind what
+//!   is due so far, or N bytes later
+//! - `@ ROW`: a row that stands in the store `f` ahead of the run: `KIND MAKER MORE N1 N2 N3 N4 N5 B1 B2`, `-` for no
+//!   bytes, `#` ahead of hexadecimal digits
+//! - `@N ROW`: the same in place of row number N, from 0, of those told so far
+//! - `=@ same`, `=@ ROW`: the rows that are due there behind the run: those that stood there
+//!   ahead of it; and then this one
+//! - `!open`: the store can't be opened
+//! - `!append N`, `!row N`: append number N, from 1, fails, from 2 where rows stand in the store ahead;
+//!   any other call of the keeper does
+//! - `!each end`, `!each read`, `!each write`: the case is run once for each place at which the input may
+//!   end, may fail, the output may fail
+//! - `!each row`: the case is run once for each row at which the store may end
+//! - `!whole`: the case is run with its bytes whole alone
+//! - `=cut`, `=usage`, `=read_fault`, `=write_fault`, `=keeper_fault`, `=listen_fault`, `=no_user`: how the run ends,
+//!   where that isn't with status 0
+//! - `=bad_store ROW KIND`: it ends since that row, from 0, of that kind, is a bad one
+//! - `=rows N`: N rows are kept by the answer ahead of this line
+//! - `=unread`: what is sent from here on isn't read, where the bytes come one by one
+//! - `&[N]`: a connection of `serve` begins, or N that are alike; what stands ahead of the first
+//!   is of the program's own streams
+//! - `| CODE CONTENT`: this may be answered in place of the answer ahead of it, by the way in
+//!   which workers' turns interleave
+//! - `=kept ROW`: this row is kept exactly where the answer ahead of it is given, and none in its place
+//! - `=times N CODE CONTENT`: N answers on all connections together are this one
+//! - `!gates`: the gates can't be opened
+//! - `!door N CALL`: call number CALL of door number N fails, both from 1
+//! - `=unasked`: no door is asked for this connection
 //!
-//! Door number 1 gives the first connections, up to its share, door number 2 the next ones, and so on. With one worker they
-//! are served in their order.
+//! Door number 1 gives the first connections, up to its share, door number 2 the next ones, and so on. With one worker
+//! they are served in their order.
 //!
 //! In bodies, contents and raw bytes `\r`, `\n` and `\\` are as usual, `\xHH` is a byte, and `\(N TEXT)` is N
 //! times a text.

@@ -91,9 +91,9 @@ fn add_allow<'a>(into: &mut Vec<u8>, text: &'a str) -> Result<&'a str, LineError
     Ok(rest)
 }
 
-/// Adds the answer that `CODE [Allow: METHODS; ][HEAD ][bytes: |text: ]CONTENT` tells. Behind `HEAD` stands the content
-/// that GET would be answered, of which an answer to HEAD has the length alone. Behind `bytes:` stands a paper's
-/// content, which is sent as it is, behind `text:` a report, and else an object of JSON.
+/// Adds the answer that `CODE [Allow: METHODS; ][HEAD ][bytes: |text: ]CONTENT` tells. Behind `HEAD` stands the
+/// content that GET would be answered, of which an answer to HEAD has the length alone. Behind `bytes:` stands a
+/// paper's content, which is sent as it is, behind `text:` a report, and else an object of JSON.
 pub fn add_answer(
     alloc: Global,
     into: &mut Vec<u8>,

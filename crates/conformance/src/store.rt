@@ -14,7 +14,8 @@ pub struct Store<'a> {
     pub rows: &'a [Row],
     /// Whether the store can't be opened.
     pub is_shut: bool,
-    /// The numbers of the appends that fail, from 0; 0 only where no row stands there ahead, since rows are put there so.
+    /// The numbers of the appends that fail, from 0; 0 only where no row stands there
+    /// ahead, since rows are put there so.
     pub appends: &'a [u64],
     /// The numbers of the keeper's other calls that fail, from 0.
     pub reads: &'a [u64],

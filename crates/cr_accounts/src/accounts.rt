@@ -2,7 +2,8 @@
 ghost use Rattle.std.specs.Prelude.{◌≡◌, ◌≤◌, ◌<◌, ◌+◌, ◌-◌, [], OnOk, IfOk, is_some, option_and_then, Some, length};
 ghost use Rattle.std.specs.Option.{option_map};
 ghost use Rattle.cr_base.specs.Checks.{judged, of_role, register_checks, name_checks};
-ghost use Rattle.cr_base.specs.Accounts.{accounts_after, account_at, role_at, role_in, number_at, caller_at, lines_of, AccountsFit};
+ghost use Rattle.cr_base.specs.Accounts.{accounts_after, account_at, role_at, role_in};
+ghost use Rattle.cr_base.specs.Accounts.{number_at, caller_at, lines_of, AccountsFit};
 
 use cr_base::{
     Account, AccountLine, AccountLines, Digest, Entry, LAST_NUMBER, Phase, Role, Rule, Short,
@@ -29,7 +30,10 @@ impl Model for Accounts {
 
     ghost Value = { SeenAccounts };
 
-    ghost view = { λ t. record { accounts = t.accounts.items; room = min (vec_capacity t.accounts - vec_len t.accounts) (spare t.by_name) } };
+    ghost view = { λ t. record {
+      accounts = t.accounts.items;
+      room = min (vec_capacity t.accounts - vec_len t.accounts) (spare t.by_name);
+    } };
 
     ghost invariant = { λ t. IsNameIndex t.accounts.items t.by_name };
 }
@@ -72,7 +76,8 @@ impl Accounts {
     /// broken rule: `NameTaken` where somebody has registered the name, else `FullAccounts` where
     /// 9,999 users are registered. One look-up by name.
     pub fn register_check(&self, name: &Short) -> Result<UserNo, Rule>
-        ensures { result ≡ judged (register_checks (is_some (number_at self.now.accounts name.now)) (length self.now.accounts)) (length self.now.accounts + 1) }
+        ensures { result ≡ judged (register_checks (is_some (number_at self.now.accounts name.now))
+            (length self.now.accounts)) (length self.now.accounts + 1) }
     {
         if self.number_of(name).is_some() {
             return Err(Rule::NameTaken);
@@ -147,7 +152,8 @@ impl Accounts {
     /// `AlreadyNamed` where the user has that role or a greater one. `by` is the caller's standing,
     /// where no paper is named. One read by number at most.
     pub fn judge_name(&self, by: &Standing, target: &Option<UserNo>, role: Role) -> Result<(), Rule>
-        ensures { result ≡ judged (name_checks by.now (option_map of_role (option_and_then (role_at self.now.accounts) target.now)) role) tt }
+        ensures { result ≡ judged (name_checks by.now
+            (option_map of_role (option_and_then (role_at self.now.accounts) target.now)) role) tt }
     {
         let Some(user) = target else {
             return Err(Rule::NoUser);

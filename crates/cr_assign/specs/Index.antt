@@ -8,8 +8,8 @@ use Rattle.cr_base.specs.Pairs.{tie_value}
 use Rattle.cr_base.specs.Seats.{SeatsState, SeatsInOrder, labels_in, ordinal_in}
 use Rattle.cr_pairs.specs.BinarySearch.{RisesBy}
 
--- seats stand paper by paper and come of entries that fit, so no paper has more than 26; by user there are the ordinals under
--- which papers are reviewed
+-- seats stand paper by paper and come of entries that fit, so no paper has more than 26; by user there are the
+-- ordinals under which papers are reviewed
 pub record SeatsIndexed (seats : SeatsState) (users : Order) (reviewing : List (Tie ℕ)) : Type 0 where
   pub rises : RisesBy ByPaper seats
   pub in_order : SeatsInOrder seats

@@ -11,4 +11,6 @@ is_below number t = nat_lt t.pair.paper number
 
 -- the seats before the index are of papers with lower numbers, and those from it on are not
 abbrev pub IsFrom : ℕ → SeatsState → ℕ → Type 0
-IsFrom number seats index = IsPartitionPoint (λ (t : Tie Seat). is_below number t ≡ true) (λ (t : Tie Seat). is_below number t ≡ false) seats index
+IsFrom number seats index =
+    IsPartitionPoint (λ (t : Tie Seat). is_below number t ≡ true)
+    (λ (t : Tie Seat). is_below number t ≡ false) seats index

@@ -46,7 +46,8 @@ pub(crate) fn unassign(
     held: Option<Ordinal>,
 ) -> Result<Ordinal, Rule>
     ensures { result ≡ judged
-        (unassign_checks by.now (record { there = true; withdrawn = withdrawn }) (Some (target_with Account false held)) has_form)
+        (unassign_checks by.now (record { there = true; withdrawn = withdrawn })
+        (Some (target_with Account false held)) has_form)
         (unwrap_or held 0) }
 {
     match by.may_chair(withdrawn) {

@@ -6,7 +6,8 @@ ghost use Rattle.cr_base.specs.declared.entry.Entry.TheVariants.{Assigned, Unass
 ghost use Rattle.cr_base.specs.Checks.{judged, assign_checks, unassign_checks};
 ghost use Rattle.cr_base.specs.Lists.{IsRising};
 ghost use Rattle.cr_base.specs.Pairs.{ties_of};
-ghost use Rattle.cr_base.specs.Seats.{no_seats, seat_tie, with_seat, without_seat, seats_after, seats_from, labels_in, ordinal_in, SeatsFit, SeatsFitInTurn};
+ghost use Rattle.cr_base.specs.Seats.{no_seats, seat_tie, with_seat, without_seat, seats_after};
+ghost use Rattle.cr_base.specs.Seats.{seats_from, labels_in, ordinal_in, SeatsFit, SeatsFitInTurn};
 ghost use Rattle.cr_assign.specs.Targets.{target_of, held_at, labels_at};
 
 use crate::earlier::{labels_given, seat_behind};
@@ -40,7 +41,8 @@ impl Model for Seats {
 
     ghost Value = { SeenSeats };
 
-    ghost view = { λ t. record { seats = t.seats.items; room = min (vec_capacity t.seats - vec_len t.seats) t.reviewing.room } };
+    ghost view = { λ t.
+        record { seats = t.seats.items; room = min (vec_capacity t.seats - vec_len t.seats) t.reviewing.room } };
 
     ghost invariant = { λ t. SeatsIndexed t.seats.items t.reviewing.order t.reviewing.ties };
 }
@@ -107,7 +109,8 @@ impl Seats {
     /// The papers that the user reviews, in the order of their numbers, with the ordinals of her labels.
     /// Two binary searches; takes no memory.
     pub fn reviewed(&self, user: UserNo) -> &[Tie<Ordinal>]
-        ensures papers { (p : _) → list_any (λ m. p == m) (map (λ t. t.pair.paper) result.now) ≡ is_some (ordinal_in self.now.seats (Some user) p) }
+        ensures papers { (p : _) → list_any (λ m. p == m) (map (λ t. t.pair.paper) result.now)
+            ≡ is_some (ordinal_in self.now.seats (Some user) p) }
         ensures rising { IsRising (map (λ t. t.pair.paper) result.now) }
         ensures ordinals { All (λ t. ordinal_in self.now.seats (Some user) t.pair.paper ≡ Some t.value) result.now }
     {
@@ -160,7 +163,8 @@ impl Seats {
         ensures { let seats = seats_from self.now.seats earlier.now in
             let labels = labels_at seats paper.now in
             result ≡ judged
-            (assign_checks by.now (record { there = is_some paper.now; withdrawn = withdrawn }) (target_of seats target_conflicted paper.now target.now) labels)
+            (assign_checks by.now (record { there = is_some paper.now; withdrawn = withdrawn })
+            (target_of seats target_conflicted paper.now target.now) labels)
             (labels + 1) }
     {
         let Some(paper) = paper else {
@@ -199,7 +203,8 @@ impl Seats {
         requires { SeatsFitInTurn self.now.seats earlier.now }
         ensures { let seats = seats_from self.now.seats earlier.now in
             result ≡ judged
-            (unassign_checks by.now (record { there = is_some paper.now; withdrawn = withdrawn }) (target_of seats false paper.now target.now) has_form)
+            (unassign_checks by.now (record { there = is_some paper.now; withdrawn = withdrawn })
+            (target_of seats false paper.now target.now) has_form)
             (held_at seats paper.now target.now) }
     {
         let Some(paper) = paper else {

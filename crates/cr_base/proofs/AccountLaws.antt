@@ -36,7 +36,10 @@ length-lines_of accounts = length-lines_from 1 accounts
 pub number_at-from : (accounts : List Account) (name : List ℕ) → number_at accounts name ≡ option_map (λ i. i + 1) (position_from (λ a. bytes_eq a.name name) 0 accounts)
 number_at-from accounts name = ap (option_map (λ i. i + 1)) (position_from-zero (λ a. bytes_eq a.name name) accounts)
 
-first_or-next : (b : Bool) (i : ℕ) (line : AccountLine) (found : Option AccountLine) (index : Option ℕ) → line.user ≡ i + 1 → option_map (λ (a : AccountLine). a.user) found ≡ option_map (λ k. k + 1) index → option_map (λ (a : AccountLine). a.user) (cond b (Some line) found) ≡ option_map (λ k. k + 1) (cond b (Some i) index)
+first_or-next : (b : Bool) (i : ℕ) (line : AccountLine) (found : Option AccountLine) (index : Option ℕ)
+    → line.user ≡ i + 1 → option_map (λ (a : AccountLine). a.user) found ≡ option_map (λ k. k + 1) index
+    → option_map (λ (a : AccountLine). a.user) (cond b (Some line) found)
+    ≡ option_map (λ k. k + 1) (cond b (Some i) index)
 first_or-next true i line found index e h = ap Some e
 first_or-next false i line found index e h = h
 

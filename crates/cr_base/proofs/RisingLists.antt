@@ -140,7 +140,9 @@ inside v n true h = let low = (h refl).0 in let high = (h refl).1 in both v n lo
 inside v n false h = refl
 
 -- of the numbers of elements, those that are paired with this number are the others of its ties, in the same order
-pub numbers-others_of : {A V : Type 0} (test : ℕ → Bool) (order : Order) (n : ℕ) (xs : List A) (ts : List (Tie V)) → IsRising (others_of order n ts) → ((m : ℕ) → has_pair (paired order n m) ts ≡ true → (1 ≤ m) × (m ≤ length xs)) → ((m : ℕ) → test m ≡ has_pair (paired order n m) ts) → filter test (numbers_from 1 xs) ≡ others_of order n ts
+pub numbers-others_of : {A V : Type 0} (test : ℕ → Bool) (order : Order) (n : ℕ) (xs : List A) (ts : List (Tie V))
+    → IsRising (others_of order n ts) → ((m : ℕ) → has_pair (paired order n m) ts ≡ true → (1 ≤ m) × (m ≤ length xs))
+    → ((m : ℕ) → test m ≡ has_pair (paired order n m) ts) → filter test (numbers_from 1 xs) ≡ others_of order n ts
 numbers-others_of test order n xs ts rising within same =
     let ns : List ℕ = numbers_from 1 xs in
     rising-same (filter test ns) (others_of order n ts) (sorted-filter nat_lt test ns (rising-numbers_from 1 xs)) rising

@@ -15,11 +15,13 @@ use Rattle.cr_base.specs.Lists.{numbered}
 
 -- the accounts with another role for the one at an index
 abbrev pub with_role : List Account → ℕ → Role → List Account
-with_role accounts at role = option_map_or (λ a. slice_set accounts at (record a { role = role })) (slice_get accounts at) accounts
+with_role accounts at role =
+    option_map_or (λ a. slice_set accounts at (record a { role = role })) (slice_get accounts at) accounts
 
 -- the accounts after one more entry: user number n stands at index n - 1
 abbrev pub accounts_after : List Account → Entry → List Account
-accounts_after accounts (Registered user name digest) = accounts ++ record { name = name; digest = digest; role = role.Account } ∷ []
+accounts_after accounts (Registered user name digest) =
+    accounts ++ record { name = name; digest = digest; role = role.Account } ∷ []
 accounts_after accounts (Named user role) = with_role accounts (user - 1) role
 accounts_after accounts _ = accounts
 
@@ -47,7 +49,8 @@ has_digest accounts digest user = option_map_or (λ a. bytes_eq a.digest digest)
 
 -- the user with a name and a digest
 abbrev pub caller_at : List Account → List ℕ → List ℕ → Option ℕ
-caller_at accounts name digest = option_and_then (λ user. if has_digest accounts digest user then Some user else None) (number_at accounts name)
+caller_at accounts name digest =
+    option_and_then (λ user. if has_digest accounts digest user then Some user else None) (number_at accounts name)
 
 -- the accounts as everyone sees them, where the first has number n
 abbrev pub lines_from : ℕ → List Account → List AccountLine
@@ -62,7 +65,8 @@ lines_of accounts = lines_from 1 accounts
 
 -- an entry fits: the number drawn is the next one and the name is new, or the account is there
 abbrev pub AccountsFit : List Account → Entry → Type 0
-AccountsFit accounts (Registered user name digest) = (user ≡ length accounts + 1) × (user ≤ 9999) × (number_at accounts name ≡ None)
+AccountsFit accounts (Registered user name digest) =
+    (user ≡ length accounts + 1) × (user ≤ 9999) × (number_at accounts name ≡ None)
 AccountsFit accounts (Named user role) = (1 ≤ user) × (user ≤ length accounts)
 AccountsFit accounts (Coauthor paper user) = (1 ≤ user) × (user ≤ length accounts)
 AccountsFit accounts (Conflict paper user on) = (1 ≤ user) × (user ≤ length accounts)

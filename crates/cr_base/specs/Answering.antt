@@ -1,5 +1,7 @@
--- The one answer to queries: filled with the facts of a view it is Answer, filled with those of the tables it is RoleAnswer.
-use Rattle.std.specs.Prelude.{ℕ, Bool, true, false, not, ◌&&◌, ◌==◌, List, [], ◌++◌, length, map, Option, Some, None, is_some, filter, find, unwrap_or, Result, Ok, Err, if◌then◌else◌}
+-- The one answer to queries: filled with the facts of a view it is Answer, filled with those
+-- of the tables it is RoleAnswer.
+use Rattle.std.specs.Prelude.{ℕ, Bool, true, false, not, ◌&&◌, ◌==◌, List, [], ◌++◌, length, map, Option}
+use Rattle.std.specs.Prelude.{Some, None, is_some, filter, find, unwrap_or, Result, Ok, Err, if◌then◌else◌}
 use Rattle.std.specs.Option.{option_map, option_and_then}
 use Rattle.std.specs.List.{flat_map}
 use Rattle.cr_base.specs.declared.accepted.AcceptedPaper.{AcceptedPaper}
@@ -29,7 +31,8 @@ use Rattle.cr_base.specs.Page.{is_clear_member, is_clear_chair, shows_reviewer, 
 use Rattle.cr_base.specs.Phases.{is_from}
 use Rattle.cr_base.specs.Reports.{report_checks, report_told}
 use Rattle.cr_base.specs.Searching.{PaperTold, is_found, found_paper}
-use Rattle.cr_base.specs.Sources.{Facts, Shown, decision_by, names_in, name_in, has_paper, maker_of, facts_of_tables, shown_in_tables}
+use Rattle.cr_base.specs.Sources.{Facts, Shown, decision_by, names_in, name_in}
+use Rattle.cr_base.specs.Sources.{has_paper, maker_of, facts_of_tables, shown_in_tables}
 use Rattle.cr_base.specs.Tables.{Tables}
 use Rattle.cr_base.specs.Words.{is_chair}
 
@@ -52,7 +55,8 @@ content_by facts shown paper version =
 -- the rules of asking for it
 abbrev pub content_asked : Facts → Shown → Option ℕ → Option ℕ → List Check
 content_asked facts shown paper version =
-    content_checks (facts.standing paper) (at_some facts.accepted paper) (of_there (has_paper facts paper)) (is_some (content_by facts shown paper version))
+    content_checks (facts.standing paper) (at_some facts.accepted paper) (of_there (has_paper facts paper))
+    (is_some (content_by facts shown paper version))
 
 -- ---- who may ask
 
@@ -66,7 +70,8 @@ paper_read _ = None
 -- nobody may not ask: what is asked for wants a login, and isn't the page or the content of a published paper
 abbrev pub login_wanted : Facts → Query → Bool
 login_wanted facts query =
-    query_wants_login query && not (is_published (facts.standing None).phase (at_some facts.accepted (paper_read query)))
+    query_wants_login query
+    && not (is_published (facts.standing None).phase (at_some facts.accepted (paper_read query)))
 
 -- the rules of a query
 abbrev pub query_checks : Facts → Shown → Query → List Check
@@ -75,16 +80,20 @@ query_checks facts shown queries.Phase = []
 query_checks facts shown queries.AcceptedPapers = []
 query_checks facts shown queries.Me = []
 query_checks facts shown (queries.Search search only_count) = []
-query_checks facts shown (queries.Page paper) = page_checks (facts.standing paper) (at_some facts.accepted paper) (of_there (has_paper facts paper))
+query_checks facts shown (queries.Page paper) =
+    page_checks (facts.standing paper) (at_some facts.accepted paper) (of_there (has_paper facts paper))
 query_checks facts shown (queries.Content paper) = content_asked facts shown paper None
 query_checks facts shown (queries.Version paper version) = content_asked facts shown paper (Some version)
-query_checks facts shown (queries.Reviews paper) = reviews_checks (facts.standing paper) (of_there (has_paper facts paper))
-query_checks facts shown (queries.Comments paper) = comments_checks (facts.standing paper) (of_there (has_paper facts paper))
+query_checks facts shown (queries.Reviews paper) =
+    reviews_checks (facts.standing paper) (of_there (has_paper facts paper))
+query_checks facts shown (queries.Comments paper) =
+    comments_checks (facts.standing paper) (of_there (has_paper facts paper))
 query_checks facts shown (queries.Report report) = report_checks facts report
 
 -- a bid with the name of whose it is, where she has one
 abbrev pub bidder_told : List AccountLine → BidTold → Option Bidder
-bidder_told accounts bid = option_map (λ (name : List ℕ). record { bid = bid.value; user = name }) (name_in accounts bid.user)
+bidder_told accounts bid =
+    option_map (λ (name : List ℕ). record { bid = bid.value; user = name }) (name_in accounts bid.user)
 
 -- a reviewer, as one who stands so to the paper is told of her; `written` says under which ordinals a form is
 abbrev pub reviewer_told : Standing → List AccountLine → (ℕ → Bool) → SeatTold → Reviewer
@@ -116,8 +125,8 @@ page_by facts shown caller p =
 
 -- ---- reviews and comments
 
--- a form under a label, as one who stands so to the paper is told of it: `user` wrote it. Members read all of it; authors neither
--- which version it is nor what is for the committee
+-- a form under a label, as one who stands so to the paper is told of it: `user` wrote it. Members read all of it;
+-- authors neither which version it is nor what is for the committee
 abbrev pub review_told : Standing → List AccountLine → Bool → Option ℕ → ℕ → FormTold → ReviewLine
 review_told by accounts named user label form = record {
   confidence = form.confidence;
@@ -129,17 +138,20 @@ review_told by accounts named user label form = record {
   version = where_told (not by.author) form.version;
 }
 
--- the reviews that one who stands so to the paper is told: authors the last form of each label; from the discussion on members the
--- forms that are discussed; and before it a reviewer her own, without her name
+-- the reviews that one who stands so to the paper is told: authors the last form of each label; from the discussion on
+-- members the forms that are discussed; and before it a reviewer her own, without her name
 abbrev pub reviews_by : Facts → Shown → ℕ → List ReviewLine
 reviews_by facts shown p =
     let by = facts.standing (Some p) in
-    let told = λ (named : Bool) (o : ℕ) (forms : List FormTold). map (review_told by facts.accounts named (shown.assigned p o) o) forms in
+    let told = λ (named : Bool) (o : ℕ) (forms : List FormTold).
+    map (review_told by facts.accounts named (shown.assigned p o) o) forms in
     if by.author then by_labels (λ (o : ℕ). told (shows_reviewer by) o (listed (shown.last_form p o))) most_labels
-    else (if is_from Discussion by.phase then by_labels (λ (o : ℕ). told (shows_reviewer by) o (shown.forms_discussed p o)) most_labels
+    else (if is_from Discussion by.phase
+    then by_labels (λ (o : ℕ). told (shows_reviewer by) o (shown.forms_discussed p o)) most_labels
     else told false (unwrap_or (facts.own_ordinal p) 0) (facts.own_forms p))
 
--- a comment, as one who stands so to the paper is told of it: by its writer's name, or else by her label, where she has one
+-- a comment, as one who stands so to the paper is told of it: by its writer's name, or else
+-- by her label, where she has one
 abbrev pub comment_line : Standing → List AccountLine → CommentTold → CommentLine
 comment_line by accounts comment = record {
   label = where_told (not (shows_writer by)) comment.ordinal;
@@ -201,14 +213,17 @@ told_of_paper facts shown caller p = record {
   page = page_by facts shown caller p;
   accepted = facts.accepted p;
   conflicted = (facts.standing (Some p)).conflicted;
-  reviews = reviews_answered (reply_or_rule (judged (query_checks facts shown (queries.Reviews (Some p))) (replies.Reviews (reviews_by facts shown p))));
-  comments = comments_answered (reply_or_rule (judged (query_checks facts shown (queries.Comments (Some p))) (replies.Comments (comments_by facts shown p))));
+  reviews = reviews_answered (reply_or_rule
+      (judged (query_checks facts shown (queries.Reviews (Some p))) (replies.Reviews (reviews_by facts shown p))));
+  comments = comments_answered (reply_or_rule
+      (judged (query_checks facts shown (queries.Comments (Some p))) (replies.Comments (comments_by facts shown p))));
 }
 
 -- the papers that a search finds, by number, with what it tells of each
 abbrev pub found_by : Facts → Shown → Option ℕ → List Step → List FoundPaper
 found_by facts shown caller search =
-    map (λ (p : ℕ). found_paper p (told_of_paper facts shown caller p)) (filter (λ (p : ℕ). is_found (told_of_paper facts shown caller p) search) facts.papers)
+    map (λ (p : ℕ). found_paper p (told_of_paper facts shown caller p))
+    (filter (λ (p : ℕ). is_found (told_of_paper facts shown caller p) search) facts.papers)
 
 -- them, or how many there are
 abbrev pub search_told : Facts → Shown → Option ℕ → List Step → Bool → Reply
@@ -225,7 +240,8 @@ told_by facts shown caller queries.AcceptedPapers = replies.AcceptedPapers (acce
 told_by facts shown caller queries.Me = replies.Me (me_by facts (maker_of caller))
 told_by facts shown caller (queries.Page paper) = replies.Page (page_by facts shown caller (unwrap_or paper 0))
 told_by facts shown caller (queries.Content paper) = replies.Content (unwrap_or (content_by facts shown paper None) [])
-told_by facts shown caller (queries.Version paper version) = replies.Content (unwrap_or (content_by facts shown paper (Some version)) [])
+told_by facts shown caller (queries.Version paper version) =
+    replies.Content (unwrap_or (content_by facts shown paper (Some version)) [])
 told_by facts shown caller (queries.Reviews paper) = replies.Reviews (reviews_by facts shown (unwrap_or paper 0))
 told_by facts shown caller (queries.Comments paper) = replies.Comments (comments_by facts shown (unwrap_or paper 0))
 told_by facts shown caller (queries.Search search only_count) = search_told facts shown caller search only_count
@@ -233,7 +249,8 @@ told_by facts shown caller (queries.Report report) = replies.Report (report_told
 
 -- the answer to a query: the first broken rule of its list, or what is told
 abbrev pub answer_by : Facts → Shown → Option ℕ → Query → Reply
-answer_by facts shown caller query = reply_or_rule (judged (query_checks facts shown query) (told_by facts shown caller query))
+answer_by facts shown caller query =
+    reply_or_rule (judged (query_checks facts shown query) (told_by facts shown caller query))
 
 -- RoleAnswer of a query: the same by checks on the tables
 abbrev pub answer_by_role : Tables → Option ℕ → Query → Reply

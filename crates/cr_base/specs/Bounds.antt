@@ -1,7 +1,9 @@
--- The bounds on one command: what a body has to be within, so that no entry is added that no row spells. A bid is kept plus 20.
+-- The bounds on one command: what a body has to be within, so that no entry is added that no row
+-- spells. A bid is kept plus 20.
 use Rattle.std.specs.Prelude.{ℕ, ◌≡◌, ◌≤◌, length, IsTrue}
 use Rattle.cr_base.specs.declared.command.Command.{Command}
-use Rattle.cr_base.specs.declared.command.Command.TheVariants.{Register, Submit, Revise, Upload, Name, Bid, Review, Comment, Tag}
+use Rattle.cr_base.specs.declared.command.Command.TheVariants.{Register, Submit, Revise, Upload}
+use Rattle.cr_base.specs.declared.command.Command.TheVariants.{Name, Bid, Review, Comment, Tag}
 use Rattle.cr_base.specs.declared.form.Form.{Form}
 use Rattle.cr_base.specs.TagTexts.{is_tag}
 use Rattle.cr_base.specs.Texts.{IsName, IsTitle, IsAbstract, IsContent, IsReviewText, IsCommentText}

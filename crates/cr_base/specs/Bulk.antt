@@ -1,6 +1,7 @@
--- Bulk assignment: what a row asks for, and how the rows of a file are judged, each behind those before it (the HotCRP manual's bulk
--- assignment files; their actions and columns here are the server's own).
-use Rattle.std.specs.Prelude.{ℕ, Bool, true, false, not, ◌+◌, ◌==◌, ◌≤◌, ◌&&◌, List, [], ◌∷◌, ◌++◌, map, length, Option, Some, None, Result, Ok, Err, if◌then◌else◌, codes}
+-- Bulk assignment: what a row asks for, and how the rows of a file are judged, each behind those before it (the HotCRP
+-- manual's bulk assignment files; their actions and columns here are the server's own).
+use Rattle.std.specs.Prelude.{ℕ, Bool, true, false, not, ◌+◌, ◌==◌, ◌≤◌, ◌&&◌, List, [], ◌∷◌, ◌++◌}
+use Rattle.std.specs.Prelude.{map, length, Option, Some, None, Result, Ok, Err, if◌then◌else◌, codes}
 use Rattle.std.specs.Str.{bytes_eq}
 use Rattle.cr_base.specs.declared.bulk.Broken.{Broken}
 use Rattle.cr_base.specs.declared.bulk.Broken.TheVariants as broken
@@ -54,7 +55,8 @@ abbrev pub command_by : Action → BulkRow → Result Command Rule
 command_by (assigns kind) row = Ok (commands.Assign (parse_paper row.paper) (parse_name row.user) kind)
 command_by unassigns row = Ok (commands.Unassign (parse_paper row.paper) (parse_name row.user))
 command_by (turns_conflict on) row = Ok (commands.SetConflict (parse_paper row.paper) (parse_name row.user) on)
-command_by (turns_tag on) row = if is_tag row.tag then Ok (commands.Tag (parse_paper row.paper) row.tag on) else Err rules.BadTag
+command_by (turns_tag on) row =
+    if is_tag row.tag then Ok (commands.Tag (parse_paper row.paper) row.tag on) else Err rules.BadTag
 
 abbrev pub command_told_by : Option Action → BulkRow → Result Command Rule
 command_told_by None row = Err rules.BadAction
@@ -82,8 +84,8 @@ IsRowEntry entry = ⊥
 
 -- ---- one row
 
--- the command turns a conflict of the caller's own on or off, which a bulk may not: so no row changes with which papers its bulk's caller is
--- in conflict
+-- the command turns a conflict of the caller's own on or off, which a bulk may not: so no row changes with which
+-- papers its bulk's caller is in conflict
 abbrev pub turns_own_conflict : Facts → ℕ → Command → Bool
 turns_own_conflict facts user (commands.SetConflict paper name on) = is_number (user_among facts.accounts name) user
 turns_own_conflict facts user _ = false
@@ -123,12 +125,13 @@ abbrev pub and_behind : ℕ → Result Drawn Rule → (History → Result (List 
 and_behind n (Err rule) behind = Err (broken.Row n rule)
 and_behind n (Ok drawn) behind = and_rows (entries_of drawn.group) (behind drawn.group)
 
--- the entries that the rows add, each judged behind those before it, or the first row that breaks a rule, where the first of them
--- has this number
+-- the entries that the rows add, each judged behind those before it, or the first row that breaks a rule, where
+-- the first of them has this number
 abbrev pub rows_judged : {S : Type 0} → Basis S → ℕ → S → ℕ → List BulkRow → Result (List Entry) Broken
 rows_judged basis user s n [] = Ok []
 rows_judged basis user s n (row ∷ rows) =
-    and_behind n (row_judged (basis.facts s) (basis.shown s) user row) (λ group. rows_judged basis user (basis.behind s group) (n + 1) rows)
+    and_behind n (row_judged (basis.facts s) (basis.shown s) user row)
+    (λ group. rows_judged basis user (basis.behind s group) (n + 1) rows)
 
 -- ---- the bulk
 

@@ -1,13 +1,15 @@
 -- The rules of each command and query, in order, over plain values: a list of checks, of which the first broken one
 -- answers. They are the server's own, by CoCon's phases and roles and the HotCRP manual's conflicts.
-use Rattle.std.specs.Prelude.{ℕ, Bool, true, false, not, ◌||◌, ◌&&◌, ◌+◌, nat_le, nat_lt, List, [], ◌∷◌, ◌++◌, Option, is_none, Result, Ok, Err, if◌then◌else◌}
+use Rattle.std.specs.Prelude.{ℕ, Bool, true, false, not, ◌||◌, ◌&&◌, ◌+◌, nat_le, nat_lt, List}
+use Rattle.std.specs.Prelude.{[], ◌∷◌, ◌++◌, Option, is_none, Result, Ok, Err, if◌then◌else◌}
 use Rattle.std.specs.Option.{option_map_or}
 use Rattle.cr_base.specs.declared.reply.Rule.{Rule}
 use Rattle.cr_base.specs.declared.reply.Rule.TheVariants as rules
 use Rattle.cr_base.specs.declared.standing.Standing.{Standing}
 use Rattle.cr_base.specs.declared.target.Target.{Target}
 use Rattle.cr_base.specs.declared.words.Phase.{Phase}
-use Rattle.cr_base.specs.declared.words.Phase.TheVariants.{Setup, Submission, Bidding, Reviewing, Discussion, Notification}
+use Rattle.cr_base.specs.declared.words.Phase.TheVariants.{Setup, Submission, Bidding}
+use Rattle.cr_base.specs.declared.words.Phase.TheVariants.{Reviewing, Discussion, Notification}
 use Rattle.cr_base.specs.declared.words.Role.{Role}
 use Rattle.cr_base.specs.declared.words.Role.TheVariants.{Account}
 use Rattle.cr_base.specs.Decisions.{is_published}
@@ -71,7 +73,8 @@ phase_checks by now to =
     ∷ not (is_next now to) breaks rules.WrongPhase
     ∷ []
 
--- submit: whether a co-author isn't there, the caller's standing, how many papers there are, and how many of them are hers
+-- submit: whether a co-author isn't there, the caller's standing, how many papers there
+-- are, and how many of them are hers
 abbrev pub submit_checks : Bool → Standing → ℕ → ℕ → List Check
 submit_checks missing by count own =
     missing breaks rules.NoUser
@@ -104,8 +107,8 @@ upload_checks by paper own more = revise_checks by paper ++ nat_lt 67108864 (own
 abbrev pub reads_freely : Standing → Bool → Bool
 reads_freely by accepted = by.author || is_published by.phase accepted
 
--- a paper's content: the caller's standing at the paper, whether it is accepted, the paper, and whether the version that is asked
--- for is hers to read
+-- a paper's content: the caller's standing at the paper, whether it is accepted, the paper, and whether the version
+-- that is asked for is hers to read
 abbrev pub content_checks : Standing → Bool → NamedPaper → Bool → List Check
 content_checks by accepted paper found =
     let free = reads_freely by accepted in
@@ -190,18 +193,22 @@ abbrev pub conflict_case : Bool → Bool → Bool → Standing → Bool → Targ
 conflict_case false bidding late by withdrawn target = off_checks by withdrawn target
 conflict_case true false late by withdrawn target = declare_checks by withdrawn target
 conflict_case true true true by withdrawn target = late_checks
-conflict_case true true false by withdrawn target = if target.herself then own_checks by withdrawn else other_checks by withdrawn target
+conflict_case true true false by withdrawn target =
+    if target.herself then own_checks by withdrawn else other_checks by withdrawn target
 
 -- on: by the phase
 abbrev pub on_checks : Standing → Bool → Target → List Check
-on_checks by withdrawn target = conflict_case true (is_from Bidding by.phase) (is_from Notification by.phase) by withdrawn target
+on_checks by withdrawn target =
+    conflict_case true (is_from Bidding by.phase) (is_from Notification by.phase) by withdrawn target
 
--- conflict: the caller's standing at the paper, the paper, the user named, if there is one, and whether it is turned on
+-- conflict: the caller's standing at the paper, the paper, the user named, if there is
+-- one, and whether it is turned on
 abbrev pub conflict_checks : Standing → NamedPaper → Option Target → Bool → List Check
 conflict_checks by paper target on =
     not paper.there breaks rules.NoPaper
     ∷ is_none target breaks rules.NoUser
-    ∷ about target (λ (user : Target). conflict_case on (is_from Bidding by.phase) (is_from Notification by.phase) by paper.withdrawn user)
+    ∷ about target (λ (user : Target). conflict_case on (is_from Bidding by.phase)
+    (is_from Notification by.phase) by paper.withdrawn user)
 
 -- ---- bids and assignments
 
@@ -287,15 +294,16 @@ decide_checks by paper =
     ∷ paper.withdrawn breaks rules.Withdrawn
     ∷ []
 
--- a paper's reviews: authors from the notification; others are members in no conflict with it, from the discussion, or in
--- reviewing where they review it
+-- a paper's reviews: authors from the notification; others are members in no conflict with it, from the discussion, or
+-- in reviewing where they review it
 abbrev pub reviews_checks : Standing → NamedPaper → List Check
 reviews_checks by paper =
     not paper.there breaks rules.NoPaper
     ∷ (by.author && not (is_from Notification by.phase)) breaks rules.WrongPhase
     ∷ not (by.author || is_member by.role) breaks rules.NotMember
     ∷ (not by.author && by.conflicted) breaks rules.Conflict
-    ∷ not (by.author || is_from Discussion by.phase || (by.reviewer && is_phase by.phase Reviewing)) breaks rules.WrongPhase
+    ∷ not (by.author || is_from Discussion by.phase || (by.reviewer && is_phase by.phase Reviewing))
+    breaks rules.WrongPhase
     ∷ []
 
 -- the comments on a paper

@@ -1,5 +1,5 @@
--- Decisions: when a paper is accepted, and the table of decisions (the HotCRP manual's decisions; CoCon's phases say when they
--- are told).
+-- Decisions: when a paper is accepted, and the table of decisions (the HotCRP manual's decisions; CoCon's
+-- phases say when they are told).
 use Rattle.std.specs.Prelude.{ℕ, Bool, not, ◌&&◌, List, [], Option}
 use Rattle.cr_base.specs.declared.entry.Entry.{Entry}
 use Rattle.cr_base.specs.declared.entry.Entry.TheVariants.{Decided}

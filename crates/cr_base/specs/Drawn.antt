@@ -4,7 +4,8 @@ use Rattle.std.specs.List.{list_any}
 use Rattle.cr_base.specs.declared.entry.Entry.{Entry}
 use Rattle.cr_base.specs.declared.entry.Entry.TheVariants.{Registered, Named, PhaseSet, ModeSet, Submitted}
 use Rattle.cr_base.specs.declared.entry.Entry.TheVariants.{Coauthor, Revised, Uploaded, Withdrawn, Conflict}
-use Rattle.cr_base.specs.declared.entry.Entry.TheVariants.{Bid, Assigned, Unassigned, Reviewed, Commented, Tagged, Decided}
+use Rattle.cr_base.specs.declared.entry.Entry.TheVariants.{Bid, Assigned, Unassigned, Reviewed}
+use Rattle.cr_base.specs.declared.entry.Entry.TheVariants.{Commented, Tagged, Decided}
 use Rattle.cr_base.specs.declared.reply.Receipt.{Receipt}
 use Rattle.cr_base.specs.declared.reply.Receipt.TheVariants as receipts
 use Rattle.cr_base.specs.declared.form.Form.{Form}
@@ -29,10 +30,12 @@ grouped maker (e ∷ next ∷ es) = record { maker = maker; more = true; entry =
 
 -- a registration; the first account is a chair
 abbrev pub registration : ℕ → List ℕ → List ℕ → List Entry
-registration user name digest = if user == 1 then Registered user name digest ∷ Named user Chair ∷ [] else Registered user name digest ∷ []
+registration user name digest =
+    if user == 1 then Registered user name digest ∷ Named user Chair ∷ [] else Registered user name digest ∷ []
 
 abbrev pub registration_drawn : ℕ → List ℕ → List ℕ → Drawn
-registration_drawn user name digest = record { group = grouped user (registration user name digest); receipt = receipts.User user }
+registration_drawn user name digest =
+    record { group = grouped user (registration user name digest); receipt = receipts.User user }
 
 abbrev pub phase_drawn : ℕ → Phase → Drawn
 phase_drawn maker to = record { group = grouped maker (PhaseSet to ∷ []); receipt = receipts.Phase to }
@@ -40,7 +43,8 @@ phase_drawn maker to = record { group = grouped maker (PhaseSet to ∷ []); rece
 -- those of the users who are none of these, each where she comes first
 abbrev pub besides : List ℕ → List ℕ → List ℕ
 besides these [] = []
-besides these (u ∷ users) = if list_any (λ v. v == u) these then besides these users else u ∷ besides (these ++ u ∷ []) users
+besides these (u ∷ users) =
+    if list_any (λ v. v == u) these then besides these users else u ∷ besides (these ++ u ∷ []) users
 
 -- a submission with these co-authors, in the order told; who submits it, or was told before, makes no second entry
 abbrev pub submission : ℕ → ℕ → List ℕ → List ℕ → List ℕ → List Entry
@@ -54,22 +58,27 @@ submission_drawn maker paper title abstract users = record {
 }
 
 abbrev pub revision_drawn : ℕ → ℕ → List ℕ → List ℕ → Drawn
-revision_drawn maker paper title abstract = record { group = grouped maker (Revised paper title abstract ∷ []); receipt = receipts.Changed paper }
+revision_drawn maker paper title abstract =
+    record { group = grouped maker (Revised paper title abstract ∷ []); receipt = receipts.Changed paper }
 
 abbrev pub upload_drawn : ℕ → ℕ → ℕ → List ℕ → Drawn
-upload_drawn maker paper version content = record { group = grouped maker (Uploaded paper version content ∷ []); receipt = receipts.Version version }
+upload_drawn maker paper version content =
+    record { group = grouped maker (Uploaded paper version content ∷ []); receipt = receipts.Version version }
 
 abbrev pub withdrawal_drawn : ℕ → ℕ → Drawn
-withdrawal_drawn maker paper = record { group = grouped maker (Withdrawn paper ∷ []); receipt = receipts.Changed paper }
+withdrawal_drawn maker paper =
+    record { group = grouped maker (Withdrawn paper ∷ []); receipt = receipts.Changed paper }
 
 abbrev pub naming_drawn : ℕ → ℕ → List ℕ → Role → Drawn
-naming_drawn maker user name role = record { group = grouped maker (Named user role ∷ []); receipt = receipts.Named name role }
+naming_drawn maker user name role =
+    record { group = grouped maker (Named user role ∷ []); receipt = receipts.Named name role }
 
 abbrev pub mode_drawn : ℕ → Mode → Drawn
 mode_drawn maker to = record { group = grouped maker (ModeSet to ∷ []); receipt = receipts.Mode to }
 
 abbrev pub conflict_drawn : ℕ → ℕ → ℕ → Bool → Drawn
-conflict_drawn maker paper user on = record { group = grouped maker (Conflict paper user on ∷ []); receipt = receipts.Changed paper }
+conflict_drawn maker paper user on =
+    record { group = grouped maker (Conflict paper user on ∷ []); receipt = receipts.Changed paper }
 
 abbrev pub bid_drawn : ℕ → ℕ → ℕ → Drawn
 bid_drawn maker paper value = record { group = grouped maker (Bid paper value ∷ []); receipt = receipts.Bid value }
@@ -81,7 +90,8 @@ assignment_drawn maker paper user kind ordinal = record {
 }
 
 abbrev pub unassignment_drawn : ℕ → ℕ → ℕ → ℕ → Drawn
-unassignment_drawn maker paper user ordinal = record { group = grouped maker (Unassigned paper user ordinal ∷ []); receipt = receipts.Changed paper }
+unassignment_drawn maker paper user ordinal =
+    record { group = grouped maker (Unassigned paper user ordinal ∷ []); receipt = receipts.Changed paper }
 
 abbrev pub review_drawn : ℕ → ℕ → ℕ → ℕ → Form → Drawn
 review_drawn maker paper ordinal version form = record {
@@ -96,7 +106,9 @@ comment_drawn maker paper n ordinal text = record {
 }
 
 abbrev pub tag_drawn : ℕ → ℕ → List ℕ → Bool → Drawn
-tag_drawn maker paper tag on = record { group = grouped maker (Tagged paper tag on ∷ []); receipt = receipts.Changed paper }
+tag_drawn maker paper tag on =
+    record { group = grouped maker (Tagged paper tag on ∷ []); receipt = receipts.Changed paper }
 
 abbrev pub decision_drawn : ℕ → ℕ → Decision → Drawn
-decision_drawn maker paper decision = record { group = grouped maker (Decided paper decision ∷ []); receipt = receipts.Changed paper }
+decision_drawn maker paper decision =
+    record { group = grouped maker (Decided paper decision ∷ []); receipt = receipts.Changed paper }

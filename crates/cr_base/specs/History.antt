@@ -6,7 +6,8 @@ use Rattle.std.specs.Str.{bytes_eq}
 use Rattle.cr_base.specs.declared.entry.Entry.{Entry}
 use Rattle.cr_base.specs.declared.entry.Entry.TheVariants.{Registered, Named, PhaseSet, ModeSet, Submitted}
 use Rattle.cr_base.specs.declared.entry.Entry.TheVariants.{Coauthor, Revised, Uploaded, Withdrawn, Conflict}
-use Rattle.cr_base.specs.declared.entry.Entry.TheVariants.{Bid, Assigned, Unassigned, Reviewed, Commented, Tagged, Decided}
+use Rattle.cr_base.specs.declared.entry.Entry.TheVariants.{Bid, Assigned, Unassigned, Reviewed}
+use Rattle.cr_base.specs.declared.entry.Entry.TheVariants.{Commented, Tagged, Decided}
 use Rattle.cr_base.specs.declared.entry.Stamped.{Stamped}
 use Rattle.cr_base.specs.declared.form.Form.{Form}
 use Rattle.cr_base.specs.declared.tag.SetTag.{SetTag}
@@ -54,7 +55,8 @@ pub record FormTold : Type 0 where
   pub to_authors : List ℕ
   pub to_pc : Option (List ℕ)
 
--- a comment: who wrote it, where that is told, and the ordinal under which she reviews the paper, where that is told and she does
+-- a comment: who wrote it, where that is told, and the ordinal under which she reviews the paper,
+-- where that is told and she does
 pub record CommentTold : Type 0 where
   pub n : ℕ
   pub writer : Option ℕ
@@ -131,7 +133,8 @@ ordinal_told u p _ = []
 
 -- the reviewer whom it gives the paper, and the ordinal of the one whom it takes
 abbrev pub assigned_told : ℕ → Entry → List SeatTold
-assigned_told p (Assigned paper user kind ordinal) = given (paper == p) (record { ordinal = ordinal; kind = Some kind; user = Some user })
+assigned_told p (Assigned paper user kind ordinal) =
+    given (paper == p) (record { ordinal = ordinal; kind = Some kind; user = Some user })
 assigned_told p _ = []
 
 abbrev pub unassigned_told : ℕ → Entry → List ℕ
@@ -155,12 +158,14 @@ form_told p o _ = []
 
 -- the form of the paper that the user wrote, where `maker` made it
 abbrev pub own_form_told : Option ℕ → ℕ → ℕ → Entry → List FormTold
-own_form_told u p maker (Reviewed paper ordinal version form) = given (paper == p && is_number u maker) (whole_form version form)
+own_form_told u p maker (Reviewed paper ordinal version form) =
+    given (paper == p && is_number u maker) (whole_form version form)
 own_form_told u p maker _ = []
 
 -- the comment on the paper, where `maker` made it
 abbrev pub comment_told : ℕ → ℕ → Entry → List CommentTold
-comment_told p maker (Commented paper n ordinal text) = given (paper == p) (record { n = n; writer = Some maker; ordinal = ordinal; text = text })
+comment_told p maker (Commented paper n ordinal text) =
+    given (paper == p) (record { n = n; writer = Some maker; ordinal = ordinal; text = text })
 comment_told p maker _ = []
 
 -- the number of the comment, where the user made it
@@ -170,7 +175,8 @@ own_comment_told u maker _ = []
 
 -- the tag that it turns on or off at the paper, where `maker` made it
 abbrev pub tag_told : ℕ → ℕ → Entry → List TagTold
-tag_told p maker (Tagged paper tag on) = given (paper == p) (record { tag = record { tag = tag; owner = tag_owner tag maker }; on = on })
+tag_told p maker (Tagged paper tag on) =
+    given (paper == p) (record { tag = record { tag = tag; owner = tag_owner tag maker }; on = on })
 tag_told p maker _ = []
 
 -- what it decides of the paper

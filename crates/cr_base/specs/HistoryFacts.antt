@@ -1,5 +1,6 @@
 -- Facts of a history: what it says of the conference, of its papers, and of a user.
-use Rattle.std.specs.Prelude.{ℕ, Bool, false, not, ◌||◌, ◌==◌, List, [], ◌++◌, Option, length, map, Some, None, is_some, filter, find, fold}
+use Rattle.std.specs.Prelude.{ℕ, Bool, false, not, ◌||◌, ◌==◌, List, [], ◌++◌, Option}
+use Rattle.std.specs.Prelude.{length, map, Some, None, is_some, filter, find, fold}
 use Rattle.std.specs.List.{flat_map, list_any}
 use Rattle.std.specs.Option.{option_and_then}
 use Rattle.cr_base.specs.declared.entry.Stamped.{Stamped}
@@ -16,11 +17,14 @@ use Rattle.cr_base.specs.declared.tag.SetTag.{SetTag}
 use Rattle.cr_base.specs.Decisions.{is_accepted_when}
 use Rattle.cr_base.specs.Lists.{last, last_or, listed, total, is_nothing, is_number, at_some, until, since}
 use Rattle.cr_base.specs.Tags.{with_tag}
-use Rattle.cr_base.specs.History.{History, Registration, Upload, SeatTold, all_told, all_told_by, phase_told, mode_told, paper_told}
+use Rattle.cr_base.specs.History.{History, Registration, Upload, SeatTold, all_told}
+use Rattle.cr_base.specs.History.{all_told_by, phase_told, mode_told, paper_told}
 use Rattle.cr_base.specs.History.{own_paper_told, author_told, conflict_told, declared_told, title_told}
 use Rattle.cr_base.specs.History.{bid_told, ordinal_told, assigned_told, unassigned_told}
-use Rattle.cr_base.specs.History.{FormTold, CommentTold, TagTold, form_told, own_form_told, comment_told, own_comment_told, tag_told, decision_told, opens_discussion}
-use Rattle.cr_base.specs.History.{abstract_told, upload_told, own_bytes_told, withdrawal_told, registration_told, role_told, number_told, caller_told}
+use Rattle.cr_base.specs.History.{FormTold, CommentTold, TagTold, form_told, own_form_told, comment_told}
+use Rattle.cr_base.specs.History.{own_comment_told, tag_told, decision_told, opens_discussion}
+use Rattle.cr_base.specs.History.{abstract_told, upload_told, own_bytes_told, withdrawal_told}
+use Rattle.cr_base.specs.History.{registration_told, role_told, number_told, caller_told}
 
 -- ---- PublicFacts
 
@@ -42,7 +46,9 @@ papers_of H = all_told paper_told H
 
 -- the accounts, in the order of their registration, each with its role
 abbrev pub accounts_of : History → List AccountLine
-accounts_of H = map (λ (r : Registration). record { user = r.user; name = r.name; role = role_of (Some r.user) H }) (all_told registration_told H)
+accounts_of H =
+    map (λ (r : Registration). record { user = r.user; name = r.name; role = role_of (Some r.user) H })
+    (all_told registration_told H)
 
 -- the user who registered this name
 abbrev pub number_of : List ℕ → History → Option ℕ
@@ -73,8 +79,8 @@ is_conflicted u p H = is_author u p H || is_conflict_on u p H
 abbrev pub declared_by_authors : ℕ → History → List ℕ
 declared_by_authors p H = flat_map (λ (e : Stamped). declared_told (is_author (Some e.maker) p H) p e.entry) H
 
--- the ordinal under which the user reviews the paper: none where the last entry on the two takes her off it, or none puts
--- her on it
+-- the ordinal under which the user reviews the paper: none where the last entry on the two takes her
+-- off it, or none puts her on it
 abbrev pub ordinal_of : Option ℕ → ℕ → History → Option ℕ
 ordinal_of u p H = last_or None (all_told (ordinal_told u p) H)
 
@@ -112,11 +118,13 @@ reviewers_of p H = seats_left (all_told (unassigned_told p) H) (seats_of p H)
 
 -- who was assigned to the paper under this ordinal, whether she has left since or not
 abbrev pub assigned_under : ℕ → List SeatTold → Option ℕ
-assigned_under o seats = option_and_then (λ (seat : SeatTold). seat.user) (find (λ (seat : SeatTold). seat.ordinal == o) seats)
+assigned_under o seats =
+    option_and_then (λ (seat : SeatTold). seat.user) (find (λ (seat : SeatTold). seat.ordinal == o) seats)
 
 -- ---- reviews
 
--- the forms of the paper's label of this ordinal, in the order in which they were written, which is that of their versions
+-- the forms of the paper's label of this ordinal, in the order in which they were written,
+-- which is that of their versions
 abbrev pub forms_of : ℕ → ℕ → History → List FormTold
 forms_of p o H = all_told (form_told p o) H
 
@@ -126,7 +134,8 @@ last_form_of p o H = last (forms_of p o H)
 
 -- those that the committee discusses: the last that was written before the discussion, and all later ones
 abbrev pub forms_discussed_of : ℕ → ℕ → History → List FormTold
-forms_discussed_of p o H = listed (last (forms_of p o (until opens_discussion H))) ++ forms_of p o (since opens_discussion H)
+forms_discussed_of p o H =
+    listed (last (forms_of p o (until opens_discussion H))) ++ forms_of p o (since opens_discussion H)
 
 -- there is one
 abbrev pub is_written : ℕ → ℕ → History → Bool

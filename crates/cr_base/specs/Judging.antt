@@ -1,22 +1,27 @@
--- The one judgement of commands: filled with the facts of a view it is Judge, filled with those of the tables it is RoleAnswer.
+-- The one judgement of commands: filled with the facts of a view it is Judge, filled with those
+-- of the tables it is RoleAnswer.
 use Rattle.std.specs.Prelude.{ℕ, Bool, ◌+◌, List, [], length, Option, None, is_some, is_none, unwrap_or, Result}
 use Rattle.std.specs.List.{flat_map, list_any}
 use Rattle.std.specs.Option.{option_map}
 use Rattle.cr_base.specs.declared.command.Command.{Command}
-use Rattle.cr_base.specs.declared.command.Command.TheVariants.{Register, SetPhase, Submit, Revise, Upload, Withdraw, Name, SetMode, SetConflict, Bid, Assign, Unassign}
+use Rattle.cr_base.specs.declared.command.Command.TheVariants.{Register, SetPhase, Submit, Revise, Upload, Withdraw}
+use Rattle.cr_base.specs.declared.command.Command.TheVariants.{Name, SetMode, SetConflict, Bid, Assign, Unassign}
 use Rattle.cr_base.specs.declared.command.Command.TheVariants.{Review, Comment, Tag, Decide}
 use Rattle.cr_base.specs.declared.form.Form.{Form}
 use Rattle.cr_base.specs.declared.reply.Rule.{Rule}
 use Rattle.cr_base.specs.declared.words.Kind.{Kind}
 use Rattle.cr_base.specs.declared.words.Role.{Role}
-use Rattle.cr_base.specs.Checks.{judged, of_role, register_checks, phase_checks, submit_checks, revise_checks, upload_checks}
+use Rattle.cr_base.specs.Checks.{judged, of_role, register_checks, phase_checks}
+use Rattle.cr_base.specs.Checks.{submit_checks, revise_checks, upload_checks}
 use Rattle.cr_base.specs.Checks.{name_checks, mode_checks, conflict_checks, bid_checks, assign_checks, unassign_checks}
 use Rattle.cr_base.specs.Checks.{review_checks, comment_checks, tag_checks, decide_checks}
 use Rattle.cr_base.specs.Drawn.{Drawn, registration_drawn, phase_drawn, submission_drawn, revision_drawn, upload_drawn}
-use Rattle.cr_base.specs.Drawn.{withdrawal_drawn, naming_drawn, mode_drawn, conflict_drawn, bid_drawn, assignment_drawn, unassignment_drawn}
+use Rattle.cr_base.specs.Drawn.{withdrawal_drawn, naming_drawn, mode_drawn, conflict_drawn}
+use Rattle.cr_base.specs.Drawn.{bid_drawn, assignment_drawn, unassignment_drawn}
 use Rattle.cr_base.specs.Drawn.{review_drawn, comment_drawn, tag_drawn, decision_drawn}
 use Rattle.cr_base.specs.Lists.{listed, at_some}
-use Rattle.cr_base.specs.Sources.{Facts, Shown, number_in, user_among, users_among, role_among, paper_named, target_named, maker_of, facts_of_tables, shown_in_tables}
+use Rattle.cr_base.specs.Sources.{Facts, Shown, number_in, user_among, users_among, role_among}
+use Rattle.cr_base.specs.Sources.{paper_named, target_named, maker_of, facts_of_tables, shown_in_tables}
 use Rattle.cr_base.specs.Tables.{Tables}
 use Rattle.cr_base.specs.TagTexts.{is_for_chairs}
 
@@ -38,7 +43,8 @@ submission_judged facts caller users title abstract =
 abbrev pub conflict_judged : Facts → Shown → Option ℕ → Option ℕ → Option ℕ → Bool → Result Drawn Rule
 conflict_judged facts shown caller paper target on =
     judged
-    (conflict_checks (facts.standing paper) (paper_named facts shown paper) (target_named facts shown caller paper target) on)
+    (conflict_checks (facts.standing paper) (paper_named facts shown paper)
+    (target_named facts shown caller paper target) on)
     (conflict_drawn (maker_of caller) (unwrap_or paper 0) (unwrap_or target 0) on)
 
 -- assigning this user, if there is one, to a paper, and taking her off it
@@ -46,7 +52,8 @@ abbrev pub assignment_judged : Facts → Shown → Option ℕ → Option ℕ →
 assignment_judged facts shown caller paper target kind =
     let labels = shown.labels (unwrap_or paper 0) in
     judged
-    (assign_checks (facts.standing paper) (paper_named facts shown paper) (target_named facts shown caller paper target) labels)
+    (assign_checks (facts.standing paper) (paper_named facts shown paper)
+    (target_named facts shown caller paper target) labels)
     (assignment_drawn (maker_of caller) (unwrap_or paper 0) (unwrap_or target 0) kind (labels + 1))
 
 abbrev pub unassignment_judged : Facts → Shown → Option ℕ → Option ℕ → Option ℕ → Result Drawn Rule
@@ -54,7 +61,8 @@ unassignment_judged facts shown caller paper target =
     let p = unwrap_or paper 0 in
     let ordinal = shown.ordinal target p in
     judged
-    (unassign_checks (facts.standing paper) (paper_named facts shown paper) (target_named facts shown caller paper target) (at_some (shown.written p) ordinal))
+    (unassign_checks (facts.standing paper) (paper_named facts shown paper)
+    (target_named facts shown caller paper target) (at_some (shown.written p) ordinal))
     (unassignment_drawn (maker_of caller) p (unwrap_or target 0) (unwrap_or ordinal 0))
 
 -- reviewing a paper, commenting on it, and turning a tag of it on or off
@@ -81,7 +89,9 @@ tag_judged facts shown caller paper tag on =
 -- the first broken rule of a command's list, or what it adds and its receipt
 abbrev pub judge_by : Facts → Shown → Option ℕ → Command → Result Drawn Rule
 judge_by facts shown caller (Register name digest) =
-    judged (register_checks (is_some (number_in facts.accounts name)) (length facts.accounts)) (registration_drawn (length facts.accounts + 1) name digest)
+    judged
+    (register_checks (is_some (number_in facts.accounts name)) (length facts.accounts))
+    (registration_drawn (length facts.accounts + 1) name digest)
 judge_by facts shown caller (SetPhase to) =
     judged (phase_checks (facts.standing None) (facts.standing None).phase to) (phase_drawn (maker_of caller) to)
 judge_by facts shown caller (Submit title abstract authors) =
@@ -95,7 +105,9 @@ judge_by facts shown caller (Upload paper content) =
     (upload_checks (facts.standing paper) (paper_named facts shown paper) facts.own_bytes (length content))
     (upload_drawn (maker_of caller) (unwrap_or paper 0) (length (shown.uploads (unwrap_or paper 0)) + 1) content)
 judge_by facts shown caller (Withdraw paper) =
-    judged (revise_checks (facts.standing paper) (paper_named facts shown paper)) (withdrawal_drawn (maker_of caller) (unwrap_or paper 0))
+    judged
+    (revise_checks (facts.standing paper) (paper_named facts shown paper))
+    (withdrawal_drawn (maker_of caller) (unwrap_or paper 0))
 judge_by facts shown caller (Name name role) =
     name_judged facts caller (user_among facts.accounts name) (unwrap_or name []) role
 judge_by facts shown caller (SetMode to) =
@@ -103,7 +115,9 @@ judge_by facts shown caller (SetMode to) =
 judge_by facts shown caller (SetConflict paper name on) =
     conflict_judged facts shown caller paper (user_among facts.accounts name) on
 judge_by facts shown caller (Bid paper value) =
-    judged (bid_checks (facts.standing paper) (paper_named facts shown paper)) (bid_drawn (maker_of caller) (unwrap_or paper 0) value)
+    judged
+    (bid_checks (facts.standing paper) (paper_named facts shown paper))
+    (bid_drawn (maker_of caller) (unwrap_or paper 0) value)
 judge_by facts shown caller (Assign paper name kind) =
     assignment_judged facts shown caller paper (user_among facts.accounts name) kind
 judge_by facts shown caller (Unassign paper name) =
@@ -112,7 +126,9 @@ judge_by facts shown caller (Review paper form) = review_judged facts shown call
 judge_by facts shown caller (Comment paper text) = comment_judged facts shown caller paper text
 judge_by facts shown caller (Tag paper tag on) = tag_judged facts shown caller paper tag on
 judge_by facts shown caller (Decide paper decision) =
-    judged (decide_checks (facts.standing paper) (paper_named facts shown paper)) (decision_drawn (maker_of caller) (unwrap_or paper 0) decision)
+    judged
+    (decide_checks (facts.standing paper) (paper_named facts shown paper))
+    (decision_drawn (maker_of caller) (unwrap_or paper 0) decision)
 
 -- RoleAnswer of a command: the same by checks on the tables
 abbrev pub judge_by_role : Tables → Option ℕ → Command → Result Drawn Rule

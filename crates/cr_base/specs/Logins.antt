@@ -11,8 +11,8 @@ use Rattle.cr_base.specs.declared.report.Report.TheVariants as reports
 
 -- ---- the table
 
--- nobody may register, and be told the accounts, the state of the conference and the accepted papers; all else is a registered
--- user's, but for what is published (`login_wanted` in Answering)
+-- nobody may register, and be told the accounts, the state of the conference and the accepted papers; all else is a
+-- registered user's, but for what is published (`login_wanted` in Answering)
 abbrev pub ask_wants_login : Ask → Bool
 ask_wants_login asks.Register = false
 ask_wants_login asks.Accounts = false
@@ -48,8 +48,8 @@ ask_wants_login asks.LoadReport = true
 ask_wants_login asks.DecisionsReport = true
 ask_wants_login asks.Letter = true
 
--- whether a request for this reads the field Authorization: those that want a login, also where what is published wants
--- none, since of a published paper those who say who they are may be told more
+-- whether a request for this reads the field Authorization: those that want a login, also where what is published
+-- wants none, since of a published paper those who say who they are may be told more
 abbrev pub ask_reads_credentials : Ask → Bool
 ask_reads_credentials ask = ask_wants_login ask
 

@@ -27,10 +27,11 @@ gets_title by accepted = by.author || (is_member by.role && is_from Bidding by.p
 
 -- the abstract: authors; clear members from bidding; everyone, where the paper is published
 abbrev pub gets_abstract : Standing → Bool → Bool
-gets_abstract by accepted = by.author || (is_clear_member by && is_from Bidding by.phase) || is_published by.phase accepted
+gets_abstract by accepted =
+    by.author || (is_clear_member by && is_from Bidding by.phase) || is_published by.phase accepted
 
--- who wrote it, to its authors; from bidding on to chairs in no conflict, and unless the mode is anonymous to such members; and to
--- everyone, where the paper is accepted
+-- who wrote it, to its authors; from bidding on to chairs in no conflict, and unless the mode is anonymous to such
+-- members; and to everyone, where the paper is accepted
 abbrev pub shows_author : Standing → Bool → Bool
 shows_author by accepted =
     by.author
@@ -50,9 +51,11 @@ gets_conflicts by = is_clear_chair by && is_from Bidding by.phase
 abbrev pub gets_declared : Standing → Bool
 gets_declared by = by.author
 
--- the versions of its content: authors all; clear members from bidding the last, and so everyone, where the paper is published
+-- the versions of its content: authors all; clear members from bidding the last, and so
+-- everyone, where the paper is published
 abbrev pub gets_versions : Standing → Bool → Bool
-gets_versions by accepted = by.author || (is_clear_member by && is_from Bidding by.phase) || is_published by.phase accepted
+gets_versions by accepted =
+    by.author || (is_clear_member by && is_from Bidding by.phase) || is_published by.phase accepted
 
 -- whether it is withdrawn: authors; members from bidding
 abbrev pub gets_withdrawn : Standing → Bool
@@ -70,8 +73,8 @@ gets_bids by = is_clear_chair by && is_from Bidding by.phase
 abbrev pub gets_label : Standing → Bool
 gets_label by = is_clear_member by && by.reviewer
 
--- who reviews the paper by name: clear chairs from bidding; clear members from discussion unless anonymous; authors from
--- notification in the open mode
+-- who reviews the paper by name: clear chairs from bidding; clear members from discussion unless anonymous; authors
+-- from notification in the open mode
 abbrev pub shows_reviewer : Standing → Bool
 shows_reviewer by =
     (is_clear_chair by && is_from Bidding by.phase)
@@ -90,10 +93,11 @@ shows_writer by = is_clear_member by && (is_chair by.role || not (is_anonymous b
 abbrev pub gets_tags : Standing → Bool
 gets_tags by = is_clear_member by && is_from Bidding by.phase
 
--- the decision, to members in no conflict from discussion on, to its authors from notification on, and to everyone where the paper is
--- accepted
+-- the decision, to members in no conflict from discussion on, to its authors from notification on, and to
+-- everyone where the paper is accepted
 abbrev pub gets_decision : Standing → Bool → Bool
-gets_decision by accepted = (is_clear_member by && is_from Discussion by.phase) || (by.author && is_from Notification by.phase) || accepted
+gets_decision by accepted =
+    (is_clear_member by && is_from Discussion by.phase) || (by.author && is_from Notification by.phase) || accepted
 
 -- ---- the page
 

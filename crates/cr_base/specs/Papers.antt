@@ -1,11 +1,13 @@
 -- The table of papers: what an entry makes of it, and what is read from it.
-use Rattle.std.specs.Prelude.{ℕ, Bool, true, false, ◌≡◌, ◌≤◌, ◌<◌, ◌+◌, ◌-◌, ◌==◌, List, [], ◌∷◌, ◌++◌, length, zero, suc}
+use Rattle.std.specs.Prelude.{ℕ, Bool, true, false, ◌≡◌, ◌≤◌, ◌<◌, ◌+◌, ◌-◌}
+use Rattle.std.specs.Prelude.{◌==◌, List, [], ◌∷◌, ◌++◌, length, zero, suc}
 use Rattle.std.specs.Prelude.{slice_index, slice_set, Option, Some, None}
 use Rattle.std.specs.List.{flat_map}
 use Rattle.std.specs.Option.{option_map, option_map_or}
 use Rattle.cr_base.specs.declared.entry.Entry.{Entry}
 use Rattle.cr_base.specs.declared.entry.Entry.TheVariants.{Submitted, Coauthor, Revised, Uploaded, Withdrawn, Conflict}
-use Rattle.cr_base.specs.declared.entry.Entry.TheVariants.{Bid, Assigned, Unassigned, Reviewed, Commented, Tagged, Decided}
+use Rattle.cr_base.specs.declared.entry.Entry.TheVariants.{Bid, Assigned, Unassigned, Reviewed}
+use Rattle.cr_base.specs.declared.entry.Entry.TheVariants.{Commented, Tagged, Decided}
 use Rattle.cr_base.specs.declared.paper.Paper.{Paper}
 use Rattle.cr_base.specs.History.{Upload}
 use Rattle.cr_base.specs.Lists.{given, numbered, numbers_from}
@@ -17,8 +19,8 @@ pub record PaperUpload : Type 0 where
   pub paper : ℕ
   pub upload : Upload
 
--- what is kept of each paper: paper number n stands at index n - 1; all uploads in their order; how many papers each user
--- has submitted, and how many bytes she has uploaded: her number is the index, and who is past the end has none
+-- what is kept of each paper: paper number n stands at index n - 1; all uploads in their order; how many papers each
+-- user has submitted, and how many bytes she has uploaded: her number is the index, and who is past the end has none
 pub record PapersState : Type 0 where
   pub papers : List Paper
   pub uploads : List PaperUpload
@@ -38,7 +40,8 @@ with_more (suc i) more (n ∷ sums) = n ∷ with_more i more sums
 
 -- the papers with the one of this number changed, where it is there
 abbrev pub with_paper : ℕ → (Paper → Paper) → List Paper → List Paper
-with_paper p change papers = option_map_or (λ (paper : Paper). slice_set papers (p - 1) (change paper)) (numbered papers p) papers
+with_paper p change papers =
+    option_map_or (λ (paper : Paper). slice_set papers (p - 1) (change paper)) (numbered papers p) papers
 
 -- a paper as it is submitted; with other texts; and withdrawn
 abbrev pub new_paper : List ℕ → List ℕ → Paper
@@ -56,7 +59,8 @@ papers_after state maker (Submitted paper title abstract) = record state {
   papers = state.papers ++ new_paper title abstract ∷ [];
   submitted = with_more maker 1 state.submitted;
 }
-papers_after state maker (Revised paper title abstract) = record state { papers = with_paper paper (with_texts title abstract) state.papers }
+papers_after state maker (Revised paper title abstract) =
+    record state { papers = with_paper paper (with_texts title abstract) state.papers }
 papers_after state maker (Uploaded paper version content) = record state {
   uploads = state.uploads ++ (record { paper = paper; upload = record { version = version; content = content } }) ∷ [];
   uploaded = with_more maker (length content) state.uploaded;
@@ -107,14 +111,17 @@ own_bytes state (Some user) = slice_index state.uploaded user
 abbrev pub IsPaper : PapersState → ℕ → Type 0
 IsPaper state paper = (1 ≤ paper) × (paper ≤ paper_count state)
 
--- an entry fits: the number drawn is the next one, and its maker hasn't submitted 20 papers, nor uploaded too many bytes;
+-- an entry fits: the number drawn is the next one, and its maker hasn't submitted 20
+-- papers, nor uploaded too many bytes;
 -- the paper is there, and co-authors are told of the last one
 abbrev pub PapersFit : PapersState → ℕ → Entry → Type 0
-PapersFit state maker (Submitted paper title abstract) = (paper ≡ paper_count state + 1) × (paper ≤ 9999) × (own_count state (Some maker) < 20)
+PapersFit state maker (Submitted paper title abstract) =
+    (paper ≡ paper_count state + 1) × (paper ≤ 9999) × (own_count state (Some maker) < 20)
 PapersFit state maker (Coauthor paper user) = (1 ≤ paper) × (paper ≡ paper_count state)
 PapersFit state maker (Revised paper title abstract) = IsPaper state paper
 PapersFit state maker (Uploaded paper version content) =
-    IsPaper state paper × (version ≡ length (uploads_at state paper) + 1) × (own_bytes state (Some maker) + length content ≤ 67108864)
+    IsPaper state paper × (version ≡ length (uploads_at state paper) + 1)
+    × (own_bytes state (Some maker) + length content ≤ 67108864)
 PapersFit state maker (Withdrawn paper) = IsPaper state paper
 PapersFit state maker (Conflict paper user on) = IsPaper state paper
 PapersFit state maker (Bid paper value) = IsPaper state paper

@@ -1,5 +1,6 @@
 -- Numbers of papers and names of users, as texts spell them.
-use Rattle.std.specs.Prelude.{ℕ, List, length, Bool, ◌&&◌, ◌==◌, not, nat_le, Option, Some, None, if◌then◌else◌, slice_index}
+use Rattle.std.specs.Prelude.{ℕ, List, length, Bool, ◌&&◌, ◌==◌, not, nat_le}
+use Rattle.std.specs.Prelude.{Option, Some, None, if◌then◌else◌, slice_index}
 use Rattle.std.specs.Char.{is_ascii_digit}
 use Rattle.std.specs.List.{list_all}
 use Rattle.std.specs.Str.Parse.{digits_value}

@@ -1,7 +1,8 @@
 -- The order of phases (CoCon, CAV 2014: a conference moves forward only).
 use Rattle.std.specs.Prelude.{ℕ, Bool, ◌==◌, ◌+◌, nat_le}
 use Rattle.cr_base.specs.declared.words.Phase.{Phase}
-use Rattle.cr_base.specs.declared.words.Phase.TheVariants.{Setup, Submission, Bidding, Reviewing, Discussion, Notification, Closed}
+use Rattle.cr_base.specs.declared.words.Phase.TheVariants.{Setup, Submission, Bidding, Reviewing}
+use Rattle.cr_base.specs.declared.words.Phase.TheVariants.{Discussion, Notification, Closed}
 
 -- the rank of a phase in the order
 abbrev pub phase_rank : Phase → ℕ

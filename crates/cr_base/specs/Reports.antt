@@ -1,5 +1,6 @@
 -- Reports: plain text of what is told of each paper. Their lines are the server's own.
-use Rattle.std.specs.Prelude.{ℕ, Bool, true, false, not, ◌+◌, ◌-◌, ◌*◌, ◌/◌, ◌%◌, ◌&&◌, ◌==◌, List, [], ◌∷◌, ◌++◌, length, map, filter, replicate, decimal, codes}
+use Rattle.std.specs.Prelude.{ℕ, Bool, true, false, not, ◌+◌, ◌-◌, ◌*◌, ◌/◌, ◌%◌, ◌&&◌, ◌==◌}
+use Rattle.std.specs.Prelude.{List, [], ◌∷◌, ◌++◌, length, map, filter, replicate, decimal, codes}
 use Rattle.std.specs.Prelude.{Option, Some, None, unwrap_or, if◌then◌else◌}
 use Rattle.std.specs.Option.{option_map, option_map_or, option_and_then}
 use Rattle.std.specs.List.{flat_map}
@@ -100,7 +101,8 @@ paper_mark withdrawn conflicted = if withdrawn then codes "W" else (if conflicte
 
 abbrev pub paper_line : Facts → Shown → ℕ → List ℕ
 paper_line facts shown p =
-    in_four p ++ space ++ paper_mark (shown.withdrawn p) (facts.standing (Some p)).conflicted ++ space ++ title_by shown p ++ line_end
+    in_four p ++ space ++ paper_mark (shown.withdrawn p) (facts.standing (Some p)).conflicted ++ space
+    ++ title_by shown p ++ line_end
 
 unfoldable pub papers_end : ℕ → List ℕ
 papers_end count = decimal count ++ codes " papers" ++ line_end
@@ -112,7 +114,9 @@ papers_told facts shown = flat_map (paper_line facts shown) facts.papers ++ pape
 
 -- the score of the last form under each label that the committee discusses, in the order of the labels
 abbrev pub last_scores : Shown → ℕ → List ℕ
-last_scores shown p = by_labels (λ (o : ℕ). map (λ (form : FormTold). form.score) (listed (last (shown.forms_discussed p o)))) most_labels
+last_scores shown p =
+    by_labels (λ (o : ℕ). map (λ (form : FormTold). form.score) (listed (last (shown.forms_discussed p o))))
+    most_labels
 
 -- the mean of n scores with this sum, in hundredths, to the nearest one, and up where two are as near
 abbrev pub hundredths : ℕ → ℕ → ℕ
@@ -127,24 +131,28 @@ abbrev pub scores_line : ℕ → List ℕ → List ℕ → List ℕ
 scores_line p [] title = []
 scores_line p (score ∷ scores) title =
     let n = length (score ∷ scores) in
-    in_four p ++ space ++ in_two n ++ space ++ two_decimals (hundredths (total (score ∷ scores)) n) ++ space ++ title ++ line_end
+    in_four p ++ space ++ in_two n ++ space ++ two_decimals (hundredths (total (score ∷ scores)) n)
+    ++ space ++ title ++ line_end
 
 abbrev pub scores_told : Facts → Shown → List ℕ
-scores_told facts shown = flat_map (λ (p : ℕ). scores_line p (last_scores shown p) (title_by shown p)) (open_papers facts shown)
+scores_told facts shown =
+    flat_map (λ (p : ℕ). scores_line p (last_scores shown p) (title_by shown p)) (open_papers facts shown)
 
 -- ---- who reviews how much
 
 -- of the assignments on the papers that the caller is in no conflict with, those that are the user's and pass a test
 abbrev pub held : Facts → Shown → ℕ → (ℕ → SeatTold → Bool) → ℕ
 held facts shown user test =
-    total (map (λ (p : ℕ). length (filter (λ (seat : SeatTold). is_number seat.user user && test p seat) (shown.reviewers p))) (clear_papers facts))
+    total (map (λ (p : ℕ). length (filter (λ (seat : SeatTold). is_number seat.user user && test p seat)
+    (shown.reviewers p))) (clear_papers facts))
 
 -- the assignment is of this kind
 abbrev pub is_seat_of_kind : Kind → SeatTold → Bool
 is_seat_of_kind kind seat =
     option_map_or (λ (k : Kind). review_kind_number k == review_kind_number kind) seat.kind false
 
--- a member's line: how many papers she reviews as primary, as secondary, and otherwise, and of how many she has written a form
+-- a member's line: how many papers she reviews as primary, as secondary, and otherwise, and of
+-- how many she has written a form
 abbrev pub load_line : Facts → Shown → AccountLine → List ℕ
 load_line facts shown a =
     to_left 32 a.name
@@ -156,7 +164,8 @@ load_line facts shown a =
 
 -- by user number
 abbrev pub load_told : Facts → Shown → List ℕ
-load_told facts shown = flat_map (load_line facts shown) (filter (λ (a : AccountLine). is_member a.role) facts.accounts)
+load_told facts shown =
+    flat_map (load_line facts shown) (filter (λ (a : AccountLine). is_member a.role) facts.accounts)
 
 -- ---- decisions
 
@@ -165,7 +174,9 @@ abbrev pub decision_word : Option Decision → List ℕ
 decision_word decision = option_map_or decision_name decision (codes "none")
 
 abbrev pub decision_line : Facts → Shown → ℕ → List ℕ
-decision_line facts shown p = in_four p ++ space ++ to_left 6 (decision_word (decision_by facts shown p)) ++ space ++ title_by shown p ++ line_end
+decision_line facts shown p =
+    in_four p ++ space ++ to_left 6 (decision_word (decision_by facts shown p)) ++ space
+    ++ title_by shown p ++ line_end
 
 -- which decision it is
 abbrev pub is_accepting : Option Decision → Bool
@@ -188,12 +199,14 @@ decided facts shown test = length (filter (λ (p : ℕ). test (decision_by facts
 
 unfoldable pub decisions_end : ℕ → ℕ → ℕ → List ℕ
 decisions_end accepted rejected undecided =
-    codes "accept " ++ decimal accepted ++ codes ", reject " ++ decimal rejected ++ codes ", none " ++ decimal undecided ++ line_end
+    codes "accept " ++ decimal accepted ++ codes ", reject " ++ decimal rejected ++ codes ", none "
+    ++ decimal undecided ++ line_end
 
 abbrev pub decisions_told : Facts → Shown → List ℕ
 decisions_told facts shown =
     flat_map (decision_line facts shown) (open_papers facts shown)
-    ++ decisions_end (decided facts shown is_accepting) (decided facts shown is_rejecting) (decided facts shown is_undecided)
+    ++ decisions_end (decided facts shown is_accepting) (decided facts shown is_rejecting)
+    (decided facts shown is_undecided)
 
 -- ---- the letter
 
@@ -218,12 +231,14 @@ letter_form ordinal writer form =
 -- the last form under each label, by the label, and in the open mode by its writer
 abbrev pub letter_forms : Facts → Shown → ℕ → List ℕ
 letter_forms facts shown p =
-    let writer = λ (o : ℕ). if shows_reviewer (facts.standing (Some p)) then option_and_then (name_in facts.accounts) (shown.assigned p o) else None in
+    let writer = λ (o : ℕ). if shows_reviewer (facts.standing (Some p))
+    then option_and_then (name_in facts.accounts) (shown.assigned p o) else None in
     by_labels (λ (o : ℕ). flat_map (letter_form o (writer o)) (listed (shown.last_form p o))) most_labels
 
 abbrev pub letter_told : Facts → Shown → ℕ → List ℕ
 letter_told facts shown p =
-    paper_named_line p (title_by shown p) ++ decision_named_line (decision_word (decision_by facts shown p)) ++ letter_forms facts shown p
+    paper_named_line p (title_by shown p) ++ decision_named_line (decision_word (decision_by facts shown p))
+    ++ letter_forms facts shown p
 
 -- ---- what a report tells
 

@@ -27,7 +27,8 @@ no_reviews = record { phase = Setup; forms = [] }
 abbrev pub reviews_after : ReviewsState → Entry → ReviewsState
 reviews_after reviews (PhaseSet phase) = record reviews { phase = phase }
 reviews_after reviews (Reviewed paper ordinal version form) = record reviews {
-  forms = with_filed (filed paper (record { ordinal = ordinal; version = version; phase = reviews.phase; form = form })) reviews.forms;
+  forms = with_filed (filed paper
+      (record { ordinal = ordinal; version = version; phase = reviews.phase; form = form })) reviews.forms;
 }
 reviews_after reviews _ = reviews
 
@@ -47,7 +48,8 @@ is_written_in reviews p o = not (is_nothing (forms_in reviews p o))
 
 -- the last that was written before a phase began, and those that were written in it or later
 abbrev pub last_form_before : ReviewsState → ℕ → ℕ → Phase → Option WrittenForm
-last_form_before reviews p o phase = last (filter (λ (w : WrittenForm). not (is_from phase w.phase)) (forms_in reviews p o))
+last_form_before reviews p o phase =
+    last (filter (λ (w : WrittenForm). not (is_from phase w.phase)) (forms_in reviews p o))
 
 abbrev pub forms_from : ReviewsState → ℕ → ℕ → Phase → List WrittenForm
 forms_from reviews p o phase = filter (λ (w : WrittenForm). is_from phase w.phase) (forms_in reviews p o)

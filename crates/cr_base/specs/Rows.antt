@@ -6,13 +6,18 @@ use Rattle.cr_base.specs.declared.entry.EntryKind.TheVariants as kind
 use Rattle.cr_base.specs.declared.entry.Entry.{Entry}
 use Rattle.cr_base.specs.declared.entry.Entry.TheVariants.{Registered, Named, PhaseSet, ModeSet, Submitted}
 use Rattle.cr_base.specs.declared.entry.Entry.TheVariants.{Coauthor, Revised, Uploaded, Withdrawn, Conflict}
-use Rattle.cr_base.specs.declared.entry.Entry.TheVariants.{Bid, Assigned, Unassigned, Reviewed, Commented, Tagged, Decided}
+use Rattle.cr_base.specs.declared.entry.Entry.TheVariants.{Bid, Assigned, Unassigned, Reviewed}
+use Rattle.cr_base.specs.declared.entry.Entry.TheVariants.{Commented, Tagged, Decided}
 use Rattle.cr_base.specs.declared.entry.Stamped.{Stamped}
 use Rattle.cr_base.specs.declared.row.Row.{Row}
-use Rattle.cr_base.specs.Words.{phase_number, phase_numbered, mode_number, mode_numbered, role_number, role_numbered, review_kind_number, review_kind_numbered, decision_number, decision_numbered}
+use Rattle.cr_base.specs.Words.{phase_number, phase_numbered, mode_number, mode_numbered, role_number, role_numbered}
+use Rattle.cr_base.specs.Words.{review_kind_number, review_kind_numbered, decision_number, decision_numbered}
 use Rattle.cr_base.specs.declared.shape.Shape.{Shape}
-use Rattle.cr_base.specs.declared.shape.TextKind.TheVariants.{Nothing, Name, Digest, Title, Abstract, Content, ReviewText, CommentText, Tag}
-use Rattle.cr_base.specs.Shapes.{user_range, paper_range, phase_range, mode_range, bit, role_range, version_range, bid_range, review_kind_range, ordinal_range, some_ordinal_range, grade_range, decision_range}
+use Rattle.cr_base.specs.declared.shape.TextKind.TheVariants.{Nothing, Name, Digest, Title, Abstract}
+use Rattle.cr_base.specs.declared.shape.TextKind.TheVariants.{Content, ReviewText, CommentText, Tag}
+use Rattle.cr_base.specs.Shapes.{user_range, paper_range, phase_range, mode_range, bit}
+use Rattle.cr_base.specs.Shapes.{role_range, version_range, bid_range, review_kind_range}
+use Rattle.cr_base.specs.Shapes.{ordinal_range, some_ordinal_range, grade_range, decision_range}
 use Rattle.cr_base.specs.Shapes.{unused, shape, with_fourth, with_fifth, FitsShape}
 
 -- the number by which rows tell the kind
@@ -70,7 +75,9 @@ shape_of kind.Conflict = shape paper_range user_range bit Nothing Nothing
 shape_of kind.Bid = shape paper_range bid_range unused Nothing Nothing
 shape_of kind.Assigned = with_fourth ordinal_range (shape paper_range user_range review_kind_range Nothing Nothing)
 shape_of kind.Unassigned = shape paper_range user_range ordinal_range Nothing Nothing
-shape_of kind.Reviewed = with_fifth grade_range (with_fourth grade_range (shape paper_range ordinal_range version_range ReviewText ReviewText))
+shape_of kind.Reviewed =
+    with_fifth grade_range
+    (with_fourth grade_range (shape paper_range ordinal_range version_range ReviewText ReviewText))
 shape_of kind.Commented = shape paper_range version_range some_ordinal_range CommentText Nothing
 shape_of kind.Tagged = shape paper_range bit unused Tag Nothing
 shape_of kind.Decided = shape paper_range decision_range unused Nothing Nothing
@@ -185,7 +192,8 @@ built kind.Conflict r = Conflict r.n1 r.n2 (r.n3 == 1)
 built kind.Bid r = Bid r.n1 r.n2
 built kind.Assigned r = Assigned r.n1 r.n2 (review_kind_numbered r.n3) r.n4
 built kind.Unassigned r = Unassigned r.n1 r.n2 r.n3
-built kind.Reviewed r = Reviewed r.n1 r.n2 r.n3 (record { score = r.n4; confidence = r.n5; to_authors = r.b1; to_pc = r.b2 })
+built kind.Reviewed r =
+    Reviewed r.n1 r.n2 r.n3 (record { score = r.n4; confidence = r.n5; to_authors = r.b1; to_pc = r.b2 })
 built kind.Commented r = Commented r.n1 r.n2 (label_numbered r.n3) r.b1
 built kind.Tagged r = Tagged r.n1 r.b1 (r.n2 == 1)
 built kind.Decided r = Decided r.n1 (decision_numbered r.n2)

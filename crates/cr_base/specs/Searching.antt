@@ -1,5 +1,6 @@
--- Which papers a search finds: Holds. Each term is tried on what the caller is told of a paper by its page, its reviews and its comments. What
--- she isn't told makes a term false, and so the denial of it true: no search tells what the answers don't.
+-- Which papers a search finds: Holds. Each term is tried on what the caller is told of a paper by its page,
+-- its reviews and its comments. What she isn't told makes a term false, and so the denial of it true: no
+-- search tells what the answers don't.
 use Rattle.std.specs.Prelude.{ℕ, Bool, true, false, not, ◌&&◌, ◌||◌, ◌==◌, List, [], ◌∷◌, Option, is_some, unwrap_or}
 use Rattle.std.specs.Option.{option_map_or}
 use Rattle.std.specs.List.{list_any}
@@ -41,8 +42,8 @@ contains value (c ∷ text) = begins_alike value (c ∷ text) || contains value 
 
 -- ---- terms
 
--- what the caller is told of a paper, as terms ask: its page; whether it is accepted, and she is in conflict with it; and what she is
--- answered where she asks for its reviews and its comments, nothing where a rule is broken
+-- what the caller is told of a paper, as terms ask: its page; whether it is accepted, and she is in conflict with it;
+-- and what she is answered where she asks for its reviews and its comments, nothing where a rule is broken
 pub record PaperTold : Type 0 where
   pub page : Page
   pub accepted : Bool
@@ -60,7 +61,8 @@ name_has value names = option_map_or (list_any (contains value)) names false
 
 -- one of the reviewers whose names are there has it in her name
 abbrev pub reviewer_has : List ℕ → Option (List Reviewer) → Bool
-reviewer_has value reviewers = option_map_or (list_any (λ (reviewer : Reviewer). text_has value reviewer.user)) reviewers false
+reviewer_has value reviewers =
+    option_map_or (list_any (λ (reviewer : Reviewer). text_has value reviewer.user)) reviewers false
 
 abbrev pub has_tag : List ℕ → Option (List (List ℕ)) → Bool
 has_tag tag tags = option_map_or (list_any (bytes_eq tag)) tags false
@@ -70,7 +72,8 @@ abbrev pub number_decided : Option Decision → ℕ
 number_decided decision = option_map_or decision_number decision 0
 
 abbrev pub has_decision : Option Decision → Option (Option Decision) → Bool
-has_decision decision told = option_map_or (λ (d : Option Decision). number_decided d == number_decided decision) told false
+has_decision decision told =
+    option_map_or (λ (d : Option Decision). number_decided d == number_decided decision) told false
 
 abbrev pub stands_so : Status → PaperTold → Bool
 stands_so Active told = option_map_or not told.page.withdrawn false
@@ -78,7 +81,8 @@ stands_so Withdrawn told = option_map_or (λ (b : Bool). b) told.page.withdrawn 
 stands_so Accepted told = told.accepted
 
 abbrev pub has_feature : Feature → PaperTold → Bool
-has_feature features.Content told = option_map_or (λ (versions : List ℕ). not (is_nothing versions)) told.page.versions false
+has_feature features.Content told =
+    option_map_or (λ (versions : List ℕ). not (is_nothing versions)) told.page.versions false
 has_feature features.Review told = not (is_nothing told.reviews)
 has_feature features.Comment told = not (is_nothing told.comments)
 has_feature features.Decision told = option_map_or (λ (d : Option Decision). is_some d) told.page.decision false

@@ -1,6 +1,7 @@
 -- The table of seats: who is assigned to which paper, as what (the HotCRP manual's kinds of review), under which
 -- label, and who has left.
-use Rattle.std.specs.Prelude.{ℕ, Bool, true, false, not, ◌≡◌, ◌≤◌, ◌+◌, ◌==◌, ◌&&◌, nat_le, List, [], ◌∷◌, ◌++◌, length, map, filter, find, fold, Option, Some, None, IsFalse, if◌then◌else◌}
+use Rattle.std.specs.Prelude.{ℕ, Bool, true, false, not, ◌≡◌, ◌≤◌, ◌+◌, ◌==◌, ◌&&◌, nat_le, List, [], ◌∷◌, ◌++◌}
+use Rattle.std.specs.Prelude.{length, map, filter, find, fold, Option, Some, None, IsFalse, if◌then◌else◌}
 use Rattle.std.specs.List.{list_any}
 use Rattle.std.specs.Option.{option_map}
 use Rattle.cr_base.specs.declared.entry.Entry.{Entry}
@@ -17,7 +18,8 @@ use Rattle.cr_base.specs.Ties.{pair_of}
 
 -- ---- the state
 
--- papers and whoever was assigned to them: paper by paper, and those of a paper in the order in which they were, so by label
+-- papers and whoever was assigned to them: paper by paper, and those of a paper in the order
+-- in which they were, so by label
 abbrev pub SeatsState : Type 0
 SeatsState = List (Tie Seat)
 
@@ -27,12 +29,14 @@ no_seats = []
 
 -- a user who takes a seat at a paper
 abbrev pub seat_tie : ℕ → ℕ → Kind → ℕ → Tie Seat
-seat_tie paper user kind ordinal = record { pair = pair_of paper user; value = record { kind = kind; ordinal = ordinal; vacated = false } }
+seat_tie paper user kind ordinal =
+    record { pair = pair_of paper user; value = record { kind = kind; ordinal = ordinal; vacated = false } }
 
 -- the seats with one more, behind those of its paper and of papers with lower numbers
 abbrev pub with_seat : Tie Seat → SeatsState → SeatsState
 with_seat s seats =
-    filter (λ (t : Tie Seat). nat_le t.pair.paper s.pair.paper) seats ++ s ∷ filter (λ (t : Tie Seat). not (nat_le t.pair.paper s.pair.paper)) seats
+    filter (λ (t : Tie Seat). nat_le t.pair.paper s.pair.paper) seats ++ s
+    ∷ filter (λ (t : Tie Seat). not (nat_le t.pair.paper s.pair.paper)) seats
 
 -- a seat that its user has left
 abbrev pub vacated : Tie Seat → Tie Seat
@@ -80,26 +84,31 @@ reviewers_in seats p = map told_seat (seats_taken seats p)
 
 -- the ordinal under which the user reviews the paper, where she does
 abbrev pub ordinal_in : SeatsState → Option ℕ → ℕ → Option ℕ
-ordinal_in seats u p = option_map (λ (t : Tie Seat). t.value.ordinal) (find (λ (t : Tie Seat). is_number u t.pair.user) (seats_taken seats p))
+ordinal_in seats u p =
+    option_map (λ (t : Tie Seat). t.value.ordinal)
+    (find (λ (t : Tie Seat). is_number u t.pair.user) (seats_taken seats p))
 
 -- ---- which entry may come next
 
--- an entry fits: the ordinal drawn is the next one and a letter's, and the user assigned doesn't review the paper; the user
--- unassigned reviews it under this ordinal
+-- an entry fits: the ordinal drawn is the next one and a letter's, and the user assigned doesn't review the paper; the
+-- user unassigned reviews it under this ordinal
 abbrev pub SeatsFit : SeatsState → Entry → Type 0
-SeatsFit seats (Assigned paper user kind ordinal) = (ordinal ≡ labels_in seats paper + 1) × (ordinal ≤ 26) × (ordinal_in seats (Some user) paper ≡ None)
+SeatsFit seats (Assigned paper user kind ordinal) =
+    (ordinal ≡ labels_in seats paper + 1) × (ordinal ≤ 26) × (ordinal_in seats (Some user) paper ≡ None)
 SeatsFit seats (Unassigned paper user ordinal) = ordinal_in seats (Some user) paper ≡ Some ordinal
 SeatsFit seats _ = Unit {0}
 
 -- no two of these seats are the same user's
 abbrev pub AreOfDifferentUsers : List (Tie Seat) → Type 0
 AreOfDifferentUsers [] = Unit {0}
-AreOfDifferentUsers (t ∷ ts) = IsFalse (list_any (λ (s : Tie Seat). s.pair.user == t.pair.user) ts) × AreOfDifferentUsers ts
+AreOfDifferentUsers (t ∷ ts) =
+    IsFalse (list_any (λ (s : Tie Seat). s.pair.user == t.pair.user) ts) × AreOfDifferentUsers ts
 
--- the seats come of entries that fit: each paper's labels are numbered from 1, and of its seats that nobody has left no two are
--- the same user's
+-- the seats come of entries that fit: each paper's labels are numbered from 1, and of its seats that nobody has
+-- left no two are the same user's
 pub record SeatsInOrder (seats : SeatsState) : Type 0 where
-  pub numbered : (p : ℕ) → map (λ (t : Tie Seat). t.value.ordinal) (ties_of ByPaper p seats) ≡ numbers_from 1 (ties_of ByPaper p seats)
+  pub numbered : (p : ℕ)
+      → map (λ (t : Tie Seat). t.value.ordinal) (ties_of ByPaper p seats) ≡ numbers_from 1 (ties_of ByPaper p seats)
   pub single : (p : ℕ) → AreOfDifferentUsers (seats_taken seats p)
 
 -- each of these entries fits in its turn

@@ -9,8 +9,10 @@ abbrev pub kept_back : List ℕ → Inside
 kept_back v = record { bytes = v ++ replicate (34 - length v) 0; len = length v }
 
 -- what is kept is given back by the text
-pub kept_back-view : (a : Inside) → (a.len ≤ 34) × (length a.bytes ≡ 34) × (drop a.len a.bytes ≡ replicate (34 - a.len) 0) → kept_back (take a.len a.bytes) ≡ a
+pub kept_back-view : (a : Inside) → (a.len ≤ 34) × (length a.bytes ≡ 34)
+    × (drop a.len a.bytes ≡ replicate (34 - a.len) 0) → kept_back (take a.len a.bytes) ≡ a
 kept_back-view a h =
     let n : length (take a.len a.bytes) ≡ a.len = length-take-le a.len a.bytes (omega arith) in
-    let e : take a.len a.bytes ++ replicate (34 - a.len) 0 ≡ a.bytes = ap (λ z. take a.len a.bytes ++ z) (sym h.2) ∙ take-append-drop a.len a.bytes in
+    let e : take a.len a.bytes ++ replicate (34 - a.len) 0
+    ≡ a.bytes = ap (λ z. take a.len a.bytes ++ z) (sym h.2) ∙ take-append-drop a.len a.bytes in
     rw n (rw e refl)

@@ -17,7 +17,8 @@ use Rattle.cr_base.specs.Lists.{listed, is_number, at_some}
 use Rattle.cr_base.specs.Pairs.{users_tied_to}
 use Rattle.cr_base.specs.History.{Upload, BidTold, SeatTold, FormTold, CommentTold}
 use Rattle.cr_base.specs.HistoryFacts.{assigned_under}
-use Rattle.cr_base.specs.Papers.{paper_numbers, title_at, abstract_at, is_withdrawn_at, uploads_at, own_count, own_bytes}
+use Rattle.cr_base.specs.Papers.{paper_numbers, title_at, abstract_at}
+use Rattle.cr_base.specs.Papers.{is_withdrawn_at, uploads_at, own_count, own_bytes}
 use Rattle.cr_base.specs.Tables.{Tables}
 use Rattle.cr_base.specs.Reviews.{last_form_in, forms_in, forms_discussed_in, is_written_in, written_told}
 use Rattle.cr_base.specs.Seats.{labels_in, reviewers_in, ordinal_in, seats_in}
@@ -25,10 +26,11 @@ use Rattle.cr_base.specs.Tags.{tags_in}
 use Rattle.cr_base.specs.Talk.{comments_in, comment_as_told, own_comments_in}
 use Rattle.cr_base.specs.Ties.{authors_in, is_author_in, is_conflicted_in, bid_in, bids_in}
 
--- what rules and drawn numbers read: how the caller stands, to a paper if one is named; who has registered; the papers;
--- how many of them are the caller's, and how many bytes she has uploaded; her last bid on each, the ordinal under which she
--- reviews it, and the forms that she has written of it, in order; how many comments she has written; and which papers are
--- accepted
+-- what rules and drawn numbers read: how the caller stands, to a paper if one is named;
+-- who has registered; the papers;
+-- how many of them are the caller's, and how many bytes she has uploaded; her last bid on each, the ordinal
+-- under which she reviews it, and the forms that she has written of it, in order; how many comments she has
+-- written; and which papers are accepted
 pub record Facts : Type 0 where
   pub standing : Option ℕ → Standing
   pub accounts : List AccountLine
@@ -42,11 +44,11 @@ pub record Facts : Type 0 where
   pub accepted : ℕ → Bool
 
 -- what pages, contents and some rules tell of a paper beside the standing: its texts, its authors, who is declared in
--- conflict with it, and whom its authors declared, both by user number; what was uploaded to it, in order; whether it is
--- withdrawn; the last bids on it, by user number; its reviewers, by label, under which ordinal a user reviews it, how many
--- labels were given, and to whom each; of each label the last form, the forms that the committee discusses, and whether there is
--- one; the comments on it, by number; its tags that are for a user, who may be a chair, by their bytes; and the last decision
--- on it
+-- conflict with it, and whom its authors declared, both by user number; what was uploaded to it, in order; whether it
+-- is withdrawn; the last bids on it, by user number; its reviewers, by label, under which ordinal a user reviews it,
+-- how many labels were given, and to whom each; of each label the last form, the forms that the committee discusses,
+-- and whether there is one; the comments on it, by number; its tags that are for a user, who may be a chair, by their
+-- bytes; and the last decision on it
 pub record Shown : Type 0 where
   pub title : ℕ → Option (List ℕ)
   pub abstract_ : ℕ → Option (List ℕ)
@@ -163,7 +165,13 @@ target_named facts shown caller paper user =
     let declared = at_some (λ p. list_any (is_number user) (shown.conflicts p)) paper in
     let reviews = at_some (λ p. is_some (shown.ordinal user p)) paper in
     option_map
-    (λ (role : Role). record { role = role; herself = is_number user (maker_of caller); author = wrote; conflicted = wrote || declared; reviewer = reviews })
+    (λ (role : Role). record {
+      role = role;
+      herself = is_number user (maker_of caller);
+      author = wrote;
+      conflicted = wrote || declared;
+      reviewer = reviews;
+    })
     (role_among facts.accounts user)
 
 -- the decision on a paper: to accept it, where it is accepted, as everyone is told; else the last one that is shown

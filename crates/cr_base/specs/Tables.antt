@@ -13,8 +13,8 @@ use Rattle.cr_base.specs.Tags.{TagsState, no_tags, tags_after}
 use Rattle.cr_base.specs.Talk.{TalkState, no_talk, talk_after, TalkFit}
 use Rattle.cr_base.specs.Ties.{TiesState, no_ties, ties_after, TiesFit}
 
--- the tables: the stage, the accounts by user number, the papers, who is tied to them, who reviews them, what was written in
--- reviews and in comments, the tags that are on, and the decisions
+-- the tables: the stage, the accounts by user number, the papers, who is tied to them, who reviews them, what was
+-- written in reviews and in comments, the tags that are on, and the decisions
 pub record Tables : Type 0 where
   pub stage : StageState
   pub accounts : List Account

@@ -1,6 +1,7 @@
--- Tags: their grammar and their order (the HotCRP manual's tags, `~` for one's own and `~~` for chairs), and the table of
--- the tags that are on.
-use Rattle.std.specs.Prelude.{ℕ, Bool, true, false, ◌&&◌, ◌||◌, ◌==◌, nat_lt, List, [], ◌∷◌, ◌++◌, map, filter, Option, Some, None, if◌then◌else◌}
+-- Tags: their grammar and their order (the HotCRP manual's tags, `~` for one's own and `~~` for chairs), and the
+-- table of the tags that are on.
+use Rattle.std.specs.Prelude.{ℕ, Bool, true, false, ◌&&◌, ◌||◌, ◌==◌, nat_lt, List, []}
+use Rattle.std.specs.Prelude.{◌∷◌, ◌++◌, map, filter, Option, Some, None, if◌then◌else◌}
 use Rattle.std.specs.Cmp.Lexicographic.{slice_cmp}
 use Rattle.std.specs.declared.cmp.Ordering.{Ordering}
 use Rattle.std.specs.Ordering.{is_lt, nat_cmp, ordering_then}
@@ -29,7 +30,8 @@ abbrev pub bytes_before : List ℕ → List ℕ → Bool
 bytes_before x y = is_lt (slice_cmp nat_cmp x y)
 
 abbrev pub tag_before : SetTag → SetTag → Bool
-tag_before x y = bytes_before x.tag y.tag || (bytes_eq x.tag y.tag && nat_lt (owner_number x.owner) (owner_number y.owner))
+tag_before x y =
+    bytes_before x.tag y.tag || (bytes_eq x.tag y.tag && nat_lt (owner_number x.owner) (owner_number y.owner))
 
 -- the same, as a comparison answers it
 abbrev pub tag_order : SetTag → SetTag → Ordering
@@ -44,7 +46,8 @@ IsSortedTags ts = IsSorted tag_before ts
 -- they stand in their order; those with this one on, in its place, or off
 abbrev pub with_tag : Bool → SetTag → List SetTag → List SetTag
 with_tag on t ts =
-    filter (λ (s : SetTag). tag_before s t) ts ++ (if on then t ∷ [] else []) ++ filter (λ (s : SetTag). tag_before t s) ts
+    filter (λ (s : SetTag). tag_before s t) ts ++ (if on then t ∷ [] else [])
+    ++ filter (λ (s : SetTag). tag_before t s) ts
 
 -- the tag is for this reader: everyone's; her own private one; or a chair's, where she is one
 abbrev pub is_owner : Option ℕ → Option ℕ → Bool
@@ -82,11 +85,13 @@ IsSortedState tags = IsSorted stands_before tags
 -- the tags with this one on, in its place, or off
 abbrev pub tag_switched : Bool → Filed SetTag → TagsState → TagsState
 tag_switched on x xs =
-    filter (λ (y : Filed SetTag). stands_before y x) xs ++ (if on then x ∷ [] else []) ++ filter (λ (y : Filed SetTag). stands_before x y) xs
+    filter (λ (y : Filed SetTag). stands_before y x) xs ++ (if on then x ∷ [] else [])
+    ++ filter (λ (y : Filed SetTag). stands_before x y) xs
 
 -- the tags after one more entry, by this maker
 abbrev pub tags_after : TagsState → ℕ → Entry → TagsState
-tags_after tags maker (Tagged paper tag on) = tag_switched on (filed paper (record { tag = tag; owner = tag_owner tag maker })) tags
+tags_after tags maker (Tagged paper tag on) =
+    tag_switched on (filed paper (record { tag = tag; owner = tag_owner tag maker })) tags
 tags_after tags maker _ = tags
 
 -- ---- what is read

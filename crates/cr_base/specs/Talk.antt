@@ -11,8 +11,8 @@ use Rattle.cr_base.specs.Papers.{with_more}
 
 -- ---- the state
 
--- the comments: paper by paper, and those of a paper by number; and how many each user has written: her number is the index, and
--- who is past the end has written none
+-- the comments: paper by paper, and those of a paper by number; and how many each user has written: her number is the
+-- index, and who is past the end has written none
 pub record TalkState : Type 0 where
   pub comments : List (Filed Comment)
   pub written : List ℕ
@@ -48,5 +48,6 @@ own_comments_in talk (Some user) = slice_index talk.written user
 
 -- an entry fits: the number drawn is the paper's next one, and its maker hasn't written 1,000 comments
 abbrev pub TalkFit : TalkState → ℕ → Entry → Type 0
-TalkFit talk maker (Commented paper n ordinal text) = (n ≡ length (comments_in talk paper) + 1) × (own_comments_in talk (Some maker) < 1000)
+TalkFit talk maker (Commented paper n ordinal text) =
+    (n ≡ length (comments_in talk paper) + 1) × (own_comments_in talk (Some maker) < 1000)
 TalkFit talk maker _ = Unit {0}

@@ -1,6 +1,7 @@
 -- The table of ties: who is an author of which paper, who is declared in conflict with it, and who has bid on it
 -- (the HotCRP manual's conflicts and review preferences).
-use Rattle.std.specs.Prelude.{ℕ, Bool, fold, map, ◌||◌, ◌&&◌, nat_le, nat_lt, IsTrue, IsFalse, List, [], ◌∷◌, ◌++◌, Option, Some, None, false, if◌then◌else◌}
+use Rattle.std.specs.Prelude.{ℕ, Bool, fold, map, ◌||◌, ◌&&◌, nat_le, nat_lt, IsTrue, IsFalse}
+use Rattle.std.specs.Prelude.{List, [], ◌∷◌, ◌++◌, Option, Some, None, false, if◌then◌else◌}
 use Rattle.std.specs.List.{list_any, list_all}
 use Rattle.cr_base.specs.declared.entry.Entry.{Entry}
 use Rattle.cr_base.specs.declared.entry.Entry.TheVariants.{Submitted, Coauthor, Conflict, Bid}
@@ -19,8 +20,8 @@ abbrev pub BareTies : Type 0
 BareTies = List (Tie (Unit {0}))
 
 -- papers and their authors, in the order in which they were told; in ascending order, papers and the users in declared
--- conflict with them, papers and those whom an author named in one, and papers and the users who bid on them with their last
--- bids, each kept plus 20
+-- conflict with them, papers and those whom an author named in one, and papers and the users who bid on them with
+-- their last bids, each kept plus 20
 pub record TiesState : Type 0 where
   pub authors : BareTies
   pub conflicts : BareTies
@@ -52,15 +53,18 @@ is_author_in ties u p = list_any (is_number u) (authors_in ties p)
 
 -- the ties with this one, or without it
 abbrev pub switched : Bool → ℕ → ℕ → BareTies → BareTies
-switched on paper user ties = if on then with_tie ByPaper (bare_tie paper user) ties else without_pair (pair_of paper user) ties
+switched on paper user ties =
+    if on then with_tie ByPaper (bare_tie paper user) ties else without_pair (pair_of paper user) ties
 
 -- the ties after one more entry, by this maker
 abbrev pub ties_after : TiesState → ℕ → Entry → TiesState
-ties_after ties maker (Submitted paper title abstract) = record ties { authors = ties.authors ++ bare_tie paper maker ∷ [] }
+ties_after ties maker (Submitted paper title abstract) =
+    record ties { authors = ties.authors ++ bare_tie paper maker ∷ [] }
 ties_after ties maker (Coauthor paper user) = record ties { authors = ties.authors ++ bare_tie paper user ∷ [] }
 ties_after ties maker (Conflict paper user on) = record ties {
   conflicts = switched on paper user ties.conflicts;
-  declared = if is_author_in ties (Some maker) paper then with_tie ByPaper (bare_tie paper user) ties.declared else ties.declared;
+  declared = if is_author_in ties (Some maker) paper then with_tie ByPaper (bare_tie paper user) ties.declared
+      else ties.declared;
 }
 ties_after ties maker (Bid paper value) = record ties { bids = with_tie ByPaper (bid_tie paper maker value) ties.bids }
 ties_after ties maker _ = ties
@@ -108,9 +112,10 @@ pub record AreWithin (n : ℕ) (ties : TiesState) : Type 0 where
   pub authors : IsTrue (are_within n ties.authors)
   pub conflicts : IsTrue (are_within n ties.conflicts)
 
--- an entry fits: the paper that it makes comes behind all that have authors; the co-author's is the last of these, and she
--- is none of its authors
+-- an entry fits: the paper that it makes comes behind all that have authors; the co-author's is the last of these,
+-- and she is none of its authors
 abbrev pub TiesFit : TiesState → Entry → Type 0
 TiesFit ties (Submitted paper title abstract) = IsTrue (are_before paper ties.authors)
-TiesFit ties (Coauthor paper user) = IsTrue (are_up_to paper ties.authors) × IsFalse (has_pair (pair_of paper user) ties.authors)
+TiesFit ties (Coauthor paper user) =
+    IsTrue (are_up_to paper ties.authors) × IsFalse (has_pair (pair_of paper user) ties.authors)
 TiesFit ties _ = Unit {0}

@@ -1,9 +1,12 @@
--- The words and the numbers of phases, modes, roles, assignments and decisions, and of bids: CoCon's phases and roles, the
--- HotCRP manual's anonymity, its kinds of review (primary, secondary, pc), its review preferences and its decisions.
-use Rattle.std.specs.Prelude.{ℕ, ℤ, pos, negsuc, Bool, true, false, List, [], ◌∷◌, Option, Some, None, find, codes, ◌==◌, ◌+◌, ◌-◌, nat_le, nat_lt, ◌&&◌, if◌then◌else◌}
+-- The words and the numbers of phases, modes, roles, assignments and decisions, and of bids: CoCon's phases
+-- and roles, the HotCRP manual's anonymity, its kinds of review (primary, secondary, pc), its review
+-- preferences and its decisions.
+use Rattle.std.specs.Prelude.{ℕ, ℤ, pos, negsuc, Bool, true, false, List, [], ◌∷◌, Option, Some}
+use Rattle.std.specs.Prelude.{None, find, codes, ◌==◌, ◌+◌, ◌-◌, nat_le, nat_lt, ◌&&◌, if◌then◌else◌}
 use Rattle.std.specs.Str.{bytes_eq}
 use Rattle.cr_base.specs.declared.words.Phase.{Phase}
-use Rattle.cr_base.specs.declared.words.Phase.TheVariants.{Setup, Submission, Bidding, Reviewing, Discussion, Notification, Closed}
+use Rattle.cr_base.specs.declared.words.Phase.TheVariants.{Setup, Submission, Bidding, Reviewing}
+use Rattle.cr_base.specs.declared.words.Phase.TheVariants.{Discussion, Notification, Closed}
 use Rattle.cr_base.specs.declared.words.Mode.{Mode}
 use Rattle.cr_base.specs.declared.words.Mode.TheVariants.{Overt, Blind, Anonymous}
 use Rattle.cr_base.specs.declared.words.Kind.{Kind}

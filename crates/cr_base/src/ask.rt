@@ -74,9 +74,9 @@ pub enum Ask {
 }
 
 impl Ask {
-    /// Whether it is a registered user's, so that nobody is answered `unauthorized`: every command but a registration, a bulk, a
-    /// paper's page, content, reviews and comments, searches, reports, and what the caller is to the conference. Page and content of a
-    /// published paper want none, which only the history tells.
+    /// Whether it is a registered user's, so that nobody is answered `unauthorized`: every command but a registration,
+    /// a bulk, a paper's page, content, reviews and comments, searches, reports, and what the caller is to the
+    /// conference. Page and content of a published paper want none, which only the history tells.
     pub fn wants_login(self) -> bool
         ensures { result ≡ ask_wants_login self }
     {

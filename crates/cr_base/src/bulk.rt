@@ -15,7 +15,8 @@ pub const MOST_ROWS: usize = 512;
 pub struct BulkRow {
     /// The paper, in decimal.
     pub paper: Blob,
-    /// What is to be done: `primary`, `secondary`, `pcreview`, `clearreview`, `conflict`, `clearconflict`, `tag` or `cleartag`.
+    /// What is to be done: `primary`, `secondary`, `pcreview`, `clearreview`, `conflict`,
+    /// `clearconflict`, `tag` or `cleartag`.
     pub action: Blob,
     /// The name of the user of whom it is to be done; isn't read where it is done with a tag.
     pub user: Blob,
@@ -23,8 +24,8 @@ pub struct BulkRow {
     pub tag: Blob,
 }
 
-/// The rows of a bulk in their order, at most 512, with room for an entry each: so judging them takes no memory. Contracts see
-/// the list of rows.
+/// The rows of a bulk in their order, at most 512, with room for an entry each: so judging them takes no memory.
+/// Contracts see the list of rows.
 #[derive(Drop, Debug)]
 pub struct BulkRows {
     rows: Vec<BulkRow>,
@@ -39,7 +40,8 @@ impl Model for BulkRows {
 
     ghost view = { λ b. b.rows.items };
 
-    ghost invariant = { λ b. (length b.rows.items ≤ 512) × (b.entries.items ≡ []) × (length b.rows.items ≤ b.entries.cap) };
+    ghost invariant = { λ b. (length b.rows.items ≤ 512) × (b.entries.items ≡ [])
+        × (length b.rows.items ≤ b.entries.cap) };
 }
 
 impl BulkRows {

@@ -20,7 +20,8 @@ pub struct Comment {
 /// A comment as it is told: its writer by name, or by label where the caller may not be told the name.
 #[derive(Drop, Debug)]
 pub struct CommentLine {
-    /// The ordinal of the label under which the writer reviewed the paper, where the caller isn't told her name and she did.
+    /// The ordinal of the label under which the writer reviewed the paper, where the caller
+    /// isn't told her name and she did.
     pub label: Option<Ordinal>,
     /// Its number among those on the paper, from 1.
     pub n: u64,

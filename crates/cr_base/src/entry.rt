@@ -52,7 +52,8 @@ pub enum Entry {
         /// Its abstract: UTF-8, at most 5,000 bytes.
         abstract_: Text,
     },
-    /// A paper has one more author from here on. It stands behind the paper's submission, among the entries of that command.
+    /// A paper has one more author from here on. It stands behind the paper's submission,
+    /// among the entries of that command.
     Coauthor {
         /// The paper.
         paper: PaperNo,

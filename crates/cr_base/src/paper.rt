@@ -1,7 +1,8 @@
 //! What is kept of a paper.
 use crate::texts::Text;
 
-/// What is kept of a submitted paper. Its authors are no part of it, since they stand among the ties, nor are its uploads.
+/// What is kept of a submitted paper. Its authors are no part of it, since they stand among
+/// the ties, nor are its uploads.
 #[derive(Drop, Debug)]
 pub struct Paper {
     /// Its title.

@@ -20,8 +20,8 @@ fn is_paper_number(text: &[u8]) -> bool
     is_short(text) && text[0] != b'0' && all_digits(text)
 }
 
-/// The paper of a text: Some exactly where it is a number from 1 to 9,999 in decimal, without a sign and without a zero in front.
-/// Looks at four bytes at most; takes no memory.
+/// The paper of a text: Some exactly where it is a number from 1 to 9,999 in decimal, without a sign and without a
+/// zero in front. Looks at four bytes at most; takes no memory.
 pub fn parse_paper(text: &[u8]) -> Option<PaperNo>
     ensures { result ≡ spec.parse_paper text.now }
 {
@@ -32,7 +32,8 @@ pub fn parse_paper(text: &[u8]) -> Option<PaperNo>
     }
 }
 
-/// The name that a text is: 1 to 32 of `a-z0-9-`. None where it is no name. One walk over at most 32 bytes; takes no memory.
+/// The name that a text is: 1 to 32 of `a-z0-9-`. None where it is no name. One walk over at
+/// most 32 bytes; takes no memory.
 pub fn parse_name(text: &[u8]) -> Option<Short>
     ensures { result ≡ spec.parse_name text.now }
 {

@@ -37,9 +37,9 @@ pub enum Rule {
     NotAuthor,
     /// The user named is no member of the committee.
     NotAMember,
-    /// The caller is no member of the committee, and bids, declares a conflict of her own, reviews, comments, tags, or asks for
-    /// comments; or she is no author of the paper either, and asks for its reviews, or for its page or its content where it isn't
-    /// accepted or published.
+    /// The caller is no member of the committee, and bids, declares a conflict of her own, reviews, comments, tags, or
+    /// asks for comments; or she is no author of the paper either, and asks for its reviews, or for its page or its
+    /// content where it isn't accepted or published.
     NotMember,
     /// The caller is in conflict with the paper.
     Conflict,
@@ -103,8 +103,8 @@ pub enum Receipt {
         /// The mode.
         mode: Mode,
     },
-    /// The paper that was revised or withdrawn, with which a conflict was turned on or off, that has lost a reviewer, at which a
-    /// tag was turned on or off, or on which the committee decided.
+    /// The paper that was revised or withdrawn, with which a conflict was turned on or off, that has lost a reviewer,
+    /// at which a tag was turned on or off, or on which the committee decided.
     Changed {
         /// Its number.
         paper: PaperNo,

@@ -2,7 +2,8 @@
 ghost use Rattle.std.specs.Prelude.{◌≡◌, ◌≢◌, ◌≤◌, [], length, IfOk, IfSome, IfNone, Some, IsTrue};
 ghost use Rattle.cr_base.specs.TagTexts.{is_tag};
 ghost use Rattle.cr_base.specs.Shapes.{FitsShape};
-ghost use Rattle.cr_base.specs.Rows.{kind_name, kind_number, shape_of, row_of, fields_of, label_number, label_numbered, built, IsBoundedEntry};
+ghost use Rattle.cr_base.specs.Rows.{kind_name, kind_number, shape_of, row_of, fields_of};
+ghost use Rattle.cr_base.specs.Rows.{label_number, label_numbered, built, IsBoundedEntry};
 ghost use Rattle.cr_base.specs.declared.entry.EntryKind.{EntryKind};
 ghost use Rattle.cr_base.specs.declared.entry.Stamped.{Stamped};
 
@@ -173,7 +174,13 @@ impl Entry {
 
     /// The numbers of its row.
     fn row_numbers(&self) -> RowNumbers
-        ensures { result ≡ record { n1 = (fields_of self.now).n1; n2 = (fields_of self.now).n2; n3 = (fields_of self.now).n3; n4 = (fields_of self.now).n4; n5 = (fields_of self.now).n5 } }
+        ensures { result ≡ record {
+          n1 = (fields_of self.now).n1;
+          n2 = (fields_of self.now).n2;
+          n3 = (fields_of self.now).n3;
+          n4 = (fields_of self.now).n4;
+          n5 = (fields_of self.now).n5;
+        } }
     {
         match self {
             Entry::Registered { user, .. } => RowNumbers::of(user.number(), 0, 0),

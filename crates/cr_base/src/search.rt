@@ -35,7 +35,8 @@ pub enum Feature {
     Mine,
 }
 
-/// What one term of a search asks of a paper. A text is looked for as it stands, letters of ASCII without regard to case.
+/// What one term of a search asks of a paper. A text is looked for as it stands, letters
+/// of ASCII without regard to case.
 #[derive(Drop)]
 pub enum Term {
     /// Title or abstract has the text.
@@ -77,7 +78,8 @@ pub enum Step {
     },
 }
 
-/// A search, or the empty one, which has no step and holds of every paper. Contracts see its steps, which spell one tree (`tree_of`).
+/// A search, or the empty one, which has no step and holds of every paper. Contracts see its steps,
+/// which spell one tree (`tree_of`).
 #[derive(Drop)]
 pub struct Search {
     steps: Vec<Step>,

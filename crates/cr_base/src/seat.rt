@@ -3,7 +3,8 @@
 use crate::numbers::Ordinal;
 use crate::words::Kind;
 
-/// What a reviewer is to a paper, and whether she still is. A seat is kept when she leaves, since its label isn't used again.
+/// What a reviewer is to a paper, and whether she still is. A seat is kept when she leaves,
+/// since its label isn't used again.
 #[derive(Clone, Copy, Debug, PartialEq, Eq)]
 pub struct Seat {
     /// What she is to the paper.

@@ -40,8 +40,8 @@ impl Standing {
         self.role.is_chair() && !self.conflicted
     }
 
-    /// Whether she may do to the paper, which is there, what members in no conflict with it do, or the first broken rule:
-    /// `NotMember`, `Conflict`.
+    /// Whether she may do to the paper, which is there, what members in no conflict with it do, or the first broken
+    /// rule: `NotMember`, `Conflict`.
     pub fn check_eligible(&self) -> Result<(), Rule>
         ensures { result ≡ judged (member_checks self.now (of_there true)) tt }
     {
@@ -54,8 +54,8 @@ impl Standing {
         Ok(())
     }
 
-    /// Whether she may do to the paper what chairs do from bidding to discussion, where it is withdrawn or not, or the first
-    /// broken rule: `NotChair`, `Conflict` where she is in conflict with it, `WrongPhase`, `Withdrawn`.
+    /// Whether she may do to the paper what chairs do from bidding to discussion, where it is withdrawn or not, or the
+    /// first broken rule: `NotChair`, `Conflict` where she is in conflict with it, `WrongPhase`, `Withdrawn`.
     pub fn may_chair(&self, withdrawn: bool) -> Result<(), Rule>
         ensures { result ≡ judged (chair_checks self.now withdrawn) tt }
     {

@@ -1,8 +1,10 @@
 //! Bytes that contracts see as lists.
-ghost use Rattle.std.specs.Prelude.{◌≡◌, ℕ, ◌≤◌, ◌+◌, List, [], length, take, drop, replicate, IfOk, IfErr, IsTrue, ◌↔◌};
+ghost use Rattle.std.specs.Prelude.{◌≡◌, ℕ, ◌≤◌, ◌+◌, List, [], length, take};
+ghost use Rattle.std.specs.Prelude.{drop, replicate, IfOk, IfErr, IsTrue, ◌↔◌};
 ghost use Rattle.std.specs.List.{list_all};
 ghost use Rattle.std.specs.Str.{is_utf8};
-ghost use Rattle.cr_base.specs.Texts.{IsReviewText, IsCommentText, is_review_text as is_review_text_of, is_comment_text};
+ghost use Rattle.cr_base.specs.Texts.{IsReviewText, IsCommentText};
+ghost use Rattle.cr_base.specs.Texts.{is_review_text as is_review_text_of, is_comment_text};
 ghost use Rattle.cr_base.specs.Texts.{IsName, IsTitle, IsAbstract, IsContent, is_name as is_name_text, is_name_byte};
 ghost use Rattle.cr_base.specs.Texts.{is_title as is_title_text, is_title_byte, is_abstract as is_abstract_text};
 

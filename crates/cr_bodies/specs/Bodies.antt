@@ -4,14 +4,16 @@ use Rattle.std.specs.Prelude.{ℕ, List, Option, Some, None, codes}
 use Rattle.serde_json.specs.Data.{Data}
 use Rattle.cr_base.specs.declared.command.Command.{Command}
 use Rattle.cr_base.specs.declared.command.Command.TheVariants as commands
-use Rattle.cr_bodies.specs.Field.{◌>>=◌, abstract_under, bid_under, comment_under, decision_under, digest_under, flag_under, grade_under, kind_under}
-use Rattle.cr_bodies.specs.Field.{mode_under, name_under, names_under, phase_under, review_text_under, role_under, title_under, user_under}
+use Rattle.cr_bodies.specs.Field.{◌>>=◌, abstract_under, bid_under, comment_under, decision_under}
+use Rattle.cr_bodies.specs.Field.{digest_under, flag_under, grade_under, kind_under}
+use Rattle.cr_bodies.specs.Field.{mode_under, name_under, names_under, phase_under}
+use Rattle.cr_bodies.specs.Field.{review_text_under, role_under, title_under, user_under}
 use Rattle.cr_bodies.specs.Json.{json_of}
 use Rattle.cr_base.specs.declared.ask.Ask.{Ask}
 use Rattle.cr_base.specs.declared.ask.Ask.TheVariants as asks
 
--- the command that a JSON value tells a request, with the paper that its path tells: a line for each member that must be
--- there, or may be. None is a bad body; so it is where what is asked for is told by no such value
+-- the command that a JSON value tells a request, with the paper that its path tells: a line for each member that must
+-- be there, or may be. None is a bad body; so it is where what is asked for is told by no such value
 abbrev pub command_in : Ask → Option ℕ → Data → Option Command
 command_in asks.Register paper d = do
   name ← name_under (codes "name") d
@@ -52,7 +54,8 @@ command_in asks.Review paper d = do
   confidence ← grade_under (codes "confidence") d
   to_authors ← review_text_under (codes "to_authors") d
   to_pc ← review_text_under (codes "to_pc") d
-  Some (commands.Review paper (record { score = score; confidence = confidence; to_authors = to_authors; to_pc = to_pc }))
+  Some (commands.Review paper
+      (record { score = score; confidence = confidence; to_authors = to_authors; to_pc = to_pc }))
 command_in asks.Comment paper d = do
   text ← comment_under (codes "text") d
   Some (commands.Comment paper text)

@@ -9,7 +9,8 @@ use Rattle.cr_bodies.specs.declared.credentials.Credentials.{Credentials}
 
 -- of a name and a secret, where they are of their grammars
 unfoldable pub credentials : List ℕ → List ℕ → Option Credentials
-credentials name secret = if is_name name && is_secret secret then Some (record { name = name; digest = sha256 secret }) else None
+credentials name secret =
+    if is_name name && is_secret secret then Some (record { name = name; digest = sha256 secret }) else None
 
 -- a token is a name, a full stop and a secret
 unfoldable pub token_of : List ℕ → Option Credentials

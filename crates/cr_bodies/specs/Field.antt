@@ -1,5 +1,6 @@
 -- What a member of a JSON object says, by its key and the kind of its value.
-use Rattle.std.specs.Prelude.{ℕ, ℤ, List, [], ◌∷◌, length, Bool, IsTrue, nat_le, Option, Some, None, option_map, if◌then◌else◌}
+use Rattle.std.specs.Prelude.{ℕ, ℤ, List, [], ◌∷◌, length, Bool, IsTrue, nat_le}
+use Rattle.std.specs.Prelude.{Option, Some, None, option_map, if◌then◌else◌}
 use Rattle.sha2.specs.Sha256.{sha256}
 use Rattle.serde_json.specs.Data.{Data, Items, no_items, item}
 use Rattle.serde_json.specs.Find.{get, as_array, as_bool, as_i64, as_number, as_str}
@@ -9,8 +10,10 @@ use Rattle.cr_base.specs.declared.words.Mode.{Mode}
 use Rattle.cr_base.specs.declared.words.Phase.{Phase}
 use Rattle.cr_base.specs.declared.words.Role.{Role}
 use Rattle.cr_base.specs.Parse.{passing, parse_name}
-use Rattle.cr_base.specs.Texts.{IsAbstract, IsCommentText, IsName, IsReviewText, IsTitle, is_abstract, is_comment_text, is_name, is_review_text, is_title}
-use Rattle.cr_base.specs.Words.{bid_of_value, decision_named, grade_of_value, mode_named, phase_named, role_named, review_kind_named}
+use Rattle.cr_base.specs.Texts.{IsAbstract, IsCommentText, IsName, IsReviewText, IsTitle}
+use Rattle.cr_base.specs.Texts.{is_abstract, is_comment_text, is_name, is_review_text, is_title}
+use Rattle.cr_base.specs.Words.{bid_of_value, decision_named, grade_of_value}
+use Rattle.cr_base.specs.Words.{mode_named, phase_named, role_named, review_kind_named}
 use Rattle.cr_bodies.specs.Secret.{is_secret}
 use Rattle.cr_bodies.specs.declared.field.Grammar.{Grammar}
 use Rattle.cr_bodies.specs.declared.field.Grammar.TheVariants.{Name, Secret, Title, Abstract, ReviewText, CommentText}
@@ -107,8 +110,8 @@ bid_under key d = integer_under key d >>= bid_of_value
 abbrev pub grade_under : List ℕ → Data → Option ℕ
 grade_under key d = integer_under key d >>= grade_of_value
 
--- the phase, the mode, the kind of assignment, the decision, and the role that somebody may be named to, whose word stands under
--- a key
+-- the phase, the mode, the kind of assignment, the decision, and the role that somebody may be named
+-- to, whose word stands under a key
 abbrev pub phase_under : List ℕ → Data → Option Phase
 phase_under key d = text_under key d >>= phase_named
 

@@ -20,7 +20,8 @@ fn index_of(byte: u8, text: &[u8]) -> usize
     }
 }
 
-/// The bytes in front of the first such byte, all of them where there is none. One walk up to the byte; takes no memory.
+/// The bytes in front of the first such byte, all of them where there is none. One walk
+/// up to the byte; takes no memory.
 pub fn before_first(byte: u8, text: &[u8]) -> &[u8]
     ensures { result.now ≡ front (λ b. b == byte) text.now }
 {

@@ -49,9 +49,9 @@ fn read_token(token: &[u8]) -> Option<Credentials>
     credentials_from(before_first(b'.', token), after_first(b'.', token))
 }
 
-/// The credentials that the value of an Authorization field tells: the scheme `Bearer` in any case, one or more spaces,
-/// and a token (RFC 6750, section 2.1) that is a name, a full stop and a secret. None where it is anything else. Costs
-/// one walk over the value and the digest of at most 64 bytes.
+/// The credentials that the value of an Authorization field tells: the scheme `Bearer` in any case, one or more
+/// spaces, and a token (RFC 6750, section 2.1) that is a name, a full stop and a secret. None where it is anything
+/// else. Costs one walk over the value and the digest of at most 64 bytes.
 pub fn read_credentials(value: &[u8]) -> Option<Credentials>
     ensures { result ≡ credentials_of value.now }
 {

@@ -4,8 +4,10 @@ ghost use Rattle.cr_base.specs.Bounds.{IsGrade};
 ghost use Rattle.cr_base.specs.Decoding.{Decodes};
 ghost use Rattle.cr_base.specs.Texts.{IsName};
 ghost use Rattle.cr_base.specs.Words.{is_member};
-ghost use Rattle.cr_bodies.specs.Field.{IsOf, admits as admits_text, bid_under, decision_under, digest_under, flag_under, grade_under};
-ghost use Rattle.cr_bodies.specs.Field.{kind_under, mode_under, name_under, names_of, names_under, phase_under, role_under};
+ghost use Rattle.cr_bodies.specs.Field.{IsOf, admits as admits_text, bid_under};
+ghost use Rattle.cr_bodies.specs.Field.{decision_under, digest_under, flag_under, grade_under};
+ghost use Rattle.cr_bodies.specs.Field.{kind_under, mode_under, name_under, names_of};
+ghost use Rattle.cr_bodies.specs.Field.{names_under, phase_under, role_under};
 ghost use Rattle.cr_bodies.specs.Field.{text_under, tested_under, user_under};
 ghost use Rattle.cr_bodies.specs.Outcome.{Tells, TellsSeen};
 ghost use Rattle.serde_json.specs.Data.{array};
@@ -123,8 +125,8 @@ fn names_in(alloc: Global, items: &[Value]) -> Result<ToldNames, DecodeError>
     Ok(ToldNames::from_vec(names))
 }
 
-/// The names that the list under a key tells, at most 19 and each None where its text is no name; none where the key isn't
-/// there. One vector is taken for them.
+/// The names that the list under a key tells, at most 19 and each None where its text is no name; none where the key
+/// isn't there. One vector is taken for them.
 pub(crate) fn names(alloc: Global, body: &Value, key: &str) -> Result<ToldNames, DecodeError>
     ensures told { Decodes result (names_under key.now (view body.now)) }
     ensures few { IfOk result (λ names. length names ≤ 19) }

@@ -66,7 +66,10 @@ begun-going log t pending rows group reading begun =
 -- ---- rows that begin none
 
 -- the first row of rows that are not empty
-first-none : (t : Tables) (pending : List Row) (row : Row) (first : Stamped) (rest after : List Row) → row_of first ∷ rest ≡ (pending ++ row ∷ []) ++ after → IfSome (slice_get (pending ++ row ∷ []) 0) (λ r. NoneBegun t r (pending ++ row ∷ [])) → NoneBegun t (row_of first) (pending ++ row ∷ [])
+first-none : (t : Tables) (pending : List Row) (row : Row) (first : Stamped) (rest after : List Row)
+    → row_of first ∷ rest ≡ (pending ++ row ∷ []) ++ after
+    → IfSome (slice_get (pending ++ row ∷ []) 0) (λ r. NoneBegun t r (pending ++ row ∷ []))
+    → NoneBegun t (row_of first) (pending ++ row ∷ [])
 first-none t [] row first rest after e none = subst (λ (r : Row). NoneBegun t r (row ∷ [])) (let h : row ≡ row_of first = cc (e) in h) none
 first-none t (p ∷ ps) row first rest after e none = subst (λ (r : Row). NoneBegun t r (p ∷ (ps ++ row ∷ []))) (let h : p ≡ row_of first = cc (e) in h) none
 

@@ -93,7 +93,9 @@ refused-bad t i row before (refused.Bad found) read here refuses = record {
   bad = inl (λ goes. refuses.2 (subst (λ (x : List Row). Continue x) (next-row t i row here ∙ ap (λ (x : List Row). x ++ row ∷ []) (sym read)) goes));
 }
 
-pub bad-row : (told now : Option (List Row)) (i : ℕ) (row : Row) (before : List Row) (error : ReadError) (e : OpenError) → now ≡ told → IfSome told (λ t. before ≡ take i t) → IfSome now (λ t. slice_get t i ≡ Some row) → IsRowRefused before row error → e ≡ refusal i error → IfSome told (λ t. Explains t e)
+pub bad-row : (told now : Option (List Row)) (i : ℕ) (row : Row) (before : List Row) (error : ReadError)
+    (e : OpenError) → now ≡ told → IfSome told (λ t. before ≡ take i t) → IfSome now (λ t. slice_get t i ≡ Some row)
+    → IsRowRefused before row error → e ≡ refusal i error → IfSome told (λ t. Explains t e)
 bad-row None now i row before error e same read at refuses is = tt
 bad-row (Some t) now i row before error e same read at refuses is =
     let here = subst (λ (o : Option (List Row)). IfSome o (λ x. slice_get x i ≡ Some row)) same at in
@@ -127,7 +129,10 @@ cut-bad t count at log pending last counted is all cut =
       bad = inr (omega (arith, n, m, place), record { continue = goes; more = cut.cut.more });
     }
 
-pub cut-store : (told : Option (List Row)) (count at : ℕ) (log : History) (pending : List Row) (last : Row) (e : OpenError) → IfSome told (λ t. count ≡ length t) → at ≡ count - 1 → IfSome told (λ t. rows_of log ++ pending ≡ t) → IsCutStore log pending last → e ≡ errors.BadStore at last → IfSome told (λ t. Explains t e)
+pub cut-store : (told : Option (List Row)) (count at : ℕ) (log : History) (pending : List Row) (last : Row)
+    (e : OpenError) → IfSome told (λ t. count ≡ length t) → at ≡ count - 1
+    → IfSome told (λ t. rows_of log ++ pending ≡ t) → IsCutStore log pending last → e ≡ errors.BadStore at last
+    → IfSome told (λ t. Explains t e)
 cut-store None count at log pending last e counted is all cut told = tt
 cut-store (Some t) count at log pending last e counted is all cut told = subst (λ (x : OpenError). Explains t x) (sym told) (cut-bad t count at log pending last counted is all cut)
 

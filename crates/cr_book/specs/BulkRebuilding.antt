@@ -1,5 +1,6 @@
 -- Which rows of a bulk the entries of its group come of, by the tables of the history before it.
-use Rattle.std.specs.Prelude.{ℕ, Bool, true, false, not, ◌≡◌, ◌<◌, ◌==◌, ◌&&◌, ◌||◌, nat_lt, List, [], ◌∷◌, length, map, Option, Some, None, Result, Ok, is_ok, if◌then◌else◌}
+use Rattle.std.specs.Prelude.{ℕ, Bool, true, false, not, ◌≡◌, ◌<◌, ◌==◌, ◌&&◌, ◌||◌, nat_lt, List, []}
+use Rattle.std.specs.Prelude.{◌∷◌, length, map, Option, Some, None, Result, Ok, is_ok, if◌then◌else◌}
 use Rattle.std.specs.List.{AllByRecursion}
 use Rattle.cr_base.specs.declared.bulk.BulkRow.{BulkRow}
 use Rattle.cr_base.specs.declared.command.Command.{Command}
@@ -64,7 +65,8 @@ caller_judged t user = judged (bulk_checks (standing_at t (Some user) None)) tt
 abbrev pub may_bulk : Tables → ℕ → Bool
 may_bulk t user = is_known t (Some user) && is_ok (caller_judged t user)
 
--- the entries of a bulk, behind which another of the same bulk is to come: they have these rows, none of which is the 512th
+-- the entries of a bulk, behind which another of the same bulk is to come: they have these
+-- rows, none of which is the 512th
 pub record IsOpenBulk (t : Tables) (rows : List Row) (begun : History) : Type 0 where
   pub user : ℕ
   pub entries : List Entry
@@ -91,7 +93,8 @@ is_makers (s ∷ begun) user = s.maker == user
 abbrev pub may_go_on : Tables → History → Stamped → Bool
 may_go_on t begun next = has_room begun next.more && is_makers begun next.maker && may_bulk t next.maker
 
--- what is tried as the next of a bulk: an entry within its bounds and its row, behind entries that may stand before a row
+-- what is tried as the next of a bulk: an entry within its bounds and its row, behind
+-- entries that may stand before a row
 pub record IsTried (t : Tables) (begun : History) (next : Stamped) (row : Row) : Type 0 where
   pub earlier : AreEarlier t begun
   pub bounded : IsBoundedEntry next

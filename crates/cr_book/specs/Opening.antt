@@ -17,7 +17,8 @@ pub record Continue (rows : List Row) : Type 0 where
   pub after : List Row
   pub rows_are : rows_of history ≡ rows ++ after
 
--- the rows, all of which continue a legal history, end inside a group, since the last one is told to have another behind it
+-- the rows, all of which continue a legal history, end inside a group, since the last one is
+-- told to have another behind it
 pub record AreCutOff (rows : List Row) (last : Row) : Type 0 where
   pub continue : Continue rows
   pub more : last.more ≡ 1
@@ -35,11 +36,13 @@ Explains rows (errors.BadStore at found) = IsBadAt rows at found
 Explains rows errors.KeeperFault = Unit {0}
 Explains rows errors.OutOfMemory = Unit {0}
 
--- OpeningExact: what opening answers where the keeper tells these rows. It is the book of the one legal history that has
--- them; or they are bad at the row that is told, and then no legal history has them.
+-- OpeningExact: what opening answers where the keeper tells these rows. It is the book of the one legal history that
+-- has them; or they are bad at the row that is told, and then no legal history has them.
 abbrev pub Opens : {K : Type 0} → List Row → Result (SeenBook K) (OpenError × K) → Type 0
-Opens rows (Ok book) = Legal book.log × (rows_of book.log ≡ rows) × ((H : History) → Legal H → rows_of H ≡ rows → H ≡ book.log)
-Opens rows (Err (errors.BadStore at found, keeper)) = IsBadAt rows at found × ((H : History) → Legal H → rows_of H ≢ rows)
+Opens rows (Ok book) =
+    Legal book.log × (rows_of book.log ≡ rows) × ((H : History) → Legal H → rows_of H ≡ rows → H ≡ book.log)
+Opens rows (Err (errors.BadStore at found, keeper)) =
+    IsBadAt rows at found × ((H : History) → Legal H → rows_of H ≢ rows)
 Opens rows (Err (errors.KeeperFault, keeper)) = Unit {0}
 Opens rows (Err (errors.OutOfMemory, keeper)) = Unit {0}
 

@@ -25,8 +25,8 @@ IsGroup [] = ⊥
 IsGroup (e ∷ []) = IsFalse e.more
 IsGroup (e ∷ next ∷ after) = IsTrue e.more × IsGroup (next ∷ after)
 
--- the history of the whole groups is legal and the tables are its own; the rows behind them are open, and continue it; if they are
--- a bulk's, their entries are begun
+-- the history of the whole groups is legal and the tables are its own; the rows behind them are open, and continue it;
+-- if they are a bulk's, their entries are begun
 pub record IsReading (log : History) (tables : Tables) (pending : List Row) (begun : History) : Type 0 where
   pub legal : Legal log
   pub same : tables ≡ tables_of log

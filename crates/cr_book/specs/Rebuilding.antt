@@ -1,5 +1,6 @@
 -- Which command the entries of a group come of, by the tables of the history before it.
-use Rattle.std.specs.Prelude.{ℕ, Bool, true, false, zero, suc, ◌≡◌, ◌+◌, ◌-◌, ◌==◌, ◌||◌, ◌&&◌, nat_le, List, ◌++◌, length, take, drop, map, slice_get}
+use Rattle.std.specs.Prelude.{ℕ, Bool, true, false, zero, suc, ◌≡◌, ◌+◌, ◌-◌, ◌==◌, ◌||◌}
+use Rattle.std.specs.Prelude.{◌&&◌, nat_le, List, ◌++◌, length, take, drop, map, slice_get}
 use Rattle.std.specs.Prelude.{Option, Some, None, is_some, if◌then◌else◌}
 use Rattle.std.specs.List.{list_any}
 use Rattle.std.specs.Option.{option_map, option_map_or, option_and_then}
@@ -8,7 +9,8 @@ use Rattle.cr_base.specs.declared.command.Command.{Command}
 use Rattle.cr_base.specs.declared.command.Command.TheVariants as commands
 use Rattle.cr_base.specs.declared.entry.Entry.{Entry}
 use Rattle.cr_base.specs.declared.entry.Entry.TheVariants.{Registered, Named, PhaseSet, ModeSet, Submitted}
-use Rattle.cr_base.specs.declared.entry.Entry.TheVariants.{Revised, Uploaded, Withdrawn, Conflict, Bid, Assigned, Unassigned}
+use Rattle.cr_base.specs.declared.entry.Entry.TheVariants.{Revised, Uploaded, Withdrawn}
+use Rattle.cr_base.specs.declared.entry.Entry.TheVariants.{Conflict, Bid, Assigned, Unassigned}
 use Rattle.cr_base.specs.declared.entry.Entry.TheVariants.{Reviewed, Commented, Tagged, Decided}
 use Rattle.cr_base.specs.declared.entry.Stamped.{Stamped}
 use Rattle.cr_base.specs.declared.row.Row.{Row}
@@ -37,7 +39,8 @@ is_taken maker behind number = maker == number || list_any (λ r. r.n2 == number
 abbrev pub first_free : Tables → ℕ → List Row → ℕ → ℕ → Option (List ℕ)
 first_free t maker behind number zero = None
 first_free t maker behind number (suc many) =
-    option_and_then (λ name. if is_taken maker behind number then first_free t maker behind (number + 1) many else Some name) (name_told t number)
+    option_and_then (λ name. if is_taken maker behind number then first_free t maker behind (number + 1) many
+    else Some name) (name_told t number)
 
 -- the name of somebody who may be a co-author beside those told
 unfoldable pub name_left : Tables → ℕ → List Row → Option (List ℕ)
@@ -51,8 +54,8 @@ names_told t behind = map (λ (r : Row). name_numbered t r.n2) behind
 abbrev pub are_open : List Row → Bool
 are_open rows = option_map_or (λ (r : Row). r.more == 1) (slice_get rows (length rows - 1)) false
 
--- The names by which a submission's rows tell its co-authors, where that one submits it; of rows that are open with one name
--- more, since another co-author is to come: so none is what it is where nobody is left.
+-- The names by which a submission's rows tell its co-authors, where that one submits it; of rows that are open with
+-- one name more, since another co-author is to come: so none is what it is where nobody is left.
 abbrev pub authors_told : Tables → ℕ → List Row → List (Option (List ℕ))
 authors_told t maker rows =
     let behind = drop 1 rows in
@@ -68,9 +71,12 @@ giver_told maker e = Some maker
 -- what a user's command that names a user was, where the user named is there
 abbrev pub target_command_told : Tables → Entry → Option Command
 target_command_told t (Named user role) = option_map (λ name. commands.Name (Some name) role) (name_told t user)
-target_command_told t (Conflict paper user on) = option_map (λ name. commands.SetConflict (Some paper) (Some name) on) (name_told t user)
-target_command_told t (Assigned paper user kind ordinal) = option_map (λ name. commands.Assign (Some paper) (Some name) kind) (name_told t user)
-target_command_told t (Unassigned paper user ordinal) = option_map (λ name. commands.Unassign (Some paper) (Some name)) (name_told t user)
+target_command_told t (Conflict paper user on) =
+    option_map (λ name. commands.SetConflict (Some paper) (Some name) on) (name_told t user)
+target_command_told t (Assigned paper user kind ordinal) =
+    option_map (λ name. commands.Assign (Some paper) (Some name) kind) (name_told t user)
+target_command_told t (Unassigned paper user ordinal) =
+    option_map (λ name. commands.Unassign (Some paper) (Some name)) (name_told t user)
 target_command_told t _ = None
 
 -- what a user's command was that is on a paper and names no user, or that names one who is there
@@ -85,8 +91,8 @@ paper_command_told t (Tagged paper tag on) = Some (commands.Tag (Some paper) tag
 paper_command_told t (Decided paper decision) = Some (commands.Decide (Some paper) decision)
 paper_command_told t e = target_command_told t e
 
--- what a user's command was, where the users that it names are there, and co-authors, if it tells them, no more than 19; an
--- entry that begins no such command's has none
+-- what a user's command was, where the users that it names are there, and co-authors, if it tells them, no more than
+-- 19; an entry that begins no such command's has none
 abbrev pub user_command_told : Tables → List (Option (List ℕ)) → Entry → Option Command
 user_command_told t authors (PhaseSet phase) = Some (commands.SetPhase phase)
 user_command_told t authors (ModeSet mode) = Some (commands.SetMode mode)
@@ -108,7 +114,8 @@ is_known t (Some user) = is_some (name_told t user)
 abbrev pub drawn_told : Tables → List (Option (List ℕ)) → Stamped → Option Drawn
 drawn_told t authors first =
     let caller = giver_told first.maker first.entry in
-    if is_known t caller then option_and_then (λ command. result_ok (judge_by_role t caller command)) (command_told t authors first.entry) else None
+    if is_known t caller then option_and_then (λ command. result_ok (judge_by_role t caller command))
+    (command_told t authors first.entry) else None
 
 -- the same of the first entry that these rows spell, with the co-authors that they tell
 abbrev pub drawn_by_rows : Tables → List Row → Stamped → Option Drawn
@@ -128,5 +135,6 @@ pub record IsBegun (t : Tables) (rows : List Row) (group : History) : Type 0 whe
 -- it has none that does
 abbrev pub NoneBegun : Tables → Row → List Row → Type 0
 NoneBegun t row rows =
-    (first : Stamped) (drawn : Drawn) → IsBoundedEntry first → row_of first ≡ row → drawn_by_rows t rows first ≡ Some drawn
+    (first : Stamped) (drawn : Drawn) → IsBoundedEntry first → row_of first ≡ row
+    → drawn_by_rows t rows first ≡ Some drawn
     → take (length rows) (rows_of drawn.group) ≡ rows → ⊥

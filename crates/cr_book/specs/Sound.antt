@@ -17,12 +17,14 @@ abbrev pub IsKept : {K : Type 0} → (K → Option (List Row)) → K → History
 IsKept rows keeper log = IfSome (rows keeper) (λ told. told ≡ rows_of log)
 
 -- the history comes of commands and bulks, the tables are the history's, and so are the keeper's rows
-pub record IsSound {K : Type 0} (rows : K → Option (List Row)) (log : History) (tables : Tables) (keeper : K) : Type 0 where
+pub record IsSound {K : Type 0} (rows : K → Option (List Row)) (log : History) (tables : Tables)
+    (keeper : K) : Type 0 where
   pub legal : Legal log
   pub same : tables ≡ tables_of log
   pub kept : IsKept rows keeper log
 
--- Judge accepted the command on the caller's view, the receipt is the one drawn, and the history grew by the group drawn
+-- Judge accepted the command on the caller's view, the receipt is the one drawn, and the
+-- history grew by the group drawn
 pub record Accepts (old new : History) (caller : Option ℕ) (command : Command) (receipt : Receipt) : Type 0 where
   pub drawn : Drawn
   pub judged : judge caller (view caller old) command ≡ Ok drawn

@@ -137,12 +137,15 @@ impl<K: Keeper> Book<K> {
         ensures rule_stays { (rule : Rule) → result ≡ Err (BookError.Broken rule) → self.new ≡ self.old }
 
         // The other errors come only where Judge accepts the command.
-        ensures memory { result ≡ Err BookError.OutOfMemory → IsOk (judge caller.now (view caller.now self.old.log) command) }
-        ensures lost { result ≡ Err BookError.KeeperFault → IsOk (judge caller.now (view caller.now self.old.log) command) }
+        ensures memory { result ≡ Err BookError.OutOfMemory
+            → IsOk (judge caller.now (view caller.now self.old.log) command) }
+        ensures lost { result ≡ Err BookError.KeeperFault
+            → IsOk (judge caller.now (view caller.now self.old.log) command) }
 
         ensures log_stays { OnErr result (self.new.log ≡ self.old.log) }
         ensures rows_stay { OnErr result (K.rows self.new.keeper ≡ K.rows self.old.keeper) }
-        ensures fault { result ≡ Err BookError.KeeperFault → Rises (K.faults self.old.keeper) (K.faults self.new.keeper) }
+        ensures fault { result ≡ Err BookError.KeeperFault
+            → Rises (K.faults self.old.keeper) (K.faults self.new.keeper) }
         ensures steady { result ≢ Err BookError.KeeperFault → K.faults self.new.keeper ≡ K.faults self.old.keeper }
         ensures count { K.faults self.old.keeper ≤ K.faults self.new.keeper }
         ensures legal { Legal self.new.log }
@@ -161,16 +164,17 @@ impl<K: Keeper> Book<K> {
         }
     }
 
-    /// Judges a bulk of this caller, each row behind those before it, and where no rule is broken, keeps the entries of all
-    /// rows and applies them.
+    /// Judges a bulk of this caller, each row behind those before it, and where no rule is broken, keeps the
+    /// entries of all rows and applies them.
     ///
-    /// The caller is a registered user. On each error the history and the keeper's rows stay as they were: so of a bulk with
-    /// a broken row nothing is kept. What is broken is told whatever memory there is, since judging takes none; so both other
-    /// errors come only for a bulk that is accepted. `KeeperFault` comes only where the keeper's count of faults rose, or
-    /// stands at its last value; with all else the count is as it was, and `OutOfMemory` comes for lack of memory alone.
+    /// The caller is a registered user. On each error the history and the keeper's rows stay as they were: so of a
+    /// bulk with a broken row nothing is kept. What is broken is told whatever memory there is, since judging takes
+    /// none; so both other errors come only for a bulk that is accepted. `KeeperFault` comes only where the keeper's
+    /// count of faults rose, or stands at its last value; with all else the count is as it was, and `OutOfMemory`
+    /// comes for lack of memory alone.
     ///
-    /// Costs one judgement for each row, which walks over the entries of the rows before it, at most 511; the keeper is
-    /// asked once.
+    /// Costs one judgement for each row, which walks over the entries of the rows before it, at most
+    /// 511; the keeper is asked once.
     pub fn bulk(&mut self, caller: UserNo, rows: BulkRows) -> Result<Receipt, BookError<Broken>>
         requires { IsBulkAllowed self.old.log (record { user = caller; rows = rows }) }
 
@@ -184,12 +188,15 @@ impl<K: Keeper> Book<K> {
         ensures broken_stays { (broken : Broken) → result ≡ Err (BookError.Broken broken) → self.new ≡ self.old }
 
         // The other errors come only where Judge accepts the bulk.
-        ensures memory { result ≡ Err BookError.OutOfMemory → IsOk (judge_bulk caller (view (Some caller) self.old.log) rows) }
-        ensures lost { result ≡ Err BookError.KeeperFault → IsOk (judge_bulk caller (view (Some caller) self.old.log) rows) }
+        ensures memory { result ≡ Err BookError.OutOfMemory
+            → IsOk (judge_bulk caller (view (Some caller) self.old.log) rows) }
+        ensures lost { result ≡ Err BookError.KeeperFault
+            → IsOk (judge_bulk caller (view (Some caller) self.old.log) rows) }
 
         ensures log_stays { OnErr result (self.new.log ≡ self.old.log) }
         ensures rows_stay { OnErr result (K.rows self.new.keeper ≡ K.rows self.old.keeper) }
-        ensures fault { result ≡ Err BookError.KeeperFault → Rises (K.faults self.old.keeper) (K.faults self.new.keeper) }
+        ensures fault { result ≡ Err BookError.KeeperFault
+            → Rises (K.faults self.old.keeper) (K.faults self.new.keeper) }
         ensures steady { result ≢ Err BookError.KeeperFault → K.faults self.new.keeper ≡ K.faults self.old.keeper }
         ensures count { K.faults self.old.keeper ≤ K.faults self.new.keeper }
         ensures legal { Legal self.new.log }
@@ -205,8 +212,9 @@ impl<K: Keeper> Book<K> {
         }
     }
 
-    /// Takes the room for a group, keeps it and applies it: after the keeper has kept it nothing can fail. The texts are in the
-    /// entries, which the tables keep; rows and history share them. Nothing is judged, so nothing is told as broken.
+    /// Takes the room for a group, keeps it and applies it: after the keeper has kept it nothing can fail.
+    /// The texts are in the entries, which the tables keep; rows and history share them. Nothing is
+    /// judged, so nothing is told as broken.
     fn keep<B>(&mut self, group: Vec<Stamped>) -> Result<(), BookError<B>>
         requires legal { Legal (self.old.log ++ group.items) }
         requires fits { FitInTurn (tables_of self.old.log) group.items }
@@ -214,7 +222,8 @@ impl<K: Keeper> Book<K> {
         ensures unbroken { (broken : B) → result ≢ Err (BookError.Broken broken) }
         ensures log_stays { OnErr result (self.new.log ≡ self.old.log) }
         ensures rows_stay { OnErr result (K.rows self.new.keeper ≡ K.rows self.old.keeper) }
-        ensures fault { result ≡ Err BookError.KeeperFault → Rises (K.faults self.old.keeper) (K.faults self.new.keeper) }
+        ensures fault { result ≡ Err BookError.KeeperFault
+            → Rises (K.faults self.old.keeper) (K.faults self.new.keeper) }
         ensures steady { result ≢ Err BookError.KeeperFault → K.faults self.new.keeper ≡ K.faults self.old.keeper }
         ensures count { K.faults self.old.keeper ≤ K.faults self.new.keeper }
         ensures legal { Legal self.new.log }
@@ -253,8 +262,8 @@ impl<K: Keeper> Book<K> {
     /// assignments, `Query::Reviews` at most three walks over the paper's forms for each of its labels, of which
     /// there are at most 26, `Query::Comments` a walk over the comments on the paper with a look-up each,
     /// `Query::Content` and `Query::Version` one look-up, `Query::Search` a walk over all papers, which costs each
-    /// what `matches` of `cr_search_eval` does, `Query::Report` what `cr_reports` says of each report, `Query::Phase` nothing
-    /// that grows. But for a search and a letter, the length of texts and contents makes no difference.
+    /// what `matches` of `cr_search_eval` does, `Query::Report` what `cr_reports` says of each report, `Query::Phase`
+    /// nothing that grows. But for a search and a letter, the length of texts and contents makes no difference.
     pub fn answer(&self, caller: &Option<UserNo>, query: &Query) -> Result<Reply, AnswerError>
         requires { MayAsk self.now.log (needs_login (view None self.now.log) query.now) caller.now }
         ensures answered { AnswersAsDue result (answer caller.now (view caller.now self.now.log) query.now) }
@@ -274,8 +283,10 @@ impl<K: Keeper> Book<K> {
         search: &Search,
         only_count: bool,
     ) -> Result<Reply, AnswerError>
-        requires { MayAsk self.now.log (needs_login (view None self.now.log) (queries.Search search.now only_count)) caller.now }
-        ensures { AnswersAsDue result (answer caller.now (view caller.now self.now.log) (queries.Search search.now only_count)) }
+        requires { MayAsk self.now.log
+            (needs_login (view None self.now.log) (queries.Search search.now only_count)) caller.now }
+        ensures { AnswersAsDue result
+            (answer caller.now (view caller.now self.now.log) (queries.Search search.now only_count)) }
     {
         match cr_search_eval::answer(self.alloc, &self.live, caller, search, only_count) {
             Ok(reply) => Ok(reply),
@@ -283,8 +294,8 @@ impl<K: Keeper> Book<K> {
         }
     }
 
-    /// A report, or the first rule that it breaks, which is told whatever memory there is; else an error only for lack of
-    /// memory.
+    /// A report, or the first rule that it breaks, which is told whatever memory there is; else an
+    /// error only for lack of memory.
     fn answer_report(&self, caller: &Option<UserNo>, report: &Report) -> Result<Reply, AnswerError>
         requires { MayAsk self.now.log (needs_login (view None self.now.log) (queries.Report report.now)) caller.now }
         ensures { AnswersAsDue result (answer caller.now (view caller.now self.now.log) (queries.Report report.now)) }
@@ -334,8 +345,8 @@ impl<K: Keeper> Book<K> {
 
 /// What a user sees of the history.
 impl<K: Keeper> Book<K> {
-    /// Writes the user's view, one line a sighting: a compact JSON object with the parts that she is shown, its keys in
-    /// the order of their bytes. Behind an error a part of the lines was written. `WriteFault` comes only where the
+    /// Writes the user's view, one line a sighting: a compact JSON object with the parts that she is shown, its keys
+    /// in the order of their bytes. Behind an error a part of the lines was written. `WriteFault` comes only where the
     /// sink's count of faults rose, or stands at its last value; else the count is as it was, and `OutOfMemory` comes
     /// for lack of memory alone. No view is made in memory: see `write_view` for the cost.
     pub fn view_lines<O: Sink>(&self, user: UserNo, sink: &mut O) -> Result<(), ViewError>

@@ -4,7 +4,8 @@ ghost use Rattle.cr_base.specs.Rows.{row_of};
 ghost use Rattle.cr_base.specs.Tables.{tables_from};
 ghost use Rattle.cr_base.specs.Bulk.{IsRowCommand};
 ghost use Rattle.cr_view.specs.Rows.{AreEarlier};
-ghost use Rattle.cr_book.specs.BulkRebuilding.{begins_bulk, has_room, is_makers, is_of_bulk, is_of_row, may_bulk, may_go_on};
+ghost use Rattle.cr_book.specs.BulkRebuilding.{begins_bulk, has_room, is_makers};
+ghost use Rattle.cr_book.specs.BulkRebuilding.{is_of_bulk, is_of_row, may_bulk, may_go_on};
 ghost use Rattle.cr_book.specs.BulkRebuilding.{row_command_told, GoesOn, IsDrawn, IsTried};
 
 use crate::rebuilding::{is_known, paper_command_of};
@@ -89,7 +90,8 @@ fn spells(
     more: bool,
     row: &Row,
 ) -> Result<bool, AllocError>
-    ensures { IfOk result (λ same. IsTrue same ↔ (row_of (record { maker = maker; more = more; entry = entry }) ≡ row.now)) }
+    ensures { IfOk result (λ same. IsTrue same
+        ↔ (row_of (record { maker = maker; more = more; entry = entry }) ≡ row.now)) }
 {
     let spelled = entry.to_row(alloc, maker, more)?;
     Ok(spelled.is_same(row))
@@ -105,7 +107,8 @@ fn is_drawn(
     row: &Row,
 ) -> Result<bool, AllocError>
     requires { IsTried live.now.tables begun.now next.now row.now }
-    ensures drawn { IfOk result (λ drawn. IsTrue drawn ↔ IsDrawn (tables_from live.now.tables begun.now) next.now.maker next.now.entry) }
+    ensures drawn { IfOk result (λ drawn. IsTrue drawn
+        ↔ IsDrawn (tables_from live.now.tables begun.now) next.now.maker next.now.entry) }
     ensures earlier { IfOk result (λ drawn. IsTrue drawn → AreEarlier live.now.tables (begun.now ++ next.now ∷ [])) }
 {
     let entry = next.entry.copy()?;

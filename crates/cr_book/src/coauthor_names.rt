@@ -1,7 +1,8 @@
 //! The names by which a submission told its co-authors, by the rows behind its own.
 ghost use Rattle.std.specs.Prelude.{◌≡◌, ◌<◌, ◌≤◌, ◌==◌, IfOk, length};
 ghost use Rattle.std.specs.List.{list_any};
-ghost use Rattle.cr_book.specs.Rebuilding.{are_open, authors_told, first_free, is_taken, name_left, name_numbered, names_told};
+ghost use Rattle.cr_book.specs.Rebuilding.{are_open, authors_told, first_free, is_taken};
+ghost use Rattle.cr_book.specs.Rebuilding.{name_left, name_numbered, names_told};
 
 use cr_base::{LAST_NUMBER, Row, Short, ToldNames, UserNo};
 use cr_view::Live;
@@ -50,8 +51,8 @@ fn first_free(live: &Live, maker: UserNo, behind: &[Row], many: u64) -> Option<S
     None
 }
 
-/// The name of the first user who may be a co-author beside those told; None where nobody is left. A read by number and a
-/// walk over the rows for each user who is taken, of whom there are at most as many as rows, and for one more.
+/// The name of the first user who may be a co-author beside those told; None where nobody is left. A read by number
+/// and a walk over the rows for each user who is taken, of whom there are at most as many as rows, and for one more.
 #[tactic(auto, unfolding(crate::specs::Rebuilding::name_left))]
 fn name_left(live: &Live, maker: UserNo, behind: &[Row]) -> Option<Short>
     ensures { result ≡ name_left live.now.tables maker behind.now }
@@ -67,7 +68,8 @@ fn are_open(rows: &[Row]) -> bool
     rows[rows.len() - 1].more == 1
 }
 
-/// The name of each co-author whom these rows tell, None where nobody has the number; an error only for lack of memory.
+/// The name of each co-author whom these rows tell, None where nobody has the number; an
+/// error only for lack of memory.
 fn names_told(alloc: Global, live: &Live, behind: &[Row]) -> Result<Vec<Option<Short>>, AllocError>
     ensures { IfOk result (λ names. names.items ≡ names_told live.now.tables behind.now) }
 {
@@ -78,9 +80,9 @@ fn names_told(alloc: Global, live: &Live, behind: &[Row]) -> Result<Vec<Option<S
     Ok(names)
 }
 
-/// The name of each co-author whom the rows behind the first tell, None where nobody has the number. Where the last row
-/// tells that another follows, one name more: of the first user who may be told behind them, and None where nobody is
-/// left, with which no submission is accepted. An error only for lack of memory.
+/// The name of each co-author whom the rows behind the first tell, None where nobody has the number. Where the last
+/// row tells that another follows, one name more: of the first user who may be told behind them, and None where nobody
+/// is left, with which no submission is accepted. An error only for lack of memory.
 pub(crate) fn authors_told(
     alloc: Global,
     live: &Live,

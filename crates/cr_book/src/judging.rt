@@ -22,7 +22,8 @@ fn command_of(row: &BulkRow) -> Result<Command, Rule>
 /// The entry that a row draws behind those of the rows before it, or the first broken rule.
 fn judge_row(live: &Live, caller: UserNo, row: &BulkRow, earlier: &[Stamped]) -> Result<Entry, Rule>
     requires { AreEarlier live.now.tables earlier.now }
-    ensures judged { row_group caller result ≡ group_or_rule (row_judged_behind live.now.tables earlier.now caller row.now) }
+    ensures judged { row_group caller result
+        ≡ group_or_rule (row_judged_behind live.now.tables earlier.now caller row.now) }
     ensures next { IfOk result (λ entry. (more : Bool)
         → AreEarlier live.now.tables (earlier.now ++ record { maker = caller; more = more; entry = entry } ∷ [])) }
 {
@@ -43,7 +44,8 @@ fn row_broken(index: usize, rule: Rule) -> Broken
     }
 }
 
-/// The group of the entries of all rows, in a vector that is empty and has room for them; or the first row that breaks a rule.
+/// The group of the entries of all rows, in a vector that is empty and has room for them; or
+/// the first row that breaks a rule.
 fn judge_rows(
     live: &Live,
     caller: UserNo,
@@ -54,8 +56,10 @@ fn judge_rows(
     requires none { entries.items ≡ [] }
     requires room { length rows.now ≤ entries.cap }
     ensures group { IfOk result (λ group. group.items ≡ grouped caller (entries_of group.items)) }
-    ensures accepted { IfOk result (λ group. rows_judged (tables_basis caller) caller live.now.tables 1 rows.now ≡ Ok (entries_of group.items)) }
-    ensures broken { IfErr result (λ broken. rows_judged (tables_basis caller) caller live.now.tables 1 rows.now ≡ Err broken) }
+    ensures accepted { IfOk result (λ group. rows_judged (tables_basis caller) caller live.now.tables 1 rows.now
+        ≡ Ok (entries_of group.items)) }
+    ensures broken { IfErr result
+        (λ broken. rows_judged (tables_basis caller) caller live.now.tables 1 rows.now ≡ Err broken) }
 {
     for (i, row) in rows.iter().enumerate() {
         let entry = match judge_row(live, caller, row, &entries) {
@@ -71,8 +75,8 @@ fn judge_rows(
     Ok(entries)
 }
 
-/// The group of a bulk of this caller, or what is broken: the rule on the bulk as a whole, or the first row that breaks one.
-/// Takes no memory. Costs one judgement for each row, which walks over the entries of the rows before it.
+/// The group of a bulk of this caller, or what is broken: the rule on the bulk as a whole, or the first row that
+/// breaks one. Takes no memory. Costs one judgement for each row, which walks over the entries of the rows before it.
 pub(crate) fn judge_bulk(
     live: &Live,
     caller: UserNo,

@@ -9,5 +9,6 @@ ghost use Rattle.cr_policy.specs.Legal.{Legal};
 /// How a user, or nobody, stands by the tables of a legal history, as `Live::standing` tells it, is how
 /// she stands by the history: phase, mode, role, and her ties to a paper, where one is named.
 pub fn law_standing_by_tables()
-    ensures { (user paper : Option ℕ) (H : History) → Legal H → standing_at (tables_of H) user paper ≡ standing_of user paper H }
+    ensures { (user paper : Option ℕ) (H : History) → Legal H
+        → standing_at (tables_of H) user paper ≡ standing_of user paper H }
 {}

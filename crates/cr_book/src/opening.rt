@@ -53,7 +53,8 @@ fn refusal(row: u64, error: ReadError) -> OpenError
 /// Reads every row once, in order.
 fn read_rows<K: Keeper>(alloc: Global, keeper: &mut K, count: u64) -> Result<Reading, OpenError>
     requires { IfSome (K.rows keeper.old) (λ rows. count ≡ length rows) }
-    ensures spelled { IfOk result (λ read. IfSome (K.rows keeper.old) (λ rows. rows_of read.log ++ read.pending ≡ rows)) }
+    ensures spelled { IfOk result
+        (λ read. IfSome (K.rows keeper.old) (λ rows. rows_of read.log ++ read.pending ≡ rows)) }
     ensures bad { IfErr result (λ e. IfSome (K.rows keeper.old) (λ rows. Explains rows e)) }
     ensures same { K.rows keeper.new ≡ K.rows keeper.old }
     ensures cause { IsCounted (K.faults keeper.old) (K.faults keeper.new) result }

@@ -61,10 +61,12 @@ impl Reading {
         }
     }
 
-    /// One more row, which is kept until its group is whole. The row of a bulk of more than one costs one judgement of the
-    /// row's command, behind the entries that are begun; any other what judging and applying the group's command costs.
+    /// One more row, which is kept until its group is whole. The row of a bulk of more than one costs one
+    /// judgement of the row's command, behind the entries that are begun; any other what judging and
+    /// applying the group's command costs.
     pub(crate) fn read(self, row: Row) -> Result<Reading, ReadError>
-        ensures ok { IfOk result (λ after. rows_of after.log ++ after.pending ≡ (rows_of self.log ++ self.pending) ++ row ∷ []) }
+        ensures ok { IfOk result (λ after. rows_of after.log ++ after.pending
+            ≡ (rows_of self.log ++ self.pending) ++ row ∷ []) }
         ensures refused { IfErr result (λ e. IsRowRefused (rows_of self.log ++ self.pending) row e) }
     {
         let Reading {
@@ -115,7 +117,8 @@ fn read_of_command(
 ) -> Result<Reading, ReadError>
     requires reading { IsReading log.items live.tables pending.items [] }
     requires no_bulk { NoBulk (pending.items ++ row ∷ []) }
-    ensures ok { IfOk result (λ after. rows_of after.log ++ after.pending ≡ (rows_of log.items ++ pending.items) ++ row ∷ []) }
+    ensures ok { IfOk result (λ after. rows_of after.log ++ after.pending
+        ≡ (rows_of log.items ++ pending.items) ++ row ∷ []) }
     ensures refused { IfErr result (λ e. IsRowRefused (rows_of log.items ++ pending.items) row e) }
 {
     if pending.reserve(1).is_err() {
@@ -143,7 +146,8 @@ fn read_of_bulk(
     requires bulk { is_of_bulk pending.items begun.items next ≡ true }
     requires bounded { IsBoundedEntry next }
     requires row { row_of next ≡ row }
-    ensures ok { IfOk result (λ after. rows_of after.log ++ after.pending ≡ (rows_of log.items ++ pending.items) ++ row ∷ []) }
+    ensures ok { IfOk result (λ after. rows_of after.log ++ after.pending
+        ≡ (rows_of log.items ++ pending.items) ++ row ∷ []) }
     ensures refused { IfErr result (λ e. IsRowRefused (rows_of log.items ++ pending.items) row e) }
 {
     match goes_on(alloc, &live, &begun, &next, &row) {
@@ -163,11 +167,14 @@ fn with_next(
     row: Row,
     next: Stamped,
 ) -> Result<Reading, ReadError>
-    requires last { next.more ≡ false → IsGoing log.items live.tables (pending.items ++ row ∷ []) (begun.items ++ next ∷ []) }
-    requires more { next.more ≡ true → IsReading log.items live.tables (pending.items ++ row ∷ []) (begun.items ++ next ∷ []) }
+    requires last { next.more ≡ false
+        → IsGoing log.items live.tables (pending.items ++ row ∷ []) (begun.items ++ next ∷ []) }
+    requires more { next.more ≡ true
+        → IsReading log.items live.tables (pending.items ++ row ∷ []) (begun.items ++ next ∷ []) }
     requires fits { FitInTurn live.tables (begun.items ++ next ∷ []) }
     requires same { length pending.items ≡ length begun.items }
-    ensures ok { IfOk result (λ after. rows_of after.log ++ after.pending ≡ (rows_of log.items ++ pending.items) ++ row ∷ []) }
+    ensures ok { IfOk result (λ after. rows_of after.log ++ after.pending
+        ≡ (rows_of log.items ++ pending.items) ++ row ∷ []) }
     ensures memory { IfErr result (λ e. e ≡ ReadError.OutOfMemory) }
 {
     if pending.reserve(1).is_err() {

@@ -5,7 +5,8 @@ ghost use Rattle.std.specs.Option.{option_map};
 ghost use Rattle.cr_base.specs.Tables.{FitInTurn};
 ghost use Rattle.cr_base.specs.declared.command.Command.TheVariants as commands;
 ghost use Rattle.cr_view.specs.Draws.{drawn_by};
-ghost use Rattle.cr_book.specs.Rebuilding.{giver_told, command_told, target_command_told, paper_command_told, user_command_told};
+ghost use Rattle.cr_book.specs.Rebuilding.{giver_told, command_told, target_command_told};
+ghost use Rattle.cr_book.specs.Rebuilding.{paper_command_told, user_command_told};
 ghost use Rattle.cr_book.specs.Rebuilding.{drawn_told, is_known, IsBegun, NoneBegun};
 ghost use Rattle.cr_base.specs.declared.row.Row.{Row};
 
@@ -197,9 +198,9 @@ fn are_first(rows: &[Row], all: &[Row]) -> bool
 }
 
 /// The entries of a command whose first rows these are, if there is one: the command of the first row's entry, with
-/// the co-authors told behind it, judged on the tables of the history before it, draws them. Where the last of the rows
-/// tells that another follows, and co-authors may, it is a command with one co-author more, whoever is left. An error
-/// only for want of memory. Costs one judgement, which names each co-author.
+/// the co-authors told behind it, judged on the tables of the history before it, draws them. Where the last of the
+/// rows tells that another follows, and co-authors may, it is a command with one co-author more, whoever is left. An
+/// error only for want of memory. Costs one judgement, which names each co-author.
 pub(crate) fn begun(
     alloc: Global,
     live: &Live,
@@ -208,7 +209,8 @@ pub(crate) fn begun(
     requires { 0 < length rows.now }
     ensures some { IfOk result (λ found. IfSome found (λ group. IsBegun live.now.tables rows.now group.items)) }
     ensures fits { IfOk result (λ found. IfSome found (λ group. FitInTurn live.now.tables group.items)) }
-    ensures none { IfOk result (λ found. found ≡ None → IfSome (slice_get rows.now 0) (λ row. NoneBegun live.now.tables row rows.now)) }
+    ensures none { IfOk result (λ found. found ≡ None
+        → IfSome (slice_get rows.now 0) (λ row. NoneBegun live.now.tables row rows.now)) }
 {
     let Some(first) = Stamped::from_row(&rows[0])? else {
         return Ok(None);

@@ -1,8 +1,10 @@
 -- A reader in the midst of a file, and what it has left.
-use Rattle.std.specs.Prelude.{◌≡◌, ◌+◌, ℕ, List, [], ◌∷◌, length, Bool, true, false, Option, Some, None, IsSome, Result, Ok, Err, option_and_then}
+use Rattle.std.specs.Prelude.{◌≡◌, ◌+◌, ℕ, List, [], ◌∷◌, length, Bool, true, false}
+use Rattle.std.specs.Prelude.{Option, Some, None, IsSome, Result, Ok, Err, option_and_then}
 use Rattle.std.specs.Borrow.{Bor}
 use Rattle.csv.specs.Machine.{ends_at_end}
-use Rattle.csv.specs.Reading.{Ready, default_config, is_flexible, reader_config, reader_state, reader_trim, records_from, source_of}
+use Rattle.csv.specs.Reading.{Ready, default_config, is_flexible, reader_config}
+use Rattle.csv.specs.Reading.{reader_state, reader_trim, records_from, source_of}
 use Rattle.csv.specs.declared.parser.State.{State}
 use Rattle.csv.specs.declared.reader.Reader.{Reader}
 use Rattle.csv.specs.declared.reader.Trim.TheVariants as trim
@@ -19,7 +21,8 @@ Lent = Reader (Bor (List ℕ))
 abbrev pub bytes_left : Lent → Option (List ℕ)
 bytes_left a = source_of (λ s. Some s.now) a
 
--- it stands between two records, reads with the default settings but for the lengths of records, and takes none for a header
+-- it stands between two records, reads with the default settings but for the lengths of
+-- records, and takes none for a header
 pub record IsReading (a : Lent) : Type 0 where
   pub trim : reader_trim a ≡ trim.None
   pub ready : Ready a
@@ -48,5 +51,6 @@ NextTold (Err e) old new fields = e ≡ OutOfMemory
 
 -- what reading the header leaves
 abbrev pub HeaderTold : Result (Unit {0}) DecodeError → Lent → Lent → Type 0
-HeaderTold (Ok done) old new = IsReading new × (rows_under (left_of old) ≡ option_and_then if_few (rows_told (left_of new)))
+HeaderTold (Ok done) old new =
+    IsReading new × (rows_under (left_of old) ≡ option_and_then if_few (rows_told (left_of new)))
 HeaderTold (Err e) old new = Fails e (rows_under (left_of old))

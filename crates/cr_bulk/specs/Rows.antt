@@ -1,5 +1,7 @@
--- The rows that a file spells: comma-separated values (RFC 4180), as the crate `csv` reads them with its default settings.
-use Rattle.std.specs.Prelude.{ℕ, List, [], ◌∷◌, length, Bool, ◌&&◌, nat_le, Option, Some, None, option_and_then, if◌then◌else◌, codes}
+-- The rows that a file spells: comma-separated values (RFC 4180), as the crate `csv` reads
+-- them with its default settings.
+use Rattle.std.specs.Prelude.{ℕ, List, [], ◌∷◌, length, Bool, ◌&&◌, nat_le, Option}
+use Rattle.std.specs.Prelude.{Some, None, option_and_then, if◌then◌else◌, codes}
 use Rattle.std.specs.Str.{bytes_eq, is_utf8}
 use Rattle.csv.specs.Reading.{default_config, records, strip_bom}
 use Rattle.cr_base.specs.declared.bulk.BulkRow.{BulkRow}
@@ -30,7 +32,9 @@ if_few rows = if nat_le (length rows) 512 then Some rows else None
 
 -- the names of the columns
 abbrev pub is_header : BulkRow → Bool
-is_header row = bytes_eq row.paper (codes "paper") && bytes_eq row.action (codes "action") && bytes_eq row.user (codes "user") && bytes_eq row.tag (codes "tag")
+is_header row =
+    bytes_eq row.paper (codes "paper") && bytes_eq row.action (codes "action") && bytes_eq row.user (codes "user")
+    && bytes_eq row.tag (codes "tag")
 
 -- the rows behind what stands first
 abbrev pub rows_behind : Option BulkRow → List (List (List ℕ)) → Option (List BulkRow)

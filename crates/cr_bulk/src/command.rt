@@ -44,9 +44,9 @@ fn command_by(action: Action, row: &BulkRow) -> Result<Command, Rule>
     }
 }
 
-/// The command that a row tells, or why it tells none: `BadAction` where there is no such action, and `BadTag` where the action
-/// is one of tags and the column `tag` has none. The column that the action isn't about isn't read. One walk over at most 34
-/// bytes of each column; takes no memory.
+/// The command that a row tells, or why it tells none: `BadAction` where there is no such action, and `BadTag` where
+/// the action is one of tags and the column `tag` has none. The column that the action isn't about isn't read. One
+/// walk over at most 34 bytes of each column; takes no memory.
 #[tactic(auto, unfolding(cr_base::specs::Bulk::row_command))]
 pub fn row_command(row: &BulkRow) -> Result<Command, Rule>
     ensures { result ≡ row_command row.now }

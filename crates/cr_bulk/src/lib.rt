@@ -1,7 +1,7 @@
 //! Bulk assignment: the rows of a file, and the command that each tells.
 //!
-//! `specs/Rows.antt` says which rows a file spells, over the records that `csv` defines; which command a row tells stands in
-//! `Bulk` of cr_base.
+//! `specs/Rows.antt` says which rows a file spells, over the records that `csv` defines; which command a row
+//! tells stands in `Bulk` of cr_base.
 #![tactic(auto)]
 
 mod action;

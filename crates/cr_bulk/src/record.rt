@@ -9,8 +9,9 @@ use cr_base::{Blob, BulkRow, DecodeError};
 use csv::{ByteRecord, Reader, ReaderBuilder};
 use std::alloc::{AllocError, Global};
 
-/// A reader over the records of a text, with the default settings of `csv`, but that the header is a record as the others are, and
-/// that records may differ in length: `row_of` looks at their length, so that an error is want of memory alone.
+/// A reader over the records of a text, with the default settings of `csv`, but that the header is a record
+/// as the others are, and that records may differ in length: `row_of` looks at their length, so that an
+/// error is want of memory alone.
 pub(crate) fn reader_over(alloc: Global, text: &[u8]) -> Reader<&[u8]>
     ensures reading { IsReading result }
     ensures left { left_of result ≡ records_of text.now }

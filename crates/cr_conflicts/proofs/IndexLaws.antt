@@ -78,7 +78,10 @@ told-besides paper user (t ∷ ts) all none =
     by true is h low rest = absurd (cc)
     by false is h low rest = both_true (another t.pair.paper t.pair.user paper user low is) (rest h)
 
-pub indexed-push : (authors : BareTies) (users : Order) (authored : BareTies) (declared bids : Order) (paper user : ℕ) (users' : Order) (authors' authored' : BareTies) → users' ≡ users → authors' ≡ authors ++ bare_tie paper user ∷ [] → authored' ≡ with_tie users (bare_tie paper user) authored → all_before (pair_of paper user) authors ≡ true → AuthorsIndexed authors users authored declared bids → AuthorsIndexed authors' users' authored' declared bids
+pub indexed-push : (authors : BareTies) (users : Order) (authored : BareTies) (declared bids : Order) (paper user : ℕ)
+    (users' : Order) (authors' authored' : BareTies) → users' ≡ users → authors' ≡ authors ++ bare_tie paper user ∷ []
+    → authored' ≡ with_tie users (bare_tie paper user) authored → all_before (pair_of paper user) authors ≡ true
+    → AuthorsIndexed authors users authored declared bids → AuthorsIndexed authors' users' authored' declared bids
 indexed-push authors users authored declared bids paper user users' authors' authored' same pushed put before index =
     let put_so : authored' ≡ with_tie ByUser (bare_tie paper user) authored = put
     ∙ ap (λ (o : Order). with_tie o (bare_tie paper user) authored) index.by_user in

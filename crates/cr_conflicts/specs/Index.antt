@@ -20,9 +20,10 @@ all_before p ties = list_all (λ (t : Tie (Unit {0})). is_told_before t.pair p) 
 abbrev pub with_author : ℕ → ℕ → TiesState → TiesState
 with_author paper user ties = record ties { authors = ties.authors ++ bare_tie paper user ∷ [] }
 
--- authors were told paper by paper, none of them twice; by user there are the same, in ascending order; and whom authors
--- named is in the order of papers, as the bids are
-pub record AuthorsIndexed (authors : BareTies) (users : Order) (authored : BareTies) (declared bids : Order) : Type 0 where
+-- authors were told paper by paper, none of them twice; by user there are the same, in ascending order; and whom
+-- authors named is in the order of papers, as the bids are
+pub record AuthorsIndexed (authors : BareTies) (users : Order) (authored : BareTies)
+    (declared bids : Order) : Type 0 where
   pub told : IsSortedBy is_told_before authors
   pub by_user : users ≡ ByUser
   pub ascending : IsAscending ByUser authored

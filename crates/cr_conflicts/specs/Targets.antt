@@ -6,7 +6,8 @@ use Rattle.cr_base.specs.declared.words.Role.{Role}
 use Rattle.cr_base.specs.Lists.{at_some}
 use Rattle.cr_base.specs.Ties.{TiesState, is_author_in, is_conflicted_in}
 
--- a user of this role, where `maker` calls and this paper is named; no rule about conflicts asks whether she reviews it
+-- a user of this role, where `maker` calls and this paper is named; no rule about
+-- conflicts asks whether she reviews it
 abbrev pub target_in : TiesState → ℕ → Option ℕ → ℕ → Role → Target
 target_in ties maker paper user role = record {
   role = role;

@@ -24,7 +24,8 @@ fn gives_author(stamped: &Stamped, user: UserNo, paper: PaperNo) -> bool
 
 /// Whether one of the entries makes the user an author of the paper. A walk over them.
 pub(crate) fn give_author(earlier: &[Stamped], user: UserNo, paper: PaperNo) -> bool
-    ensures { result ≡ list_any (λ e. list_any (is_number (Some user)) (author_told paper e.maker e.entry)) earlier.now }
+    ensures { result
+        ≡ list_any (λ e. list_any (is_number (Some user)) (author_told paper e.maker e.entry)) earlier.now }
 {
     earlier
         .iter()

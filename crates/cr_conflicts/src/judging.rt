@@ -1,6 +1,7 @@
 //! The rules of bidding, and of turning a conflict on and off, a function a list of checks.
 ghost use Rattle.std.specs.Prelude.{◌≡◌, true};
-ghost use Rattle.cr_base.specs.Checks.{judged, bid_checks, declare_checks, own_checks, other_checks, on_checks, off_checks};
+ghost use Rattle.cr_base.specs.Checks.{judged, bid_checks, declare_checks, own_checks};
+ghost use Rattle.cr_base.specs.Checks.{other_checks, on_checks, off_checks};
 
 use cr_base::{Phase, Rule, Standing, Target};
 

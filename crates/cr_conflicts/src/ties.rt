@@ -3,7 +3,8 @@ ghost use Rattle.std.specs.Prelude.{◌≡◌, ◌≤◌, ◌<◌, ◌+◌, IsTr
 ghost use Rattle.cr_base.specs.Checks.{judged, bid_checks, conflict_checks};
 ghost use Rattle.cr_base.specs.Lists.{IsRising};
 ghost use Rattle.cr_base.specs.Pairs.{with_tie, users_tied_to, papers_tied_to};
-ghost use Rattle.cr_base.specs.Ties.{no_ties, ties_after, ties_from, switched, pair_of, bare_tie, authors_in, is_author_in, is_conflicted_in, TiesFit};
+ghost use Rattle.cr_base.specs.Ties.{no_ties, ties_after, ties_from, switched, pair_of, bare_tie};
+ghost use Rattle.cr_base.specs.Ties.{authors_in, is_author_in, is_conflicted_in, TiesFit};
 ghost use Rattle.cr_base.specs.Ties.{is_conflict_on_in, bid_tie, bid_in, bids_in};
 ghost use Rattle.cr_conflicts.specs.Index.{all_before, with_author};
 ghost use Rattle.cr_conflicts.specs.Targets.{target_of};
@@ -45,11 +46,18 @@ impl Model for Ties {
     ghost Value = { SeenTies };
 
     ghost view = { λ t. record {
-      ties = record { authors = t.authors.items; conflicts = t.conflicts.ties; declared = t.declared.ties; bids = t.bids.ties };
-      room = min (vec_capacity t.authors - vec_len t.authors) (min t.authored.room (min t.conflicts.room (min t.declared.room t.bids.room)));
+      ties = record {
+        authors = t.authors.items;
+        conflicts = t.conflicts.ties;
+        declared = t.declared.ties;
+        bids = t.bids.ties;
+      };
+      room = min (vec_capacity t.authors - vec_len t.authors)
+          (min t.authored.room (min t.conflicts.room (min t.declared.room t.bids.room)));
     } };
 
-    ghost invariant = { λ t. AuthorsIndexed t.authors.items t.authored.order t.authored.ties t.declared.order t.bids.order };
+    ghost invariant = { λ t. AuthorsIndexed t.authors.items t.authored.order t.authored.ties
+        t.declared.order t.bids.order };
 }
 
 /// A paper and a user who are tied.
@@ -215,7 +223,8 @@ impl Ties {
         paper: &Option<PaperNo>,
         withdrawn: bool,
     ) -> Result<(), Rule>
-        ensures { result ≡ judged (bid_checks by.now (record { there = is_some paper.now; withdrawn = withdrawn })) tt }
+        ensures { result
+            ≡ judged (bid_checks by.now (record { there = is_some paper.now; withdrawn = withdrawn })) tt }
     {
         if paper.is_none() {
             return Err(Rule::NoPaper);
@@ -246,7 +255,8 @@ impl Ties {
         earlier: &[Stamped],
     ) -> Result<(), Rule>
         ensures { let ties = ties_from self.now.ties earlier.now in
-            result ≡ judged (conflict_checks by.now (record { there = is_some paper.now; withdrawn = withdrawn }) (target_of ties maker paper.now target.now) on) tt }
+            result ≡ judged (conflict_checks by.now (record { there = is_some paper.now; withdrawn = withdrawn })
+            (target_of ties maker paper.now target.now) on) tt }
     {
         let Some(paper) = paper else {
             return Err(Rule::NoPaper);

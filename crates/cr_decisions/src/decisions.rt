@@ -58,7 +58,8 @@ impl Decisions {
         paper: &Option<PaperNo>,
         withdrawn: bool,
     ) -> Result<(), Rule>
-        ensures { result ≡ judged (decide_checks by.now (record { there = is_some paper.now; withdrawn = withdrawn })) tt }
+        ensures { result
+            ≡ judged (decide_checks by.now (record { there = is_some paper.now; withdrawn = withdrawn })) tt }
     {
         if paper.is_none() {
             return Err(Rule::NoPaper);

@@ -10,8 +10,8 @@ turned x = (1103515245 * x + 12345) % 2147483648
 unfoldable pub drawn : ℕ → ℕ
 drawn x = x / 65536
 
--- A step draws four numbers: a user, an operation, a paper and another user. There are so many papers; where there is none, paper 1
--- is drawn.
+-- A step draws four numbers: a user, an operation, a paper and another user. There are so many papers; where
+-- there is none, paper 1 is drawn.
 unfoldable pub roll_of : ℕ → ℕ → Roll
 roll_of papers x =
     let a = turned x in let b = turned a in let c = turned b in let d = turned c in

@@ -1,6 +1,7 @@
 -- A drill: the history that Step gives for commands that are made up from a seed, and its summary (docs/API.md, the
 -- appendix).
-use Rattle.std.specs.Prelude.{ℕ, zero, suc, ◌+◌, ◌*◌, ◌/◌, ◌==◌, not, ◌&&◌, Bool, List, [], ◌∷◌, ◌++◌, Some, None, fold, length}
+use Rattle.std.specs.Prelude.{ℕ, zero, suc, ◌+◌, ◌*◌, ◌/◌, ◌==◌, not, ◌&&◌, Bool}
+use Rattle.std.specs.Prelude.{List, [], ◌∷◌, ◌++◌, Some, None, fold, length}
 use Rattle.std.specs.Prelude.{codes, decimal, is_ok, if◌then◌else◌}
 use Rattle.std.specs.List.{flat_map}
 use Rattle.cr_base.specs.declared.command.Command.{Command}
@@ -8,7 +9,8 @@ use Rattle.cr_base.specs.declared.command.Command.TheVariants.{Register, Name, S
 use Rattle.cr_base.specs.declared.entry.EntryKind.{EntryKind}
 use Rattle.cr_base.specs.declared.entry.EntryKind.TheVariants as kinds
 use Rattle.cr_base.specs.declared.words.Phase.{Phase}
-use Rattle.cr_base.specs.declared.words.Phase.TheVariants.{Submission, Bidding, Reviewing, Discussion, Notification, Closed}
+use Rattle.cr_base.specs.declared.words.Phase.TheVariants.{Submission, Bidding, Reviewing}
+use Rattle.cr_base.specs.declared.words.Phase.TheVariants.{Discussion, Notification, Closed}
 use Rattle.cr_base.specs.declared.words.Role.{Role}
 use Rattle.cr_base.specs.declared.words.Role.TheVariants.{Member, Chair}
 use Rattle.cr_base.specs.History.{History}
@@ -18,7 +20,8 @@ use Rattle.cr_book.specs.Kinds.{count_of_kind}
 use Rattle.cr_policy.specs.Judge.{judge}
 use Rattle.cr_policy.specs.Legal.{Call, step}
 use Rattle.cr_policy.specs.View.{view}
-use Rattle.cr_drill.specs.Cast.{cast, cast_size, first_chair, second_chair, first_member, member_count, cast_name, cast_digest}
+use Rattle.cr_drill.specs.Cast.{cast, cast_size, first_chair, second_chair}
+use Rattle.cr_drill.specs.Cast.{first_member, member_count, cast_name, cast_digest}
 use Rattle.cr_drill.specs.Cast.{operation_in, actor_of, command_of}
 use Rattle.cr_drill.specs.Dice.{roll_of, after_roll}
 
@@ -89,7 +92,8 @@ pub record Drilled : Type 0 where
 
 -- the four quarters of a drill are in four phases
 abbrev pub phase_in_quarter : ℕ → Phase
-phase_in_quarter n = if n == 0 then Submission else (if n == 1 then Bidding else (if n == 2 then Reviewing else Discussion))
+phase_in_quarter n =
+    if n == 0 then Submission else (if n == 1 then Bidding else (if n == 2 then Reviewing else Discussion))
 
 unfoldable pub phase_at : ℕ → ℕ → Phase
 phase_at steps s = phase_in_quarter (4 * s / steps)
@@ -111,7 +115,9 @@ asked d call = record {
 
 -- a step in a phase, on the history that has moved on to it
 abbrev pub stepped_in : Phase → ℕ → Drilled → Drilled
-stepped_in phase s d = let moved = record d { history = moved_to phase d.history } in asked moved (call_at phase s moved.history moved.seed)
+stepped_in phase s d =
+    let moved = record d { history = moved_to phase d.history } in
+    asked moved (call_at phase s moved.history moved.seed)
 
 unfoldable pub stepped : ℕ → ℕ → Drilled → Drilled
 stepped steps s d = stepped_in (phase_at steps s) s d
@@ -129,8 +135,10 @@ drilled seed steps = let d = drilled_for seed steps steps in record d { history 
 
 -- the kinds of entries in the order of their numbers
 abbrev pub every_kind : List EntryKind
-every_kind = kinds.Registered ∷ kinds.Named ∷ kinds.PhaseSet ∷ kinds.ModeSet ∷ kinds.Submitted ∷ kinds.Coauthor ∷ kinds.Revised
-    ∷ kinds.Uploaded ∷ kinds.Withdrawn ∷ kinds.Conflict ∷ kinds.Bid ∷ kinds.Assigned ∷ kinds.Unassigned ∷ kinds.Reviewed
+every_kind =
+    kinds.Registered ∷ kinds.Named ∷ kinds.PhaseSet ∷ kinds.ModeSet ∷ kinds.Submitted ∷ kinds.Coauthor ∷ kinds.Revised
+    ∷ kinds.Uploaded ∷ kinds.Withdrawn ∷ kinds.Conflict ∷ kinds.Bid ∷ kinds.Assigned
+    ∷ kinds.Unassigned ∷ kinds.Reviewed
     ∷ kinds.Commented ∷ kinds.Tagged ∷ kinds.Decided ∷ []
 
 -- a word and a number behind it
@@ -138,7 +146,9 @@ abbrev pub counted : List ℕ → ℕ → List ℕ
 counted word n = word ++ decimal n
 
 unfoldable pub steps_line : ℕ → ℕ → ℕ → List ℕ
-steps_line steps accepted refused = counted (codes "steps ") steps ++ counted (codes ", accepted ") accepted ++ counted (codes ", refused ") refused ++ codes "\n"
+steps_line steps accepted refused =
+    counted (codes "steps ") steps ++ counted (codes ", accepted ") accepted
+    ++ counted (codes ", refused ") refused ++ codes "\n"
 
 -- how many entries there are, as the last line of `serve` tells too
 unfoldable pub entries_line : ℕ → List ℕ
@@ -159,4 +169,6 @@ unfoldable pub views_line : History → List ℕ
 views_line H = codes "views" ++ views_text H cast ++ codes "\n"
 
 unfoldable pub summary : ℕ → Drilled → List ℕ
-summary steps d = steps_line steps d.accepted d.refused ++ entries_line (length d.history) ++ kinds_line d.history ++ views_line d.history
+summary steps d =
+    steps_line steps d.accepted d.refused ++ entries_line (length d.history)
+    ++ kinds_line d.history ++ views_line d.history

@@ -1,6 +1,7 @@
 //! Who takes part in a drill, and the commands that its steps make up.
 ghost use Rattle.std.specs.Prelude.{◌≡◌, ◌≤◌, ◌+◌, IfOk, codes};
-ghost use Rattle.cr_drill.specs.Cast.{operation_in, actor_of, cast_digest, cast_name, chair_for, command_of, decision_of, first_chair, form_of, is_chairs, is_even};
+ghost use Rattle.cr_drill.specs.Cast.{operation_in, actor_of, cast_digest, cast_name, chair_for};
+ghost use Rattle.cr_drill.specs.Cast.{command_of, decision_of, first_chair, form_of, is_chairs, is_even};
 ghost use Rattle.cr_drill.specs.Cast.{second_chair, step_title, submission_at};
 
 use crate::dice::Roll;

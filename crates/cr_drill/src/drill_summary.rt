@@ -2,7 +2,8 @@
 ghost use Rattle.std.specs.Prelude.{◌≡◌, ◌++◌, IfOk, OnOk, Some, codes, length};
 ghost use Rattle.cr_policy.specs.View.{view};
 ghost use Rattle.cr_drill.specs.Cast.{cast};
-ghost use Rattle.cr_drill.specs.Drill.{counted, entries_line, kinds_line, kinds_text, steps_line, summary, views_line, views_text};
+ghost use Rattle.cr_drill.specs.Drill.{counted, entries_line, kinds_line, kinds_text};
+ghost use Rattle.cr_drill.specs.Drill.{steps_line, summary, views_line, views_text};
 ghost use Rattle.cr_drill.specs.Drilling.{drilled_of};
 
 use crate::drilling::Progress;
@@ -116,7 +117,8 @@ fn append_view_count(
     book: &Book<PlainKeeper>,
     user: UserNo,
 ) -> Result<(), AllocError>
-    ensures { OnOk result (text.new.items ≡ text.old.items ++ counted (codes " ") (length (view (Some user) book.now.log))) }
+    ensures { OnOk result (text.new.items ≡ text.old.items
+        ++ counted (codes " ") (length (view (Some user) book.now.log))) }
 {
     let sightings = book.view_len(user)?;
     append_counted(text, b" ", sightings)
@@ -146,7 +148,8 @@ fn append_views(text: &mut Vec<u8>, book: &Book<PlainKeeper>) -> Result<(), Allo
     append(text, b"\n")
 }
 
-/// The four lines; an error only for lack of memory. Costs a walk over the history for each kind, and two for each user.
+/// The four lines; an error only for lack of memory. Costs a walk over the history for
+/// each kind, and two for each user.
 #[tactic(auto, unfolding(crate::specs::Drill::summary))]
 pub(crate) fn summary(
     alloc: Global,

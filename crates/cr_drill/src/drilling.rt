@@ -8,7 +8,8 @@ ghost use Rattle.cr_base.specs.declared.words.Role.TheVariants.{Chair};
 ghost use Rattle.cr_base.specs.Words.{is_member};
 ghost use Rattle.cr_policy.specs.Legal.{Legal, IsAllowed, step};
 ghost use Rattle.cr_drill.specs.Cast.{first_chair, second_chair, member_count};
-ghost use Rattle.cr_drill.specs.Drill.{all_registered, call_by, drilled, drilled_for, is_accepted, is_on_way, members_named, moved_on, moved_through, moved_to, named, opened};
+ghost use Rattle.cr_drill.specs.Drill.{all_registered, call_by, drilled, drilled_for, is_accepted, is_on_way};
+ghost use Rattle.cr_drill.specs.Drill.{members_named, moved_on, moved_through, moved_to, named, opened};
 ghost use Rattle.cr_drill.specs.Drill.{phase_at, phase_in_quarter, stepped_in, summary};
 ghost use Rattle.cr_drill.specs.Drilling.{GoesOn, HasCast, drilled_of};
 
@@ -58,8 +59,10 @@ fn ask(
     command: Command,
 ) -> Result<bool, AllocError>
     requires { IsAllowed book.old.log (record { caller = caller; command = command }) }
-    ensures stepped { IfOk result (λ yes. book.new.log ≡ step book.old.log (record { caller = caller; command = command })) }
-    ensures accepted { IfOk result (λ yes. yes ≡ is_accepted book.old.log (record { caller = caller; command = command })) }
+    ensures stepped { IfOk result (λ yes. book.new.log
+        ≡ step book.old.log (record { caller = caller; command = command })) }
+    ensures accepted { IfOk result (λ yes. yes
+        ≡ is_accepted book.old.log (record { caller = caller; command = command })) }
     ensures goes_on { GoesOn book.old.log book.new.log }
 {
     match book.command(&caller, command) {
@@ -264,7 +267,8 @@ fn take_step(
     requires seed { progress.old.dice.seed ≤ 4294967295 }
     requires few { step < 100000 }
     requires counts { (progress.old.accepted ≤ step) × (progress.old.refused ≤ step) }
-    ensures stepped { OnOk result (drilled_of progress.new book.new.log ≡ stepped_in phase step (drilled_of progress.old book.old.log)) }
+    ensures stepped { OnOk result (drilled_of progress.new book.new.log
+        ≡ stepped_in phase step (drilled_of progress.old book.old.log)) }
     ensures cast { HasCast book.new.log }
     ensures seed { progress.new.dice.seed ≤ 4294967295 }
     ensures counts { OnOk result ((progress.new.accepted ≤ step + 1) × (progress.new.refused ≤ step + 1)) }

@@ -2,7 +2,8 @@
 use Rattle.std.specs.Prelude.{ℕ, true, ◌≡◌, ◌≤◌, ◌==◌, List, [], ◌∷◌, length, IsTrue, IsFalse}
 use Rattle.std.specs.List.{AllByRecursion}
 use Rattle.cr_base.specs.declared.entry.Entry.{Entry}
-use Rattle.cr_base.specs.declared.entry.Entry.TheVariants.{Registered, Named, Submitted, Coauthor, Revised, Uploaded, Bid}
+use Rattle.cr_base.specs.declared.entry.Entry.TheVariants.{Registered, Named, Submitted}
+use Rattle.cr_base.specs.declared.entry.Entry.TheVariants.{Coauthor, Revised, Uploaded, Bid}
 use Rattle.cr_base.specs.declared.entry.Entry.TheVariants.{Conflict, Assigned, Unassigned, Reviewed, Commented, Tagged}
 use Rattle.cr_base.specs.declared.words.Role.TheVariants.{Chair}
 use Rattle.cr_base.specs.History.{History}
@@ -11,7 +12,8 @@ use Rattle.cr_base.specs.Bounds.{IsForm}
 use Rattle.cr_base.specs.Bulk.{IsRowEntry}
 use Rattle.cr_base.specs.TagTexts.{is_tag}
 use Rattle.cr_base.specs.Texts.{IsName, IsTitle, IsAbstract, IsContent, IsCommentText}
-use Rattle.cr_history.specs.Invariants.{IsRegistered, IsMadeByUser, IsInPhase, IsByChair, RaisesRole, IsOfMember, IsByRight, IsSeated}
+use Rattle.cr_history.specs.Invariants.{IsRegistered, IsMadeByUser, IsInPhase, IsByChair}
+use Rattle.cr_history.specs.Invariants.{RaisesRole, IsOfMember, IsByRight, IsSeated}
 
 -- the texts of the entry are within their bounds, and so are the grades of a form, and a bid, which is kept plus 20
 abbrev pub HasTexts : Entry → Type 0
@@ -41,17 +43,20 @@ StandsAlone (Registered user name digest) = IsFalse (user == 1)
 StandsAlone (Coauthor paper user) = ⊥
 StandsAlone _ = Unit {0}
 
--- one entry; a submission with those of these users who become co-authors; or the registration of the first user and the
--- role that comes with it
+-- one entry; a submission with those of these users who become co-authors; or the registration of the first user
+-- and the role that comes with it
 pub data Adds (H : History) : History → Type 0 where
-  single : (maker : ℕ) (e : Entry) → IsMadeByUser H maker e → StandsAlone e → IsRuled H maker e → Adds H (grouped maker (e ∷ []))
+  single : (maker : ℕ) (e : Entry) → IsMadeByUser H maker e → StandsAlone e → IsRuled H maker e
+      → Adds H (grouped maker (e ∷ []))
   submitted : (maker paper : ℕ) (title abstract : List ℕ) (users : List ℕ)
-      → IsMadeByUser H maker (Submitted paper title abstract) → IsRuled H maker (Submitted paper title abstract) → AllByRecursion (IsRegistered H) users
+      → IsMadeByUser H maker (Submitted paper title abstract) → IsRuled H maker (Submitted paper title abstract)
+      → AllByRecursion (IsRegistered H) users
       → Adds H (grouped maker (submission maker paper title abstract users))
   first_user : (user : ℕ) (name digest : List ℕ) → user ≡ 1 → HasTexts (Registered user name digest)
       → Adds H (grouped user (Registered user name digest ∷ Named user Chair ∷ []))
 
--- how a history grows: by all that a command adds, or by the entry of a bulk's row with the mark that another's follows
+-- how a history grows: by all that a command adds, or by the entry of a bulk's row with
+-- the mark that another's follows
 pub data Grows (H : History) : History → Type 0 where
   adds : (g : History) → Adds H g → Grows H g
   goes_on : (maker : ℕ) (e : Entry) → IsMadeByUser H maker e → IsRowEntry e → IsRuled H maker e

@@ -1,14 +1,18 @@
 -- Invariants: what is so of each entry of a legal history, on the history before it, and of the history as a whole.
-use Rattle.std.specs.Prelude.{ℕ, Bool, false, ◌≡◌, ◌==◌, ◌<◌, ◌+◌, ◌&&◌, ◌||◌, not, [], ◌∷◌, ◌++◌, length, Some, None, IsTrue, IsFalse, if◌then◌else◌}
+use Rattle.std.specs.Prelude.{ℕ, Bool, false, ◌≡◌, ◌==◌, ◌<◌, ◌+◌, ◌&&◌, ◌||◌, not, [], ◌∷◌}
+use Rattle.std.specs.Prelude.{◌++◌, length, Some, None, IsTrue, IsFalse, if◌then◌else◌}
 use Rattle.std.specs.List.{All, AllByRecursion, list_any}
 use Rattle.cr_base.specs.declared.entry.Entry.{Entry}
 use Rattle.cr_base.specs.declared.entry.Entry.TheVariants.{Registered, Named, PhaseSet, ModeSet, Submitted}
 use Rattle.cr_base.specs.declared.entry.Entry.TheVariants.{Coauthor, Revised, Uploaded, Withdrawn, Conflict}
-use Rattle.cr_base.specs.declared.entry.Entry.TheVariants.{Bid, Assigned, Unassigned, Reviewed, Commented, Tagged, Decided}
+use Rattle.cr_base.specs.declared.entry.Entry.TheVariants.{Bid, Assigned, Unassigned, Reviewed}
+use Rattle.cr_base.specs.declared.entry.Entry.TheVariants.{Commented, Tagged, Decided}
 use Rattle.cr_base.specs.declared.entry.Stamped.{Stamped}
-use Rattle.cr_base.specs.declared.words.Phase.TheVariants.{Setup, Submission, Bidding, Reviewing, Discussion, Notification}
+use Rattle.cr_base.specs.declared.words.Phase.TheVariants.{Setup, Submission, Bidding}
+use Rattle.cr_base.specs.declared.words.Phase.TheVariants.{Reviewing, Discussion, Notification}
 use Rattle.cr_base.specs.Checks.{is_in_committee}
-use Rattle.cr_base.specs.HistoryFacts.{phase_of, role_of, accounts_of, papers_of, uploads_of, number_of, is_author, is_conflicted, ordinal_of, seats_of}
+use Rattle.cr_base.specs.HistoryFacts.{phase_of, role_of, accounts_of, papers_of, uploads_of}
+use Rattle.cr_base.specs.HistoryFacts.{number_of, is_author, is_conflicted, ordinal_of, seats_of}
 use Rattle.cr_base.specs.HistoryFacts.{forms_of, is_written, comments_of}
 use Rattle.cr_base.specs.History.{History, Registration, all_told, registration_told, opens, opens_discussion}
 use Rattle.cr_base.specs.Lists.{until, since}
@@ -44,8 +48,8 @@ IsMadeByUser H maker (Commented paper n ordinal text) = IsRegistered H maker
 IsMadeByUser H maker (Tagged paper tag on) = IsRegistered H maker
 IsMadeByUser H maker (Decided paper decision) = IsRegistered H maker
 
--- of the entries that commands add, the first user's registration has another of its command behind it; a submission, its
--- co-authors and the entries of a bulk may have one
+-- of the entries that commands add, the first user's registration has another of its command behind it; a submission,
+-- its co-authors and the entries of a bulk may have one
 abbrev pub IsMarked : Bool → Entry → Type 0
 IsMarked more (Registered user name digest) = more ≡ (user == 1)
 IsMarked more (Submitted paper title abstract) = Unit {0}
@@ -56,8 +60,9 @@ IsMarked more (Unassigned paper user ordinal) = Unit {0}
 IsMarked more (Tagged paper tag on) = Unit {0}
 IsMarked more _ = IsFalse more
 
--- users are numbered from 1 as they register, papers as they are submitted, the versions of each paper as they are uploaded,
--- its labels as reviewers are assigned to it, the forms of each label as they are written, and the comments on each paper too
+-- users are numbered from 1 as they register, papers as they are submitted, the versions of each paper as they
+-- are uploaded, its labels as reviewers are assigned to it, the forms of each label as they are written, and
+-- the comments on each paper too
 abbrev pub HasNextNumber : History → Entry → Type 0
 HasNextNumber H (Registered user name digest) = user ≡ length (accounts_of H) + 1
 HasNextNumber H (Submitted paper title abstract) = paper ≡ length (papers_of H) + 1
@@ -93,10 +98,10 @@ IsAboutThose H (Tagged paper tag on) = IsSubmitted H paper
 IsAboutThose H (Decided paper decision) = IsSubmitted H paper
 IsAboutThose H _ = Unit {0}
 
--- the phase goes on by one; the mode is set in setup; papers are submitted, changed and withdrawn in submission; from the notification on
--- nobody is named a member or a chair, and no conflict is turned on or off; bids are told in bidding; reviewers are assigned and
--- unassigned, and tags turned on and off, from bidding to discussion; forms are written in reviewing and in the discussion, and
--- comments in the discussion, where the committee decides too
+-- the phase goes on by one; the mode is set in setup; papers are submitted, changed and withdrawn in submission; from
+-- the notification on nobody is named a member or a chair, and no conflict is turned on or off; bids are told in
+-- bidding; reviewers are assigned and unassigned, and tags turned on and off, from bidding to discussion; forms are
+-- written in reviewing and in the discussion, and comments in the discussion, where the committee decides too
 abbrev pub IsInPhase : History → Entry → Type 0
 IsInPhase H (Registered user name digest) = Unit {0}
 IsInPhase H (Named user role) = IsFalse (is_from Notification (phase_of H))
@@ -111,13 +116,14 @@ IsInPhase H (Conflict paper user on) = IsFalse (is_from Notification (phase_of H
 IsInPhase H (Bid paper value) = IsTrue (is_phase (phase_of H) Bidding)
 IsInPhase H (Assigned paper user kind ordinal) = IsTrue (is_in_committee (phase_of H))
 IsInPhase H (Unassigned paper user ordinal) = IsTrue (is_in_committee (phase_of H))
-IsInPhase H (Reviewed paper ordinal version form) = IsTrue (is_phase (phase_of H) Reviewing || is_phase (phase_of H) Discussion)
+IsInPhase H (Reviewed paper ordinal version form) =
+    IsTrue (is_phase (phase_of H) Reviewing || is_phase (phase_of H) Discussion)
 IsInPhase H (Commented paper n ordinal text) = IsTrue (is_phase (phase_of H) Discussion)
 IsInPhase H (Tagged paper tag on) = IsTrue (is_in_committee (phase_of H))
 IsInPhase H (Decided paper decision) = IsTrue (is_phase (phase_of H) Discussion)
 
--- chairs set the phase and the mode, name members and chairs, assign and unassign reviewers, and decide; the first user alone is
--- named otherwise, as she registers, by the second entry of all
+-- chairs set the phase and the mode, name members and chairs, assign and unassign reviewers, and decide; the first
+-- user alone is named otherwise, as she registers, by the second entry of all
 abbrev pub IsByChair : History → ℕ → Entry → Type 0
 IsByChair H maker (Named user role) = IsTrue (is_chair (role_of (Some maker) H) || length H == 1)
 IsByChair H maker (PhaseSet phase) = IsTrue (is_chair (role_of (Some maker) H))
@@ -150,9 +156,9 @@ may_turn H maker paper user on =
 abbrev pub is_clear_member_of : History → ℕ → ℕ → Bool
 is_clear_member_of H maker paper = is_member (role_of (Some maker) H) && not (is_conflicted (Some maker) paper H)
 
--- and a paper's authors alone name its co-authors, revise it, upload its content and withdraw it; members in no conflict with it
--- bid on it, review it, comment on it and tag it, chairs alone with tags for chairs; and chairs in none assign and unassign its
--- reviewers, and decide on it
+-- and a paper's authors alone name its co-authors, revise it, upload its content and withdraw it; members in no
+-- conflict with it bid on it, review it, comment on it and tag it, chairs alone with tags for chairs; and chairs in
+-- none assign and unassign its reviewers, and decide on it
 abbrev pub IsByRight : History → ℕ → Entry → Type 0
 IsByRight H maker (Coauthor paper user) = IsTrue (is_author (Some maker) paper H)
 IsByRight H maker (Revised paper title abstract) = IsTrue (is_author (Some maker) paper H)
@@ -169,13 +175,15 @@ IsByRight H maker (Tagged paper tag on) =
 IsByRight H maker (Decided paper decision) = IsFalse (is_conflicted (Some maker) paper H)
 IsByRight H maker _ = Unit {0}
 
--- whoever is assigned is in no conflict with the paper and doesn't review it, and it has a label left; whoever is unassigned
--- reviews it under that label, and has written no form under it; a form is under its maker's own label, and a comment tells that
--- label, where its maker has one
+-- whoever is assigned is in no conflict with the paper and doesn't review it, and it has a label left; whoever is
+-- unassigned reviews it under that label, and has written no form under it; a form is under its maker's own label, and
+-- a comment tells that label, where its maker has one
 abbrev pub IsSeated : History → ℕ → Entry → Type 0
 IsSeated H maker (Assigned paper user kind ordinal) =
-    IsFalse (is_conflicted (Some user) paper H) × (ordinal_of (Some user) paper H ≡ None) × (length (seats_of paper H) < 26)
-IsSeated H maker (Unassigned paper user ordinal) = (ordinal_of (Some user) paper H ≡ Some ordinal) × IsFalse (is_written paper ordinal H)
+    IsFalse (is_conflicted (Some user) paper H) × (ordinal_of (Some user) paper H ≡ None)
+    × (length (seats_of paper H) < 26)
+IsSeated H maker (Unassigned paper user ordinal) =
+    (ordinal_of (Some user) paper H ≡ Some ordinal) × IsFalse (is_written paper ordinal H)
 IsSeated H maker (Reviewed paper ordinal version form) = ordinal_of (Some maker) paper H ≡ Some ordinal
 IsSeated H maker (Commented paper n ordinal text) = ordinal_of (Some maker) paper H ≡ ordinal
 IsSeated H maker _ = Unit {0}
@@ -264,9 +272,10 @@ ReviewersStay H = All (λ (e : Stamped). IsHeld H e.maker e.entry) H
 abbrev pub IsSpelled : Stamped → Type 0
 IsSpelled e = stamped (kind_of e.entry) (row_of e) ≡ e
 
--- what every legal history keeps, and what of a bulk's entries stands behind one. Each entry is within its bounds, so that its row
--- spells it; it fits the tables of what stands before it; and it is in order there. Conflicts are declared in time, the discussion is
--- opened once, and whoever has written a form stays a reviewer. That no command's entries are cut off, too, is said apart (`IsWhole`)
+-- what every legal history keeps, and what of a bulk's entries stands behind one. Each entry is within its bounds, so
+-- that its row spells it; it fits the tables of what stands before it; and it is in order there. Conflicts are
+-- declared in time, the discussion is opened once, and whoever has written a form stays a reviewer. That no command's
+-- entries are cut off, too, is said apart (`IsWhole`)
 pub record Invariants (H : History) : Type 0 where
   pub bounded : All IsBoundedEntry H
   pub spelled : All IsSpelled H

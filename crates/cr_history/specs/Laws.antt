@@ -2,9 +2,12 @@
 use Rattle.std.specs.Prelude.{ℕ, ◌≡◌, ◌==◌, List, [], ◌++◌, length, map, Option}
 use Rattle.std.specs.List.{list_any}
 use Rattle.cr_base.specs.Accounts.{lines_of, number_at, caller_at}
-use Rattle.cr_base.specs.HistoryFacts.{standing_of, accounts_of, number_of, caller_of, papers_of, own_papers_of, own_bytes_of}
-use Rattle.cr_base.specs.HistoryFacts.{bid_of, ordinal_of, seats_of, reviewers_of, forms_of, forms_discussed_of, own_forms_of, comments_of, own_comments_of, tags_of}
-use Rattle.cr_base.specs.HistoryFacts.{title_of, abstract_of, uploads_of, is_withdrawn, decision_of, is_accepted, authors_of, is_conflict_on, declared_by_authors}
+use Rattle.cr_base.specs.HistoryFacts.{standing_of, accounts_of, number_of, caller_of}
+use Rattle.cr_base.specs.HistoryFacts.{papers_of, own_papers_of, own_bytes_of}
+use Rattle.cr_base.specs.HistoryFacts.{bid_of, ordinal_of, seats_of, reviewers_of, forms_of}
+use Rattle.cr_base.specs.HistoryFacts.{forms_discussed_of, own_forms_of, comments_of, own_comments_of, tags_of}
+use Rattle.cr_base.specs.HistoryFacts.{title_of, abstract_of, uploads_of, is_withdrawn, decision_of}
+use Rattle.cr_base.specs.HistoryFacts.{is_accepted, authors_of, is_conflict_on, declared_by_authors}
 use Rattle.cr_base.specs.declared.entry.Stamped.{Stamped}
 use Rattle.cr_base.specs.History.{History}
 use Rattle.cr_base.specs.Decisions.{decision_in}
@@ -12,7 +15,8 @@ use Rattle.cr_base.specs.Filed.{filed_of}
 use Rattle.cr_base.specs.Reviews.{forms_in, forms_discussed_in, written_told}
 use Rattle.cr_base.specs.Sources.{standing_at, own_forms_in, is_accepted_in}
 use Rattle.cr_base.specs.Pairs.{has_pair}
-use Rattle.cr_base.specs.Papers.{paper_numbers, own_count, own_bytes, title_at, abstract_at, uploads_at, is_withdrawn_at}
+use Rattle.cr_base.specs.Papers.{paper_numbers, own_count, own_bytes, title_at}
+use Rattle.cr_base.specs.Papers.{abstract_at, uploads_at, is_withdrawn_at}
 use Rattle.cr_base.specs.Tables.{no_tables, tables_of, FitInTurn}
 use Rattle.cr_base.specs.Seats.{labels_in, reviewers_in, ordinal_in, seats_in}
 use Rattle.cr_base.specs.Talk.{comments_in, comment_as_told, own_comments_in}
@@ -35,7 +39,8 @@ pub record AreTold (H : History) : Type 0 where
   pub withdrawn : (p : ℕ) → is_withdrawn p H ≡ is_withdrawn_at (tables_of H).papers p
   pub authors : (p : ℕ) → authors_of p H ≡ authors_in (tables_of H).ties p
   pub conflict : (u : Option ℕ) (p : ℕ) → is_conflict_on u p H ≡ is_conflict_on_in (tables_of H).ties u p
-  pub declared : (p v : ℕ) → list_any (λ w. w == v) (declared_by_authors p H) ≡ has_pair (pair_of p v) (tables_of H).ties.declared
+  pub declared : (p v : ℕ)
+      → list_any (λ w. w == v) (declared_by_authors p H) ≡ has_pair (pair_of p v) (tables_of H).ties.declared
   pub bid : (u : Option ℕ) (p : ℕ) → bid_of u p H ≡ bid_in (tables_of H).ties u p
   pub ordinal : (u : Option ℕ) (p : ℕ) → ordinal_of u p H ≡ ordinal_in (tables_of H).seats u p
   pub labels : (p : ℕ) → length (seats_of p H) ≡ labels_in (tables_of H).seats p
@@ -48,12 +53,15 @@ pub record AreTold (H : History) : Type 0 where
   pub decision : (p : ℕ) → decision_of p H ≡ decision_in (tables_of H).decisions p
   pub accepted : (p : ℕ) → is_accepted p H ≡ is_accepted_in (tables_of H) p
 
--- TablesTell: it is so where each entry fits in its turn, and a paper's co-authors are told before any conflict with it
+-- TablesTell: it is so where each entry fits in its turn, and a paper's co-authors are
+-- told before any conflict with it
 abbrev pub TablesTell : Type 0
-TablesTell = (H : History) → FitInTurn no_tables H → InTurn (λ (before : History) (e : Stamped). ComesFirst before e.entry) [] H → AreTold H
+TablesTell =
+    (H : History) → FitInTurn no_tables H
+    → InTurn (λ (before : History) (e : Stamped). ComesFirst before e.entry) [] H → AreTold H
 
--- which forms the committee discusses, and which are a user's own, is what the tables have, where phases only go on and whoever
--- has written a form stays a reviewer
+-- which forms the committee discusses, and which are a user's own, is what the tables have, where phases only go on
+-- and whoever has written a form stays a reviewer
 pub record AreFormsTold (H : History) : Type 0 where
   pub discussed : (p o : ℕ) → forms_discussed_of p o H ≡ forms_discussed_in (tables_of H).reviews p o
   pub own : (u : Option ℕ) (p : ℕ) → own_forms_of u p H ≡ own_forms_in (tables_of H) u p
@@ -62,8 +70,8 @@ pub record AreFormsTold (H : History) : Type 0 where
 abbrev pub FormsTell : Type 0
 FormsTell = (H : History) → Invariants H → AreFormsTold H
 
--- GrowthKeeps: histories that grow by what the rules let commands and the rows of bulks add, and the tables take, keep the invariants; and
--- where a command adds it, nothing is cut off that wasn't
+-- GrowthKeeps: histories that grow by what the rules let commands and the rows of bulks add, and the tables take, keep
+-- the invariants; and where a command adds it, nothing is cut off that wasn't
 pub record GrowthKeeps : Type 0 where
   pub first : Invariants []
   pub more : (H g : History) → Invariants H → Grows H g → FitInTurn (tables_of H) g → Invariants (H ++ g)

@@ -1,32 +1,34 @@
-//! What a history tells, on which the tables agree with it, and what is kept as it grows: all that is so of histories whatever anybody sees
-//! of them.
+//! What a history tells, on which the tables agree with it, and what is kept as it grows: all that is so of histories
+//! whatever anybody sees of them.
 //!
-//! The definitions stand in this crate's specs: the invariants of legal histories, and what an accepted command may add to
-//! one by the rules. The functions here do nothing: each has a law as its contract.
+//! The definitions stand in this crate's specs: the invariants of legal histories, and what an accepted command may
+//! add to one by the rules. The functions here do nothing: each has a law as its contract.
 #![tactic(auto)]
 
 ghost use Rattle.cr_history.specs.Laws.{TablesTell, FormsTell, GrowthKeeps};
 
-/// The tables tell what the history tells, where each entry fits in its turn and a paper's co-authors are told before any
-/// conflict with it: how any user stands to the conference and to any paper; the accounts with their roles, who has a name,
-/// and who has it with a digest; the papers with their titles, abstracts, authors and uploads, and which are withdrawn;
-/// how many of the papers, and how many uploaded bytes, are a user's own; whose conflict with a paper is on, and whom its
-/// authors declared; each user's last bid on it; its reviewers, under which ordinal a user reviews it, and how many labels were
-/// given, and to whom; the forms under each label; the comments on a paper, and how many a user has written; a paper's tags; the last
-/// decision on it, and which papers are accepted.
+/// The tables tell what the history tells, where each entry fits in its turn and a paper's co-authors are told
+/// before any conflict with it: how any user stands to the conference and to any paper; the accounts with their
+/// roles, who has a name, and who has it with a digest; the papers with their titles, abstracts, authors and
+/// uploads, and which are withdrawn;
+/// how many of the papers, and how many uploaded bytes, are a user's own; whose conflict with a paper is on, and whom
+/// its authors declared; each user's last bid on it; its reviewers, under which ordinal a user reviews it, and how
+/// many labels were given, and to whom; the forms under each label; the comments on a paper, and how many a user has
+/// written; a paper's tags; the last decision on it, and which papers are accepted.
 pub fn law_tables()
     ensures { TablesTell }
 {}
 
-/// The tables tell which forms of a label the committee discusses, and which forms of a paper a user has written, where the
-/// history keeps the invariants: phases go on one by one, and whoever has written a form stays a reviewer under its label.
+/// The tables tell which forms of a label the committee discusses, and which forms of a paper a user has
+/// written, where the history keeps the invariants: phases go on one by one, and whoever has written a form
+/// stays a reviewer under its label.
 pub fn law_forms()
     ensures { FormsTell }
 {}
 
-/// The empty history keeps the invariants; and so does a history that keeps them with a group behind it that the rules let a
-/// command add, or with an entry that they let the row of a bulk add, its texts within their bounds, and that fits the tables in
-/// its turn. What a command adds is never cut off.
+/// The empty history keeps the invariants; and so does a history that keeps them with a group behind it that the rules
+/// let a command add, or with an entry that they let the row of a bulk add, its texts within their bounds, and that
+/// fits the tables in its turn. What a command adds is never cut off.
 pub fn law_growth()
     ensures { GrowthKeeps }
 {}

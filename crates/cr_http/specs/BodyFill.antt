@@ -7,12 +7,14 @@ use Rattle.cr_http.specs.Filling.{Moves, ReadsWhile}
 -- what the buffer has of the text that came, behind whose first bytes the body lies up to this end
 abbrev pub HoldsBody : BodyFill → ℕ → ℕ → List ℕ → List ℕ → Type 0
 HoldsBody fills.Buffer head end text kept = (kept ≡ text) × (end ≤ length text)
-HoldsBody (fills.Block blob) head end text kept = (kept ≡ take head text) × (blob ≡ drop head text) × (length text ≡ end)
+HoldsBody (fills.Block blob) head end text kept =
+    (kept ≡ take head text) × (blob ≡ drop head text) × (length text ≡ end)
 HoldsBody fills.Ended head end text kept = (kept ≡ text) × (length text < end)
 HoldsBody fills.Failed head end text kept = (kept ≡ text) × (length text < end)
 HoldsBody fills.OutOfMemory head end text kept = (kept ≡ text) × (length text < end)
 
--- The source gave what makes this text of the old one, while that was too short, and the buffer keeps of it what the answer says.
+-- The source gave what makes this text of the old one, while that was too short, and the buffer
+-- keeps of it what the answer says.
 pub record FillsBody {S : Type 0} (left : S → Option (List ℕ)) (gives : S → S → List ℕ → Type 0)
     (source source' : S) (old kept : List ℕ) (head end : ℕ) (answer : BodyFill) : Type 0 where
   pub text : List ℕ

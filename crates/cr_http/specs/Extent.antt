@@ -50,4 +50,5 @@ pub record InboxText : Type 0 where
 
 -- the same by where they lie
 abbrev pub inbox_text : List ℕ → List HeaderSpan → Option (List ℕ) → Option Extent → InboxText
-inbox_text text headers block request = record { request = option_map (extent_text text headers block) request; rest = drop (used request) text }
+inbox_text text headers block request =
+    record { request = option_map (extent_text text headers block) request; rest = drop (used request) text }

@@ -41,7 +41,8 @@ abbrev pub IsStill : {S : Type 0} → S → S → List ℕ → List ℕ → Type
 IsStill source source' bytes bytes' = (source' ≡ source) × (bytes' ≡ bytes)
 
 -- The read that was made last, from a state that those before it led to: it was made at a text that wants more.
-pub record LastRead {S : Type 0} (left : S → Option (List ℕ)) (gives : S → S → List ℕ → Type 0) (Wants : List ℕ → Type 0)
+pub record LastRead {S : Type 0} (left : S → Option (List ℕ)) (gives : S → S → List ℕ → Type 0)
+    (Wants : List ℕ → Type 0)
     (from to : S) (old new : List ℕ) : Type 0 where
   pub at : S
   pub text : List ℕ
@@ -53,5 +54,6 @@ pub record LastRead {S : Type 0} (left : S → Option (List ℕ)) (gives : S →
 
 -- nothing was read, or the last read was made at a text that wants more; so was each before it, where a text that
 -- wants no more still wants none once it is longer
-abbrev pub ReadsWhile : {S : Type 0} → (S → Option (List ℕ)) → (S → S → List ℕ → Type 0) → (List ℕ → Type 0) → S → S → List ℕ → List ℕ → Type 0
+abbrev pub ReadsWhile : {S : Type 0} → (S → Option (List ℕ)) → (S → S → List ℕ → Type 0) → (List ℕ → Type 0) → S → S
+    → List ℕ → List ℕ → Type 0
 ReadsWhile left gives Wants from to old new = IsStill from to old new ⊎ LastRead left gives Wants from to old new

@@ -21,7 +21,8 @@ pub data Found : Type 0 where
 -- the text has no head in the bytes that are looked at
 abbrev pub without_head : List ℕ → Found
 without_head text =
-    if nat_lt (length text) 16384 then (if blank_end_from 0 text == length text then clean else cut) else refused HeadTooLarge false
+    if nat_lt (length text) 16384 then (if blank_end_from 0 text == length text then clean else cut)
+    else refused HeadTooLarge false
 
 -- a head was read, and this follows it
 abbrev pub with_body : HeadText → Framing → List ℕ → Found

@@ -1,5 +1,7 @@
--- The parts of a head that are read, and what they say of the body (RFC 9110, sections 5.1, 7.2 and 8.6; RFC 9112, section 6).
-use Rattle.std.specs.Prelude.{ℕ, ◌≤◌, List, [], ◌∷◌, length, map, filter, Bool, ◌&&◌, ◌==◌, ⊤, nat_lt, nat_le, if◌then◌else◌, codes}
+-- The parts of a head that are read, and what they say of the body (RFC 9110, sections 5.1, 7.2
+-- and 8.6; RFC 9112, section 6).
+use Rattle.std.specs.Prelude.{ℕ, ◌≤◌, List, [], ◌∷◌, length, map, filter, Bool}
+use Rattle.std.specs.Prelude.{◌&&◌, ◌==◌, ⊤, nat_lt, nat_le, if◌then◌else◌, codes}
 use Rattle.std.specs.List.{list_all}
 use Rattle.std.specs.Str.{bytes_eq}
 use Rattle.std.specs.Char.{is_ascii_digit, to_ascii_lowercase}
@@ -24,7 +26,8 @@ abbrev pub version_of : ℕ → Version
 version_of minor = if minor == 0 then versions.Http10 else versions.Http11
 
 abbrev pub head_of : RequestHead → HeadText
-head_of h = record { method = h.method; target = h.target; version = version_of h.minor; fields = map name_and_value h.fields }
+head_of h =
+    record { method = h.method; target = h.target; version = version_of h.minor; fields = map name_and_value h.fields }
 
 -- two names are equal but for the case of their letters
 abbrev pub same_name : List ℕ → List ℕ → Bool
@@ -47,7 +50,8 @@ IsShort (Refuse why) = ⊤
 abbrev pub framing_by_length : List (List ℕ) → Framing
 framing_by_length [] = Body 0
 framing_by_length (value ∷ []) =
-    if is_length value then (if nat_lt 4194304 (digits_value 10 value) then Refuse TooLarge else Body (digits_value 10 value))
+    if is_length value then (if nat_lt 4194304 (digits_value 10 value) then Refuse TooLarge
+    else Body (digits_value 10 value))
     else Refuse BadLength
 framing_by_length (value ∷ other ∷ values) = Refuse BadLength
 
@@ -60,7 +64,8 @@ has_hosts versions.Http11 hosts = hosts == 1
 abbrev pub framing_by : Version → List (List ℕ × List ℕ) → Framing
 framing_by version fields =
     if has_hosts version (length (values_of (codes "host") fields)) then (
-    if length (values_of (codes "transfer-encoding") fields) == 0 then framing_by_length (values_of (codes "content-length") fields)
+    if length (values_of (codes "transfer-encoding") fields) == 0
+    then framing_by_length (values_of (codes "content-length") fields)
     else Refuse LengthRequired)
     else Refuse NoHost
 

@@ -1,5 +1,5 @@
--- Where the head of a request lies in a text: behind the empty lines at its front, up to the first empty line (RFC 9112,
--- sections 2.1 and 2.2).
+-- Where the head of a request lies in a text: behind the empty lines at its front, up to the first empty line
+-- (RFC 9112, sections 2.1 and 2.2).
 use Rattle.std.specs.Prelude.{ℕ, ◌+◌, List, [], ◌∷◌, take, drop, Option, Some, None, ◌&&◌, ◌==◌, if◌then◌else◌}
 
 -- how many bytes an empty line at the front takes, LF or CR LF, or 0
@@ -13,7 +13,8 @@ abbrev pub blank_end_from : ℕ → List ℕ → ℕ
 blank_end_from at [] = at
 blank_end_from at (a ∷ []) = if a == 10 then at + 1 else at
 blank_end_from at (a ∷ b ∷ bytes) =
-    if a == 10 then blank_end_from (at + 1) (b ∷ bytes) else if a == 13 && b == 10 then blank_end_from (at + 2) bytes else at
+    if a == 10 then blank_end_from (at + 1) (b ∷ bytes)
+    else if a == 13 && b == 10 then blank_end_from (at + 2) bytes else at
 
 -- the offset behind an LF and the empty line that follows it there, if one does, else what comes later
 abbrev pub or_later : ℕ → ℕ → Option ℕ → Option ℕ
@@ -35,7 +36,8 @@ window text = take 16384 text
 
 -- where the head begins and ends
 abbrev pub head_within : List ℕ → Option (ℕ × ℕ)
-head_within bytes = starting_at (blank_end_from 0 bytes) (head_end_from (blank_end_from 0 bytes) (drop (blank_end_from 0 bytes) bytes))
+head_within bytes =
+    starting_at (blank_end_from 0 bytes) (head_end_from (blank_end_from 0 bytes) (drop (blank_end_from 0 bytes) bytes))
 
 abbrev pub head_at : List ℕ → Option (ℕ × ℕ)
 head_at text = head_within (window text)

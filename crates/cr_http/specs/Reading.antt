@@ -39,7 +39,8 @@ SaysOf (reads.Refused why is_head) text inbox = StandsAt text (refused why is_he
 SaysOf reads.Clean text inbox = StandsAt text clean × KeepsAll text inbox
 SaysOf reads.Cut text inbox = StandsAt text cut × KeepsAll text inbox
 SaysOf reads.ReadFault text inbox = (StandsAt text clean ⊎ StandsAt text cut) × KeepsAll text inbox
-SaysOf (reads.OutOfMemory is_head) text inbox = (StandsAt text clean ⊎ StandsAt text cut) × IsToHead text is_head × KeepsAll text inbox
+SaysOf (reads.OutOfMemory is_head) text inbox =
+    (StandsAt text clean ⊎ StandsAt text cut) × IsToHead text is_head × KeepsAll text inbox
 
 -- the answer is one for a stream that has ended
 abbrev pub AtEndIfEnded : RequestRead → Option (List ℕ) → Type 0
@@ -63,17 +64,21 @@ pub record Reads {S : Type 0} (left : S → Option (List ℕ)) (gives : S → S 
 -- the same by where a request lies in what is kept of the text
 abbrev pub Lies : RequestRead → List ℕ → List ℕ → List HeaderSpan → Option (List ℕ) → Option Extent → Type 0
 Lies reads.Whole text kept headers block None = ⊥
-Lies reads.Whole text kept headers block (Some e) = IsExtent kept headers block e × StandsWhole text (extent_text kept headers block e) (drop e.end kept)
-Lies (reads.Refused why is_head) text kept headers block request = (request ≡ None) × (kept ≡ text) × StandsAt text (refused why is_head)
+Lies reads.Whole text kept headers block (Some e) =
+    IsExtent kept headers block e × StandsWhole text (extent_text kept headers block e) (drop e.end kept)
+Lies (reads.Refused why is_head) text kept headers block request =
+    (request ≡ None) × (kept ≡ text) × StandsAt text (refused why is_head)
 Lies reads.Clean text kept headers block request = (request ≡ None) × (kept ≡ text) × StandsAt text clean
 Lies reads.Cut text kept headers block request = (request ≡ None) × (kept ≡ text) × StandsAt text cut
-Lies reads.ReadFault text kept headers block request = (request ≡ None) × (kept ≡ text) × (StandsAt text clean ⊎ StandsAt text cut)
+Lies reads.ReadFault text kept headers block request =
+    (request ≡ None) × (kept ≡ text) × (StandsAt text clean ⊎ StandsAt text cut)
 Lies (reads.OutOfMemory is_head) text kept headers block request =
     (request ≡ None) × (kept ≡ text) × (StandsAt text clean ⊎ StandsAt text cut) × IsToHead text is_head
 
 -- The source gave what makes this text of the bytes that were there, and the answer stands at its front.
 pub record ReadsInto {S : Type 0} (left : S → Option (List ℕ)) (gives : S → S → List ℕ → Type 0)
-    (source source' : S) (old kept : List ℕ) (headers : List HeaderSpan) (block : Option (List ℕ)) (request : Option Extent)
+    (source source' : S) (old kept : List ℕ) (headers : List HeaderSpan) (block : Option (List ℕ))
+    (request : Option Extent)
     (answer : RequestRead) : Type 0 where
   pub text : List ℕ
   pub moves : Moves (left source) (left source') old text
@@ -83,7 +88,8 @@ pub record ReadsInto {S : Type 0} (left : S → Option (List ℕ)) (gives : S �
 -- what is known once a head was looked at
 abbrev pub JudgesHead : List ℕ → HeadRange → List HeaderSpan → HeadJudgement → Type 0
 JudgesHead text range headers (judged.Framed spans len is_head) =
-    IsFramed text range.start range.end (spans_head (slice_range text range.start range.end) headers spans) len × (len ≤ 4194304)
+    IsFramed text range.start range.end (spans_head (slice_range text range.start range.end) headers spans) len
+    × (len ≤ 4194304)
     × IsRequestWithin (slice_range text range.start range.end) headers spans
     × (is_head ≡ is_head_method (spans_head (slice_range text range.start range.end) headers spans))
 JudgesHead text range headers (judged.Refused why is_head) = StandsAt text (refused why is_head)

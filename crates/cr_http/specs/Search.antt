@@ -12,7 +12,8 @@ use Rattle.cr_http.specs.declared.head_range.Look.TheVariants as looks
 abbrev pub IsLine : Line → List ℕ → Type 0
 IsLine (lines.Empty n) bytes = (0 < n) × (n ≤ length bytes) × ((more : List ℕ) → empty_line_len (bytes ++ more) ≡ n)
 IsLine lines.Other bytes = (0 < length bytes) × ((more : List ℕ) → empty_line_len (bytes ++ more) ≡ 0)
-IsLine lines.Open bytes = (empty_line_len bytes ≡ 0) × ((at : ℕ) → (blank_end_from at bytes ≡ at) × (head_end_from at bytes ≡ None))
+IsLine lines.Open bytes =
+    (empty_line_len bytes ≡ 0) × ((at : ℕ) → (blank_end_from at bytes ≡ at) × (head_end_from at bytes ≡ None))
 
 -- the offset up to which a search has come
 abbrev pub reached : Search → ℕ
@@ -22,7 +23,8 @@ reached (searches.InHead start at) = at
 -- where a head begins and ends, found from there on
 abbrev pub found_from : Search → List ℕ → Option (ℕ × ℕ)
 found_from (searches.Skipping at) bytes =
-    starting_at (blank_end_from at (drop at bytes)) (head_end_from (blank_end_from at (drop at bytes)) (drop (blank_end_from at (drop at bytes)) bytes))
+    starting_at (blank_end_from at (drop at bytes))
+    (head_end_from (blank_end_from at (drop at bytes)) (drop (blank_end_from at (drop at bytes)) bytes))
 found_from (searches.InHead start at) bytes = starting_at start (head_end_from at (drop at bytes))
 
 -- However the bytes go on, the search from the one state finds what it finds from the other.

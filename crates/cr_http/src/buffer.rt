@@ -1,5 +1,6 @@
 //! The bytes of a connection that were read and not yet used, in one block that grows.
-ghost use Rattle.std.specs.Prelude.{◌≡◌, ◌≢◌, ◌≤◌, ◌<◌, ◌+◌, ◌-◌, ◌++◌, [], length, take, drop, replicate, vec_len, IfOk, IfErr, OnOk};
+ghost use Rattle.std.specs.Prelude.{◌≡◌, ◌≢◌, ◌≤◌, ◌<◌, ◌+◌, ◌-◌, ◌++◌, [], length};
+ghost use Rattle.std.specs.Prelude.{take, drop, replicate, vec_len, IfOk, IfErr, OnOk};
 ghost use Rattle.cr_ports.specs.Count.{Rises};
 ghost use Rattle.cr_ports.specs.Stream.{FillsWithin, and_left, gave};
 ghost use Rattle.cr_http.specs.Filling.{Moves, IsAtEnd, GrowsAs, ReadsWhile};
@@ -223,7 +224,8 @@ impl Buffer {
     fn read_room<S: Source>(&mut self, source: &mut S) -> Fill
         requires { self.old.end < vec_len self.old.block }
         ensures moves { Moves (S.left source.old) (S.left source.new) (text_of self.old) (text_of self.new) }
-        ensures once { ReadsWhile S.left S.read_gives (λ text. text ≡ text_of self.old) source.old source.new (text_of self.old) (text_of self.new) }
+        ensures once { ReadsWhile S.left S.read_gives (λ text. text ≡ text_of self.old) source.old source.new
+            (text_of self.old) (text_of self.new) }
         ensures grows { GrowsAs result (text_of self.old) (text_of self.new) }
         ensures start { self.new.start ≡ self.old.start }
         ensures len { vec_len self.new.block ≡ vec_len self.old.block }
@@ -245,7 +247,8 @@ impl Buffer {
     /// One read, behind the bytes that are there.
     pub fn read_more<S: Source>(&mut self, source: &mut S) -> Fill
         ensures moves { Moves (S.left source.old) (S.left source.new) (text_of self.old) (text_of self.new) }
-        ensures once { ReadsWhile S.left S.read_gives (λ text. text ≡ text_of self.old) source.old source.new (text_of self.old) (text_of self.new) }
+        ensures once { ReadsWhile S.left S.read_gives (λ text. text ≡ text_of self.old) source.old source.new
+            (text_of self.old) (text_of self.new) }
         ensures grows { GrowsAs result (text_of self.old) (text_of self.new) }
         ensures ended { result ≡ Fill.Ended → IsAtEnd (S.left source.new) }
         ensures count { S.faults source.old ≤ S.faults source.new }
@@ -263,7 +266,8 @@ impl Buffer {
         requires room { HasRoomFor most self.old }
         requires short { length (text_of self.old) < most }
         ensures moves { Moves (S.left source.old) (S.left source.new) (text_of self.old) (text_of self.new) }
-        ensures once { ReadsWhile S.left S.read_gives (λ text. text ≡ text_of self.old) source.old source.new (text_of self.old) (text_of self.new) }
+        ensures once { ReadsWhile S.left S.read_gives (λ text. text ≡ text_of self.old) source.old source.new
+            (text_of self.old) (text_of self.new) }
         ensures grows { GrowsAs result (text_of self.old) (text_of self.new) }
         ensures room { HasRoomFor most self.new }
         ensures ended { result ≡ Fill.Ended → IsAtEnd (S.left source.new) }

@@ -46,7 +46,8 @@ fn front(bytes: &[u8], most: usize) -> &[u8]
 /// goes on looking where it stopped.
 pub fn fill_head<S: Source>(source: &mut S, buffer: &mut Buffer) -> HeadFill
     ensures moves { Moves (S.left source.old) (S.left source.new) (text_of buffer.old) (text_of buffer.new) }
-    ensures needed { ReadsWhile S.left S.read_gives NeedsHead source.old source.new (text_of buffer.old) (text_of buffer.new) }
+    ensures needed { ReadsWhile S.left S.read_gives NeedsHead source.old source.new
+        (text_of buffer.old) (text_of buffer.new) }
     ensures finds { FindsHead result (text_of buffer.new) }
     ensures ended { result ≡ HeadFill.Ended → IsAtEnd (S.left source.new) }
     ensures count { S.faults source.old ≤ S.faults source.new }
@@ -75,7 +76,8 @@ pub fn fill_head<S: Source>(source: &mut S, buffer: &mut Buffer) -> HeadFill
 #[tactic(auto, using(crate::proofs::Moving::moving))]
 pub fn fill_to<S: Source>(source: &mut S, buffer: &mut Buffer, len: usize) -> Fill
     ensures moves { Moves (S.left source.old) (S.left source.new) (text_of buffer.old) (text_of buffer.new) }
-    ensures needed { ReadsWhile S.left S.read_gives (λ text. length text < len) source.old source.new (text_of buffer.old) (text_of buffer.new) }
+    ensures needed { ReadsWhile S.left S.read_gives (λ text. length text < len) source.old source.new
+        (text_of buffer.old) (text_of buffer.new) }
     ensures full { result ≡ Fill.Grew → len ≤ length (text_of buffer.new) }
     ensures ended { result ≡ Fill.Ended → IsAtEnd (S.left source.new) }
     ensures short { result ≢ Fill.Grew → length (text_of buffer.new) < len }
@@ -97,7 +99,8 @@ pub fn fill_to<S: Source>(source: &mut S, buffer: &mut Buffer, len: usize) -> Fi
 pub fn fill_room<S: Source>(source: &mut S, buffer: &mut Buffer, len: usize) -> Fill
     requires { HasRoomFor len buffer.old }
     ensures moves { Moves (S.left source.old) (S.left source.new) (text_of buffer.old) (text_of buffer.new) }
-    ensures needed { ReadsWhile S.left S.read_gives (λ text. length text < len) source.old source.new (text_of buffer.old) (text_of buffer.new) }
+    ensures needed { ReadsWhile S.left S.read_gives (λ text. length text < len) source.old source.new
+        (text_of buffer.old) (text_of buffer.new) }
     ensures room { HasRoomFor len buffer.new }
     ensures full { result ≡ Fill.Grew → length (text_of buffer.new) ≡ len }
     ensures ended { result ≡ Fill.Ended → IsAtEnd (S.left source.new) }

@@ -63,7 +63,8 @@ fn keep_block(buffer: &mut Buffer, block: Buffer, head: usize) -> BodyFill
 fn fill_block<S: Source>(source: &mut S, buffer: &mut Buffer, head: usize, end: usize) -> BodyFill
     requires head { head ≤ length (text_of buffer.old) }
     requires short { length (text_of buffer.old) < end }
-    ensures fills { FillsBody S.left S.read_gives source.old source.new (text_of buffer.old) (text_of buffer.new) head end result }
+    ensures fills { FillsBody S.left S.read_gives source.old source.new (text_of buffer.old)
+        (text_of buffer.new) head end result }
     ensures ended { result ≡ BodyFill.Ended → IsAtEnd (S.left source.new) }
     ensures count { S.faults source.old ≤ S.faults source.new }
     ensures failed { result ≡ BodyFill.Failed → Rises (S.faults source.old) (S.faults source.new) }
@@ -98,7 +99,8 @@ pub fn fill_body<S: Source>(
 ) -> BodyFill
     requires head { head ≤ length (text_of buffer.old) }
     requires ordered { head ≤ end }
-    ensures fills { FillsBody S.left S.read_gives source.old source.new (text_of buffer.old) (text_of buffer.new) head end result }
+    ensures fills { FillsBody S.left S.read_gives source.old source.new (text_of buffer.old)
+        (text_of buffer.new) head end result }
     ensures ended { result ≡ BodyFill.Ended → IsAtEnd (S.left source.new) }
     ensures count { S.faults source.old ≤ S.faults source.new }
     ensures failed { result ≡ BodyFill.Failed → Rises (S.faults source.old) (S.faults source.new) }

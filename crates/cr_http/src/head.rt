@@ -1,7 +1,8 @@
 //! The head of a request, lent from the bytes that were read.
 ghost use Rattle.std.specs.Prelude.{◌≡◌, ◌≤◌, ◌∷◌, ℕ, List, [], length, map, take, All, IfSome, IfNone};
 ghost use Rattle.httparse.specs.Grammar.{RequestHead, ReadsRequest};
-ghost use Rattle.httparse.specs.Spans.{IsRequestAt, IsRequestWithin, IsWithin, IsHeaderWithin, span_bytes, header_bytes};
+ghost use Rattle.httparse.specs.Spans.{IsRequestAt, IsRequestWithin, IsWithin};
+ghost use Rattle.httparse.specs.Spans.{IsHeaderWithin, span_bytes, header_bytes};
 ghost use Rattle.cr_http.specs.Head.{HeadText, is_head_method, values_of, version_of};
 ghost use Rattle.cr_http.specs.Found.{IsNoHead, line_feeds};
 ghost use Rattle.cr_http.specs.Extent.{spans_head};
@@ -39,7 +40,8 @@ pub(crate) fn parse_spans(bytes: &[u8], headers: &mut [HeaderSpan]) -> Option<Re
     requires room { length headers.old ≡ 64 }
     requires few { line_feeds bytes.now ≤ 66 }
     ensures within { IfSome result (IsRequestWithin bytes.now headers.new) }
-    ensures head { IfSome result (λ spans. (h : RequestHead) × ReadsRequest bytes.now h [] × IsRequestAt bytes.now headers.new spans h) }
+    ensures head { IfSome result (λ spans. (h : RequestHead) × ReadsRequest bytes.now h []
+        × IsRequestAt bytes.now headers.new spans h) }
     ensures none { IfNone result (IsNoHead bytes.now) }
 {
     match parse_request(bytes, headers) {

@@ -34,9 +34,9 @@ pub struct Request<'b> {
     pub body: Body<'b>,
 }
 
-/// What a connection has read. It is made once a connection, and keeps one block of bytes, which grows with the longest
-/// request. A body of 16,384 bytes or more that came in pieces has a block of its own, which is dropped here when the next
-/// request is read.
+/// What a connection has read. It is made once a connection, and keeps one block of bytes, which grows with the
+/// longest request. A body of 16,384 bytes or more that came in pieces has a block of its own, which is dropped here
+/// when the next request is read.
 ///
 /// Contracts see the request that was read last, if one was, and the bytes that were read and not
 /// used.

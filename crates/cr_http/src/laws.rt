@@ -11,5 +11,6 @@ pub fn law_one_reading()
 
 /// A whole request or a refusal at the front of a text stays there however the text goes on.
 pub fn law_final_stays()
-    ensures { (text more : List ℕ) (found : Found) → IsFinal found → StandsAt text found → StandsAt (text ++ more) (found_and found more) }
+    ensures { (text more : List ℕ) (found : Found) → IsFinal found → StandsAt text found
+        → StandsAt (text ++ more) (found_and found more) }
 {}

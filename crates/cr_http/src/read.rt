@@ -89,7 +89,8 @@ fn read_into<S: Source>(
 ) -> RequestRead
     requires room { length headers.old ≡ 64 }
     requires none { (request.old ≡ None) × (block.old ≡ None) }
-    ensures reads { ReadsInto S.left S.read_gives source.old source.new (text_of buffer.old) (text_of buffer.new) headers.new block.new request.new result }
+    ensures reads { ReadsInto S.left S.read_gives source.old source.new (text_of buffer.old)
+        (text_of buffer.new) headers.new block.new request.new result }
     ensures ended { AtEndIfEnded result (S.left source.new) }
     ensures count { S.faults source.old ≤ S.faults source.new }
     ensures fault { result ≡ RequestRead.ReadFault → Rises (S.faults source.old) (S.faults source.new) }
@@ -119,7 +120,8 @@ fn read_framed<S: Source>(
     requires range { head_at (text_of buffer.old) ≡ Some (range.start, range.end) }
     requires room { length headers.old ≡ 64 }
     requires none { (request.old ≡ None) × (block.old ≡ None) }
-    ensures reads { ReadsInto S.left S.read_gives source.old source.new (text_of buffer.old) (text_of buffer.new) headers.new block.new request.new result }
+    ensures reads { ReadsInto S.left S.read_gives source.old source.new (text_of buffer.old)
+        (text_of buffer.new) headers.new block.new request.new result }
     ensures ended { AtEndIfEnded result (S.left source.new) }
     ensures count { S.faults source.old ≤ S.faults source.new }
     ensures fault { result ≡ RequestRead.ReadFault → Rises (S.faults source.old) (S.faults source.new) }

@@ -1,5 +1,6 @@
 -- Lists and objects of JSON without blanks (RFC 8259, sections 4 and 5).
-use Rattle.std.specs.Prelude.{◌≡◌, ℕ, List, [], ◌∷◌, ◌++◌, Bool, true, false, if◌then◌else◌, Option, Some, None, codes, decimal, map, nat_lt, Result, OnOk}
+use Rattle.std.specs.Prelude.{◌≡◌, ℕ, List, [], ◌∷◌, ◌++◌, Bool, true, false, if◌then◌else◌}
+use Rattle.std.specs.Prelude.{Option, Some, None, codes, decimal, map, nat_lt, Result, OnOk}
 use Rattle.json.specs.Print.{quoted}
 use Rattle.cr_anonymity.specs.Letters.{letter_of}
 use Rattle.cr_base.specs.declared.words.Decision.{Decision}

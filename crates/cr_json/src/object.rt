@@ -1,9 +1,11 @@
 //! Objects of JSON, written member by member (RFC 8259, section 4).
-ghost use Rattle.std.specs.Prelude.{◌≡◌, ◌+◌, ◌*◌, ◌++◌, true, false, codes, decimal, length, map, IfOk, OnOk, Some, option_map};
+ghost use Rattle.std.specs.Prelude.{◌≡◌, ◌+◌, ◌*◌, ◌++◌, true, false, codes, decimal};
+ghost use Rattle.std.specs.Prelude.{length, map, IfOk, OnOk, Some, option_map};
 ghost use Rattle.json.specs.Print.{quoted};
 ghost use Rattle.cr_base.specs.Page.{where_told};
 ghost use Rattle.cr_json.specs.Put.{Appends, Takes};
-ghost use Rattle.cr_json.specs.Json.{AddsMembers, array_text, bid_text, comma, key_text, label_text, list_alone, member_of, truth_text};
+ghost use Rattle.cr_json.specs.Json.{AddsMembers, array_text, bid_text, comma, key_text};
+ghost use Rattle.cr_json.specs.Json.{label_text, list_alone, member_of, truth_text};
 
 use crate::list::{append_comma, append_list};
 use crate::put::{append, append_number};
@@ -55,7 +57,8 @@ impl Object {
 
     /// Writes a member that is a number.
     pub fn number(&mut self, into: &mut Vec<u8>, key: &str, number: u64) -> Result<(), AllocError>
-        ensures adds { AddsMembers result into.old into.new self.old.is_first self.new.is_first (member_of key.now (Some (decimal number))) }
+        ensures adds { AddsMembers result into.old into.new self.old.is_first self.new.is_first
+            (member_of key.now (Some (decimal number))) }
         ensures room { Takes result into.old into.new (length key.now + 24) }
     {
         self.key(into, key)?;
@@ -64,7 +67,8 @@ impl Object {
 
     /// Writes a member that is a string.
     pub fn string(&mut self, into: &mut Vec<u8>, key: &str, text: &[u8]) -> Result<(), AllocError>
-        ensures adds { AddsMembers result into.old into.new self.old.is_first self.new.is_first (member_of key.now (Some (quoted text.now))) }
+        ensures adds { AddsMembers result into.old into.new self.old.is_first self.new.is_first
+            (member_of key.now (Some (quoted text.now))) }
         ensures room { Takes result into.old into.new (length key.now + 6 * length text.now + 6) }
     {
         self.key(into, key)?;
@@ -73,7 +77,8 @@ impl Object {
 
     /// Writes a member that is a bid, a number from -20 to 20.
     pub fn bid(&mut self, into: &mut Vec<u8>, key: &str, bid: Bid) -> Result<(), AllocError>
-        ensures adds { AddsMembers result into.old into.new self.old.is_first self.new.is_first (member_of key.now (Some (bid_text bid))) }
+        ensures adds { AddsMembers result into.old into.new self.old.is_first self.new.is_first
+            (member_of key.now (Some (bid_text bid))) }
         ensures room { Takes result into.old into.new (length key.now + 25) }
     {
         self.key(into, key)?;
@@ -87,7 +92,8 @@ impl Object {
         key: &str,
         ordinal: Ordinal,
     ) -> Result<(), AllocError>
-        ensures adds { AddsMembers result into.old into.new self.old.is_first self.new.is_first (member_of key.now (Some (label_text ordinal))) }
+        ensures adds { AddsMembers result into.old into.new self.old.is_first self.new.is_first
+            (member_of key.now (Some (label_text ordinal))) }
         ensures room { Takes result into.old into.new (length key.now + 12) }
     {
         self.key(into, key)?;
@@ -101,7 +107,8 @@ impl Object {
         key: &str,
         items: &[T],
     ) -> Result<(), AllocError>
-        ensures { AddsMembers result into.old into.new self.old.is_first self.new.is_first (member_of key.now (Some (array_text (map T.text items.now)))) }
+        ensures { AddsMembers result into.old into.new self.old.is_first self.new.is_first
+            (member_of key.now (Some (array_text (map T.text items.now)))) }
     {
         self.key(into, key)?;
         append_list(into, items)
@@ -115,7 +122,8 @@ impl Object {
         is_told: bool,
         value: &str,
     ) -> Result<(), AllocError>
-        ensures { AddsMembers result into.old into.new self.old.is_first self.new.is_first (member_of key.now (where_told is_told (Some value.now))) }
+        ensures { AddsMembers result into.old into.new self.old.is_first self.new.is_first
+            (member_of key.now (where_told is_told (Some value.now))) }
     {
         if !is_told {
             return Ok(());
@@ -131,7 +139,8 @@ impl Object {
         key: &str,
         truth: Option<bool>,
     ) -> Result<(), AllocError>
-        ensures { AddsMembers result into.old into.new self.old.is_first self.new.is_first (member_of key.now (option_map truth_text truth)) }
+        ensures { AddsMembers result into.old into.new self.old.is_first self.new.is_first
+            (member_of key.now (option_map truth_text truth)) }
     {
         match truth {
             Some(truth) => self.fixed(into, key, true, word_of(truth)),
@@ -146,7 +155,8 @@ impl Object {
         key: &str,
         value: &Option<T>,
     ) -> Result<(), AllocError>
-        ensures { AddsMembers result into.old into.new self.old.is_first self.new.is_first (member_of key.now (option_map T.text value.now)) }
+        ensures { AddsMembers result into.old into.new self.old.is_first self.new.is_first
+            (member_of key.now (option_map T.text value.now)) }
     {
         match value {
             Some(value) => {

@@ -64,7 +64,8 @@ fn append_run(into: &mut Vec<u8>, text: &[u8], at: usize) -> Result<usize, Alloc
     requires { at < length text.now }
     ensures after { IfOk result (λ next. at < next) }
     ensures within { IfOk result (λ next. next ≤ length text.now) }
-    ensures puts { IfOk result (λ next. Puts into.old into.new (escape (slice_range text.now at next)) (6 * (next - at))) }
+    ensures puts { IfOk result
+        (λ next. Puts into.old into.new (escape (slice_range text.now at next)) (6 * (next - at))) }
     ensures sure { HasRoom into.old (6 * (length text.now - at)) → IsOk result }
 {
     let end = run_end(text, at);

@@ -2,7 +2,8 @@
 ghost use Rattle.std.specs.Prelude.{◌≡◌, List, ℕ, decimal, map};
 ghost use Rattle.json.specs.Print.{quoted};
 ghost use Rattle.cr_json.specs.Put.{Appends, Takes};
-ghost use Rattle.cr_json.specs.Json.{array_text, bid_text, decided_text, decided_word as word_for, label_text, minus, review_kind_text};
+ghost use Rattle.cr_json.specs.Json.{array_text, bid_text, decided_text, decided_word as word_for};
+ghost use Rattle.cr_json.specs.Json.{label_text, minus, review_kind_text};
 
 use crate::list::append_list;
 use crate::put::{append, append_number};

@@ -13,7 +13,8 @@ is_below number x = nat_lt x.paper number
 
 -- the values before the index are of papers with lower numbers, and those from it on are not
 abbrev pub IsFrom : {V : Type 0} → ℕ → List (Filed V) → ℕ → Type 0
-IsFrom {V} number xs index = IsPartitionPoint (λ (x : Filed V). is_below number x ≡ true) (λ (x : Filed V). is_below number x ≡ false) xs index
+IsFrom {V} number xs index =
+    IsPartitionPoint (λ (x : Filed V). is_below number x ≡ true) (λ (x : Filed V). is_below number x ≡ false) xs index
 
 -- the values of the paper stand together, from one index up to another
 pub record IsRun {V : Type 0} (paper : ℕ) (xs : List (Filed V)) (start end : ℕ) : Type 0 where

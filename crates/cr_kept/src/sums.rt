@@ -1,5 +1,6 @@
 //! A sum for each user.
-ghost use Rattle.std.specs.Prelude.{◌≡◌, ℕ, ◌≤◌, ◌<◌, ◌+◌, ◌-◌, ◌++◌, [], OnOk, length, replicate, slice_index, vec_len, vec_capacity};
+ghost use Rattle.std.specs.Prelude.{◌≡◌, ℕ, ◌≤◌, ◌<◌, ◌+◌, ◌-◌, ◌++◌, [], OnOk, length};
+ghost use Rattle.std.specs.Prelude.{replicate, slice_index, vec_len, vec_capacity};
 ghost use Rattle.cr_base.specs.Papers.{with_more};
 
 use cr_base::{LAST_NUMBER, UserNo};

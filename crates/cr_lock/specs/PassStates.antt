@@ -8,7 +8,8 @@ use Rattle.cr_lock.specs.Turns.{merged, longer}
 
 module _ {E : Type 0} where
   abbrev pub state_of : ℕ → ℕ → List E → List (Turn E) → Activity E → PassState E
-  state_of share turns seen mine activity = record { share = share; turns = turns; seen = seen; mine = mine; activity = activity }
+  state_of share turns seen mine activity =
+      record { share = share; turns = turns; seen = seen; mine = mine; activity = activity }
 
   -- the first pass, where the value stands for this list
   abbrev pub first_state : List E → PassState E

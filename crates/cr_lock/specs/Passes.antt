@@ -12,7 +12,8 @@ pub record Origin (T : Type 0) : Type 0 where
   pub lock : TableId
   pub first : T
 
--- the lock that a pass is of, its share of 64, how many turns it has made, the history as it last saw it, and its turns
+-- the lock that a pass is of, its share of 64, how many turns it has made, the history as
+-- it last saw it, and its turns
 pub record Known (E : Type 0) : Type 0 where
   pub lock : TableId
   pub share : ℕ
@@ -22,7 +23,13 @@ pub record Known (E : Type 0) : Type 0 where
 
 -- what is shown of a pass's seat
 abbrev pub known_of : {T E : Type 0} → Seat (Option T) (PassState E) → Known E
-known_of seat = record { lock = seat.table_id; share = seat.me.0.share; turns = seat.me.0.turns; seen = seat.me.0.seen; mine = seat.me.0.mine }
+known_of seat = record {
+  lock = seat.table_id;
+  share = seat.me.0.share;
+  turns = seat.me.0.turns;
+  seen = seat.me.0.seen;
+  mine = seat.me.0.mine;
+}
 
 module _ {E : Type 0} where
   -- the first pass of a lock whose value stands for this list
@@ -39,11 +46,18 @@ module _ {E : Type 0} where
 
   -- two passes in one
   abbrev pub united : Known E → Known E → Known E
-  united p q = record { lock = p.lock; share = p.share + q.share; turns = max p.turns q.turns; seen = longer p.seen q.seen; mine = merged p.mine q.mine }
+  united p q = record {
+    lock = p.lock;
+    share = p.share + q.share;
+    turns = max p.turns q.turns;
+    seen = longer p.seen q.seen;
+    mine = merged p.mine q.mine;
+  }
 
   -- after a turn on a value that stood for the list xs and stands for ys, whose count of faults went from m to n
   abbrev pub after_turn : Known E → List E → List E → ℕ → ℕ → Known E
-  after_turn p xs ys m n = record p { turns = p.turns + 1; seen = ys; mine = p.mine ++ turn_at (length xs) (drop (length xs) ys) m n ∷ [] }
+  after_turn p xs ys m n =
+      record p { turns = p.turns + 1; seen = ys; mine = p.mine ++ turn_at (length xs) (drop (length xs) ys) m n ∷ [] }
 
   -- one of the two had seen a beginning of what the other had, and no entry was added by both
   abbrev pub Agree : Known E → Known E → Type 0

@@ -27,8 +27,8 @@ module _ {E : Type 0} where
   has_value (Holding u n) = 1
   has_value (Joined a b m o) = 0
 
--- of a state v, where `log` is the history, of which `start` entries were there at first, `serving` the ticket that is served, and n may be the count of
--- faults where `risen n`
+-- of a state v, where `log` is the history, of which `start` entries were there at first, `serving` the ticket that is
+-- served, and n may be the count of faults where `risen n`
 module _ {E : Type 0} (start : ℕ) (log : List E) (serving : ℕ) (risen : ℕ → Type 0) (v : PassState E) where
   -- what the pass is doing agrees with what the table has
   abbrev pub FitsActivity : Activity E → Type 0
@@ -61,7 +61,9 @@ module _ {T E : Type 0} (list : T → List E) (faults : T → ℕ) (first : T) w
 
   -- the value is in the slot and stands for the history, and no pass has it
   abbrev pub Home : List E → State (Option T) (PassState E) → Type 0
-  Home log s = (x : T) × (s.homes ≡ some (Some x) ∷ []) × (list x ≡ log) × Risen s.views (faults x) × (total (λ v. has_value v.activity) s.views ≡ 0)
+  Home log s =
+      (x : T) × (s.homes ≡ some (Some x) ∷ []) × (list x ≡ log) × Risen s.views (faults x)
+      × (total (λ v. has_value v.activity) s.views ≡ 0)
 
   -- the value is not in the slot, and one pass has it
   abbrev pub Away : State (Option T) (PassState E) → Type 0
@@ -83,5 +85,6 @@ module _ {T E : Type 0} (list : T → List E) (faults : T → ℕ) (first : T) w
     pub drawn : ticket ≤ total (λ v. v.share * v.turns) s.views
     -- each entry behind what was there at first is in one group of one pass
     pub groups : (k : ℕ) → total (λ v. groups_with k v.mine) s.views ≡ within (length (list first)) (length log) k
-    pub each : (j : ℕ) (v : PassState E) → get_elem? s.views j ≡ some v → FitsLock (length (list first)) log serving (Risen s.views) v
+    pub each : (j : ℕ) (v : PassState E) → get_elem? s.views j ≡ some v
+        → FitsLock (length (list first)) log serving (Risen s.views) v
     pub value : Home log s ⊎ Away s

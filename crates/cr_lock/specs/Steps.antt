@@ -1,4 +1,5 @@
--- What each kind of step tells the pass that makes it: of what it knew before and the number that it found, what it knows after.
+-- What each kind of step tells the pass that makes it: of what it knew before and the number that
+-- it found, what it knows after.
 use Rattle.std.specs.Prelude.{◌≡◌, ◌≢◌, ℕ, ◌+◌, ◌<◌, ◌≤◌, List, [], ◌∷◌, ◌++◌, length, drop, Option, Some}
 use mathlib.Core.List.{IsPrefix}
 use Rattle.atomic_table.specs.Table.{Me, Step}
@@ -16,7 +17,9 @@ Holder T E = Me (Option T) (PassState E)
 module _ {T E : Type 0} where
   -- between turns, with this share and count of turns
   abbrev pub Rests : Seat (Option T) (PassState E) → ℕ → ℕ → Type 0
-  Rests seat share turns = (seat.me.1 ≡ []) × (seat.me.0.activity ≡ Idle) × (seat.me.0.share ≡ share) × (seat.me.0.turns ≡ turns) × (0 < share)
+  Rests seat share turns =
+      (seat.me.1 ≡ []) × (seat.me.0.activity ≡ Idle) × (seat.me.0.share ≡ share)
+      × (seat.me.0.turns ≡ turns) × (0 < share)
       × Every (StandsIn seat.me.0.seen) seat.me.0.mine
 
   abbrev pub state : Seat (Option T) (PassState E) → PassState E
@@ -30,7 +33,8 @@ module _ {T E : Type 0} where
     -- look: where its ticket is served, it has the value and has seen what that stands for; else nothing changes
     abbrev pub Looked : Step (Option T) → Holder T E → ℕ → Holder T E → Type 0
     Looked st m r m' = (t : ℕ) → m.0.activity ≡ Waiting t
-        → (r ≡ t → (x : T) × IsPrefix m.0.seen (list x) × (m' ≡ (record m.0 { seen = list x; activity = Holding t (faults x) }, (0, Some x) ∷ m.1)))
+        → (r ≡ t → (x : T) × IsPrefix m.0.seen (list x)
+        × (m' ≡ (record m.0 { seen = list x; activity = Holding t (faults x) }, (0, Some x) ∷ m.1)))
         × (r ≢ t → m' ≡ m)
 
     -- a state with ticket t that took the value at the count n of faults, and has noted that it stands at x now
@@ -43,7 +47,8 @@ module _ {T E : Type 0} where
 
     -- note: its turns are longer by one
     abbrev pub Noted : Step (Option T) → Holder T E → ℕ → Holder T E → Type 0
-    Noted st m r m' = (t n : ℕ) (x : T) → m.0.activity ≡ Holding t n → m.1 ≡ (0, Some x) ∷ [] → m' ≡ (noted_at t n m.0 x, m.1)
+    Noted st m r m' =
+        (t n : ℕ) (x : T) → m.0.activity ≡ Holding t n → m.1 ≡ (0, Some x) ∷ [] → m' ≡ (noted_at t n m.0 x, m.1)
 
   -- next: it rests, without the value
   abbrev pub WentOn : Step (Option T) → Holder T E → ℕ → Holder T E → Type 0
@@ -52,4 +57,5 @@ module _ {T E : Type 0} where
   -- look after a join: it rests, and learns what the two had in common
   abbrev pub LookedAfterJoin : Step (Option T) → Holder T E → ℕ → Holder T E → Type 0
   LookedAfterJoin st m r m' = (a b : List E) (t u : List (Turn E)) → m.0.activity ≡ Joined a b t u
-      → InCommon a b t u × (m.0.share ≤ 64) × Every (StandsIn m.0.seen) m.0.mine × (m' ≡ (record m.0 { activity = Idle }, m.1))
+      → InCommon a b t u × (m.0.share ≤ 64) × Every (StandsIn m.0.seen) m.0.mine
+      × (m' ≡ (record m.0 { activity = Idle }, m.1))

@@ -1,5 +1,6 @@
 -- The turns of a pass, and how those of two passes are merged.
-use Rattle.std.specs.Prelude.{◌≡◌, ℕ, ◌+◌, ◌-◌, ◌≤◌, ◌⊎◌, Bool, ◌&&◌, ◌||◌, nat_lt, ◌==◌, if◌then◌else◌, List, [], ◌∷◌, ◌++◌, length}
+use Rattle.std.specs.Prelude.{◌≡◌, ℕ, ◌+◌, ◌-◌, ◌≤◌, ◌⊎◌, Bool, ◌&&◌, ◌||◌, nat_lt}
+use Rattle.std.specs.Prelude.{◌==◌, if◌then◌else◌, List, [], ◌∷◌, ◌++◌, length}
 use mathlib.Core.List.{IsPrefix}
 use Rattle.cr_lock.specs.declared.pass_state.Turn.{Turn}
 use Rattle.cr_lock.specs.Counts.{has_risen, within, total, Every}
@@ -7,7 +8,8 @@ use Rattle.cr_lock.specs.Counts.{has_risen, within, total, Every}
 module _ {E : Type 0} where
   -- the turn at this place of the history, which added this group, and found and left the count of faults so
   abbrev pub turn_at : ℕ → List E → ℕ → ℕ → Turn E
-  turn_at place group before after = record { place = place; group = group; rise = after - before; marked = has_risen before after }
+  turn_at place group before after =
+      record { place = place; group = group; rise = after - before; marked = has_risen before after }
 
   -- the place behind the group
   abbrev pub end_of : Turn E → ℕ

@@ -1,5 +1,6 @@
 //! The lock.
-ghost use Rattle.std.specs.Prelude.{◌≡◌, ℕ, Some, None, ◌+◌, ◌-◌, ◌/◌, ◌^◌, ◌<◌, ◌≤◌, ◌⊎◌, [], ◌∷◌, List, length, IfOk, IfErr, MatchResult};
+ghost use Rattle.std.specs.Prelude.{◌≡◌, ℕ, Some, None, ◌+◌, ◌-◌, ◌/◌, ◌^◌, ◌<◌, ◌≤◌};
+ghost use Rattle.std.specs.Prelude.{◌⊎◌, [], ◌∷◌, List, length, IfOk, IfErr, MatchResult};
 ghost use Rattle.std.specs.Fn.{FnOnceReturnsAtMut, FnOnceTakesAtMut};
 ghost use mathlib.Core.List.{IsPrefix};
 ghost use Rattle.cr_lock.specs.declared.pass_state.Activity.TheVariants.{Idle, Holding};
@@ -44,7 +45,8 @@ type Board<T> = Shared<Option<T>, PassState<<T as Stands>::Entry>, Snapshot<T>, 
 #[derive(Drop)]
 pub struct HistoryLock<T: Stands> {
     table: Table<Option<T>, PassState<T::Entry>, Snapshot<T>, HistoryRule<T>, Global>,
-    // Where passes wait. Who has it draws a ticket and makes the turn, so each ticket is served as soon as it is drawn.
+    // Where passes wait. Who has it draws a ticket and makes the turn, so each ticket is
+    // served as soon as it is drawn.
     gate: Mutex<()>,
 }
 
@@ -92,7 +94,8 @@ fn wait_and_take<T: Stands, R: Wait>(
     seat: &mut Seat<Option<T>, PassState<T::Entry>>,
 ) -> T
     requires own { (seat.old.table_id ≡ shared.now.table_id) × (seat.old.me.1 ≡ []) × (shared.now.table_id.words ≡ 3) }
-    requires rests { ((state seat.old).activity ≡ Idle) × (0 < (state seat.old).share) × ((state seat.old).turns < 2 ^ 40) }
+    requires rests { ((state seat.old).activity ≡ Idle) × (0 < (state seat.old).share)
+        × ((state seat.old).turns < 2 ^ 40) }
     ensures seat { (seat.new.table_id ≡ seat.old.table_id) × (seat.new.me.1 ≡ (0, None) ∷ []) }
     ensures state { (t : ℕ) × (state seat.new ≡ record (state seat.old) {
       turns = (state seat.old).turns + 1;
@@ -113,8 +116,8 @@ fn wait_and_take<T: Stands, R: Wait>(
 }
 
 impl<T: Stands> HistoryLock<T> {
-    /// A lock round the value, and its first pass. That pass has share 64, no turns, and has seen what the value stands
-    /// for. Without memory the value comes back.
+    /// A lock round the value, and its first pass. That pass has share 64, no turns, and has seen what the value
+    /// stands for. Without memory the value comes back.
     pub fn new(alloc: Global, value: T) -> Result<(HistoryLock<T>, Pass<T>), (AllocError, T)>
         ensures { MatchResult result
             (λ made. (made.0.first ≡ value) × (made.1 ≡ first_pass made.0.lock (T.list value)))
@@ -164,8 +167,8 @@ impl<T: Stands> HistoryLock<T> {
     ///
     /// A pass makes fewer than 2^40 turns, so all passes together draw fewer tickets than a word can count.
     ///
-    /// A turn that nobody else waits for costs six atomic steps, two of them the gate's, and no system call. Where others sleep at
-    /// the gate, it wakes one of them at its end.
+    /// A turn that nobody else waits for costs six atomic steps, two of them the gate's, and no system call. Where
+    /// others sleep at the gate, it wakes one of them at its end.
     pub fn turn<A, F: FnOnce(&mut T) -> A, R: Wait>(&self, rt: &R, pass: &mut Pass<T>, act: F) -> A
         requires own { pass.old.lock ≡ self.now.lock }
         requires few { pass.old.turns < 2 ^ 40 }
@@ -265,9 +268,9 @@ impl<T: Stands> HistoryLock<T> {
 
     /// The value, when all passes are one again.
     ///
-    /// It stands for what the pass has seen. The groups of the pass's turns, in their order, are what came behind the first list, each
-    /// entry once. The count of faults rose by exactly what it rose in the turns, and so by no less than there are marks,
-    /// unless it ends at its last value.
+    /// It stands for what the pass has seen. The groups of the pass's turns, in their order, are what came behind the
+    /// first list, each entry once. The count of faults rose by exactly what it rose in the turns, and so by no less
+    /// than there are marks, unless it ends at its last value.
     pub fn close(self, pass: Pass<T>) -> T
         requires own { pass.lock ≡ self.lock }
         requires whole { pass.share ≡ 64 }

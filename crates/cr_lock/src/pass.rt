@@ -7,8 +7,8 @@ use std::marker::Model;
 /// The right to turns of one lock, for one thread at a time.
 ///
 /// Contracts see the `lock` that it is of; its `share` of 64, which `split` halves and `join` adds up; how many
-/// `turns` it has made; the history as it last saw it, `seen`; and its own turns in that history, `mine`, each with its
-/// place, the group that it added, and a mark where the count of faults rose. All but two counts is proof alone.
+/// `turns` it has made; the history as it last saw it, `seen`; and its own turns in that history, `mine`, each with
+/// its place, the group that it added, and a mark where the count of faults rose. All but two counts is proof alone.
 ///
 /// A pass that is dropped takes its share along, so the lock can no longer be closed.
 #[derive(Drop)]

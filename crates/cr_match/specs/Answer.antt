@@ -45,7 +45,8 @@ pub record IsAsked (papers members per_paper : ℕ) (pairs : List Pair) : Type 0
 abbrev pub IsProblem : Problem → Type 0
 IsProblem problem = IsAsked problem.papers problem.members problem.per_paper problem.pairs.items
 
--- some of the pairs, with as many members for each paper as it needs, and no more papers for a member than she may have
+-- some of the pairs, with as many members for each paper as it needs, and no more papers
+-- for a member than she may have
 pub record IsPlanOf (problem : Problem) (plan : List Pair) : Type 0 where
   pub marks : List Bool
   pub some : plan ≡ kept marks problem.pairs.items

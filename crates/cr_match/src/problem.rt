@@ -40,8 +40,8 @@ pub enum Solved {
         sum: i64,
         prices: Prices,
     },
-    /// Papers, none twice, for which the members have too little room: `per_paper` times their number is more than what
-    /// all members can take of them, each at most `load` and at most her pairs with them.
+    /// Papers, none twice, for which the members have too little room: `per_paper` times their number is more than
+    /// what all members can take of them, each at most `load` and at most her pairs with them.
     NoPlan {
         papers: Vec<u32>,
     },

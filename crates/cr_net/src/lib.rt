@@ -1,7 +1,7 @@
 //! Connections over TCP: gates on a loopback address, as the ports see them.
 //!
-//! The trusted edge: no clause says what the system gives and takes. They say that no call fails without a count, and how
-//! many connections a door gives.
+//! The trusted edge: no clause says what the system gives and takes. They say that no call fails without a count, and
+//! how many connections a door gives.
 #![tactic(auto)]
 
 mod door;

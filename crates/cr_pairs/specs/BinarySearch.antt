@@ -10,7 +10,8 @@ use Rattle.cr_base.specs.Pairs.{major, minor, comes_before, ties_of}
 
 -- the order of pairs: by the major number, then by the minor one
 abbrev pub pair_order : Order → Pair → Pair → Ordering
-pair_order order p q = ordering_then (nat_cmp (major order p) (major order q)) (nat_cmp (minor order p) (minor order q))
+pair_order order p q =
+    ordering_then (nat_cmp (major order p) (major order q)) (nat_cmp (minor order p) (minor order q))
 
 -- the major number never falls
 abbrev pub RisesBy : {V : Type 0} → Order → List (Tie V) → Type 0
@@ -25,7 +26,8 @@ pub record IsAt {V : Type 0} (q : Pair) (ts : List (Tie V)) (index : ℕ) : Type
 pub record IsGapFor {V : Type 0} (order : Order) (q : Pair) (ts : List (Tie V)) (index : ℕ) : Type 0 where
   pub in_range : index ≤ length ts
   pub before : (k : ℕ) (d : Tie V) → k < index → IsTrue (comes_before order (slice_index_or ts k d).pair q)
-  pub behind : (k : ℕ) (d : Tie V) → index ≤ k → k < length ts → IsTrue (comes_before order q (slice_index_or ts k d).pair)
+  pub behind : (k : ℕ) (d : Tie V) → index ≤ k → k < length ts
+      → IsTrue (comes_before order q (slice_index_or ts k d).pair)
 
 -- the ties with this number stand together, from one index up to another
 pub record IsRun {V : Type 0} (order : Order) (n : ℕ) (ts : List (Tie V)) (start end : ℕ) : Type 0 where

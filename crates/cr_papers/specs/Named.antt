@@ -7,4 +7,7 @@ use Rattle.cr_base.specs.Papers.{PapersState, paper_numbers, is_withdrawn_at}
 
 -- whether a paper of the number that was told is there, and withdrawn
 abbrev pub named_in : PapersState → Option ℕ → NamedPaper
-named_in state paper = record { there = at_some (λ p. list_any (λ q. q == p) (paper_numbers state)) paper; withdrawn = at_some (is_withdrawn_at state) paper }
+named_in state paper = record {
+  there = at_some (λ p. list_any (λ q. q == p) (paper_numbers state)) paper;
+  withdrawn = at_some (is_withdrawn_at state) paper;
+}

@@ -1,10 +1,12 @@
 //! The papers of a history, by number.
-ghost use Rattle.std.specs.Prelude.{◌≡◌, ◌≤◌, ◌<◌, ◌+◌, ◌^◌, ◌==◌, not, OnOk, IfOk, Some, length, map, find, unwrap_or};
+ghost use Rattle.std.specs.Prelude.{◌≡◌, ◌≤◌, ◌<◌, ◌+◌, ◌^◌, ◌==◌, not, OnOk};
+ghost use Rattle.std.specs.Prelude.{IfOk, Some, length, map, find, unwrap_or};
 ghost use Rattle.std.specs.List.{list_any};
 ghost use Rattle.std.specs.Option.{option_map, option_copied};
 ghost use Rattle.cr_base.specs.Checks.{judged, submit_checks, revise_checks, upload_checks};
 ghost use Rattle.cr_base.specs.Lists.{last, numbers_from};
-ghost use Rattle.cr_base.specs.Papers.{no_papers, papers_after, paper_count, paper_numbers, title_at, abstract_at, PapersFit};
+ghost use Rattle.cr_base.specs.Papers.{no_papers, papers_after, paper_count};
+ghost use Rattle.cr_base.specs.Papers.{paper_numbers, title_at, abstract_at, PapersFit};
 ghost use Rattle.cr_base.specs.Papers.{is_withdrawn_at, uploads_at, own_count, own_bytes};
 ghost use Rattle.cr_papers.specs.Named.{named_in};
 
@@ -138,7 +140,8 @@ impl Papers {
     /// is the last one's number too. One read by number.
     pub fn version_count(&self, paper: PaperNo) -> u64
         ensures count { result ≡ length (uploads_at self.now.papers paper) }
-        ensures numbers { map (λ u. u.version) (uploads_at self.now.papers paper) ≡ numbers_from 1 (uploads_at self.now.papers paper) }
+        ensures numbers { map (λ u. u.version) (uploads_at self.now.papers paper)
+            ≡ numbers_from 1 (uploads_at self.now.papers paper) }
         ensures few { result < 2 ^ 63 }
     {
         self.uploads.count(paper)
@@ -161,7 +164,8 @@ impl Papers {
 
     /// The content of a version of a paper, and none where there is no such version. One look-up.
     pub fn content(&self, paper: PaperNo, version: u64) -> Option<&Blob>
-        ensures { option_copied result ≡ option_map (λ u. u.content) (find (λ u. u.version == version) (uploads_at self.now.papers paper)) }
+        ensures { option_copied result ≡ option_map (λ u. u.content)
+            (find (λ u. u.version == version) (uploads_at self.now.papers paper)) }
     {
         self.uploads.content(paper, version)
     }
@@ -188,7 +192,8 @@ impl Papers {
         users_found: bool,
     ) -> Result<PaperNo, Rule>
         ensures { let count = paper_count self.now.papers in
-            result ≡ judged (submit_checks (not users_found) by.now count (own_count self.now.papers (Some maker))) (count + 1) }
+            result ≡ judged (submit_checks (not users_found) by.now count (own_count self.now.papers (Some maker)))
+            (count + 1) }
     {
         if !users_found {
             return Err(Rule::NoUser);

@@ -1,5 +1,6 @@
 //! What was uploaded to papers, by version.
-ghost use Rattle.std.specs.Prelude.{◌≡◌, ℕ, ◌≤◌, ◌<◌, ◌+◌, ◌^◌, ◌==◌, ◌++◌, ◌∷◌, [], OnOk, IfOk, length, map, find, slice_get, unwrap_or};
+ghost use Rattle.std.specs.Prelude.{◌≡◌, ℕ, ◌≤◌, ◌<◌, ◌+◌, ◌^◌, ◌==◌, ◌++◌, ◌∷◌, []};
+ghost use Rattle.std.specs.Prelude.{OnOk, IfOk, length, map, find, slice_get, unwrap_or};
 ghost use Rattle.std.specs.Option.{option_map, option_copied};
 ghost use Rattle.cr_base.specs.Lists.{last, numbers_from};
 ghost use Rattle.cr_papers.specs.Index.{uploads_to, numbers_to, upload_at};
@@ -56,7 +57,8 @@ impl Model for Uploads {
     ghost view = { λ t. record {
       uploads = t.uploads.items;
       papers = length t.counts.items;
-      room = min (vec_capacity t.uploads - vec_len t.uploads) (min (vec_capacity t.counts - vec_len t.counts) (spare t.indices));
+      room = min (vec_capacity t.uploads - vec_len t.uploads)
+          (min (vec_capacity t.counts - vec_len t.counts) (spare t.indices));
     } };
 
     ghost invariant = { λ t. IsVersionIndex t.uploads.items t.counts.items t.indices };
@@ -80,7 +82,8 @@ impl Uploads {
     /// is the last one's number too. One read by number.
     pub(crate) fn count(&self, paper: PaperNo) -> u64
         ensures count { result ≡ length (uploads_to paper self.now.uploads) }
-        ensures numbers { map (λ u. u.version) (uploads_to paper self.now.uploads) ≡ numbers_from 1 (uploads_to paper self.now.uploads) }
+        ensures numbers { map (λ u. u.version) (uploads_to paper self.now.uploads)
+            ≡ numbers_from 1 (uploads_to paper self.now.uploads) }
         ensures few { result < 2 ^ 63 }
     {
         count_at(&self.counts, paper.from_zero())
@@ -107,7 +110,8 @@ impl Uploads {
 
     /// The content of a version of a paper, and none where there is no such version. One look-up.
     pub(crate) fn content(&self, paper: PaperNo, version: u64) -> Option<&Blob>
-        ensures { option_copied result ≡ option_map (λ u. u.content) (find (λ u. u.version == version) (uploads_to paper self.now.uploads)) }
+        ensures { option_copied result ≡ option_map (λ u. u.content)
+            (find (λ u. u.version == version) (uploads_to paper self.now.uploads)) }
     {
         let key = VersionOf {
             paper: paper.number(),
@@ -154,7 +158,8 @@ impl Uploads {
         requires room { 0 < self.old.room }
         requires there { paper ≤ self.old.papers }
         requires next { version ≡ length (uploads_to paper self.old.uploads) + 1 }
-        ensures uploads { self.new.uploads ≡ self.old.uploads ++ (record { paper = paper; upload = record { version = version; content = content } }) ∷ [] }
+        ensures uploads { self.new.uploads ≡ self.old.uploads
+            ++ (record { paper = paper; upload = record { version = version; content = content } }) ∷ [] }
         ensures papers { self.new.papers ≡ self.old.papers }
         ensures room { self.old.room ≤ self.new.room + 1 }
     {

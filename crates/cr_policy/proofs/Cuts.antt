@@ -95,7 +95,10 @@ module _ {A : Type 0} (r : Reader) (cut : Stamped → Bool) (cut_seen : Sighting
       rest : List Sighting
       rest = sights r (before ++ e ∷ []) after
 
-      by : (b : Bool) → cut e ≡ b → flat_map seen (since cut_seen rest) ≡ kept_since cut passes told (before ++ e ∷ []) after → flat_map seen (since cut_seen (sight r at e ++ rest)) ≡ cond b (kept passes told (before ++ e ∷ []) after) (kept_since cut passes told (before ++ e ∷ []) after)
+      by : (b : Bool) → cut e ≡ b
+          → flat_map seen (since cut_seen rest) ≡ kept_since cut passes told (before ++ e ∷ []) after
+          → flat_map seen (since cut_seen (sight r at e ++ rest))
+          ≡ cond b (kept passes told (before ++ e ∷ []) after) (kept_since cut passes told (before ++ e ∷ []) after)
       by true h later =
           let o = cuts.one at e h in
           ap (λ xs. flat_map seen (since cut_seen (xs ++ rest))) o.1.0

@@ -1,18 +1,21 @@
--- A small conference, from its first registration to its close: eight users, three papers, and every kind of entry. In its
--- twin alice assigns another member to paper 1. What the committee says that no author reads is whatever it is, and its chairs may
--- decide otherwise than they do.
-use Rattle.std.specs.Prelude.{ℕ, ◌≡◌, true, false, List, [], ◌∷◌, ◌++◌, length, Option, Some, None, codes, ◌==◌, if◌then◌else◌, IsTrue}
+-- A small conference, from its first registration to its close: eight users, three papers, and every kind of entry. In
+-- its twin alice assigns another member to paper 1. What the committee says that no author reads is whatever it is,
+-- and its chairs may decide otherwise than they do.
+use Rattle.std.specs.Prelude.{ℕ, ◌≡◌, true, false, List, [], ◌∷◌, ◌++◌, length}
+use Rattle.std.specs.Prelude.{Option, Some, None, codes, ◌==◌, if◌then◌else◌, IsTrue}
 use Rattle.cr_base.specs.declared.entry.Entry.{Entry}
 use Rattle.cr_base.specs.declared.entry.Entry.TheVariants.{Registered, Named, PhaseSet, ModeSet, Submitted}
 use Rattle.cr_base.specs.declared.entry.Entry.TheVariants.{Coauthor, Revised, Uploaded, Withdrawn, Conflict}
-use Rattle.cr_base.specs.declared.entry.Entry.TheVariants.{Bid, Assigned, Unassigned, Reviewed, Commented, Tagged, Decided}
+use Rattle.cr_base.specs.declared.entry.Entry.TheVariants.{Bid, Assigned, Unassigned, Reviewed}
+use Rattle.cr_base.specs.declared.entry.Entry.TheVariants.{Commented, Tagged, Decided}
 use Rattle.cr_base.specs.declared.entry.Stamped.{Stamped}
 use Rattle.cr_base.specs.declared.form.Form.{Form}
 use Rattle.cr_base.specs.declared.words.Decision.{Decision}
 use Rattle.cr_base.specs.declared.words.Decision.TheVariants.{Accept, Reject}
 use Rattle.cr_base.specs.declared.words.Kind.TheVariants.{Primary, Secondary, Pc}
 use Rattle.cr_base.specs.declared.words.Mode.{Mode}
-use Rattle.cr_base.specs.declared.words.Phase.TheVariants.{Submission, Bidding, Reviewing, Discussion, Notification, Closed}
+use Rattle.cr_base.specs.declared.words.Phase.TheVariants.{Submission, Bidding, Reviewing}
+use Rattle.cr_base.specs.declared.words.Phase.TheVariants.{Discussion, Notification, Closed}
 use Rattle.cr_base.specs.declared.words.Role.TheVariants.{Member, Chair}
 use Rattle.cr_base.specs.History.{History}
 use Rattle.cr_base.specs.TagTexts.{is_tag}
@@ -119,8 +122,8 @@ second_version = codes "Let x be, and y."
 abbrev pub only_version : List ℕ
 only_version = codes "x : A"
 
--- what the committee says that no author reads: how dave's own tag goes on, what the last form tells the committee alone, and the
--- first comment
+-- what the committee says that no author reads: how dave's own tag goes on, what the last form tells the
+-- committee alone, and the first comment
 pub record Asides : Type 0 where
   pub tag : List ℕ
   pub to_pc : List ℕ
@@ -202,8 +205,8 @@ submitted d mode =
     ∷ gus adds Submitted 3 drafts we_draft
     ∷ []
 
--- bob uploads two versions of paper 1, and gus one of paper 2 between them; bob revises the texts of paper 1, and then gus,
--- who withdraws paper 3; bob declares carol in conflict with paper 1, and gus declares fay
+-- bob uploads two versions of paper 1, and gus one of paper 2 between them; bob revises the texts of paper 1, and then
+-- gus, who withdraws paper 3; bob declares carol in conflict with paper 1, and gus declares fay
 abbrev pub before_bidding : Digests → Mode → History
 before_bidding d mode =
     submitted d mode
@@ -217,8 +220,8 @@ before_bidding d mode =
     ∷ gus adds Conflict 1 fay true
     ∷ []
 
--- alice opens the bidding, and turns fay's conflict off; fay declares it herself; dave declares one of his with paper 2,
--- and alice turns that off
+-- alice opens the bidding, and turns fay's conflict off; fay declares it herself; dave declares one of his with
+-- paper 2, and alice turns that off
 abbrev pub opened_bidding : Digests → Mode → History
 opened_bidding d mode =
     before_bidding d mode
@@ -239,7 +242,8 @@ having_bids d mode =
     ∷ dave adds Bid 1 40
     ∷ []
 
--- dave tags paper 1 for all, and for himself, and alice for chairs; hal turns the first tag off; and fay tags paper 2 for chairs
+-- dave tags paper 1 for all, and for himself, and alice for chairs; hal turns the first tag off;
+-- and fay tags paper 2 for chairs
 abbrev pub having_tags : Digests → Mode → Asides → History
 having_tags d mode a =
     having_bids d mode
@@ -259,8 +263,8 @@ in_bidding d mode a reviewer =
     ∷ alice adds Assigned 2 fay Pc 1
     ∷ []
 
--- she opens the reviewing, takes the member off paper 1 and assigns the same one again, under the next label; the member writes two
--- forms, and alice one between them
+-- she opens the reviewing, takes the member off paper 1 and assigns the same one again, under the next label; the
+-- member writes two forms, and alice one between them
 abbrev pub in_reviewing : Digests → Mode → Asides → ℕ → History
 in_reviewing d mode a reviewer =
     in_bidding d mode a reviewer

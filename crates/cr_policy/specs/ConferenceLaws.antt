@@ -1,5 +1,6 @@
--- The laws of the small conference: it is legal, its readers see what is written of them, and those who may not know who reviews a
--- paper, what the committee says of it, or what is decided of it, see the same whoever does, and whatever that is.
+-- The laws of the small conference: it is legal, its readers see what is written of them, and those who may
+-- not know who reviews a paper, what the committee says of it, or what is decided of it, see the same
+-- whoever does, and whatever that is.
 use Rattle.std.specs.Prelude.{ℕ, ◌≡◌, List, [], ◌∷◌, ◌++◌, Option, Some, None, map, filter, IsFalse}
 use Rattle.cr_base.specs.declared.words.Decision.{Decision}
 use Rattle.cr_base.specs.declared.words.Decision.TheVariants.{Accept, Reject}
@@ -8,14 +9,18 @@ use Rattle.cr_base.specs.declared.words.Kind.TheVariants.{Primary, Secondary, Pc
 use Rattle.cr_base.specs.declared.words.Mode.{Mode}
 use Rattle.cr_base.specs.declared.words.Role.{Role}
 use Rattle.cr_base.specs.declared.words.Role.TheVariants.{Account, Member, Chair}
-use Rattle.cr_base.specs.HistoryFacts.{role_of, papers_of, authors_of, is_conflicted, is_withdrawn, reviewers_of, decision_of, is_accepted}
+use Rattle.cr_base.specs.HistoryFacts.{role_of, papers_of, authors_of, is_conflicted}
+use Rattle.cr_base.specs.HistoryFacts.{is_withdrawn, reviewers_of, decision_of, is_accepted}
 use Rattle.cr_base.specs.History.{History, SeatTold}
 use Rattle.cr_base.specs.Words.{is_overt}
-use Rattle.cr_policy.specs.Conference.{alice, bob, carol, dave, erin, fay, gus, hal, cast, Digests, AreDigests, Asides, AreAsides}
-use Rattle.cr_policy.specs.Conference.{before_bidding, in_bidding, in_reviewing, Verdicts, verdicts, reversed, in_discussion}
+use Rattle.cr_policy.specs.Conference.{alice, bob, carol, dave, erin, fay, gus, hal}
+use Rattle.cr_policy.specs.Conference.{cast, Digests, AreDigests, Asides, AreAsides}
+use Rattle.cr_policy.specs.Conference.{before_bidding, in_bidding, in_reviewing}
+use Rattle.cr_policy.specs.Conference.{Verdicts, verdicts, reversed, in_discussion}
 use Rattle.cr_policy.specs.Conference.{at_notification, at_close}
 use Rattle.cr_policy.specs.ConferenceViews.{Views, views_before, views_in_bidding, views_in_reviewing}
-use Rattle.cr_policy.specs.ConferenceOutcomes.{views_in_discussion, views_at_notification, views_at_close, Outside, reversed_at_close}
+use Rattle.cr_policy.specs.ConferenceOutcomes.{views_in_discussion, views_at_notification}
+use Rattle.cr_policy.specs.ConferenceOutcomes.{views_at_close, Outside, reversed_at_close}
 use Rattle.cr_policy.specs.Legal.{Legal}
 use Rattle.cr_policy.specs.View.{View, view}
 
@@ -25,8 +30,8 @@ use Rattle.cr_policy.specs.View.{View, view}
 abbrev pub accepted_of : History → List ℕ
 accepted_of H = filter (λ paper. is_accepted paper H) (papers_of H)
 
--- who of the eight is what: their roles, and of each paper its authors, those who are in conflict with it, its reviewers and the last
--- decision on it; and which papers are withdrawn, and which accepted
+-- who of the eight is what: their roles, and of each paper its authors, those who are in conflict with it, its
+-- reviewers and the last decision on it; and which papers are withdrawn, and which accepted
 pub record Casting : Type 0 where
   pub roles : List Role
   pub authors : List (List ℕ)
@@ -47,7 +52,8 @@ casting_of H = record {
   accepted = accepted_of H;
 }
 
--- alice, carol, dave, fay and hal are the committee, and of it carol and fay are in conflict with paper 1 and nobody with the others;
+-- alice, carol, dave, fay and hal are the committee, and of it carol and fay are in conflict with
+-- paper 1 and nobody with the others;
 -- bob and gus wrote paper 1, and gus alone papers 2 and 3, of which the last is withdrawn; no decision is made yet
 abbrev pub reviewed_by : List (List SeatTold) → Casting
 reviewed_by reviewers = record {
@@ -68,19 +74,23 @@ pub record IsConference (H : History) (casting : Casting) : Type 0 where
 abbrev pub reviewing : ℕ → Kind → ℕ → SeatTold
 reviewing ordinal kind user = record { ordinal = ordinal; kind = Some kind; user = Some user }
 
--- who reviews before the bidding; in it, where this member is assigned to paper 1; and once the same one is assigned again
+-- who reviews before the bidding; in it, where this member is assigned to paper 1; and once
+-- the same one is assigned again
 abbrev pub by_none : Casting
 by_none = reviewed_by ([] ∷ [] ∷ [] ∷ [])
 
 abbrev pub by_first : ℕ → Casting
-by_first member = reviewed_by ((reviewing 1 Primary member ∷ reviewing 2 Secondary alice ∷ []) ∷ (reviewing 1 Pc fay ∷ []) ∷ [] ∷ [])
+by_first member =
+    reviewed_by ((reviewing 1 Primary member ∷ reviewing 2 Secondary alice ∷ []) ∷ (reviewing 1 Pc fay ∷ []) ∷ [] ∷ [])
 
 abbrev pub by_last : ℕ → Casting
-by_last member = reviewed_by ((reviewing 2 Secondary alice ∷ reviewing 3 Pc member ∷ []) ∷ (reviewing 1 Pc fay ∷ []) ∷ [] ∷ [])
+by_last member =
+    reviewed_by ((reviewing 2 Secondary alice ∷ reviewing 3 Pc member ∷ []) ∷ (reviewing 1 Pc fay ∷ []) ∷ [] ∷ [])
 
 -- and once the chairs have decided, where these papers are accepted
 abbrev pub decided_by : ℕ → List ℕ → Casting
-decided_by member accepted = record (by_last member) { decisions = Some Accept ∷ Some Reject ∷ None ∷ []; accepted = accepted }
+decided_by member accepted =
+    record (by_last member) { decisions = Some Accept ∷ Some Reject ∷ None ∷ []; accepted = accepted }
 
 -- in each phase from the bidding on, where this member is assigned to paper 1
 pub record IsReviewed (d : Digests) (mode : Mode) (a : Asides) (member : ℕ) : Type 0 where
@@ -121,7 +131,8 @@ views_of H = record {
   conflicted_chair = view (Some fay) H;
 }
 
--- these are the views that the readers have of the history, whatever the digests, in each mode and whatever the committee says
+-- these are the views that the readers have of the history, whatever the digests, in each mode
+-- and whatever the committee says
 abbrev pub AreViews : (Digests → Mode → Asides → History) → (Digests → Mode → Asides → Views) → Type 0
 AreViews history views = (d : Digests) (mode : Mode) (a : Asides) → views_of (history d mode a) ≡ views d mode a
 
@@ -144,15 +155,22 @@ abbrev pub ViewsAtClose : Type 0
 ViewsAtClose = AreViews (λ d mode a. at_close d mode a dave verdicts) views_at_close
 
 abbrev pub outside_of : History → Outside
-outside_of H = record { nobody = view None H; account = view (Some erin) H; author = view (Some bob) H; coauthor = view (Some gus) H }
+outside_of H = record {
+  nobody = view None H;
+  account = view (Some erin) H;
+  author = view (Some bob) H;
+  coauthor = view (Some gus) H;
+}
 
 abbrev pub ViewsReversed : Type 0
-ViewsReversed = (d : Digests) (mode : Mode) (a : Asides) → outside_of (at_close d mode a dave reversed) ≡ reversed_at_close d mode a
+ViewsReversed =
+    (d : Digests) (mode : Mode) (a : Asides)
+    → outside_of (at_close d mode a dave reversed) ≡ reversed_at_close d mode a
 
 -- ---- its twins
 
--- what the reader sees in each phase from the bidding to the discussion, where the committee says this, and this member is assigned to
--- paper 1
+-- what the reader sees in each phase from the bidding to the discussion, where the committee says this, and
+-- this member is assigned to paper 1
 abbrev pub seen_to_discussion : ℕ → Digests → Mode → Asides → ℕ → List View
 seen_to_discussion reader d mode a member =
     view (Some reader) (in_bidding d mode a member)
@@ -168,21 +186,24 @@ seen_throughout reader d mode a member =
     ∷ view (Some reader) (at_close d mode a member verdicts)
     ∷ []
 
--- whether dave or hal is assigned to the paper, writes its forms and comments on it under their label, its authors see the same up to
--- the discussion, and later but in the open mode; and a member and a chair in conflict with it see the same throughout
+-- whether dave or hal is assigned to the paper, writes its forms and comments on it under their label, its
+-- authors see the same up to the discussion, and later but in the open mode; and a member and a chair in conflict
+-- with it see the same throughout
 pub record Twins (d : Digests) (mode : Mode) (a : Asides) : Type 0 where
   pub author : seen_to_discussion bob d mode a dave ≡ seen_to_discussion bob d mode a hal
-  pub author_throughout : IsFalse (is_overt mode) → seen_throughout bob d mode a dave ≡ seen_throughout bob d mode a hal
+  pub author_throughout : IsFalse (is_overt mode)
+      → seen_throughout bob d mode a dave ≡ seen_throughout bob d mode a hal
   pub coauthor : seen_to_discussion gus d mode a dave ≡ seen_to_discussion gus d mode a hal
-  pub coauthor_throughout : IsFalse (is_overt mode) → seen_throughout gus d mode a dave ≡ seen_throughout gus d mode a hal
+  pub coauthor_throughout : IsFalse (is_overt mode)
+      → seen_throughout gus d mode a dave ≡ seen_throughout gus d mode a hal
   pub conflicted_member : seen_throughout carol d mode a dave ≡ seen_throughout carol d mode a hal
   pub conflicted_chair : seen_throughout fay d mode a dave ≡ seen_throughout fay d mode a hal
 
 abbrev pub TwinsAlike : Type 0
 TwinsAlike = (d : Digests) (mode : Mode) (a : Asides) → Twins d mode a
 
--- whether the committee says this or that where no author reads it, the paper's authors, and a member and a chair in conflict with
--- it, see the same throughout
+-- whether the committee says this or that where no author reads it, the paper's authors, and a member and a chair in
+-- conflict with it, see the same throughout
 pub record SameWithout (d : Digests) (mode : Mode) (a b : Asides) : Type 0 where
   pub author : seen_throughout bob d mode a dave ≡ seen_throughout bob d mode b dave
   pub coauthor : seen_throughout gus d mode a dave ≡ seen_throughout gus d mode b dave
@@ -201,15 +222,17 @@ seen_in_discussion u d mode a v = view u (in_discussion d mode a dave v)
 abbrev pub seen_from_notification : Option ℕ → Digests → Mode → Asides → Verdicts → List View
 seen_from_notification u d mode a v = view u (at_notification d mode a dave v) ∷ view u (at_close d mode a dave v) ∷ []
 
--- before the notification who isn't on the committee sees the same whatever is decided, and so do a member and a chair in conflict
--- with paper 1 whatever is decided of that
+-- before the notification who isn't on the committee sees the same whatever is decided, and so do a member and a chair
+-- in conflict with paper 1 whatever is decided of that
 pub record SameEarly (d : Digests) (mode : Mode) (a : Asides) (v w : Verdicts) : Type 0 where
   pub nobody : seen_in_discussion None d mode a v ≡ seen_in_discussion None d mode a w
   pub account : seen_in_discussion (Some erin) d mode a v ≡ seen_in_discussion (Some erin) d mode a w
   pub author : seen_in_discussion (Some bob) d mode a v ≡ seen_in_discussion (Some bob) d mode a w
   pub coauthor : seen_in_discussion (Some gus) d mode a v ≡ seen_in_discussion (Some gus) d mode a w
-  pub conflicted_member : v.other ≡ w.other → seen_in_discussion (Some carol) d mode a v ≡ seen_in_discussion (Some carol) d mode a w
-  pub conflicted_chair : v.other ≡ w.other → seen_in_discussion (Some fay) d mode a v ≡ seen_in_discussion (Some fay) d mode a w
+  pub conflicted_member : v.other ≡ w.other
+      → seen_in_discussion (Some carol) d mode a v ≡ seen_in_discussion (Some carol) d mode a w
+  pub conflicted_chair : v.other ≡ w.other
+      → seen_in_discussion (Some fay) d mode a v ≡ seen_in_discussion (Some fay) d mode a w
 
 -- the papers that are accepted where the chairs decide so, and the last decision on a paper
 abbrev pub accepted_with : Digests → Mode → Asides → Verdicts → List ℕ
@@ -218,7 +241,8 @@ accepted_with d mode a v = accepted_of (at_notification d mode a dave v)
 abbrev pub outcome_with : ℕ → Digests → Mode → Asides → Verdicts → Option Decision
 outcome_with paper d mode a v = decision_of paper (at_notification d mode a dave v)
 
--- from it on they do where the same papers are accepted; and so do authors where the last decision on each of their own is the same
+-- from it on they do where the same papers are accepted; and so do authors where the last decision
+-- on each of their own is the same
 pub record SameLate (d : Digests) (mode : Mode) (a : Asides) (v w : Verdicts) : Type 0 where
   pub nobody : seen_from_notification None d mode a v ≡ seen_from_notification None d mode a w
   pub account : seen_from_notification (Some erin) d mode a v ≡ seen_from_notification (Some erin) d mode a w
@@ -230,7 +254,8 @@ pub record SameLate (d : Digests) (mode : Mode) (a : Asides) (v w : Verdicts) : 
       → outcome_with 2 d mode a v ≡ outcome_with 2 d mode a w
       → seen_from_notification (Some gus) d mode a v ≡ seen_from_notification (Some gus) d mode a w
   pub conflicted_member :
-      v.other ≡ w.other → seen_from_notification (Some carol) d mode a v ≡ seen_from_notification (Some carol) d mode a w
+      v.other ≡ w.other
+      → seen_from_notification (Some carol) d mode a v ≡ seen_from_notification (Some carol) d mode a w
   pub conflicted_chair :
       v.other ≡ w.other → seen_from_notification (Some fay) d mode a v ≡ seen_from_notification (Some fay) d mode a w
 

@@ -1,24 +1,30 @@
--- What each reader sees of the small conference in the discussion, at the notification and at the close: the whole of her view, a line
--- an entry.
+-- What each reader sees of the small conference in the discussion, at the notification and at the close: the
+-- whole of her view, a line an entry.
 use Rattle.std.specs.Prelude.{[], ◌∷◌, ◌++◌}
 use Rattle.cr_base.specs.declared.words.Decision.TheVariants.{Accept, Reject}
 use Rattle.cr_base.specs.declared.words.Kind.TheVariants.{Primary, Secondary, Pc}
 use Rattle.cr_base.specs.declared.words.Mode.{Mode}
 use Rattle.cr_base.specs.declared.words.Mode.TheVariants.{Overt}
 use Rattle.cr_base.specs.declared.words.Phase.TheVariants.{Bidding, Reviewing, Discussion, Notification, Closed}
-use Rattle.cr_policy.specs.Conference.{alice, dave, erin, fay, gus, hal, Digests, Asides, types, we_type, only_version, first_form, second_form}
+use Rattle.cr_policy.specs.Conference.{alice, dave, erin, fay, gus, hal, Digests, Asides}
+use Rattle.cr_policy.specs.Conference.{types, we_type, only_version, first_form, second_form}
 use Rattle.cr_policy.specs.Conference.{last_form, alices_form, agreed}
-use Rattle.cr_policy.specs.ConferenceViews.{both_texts_by, upload, assignment, unassignment, to_members, to_authors, form, form_to_authors}
-use Rattle.cr_policy.specs.ConferenceViews.{comment_by, comment_to_members, own_comment, decided, as_outcome, as_accepted, acceptance, mine}
-use Rattle.cr_policy.specs.ConferenceViews.{bare_paper, phase_set, Views, opened_to, opening_to_nobody, opening_to, bob_with, bob_before, gus_before}
-use Rattle.cr_policy.specs.ConferenceViews.{bare_head, head_by_authors, head_to_members, title_alone, last_texts, hal_to_bidding, dave_to_tags}
+use Rattle.cr_policy.specs.ConferenceViews.{both_texts_by, upload, assignment, unassignment}
+use Rattle.cr_policy.specs.ConferenceViews.{to_members, to_authors, form, form_to_authors}
+use Rattle.cr_policy.specs.ConferenceViews.{comment_by, comment_to_members, own_comment}
+use Rattle.cr_policy.specs.ConferenceViews.{decided, as_outcome, as_accepted, acceptance, mine}
+use Rattle.cr_policy.specs.ConferenceViews.{bare_paper, phase_set, Views, opened_to, opening_to_nobody}
+use Rattle.cr_policy.specs.ConferenceViews.{opening_to, bob_with, bob_before, gus_before}
+use Rattle.cr_policy.specs.ConferenceViews.{bare_head, head_by_authors, head_to_members}
+use Rattle.cr_policy.specs.ConferenceViews.{title_alone, last_texts, hal_to_bidding, dave_to_tags}
 use Rattle.cr_policy.specs.ConferenceViews.{carol_to_bidding, fay_to_bidding, alice_in_reviewing, views_in_reviewing}
 use Rattle.cr_policy.specs.View.{View}
 
 -- ---- in the discussion
 
--- a member in no conflict: every assignment, from the bidding on, but not who it is where the mode is anonymous; of each label the
--- last form that was written before the discussion, and all later ones, whole; and every comment, with his own label
+-- a member in no conflict: every assignment, from the bidding on, but not who it is where the mode is
+-- anonymous; of each label the last form that was written before the discussion, and all later ones, whole; and
+-- every comment, with his own label
 abbrev pub hal_to_comments : Digests → Mode → Asides → View → View
 hal_to_comments d mode a head =
     hal_to_bidding d mode head
@@ -69,8 +75,8 @@ carol_to_decisions d mode head texts =
     ∷ decided 2 Reject
     ∷ []
 
--- a chair in no conflict: every assignment and what is done, as before; of the forms what any member sees; every comment, and who
--- wrote it; and every decision
+-- a chair in no conflict: every assignment and what is done, as before; of the forms what any member sees; every
+-- comment, and who wrote it; and every decision
 abbrev pub alice_to_comments : Digests → Mode → Asides → View
 alice_to_comments d mode a =
     alice_in_reviewing d mode
@@ -82,7 +88,8 @@ alice_to_comments d mode a =
     ∷ []
 
 abbrev pub alice_in_discussion : Digests → Mode → Asides → View
-alice_in_discussion d mode a = alice_to_comments d mode a ++ decided 2 Reject ∷ mine (decided 1 Reject) ∷ mine (decided 1 Accept) ∷ []
+alice_in_discussion d mode a =
+    alice_to_comments d mode a ++ decided 2 Reject ∷ mine (decided 1 Reject) ∷ mine (decided 1 Accept) ∷ []
 
 -- a chair in conflict with paper 1: the decision on paper 2, which is her own
 abbrev pub fay_to_decisions : Digests → Mode → View → View → View
@@ -101,8 +108,9 @@ views_in_discussion d mode a = record (opened_to Discussion (views_in_reviewing 
 
 -- ---- at the notification
 
--- an author of paper 1, from the reviewing on: of each label the last form, but not its number and what is for the committee; in
--- the open mode who was assigned and unassigned, and under which labels, but not as what; and what became of her papers
+-- an author of paper 1, from the reviewing on: of each label the last form, but not its number and what is
+-- for the committee; in the open mode who was assigned and unassigned, and under which labels, but not as
+-- what; and what became of her papers
 abbrev pub results : Mode → Asides → View → View
 results Overt a outcomes =
     phase_set Reviewing
@@ -130,7 +138,8 @@ outcome_of_1 = as_accepted (as_outcome (decided 1 Accept)) ∷ []
 abbrev pub outcomes_of_both : View
 outcomes_of_both = as_outcome (decided 2 Reject) ∷ outcome_of_1
 
--- so behind what she saw before the bidding, and in the open mode who was assigned in it too; and a co-author, who wrote paper 2 as well
+-- so behind what she saw before the bidding, and in the open mode who was assigned in it too; and a
+-- co-author, who wrote paper 2 as well
 abbrev pub bob_told : Mode → Asides → View → View → View
 bob_told Overt a before outcomes =
     before
@@ -150,8 +159,8 @@ gus_told Overt a before outcomes =
     ∷ results Overt a outcomes
 gus_told mode a before outcomes = before ++ phase_set Bidding ∷ results mode a outcomes
 
--- everyone else: these lines of papers 1 and 2, and which of them is accepted; who wrote none, and is on no committee, of paper 3 that
--- it is there
+-- everyone else: these lines of papers 1 and 2, and which of them is accepted; who wrote none, and is on no
+-- committee, of paper 3 that it is there
 abbrev pub programme : View → View → View → View
 programme papers texts accepted =
     papers
@@ -168,7 +177,8 @@ programme papers texts accepted =
 abbrev pub programme_of_1 : View → View
 programme_of_1 texts = programme (head_by_authors ++ bare_paper 2 ∷ []) texts (acceptance 1 ∷ [])
 
--- a member in no conflict: so who wrote it in the anonymous mode too; all decisions, as before, and which one accepts it
+-- a member in no conflict: so who wrote it in the anonymous mode too; all decisions, as
+-- before, and which one accepts it
 abbrev pub all_told : View
 all_told = decided 2 Reject ∷ decided 1 Reject ∷ as_accepted (decided 1 Accept) ∷ phase_set Notification ∷ []
 
@@ -200,7 +210,8 @@ views_at_notification d mode a = record {
 
 -- ---- at the close
 
--- everyone: of paper 1 the last version and the last abstract too, which authors and members in no conflict have seen already
+-- everyone: of paper 1 the last version and the last abstract too, which authors and members
+-- in no conflict have seen already
 abbrev pub views_at_close : Digests → Mode → Asides → Views
 views_at_close d mode a =
     let seen = views_at_notification d mode a in
@@ -220,7 +231,8 @@ pub record Outside : Type 0 where
   pub author : View
   pub coauthor : View
 
--- of paper 2, which is accepted then, who wrote it, and its texts, which never changed; of paper 1, which is not, that it is there
+-- of paper 2, which is accepted then, who wrote it, and its texts, which never changed; of paper 1,
+-- which is not, that it is there
 abbrev pub programme_of_2 : View
 programme_of_2 =
     programme
@@ -242,7 +254,8 @@ reversed_at_close d mode a = record {
       ++ phase_set Closed
       ∷ [];
   coauthor =
-      gus_told mode a (gus_before d mode) (as_accepted (as_outcome (decided 2 Accept)) ∷ as_outcome (decided 1 Reject) ∷ [])
+      gus_told mode a (gus_before d mode)
+      (as_accepted (as_outcome (decided 2 Accept)) ∷ as_outcome (decided 1 Reject) ∷ [])
       ++ phase_set Closed
       ∷ [];
 }

@@ -1,5 +1,5 @@
--- What each reader sees of the small conference, before the bidding, in it and in the reviewing: the whole of her view, a line an
--- entry.
+-- What each reader sees of the small conference, before the bidding, in it and in the reviewing: the
+-- whole of her view, a line an entry.
 use Rattle.std.specs.Prelude.{ℕ, Bool, true, false, List, [], ◌∷◌, ◌++◌, Some, None, codes, ◌==◌, if◌then◌else◌}
 use Rattle.cr_base.specs.declared.entry.EntryKind.TheVariants as kinds
 use Rattle.cr_base.specs.declared.form.Form.{Form}
@@ -12,7 +12,8 @@ use Rattle.cr_base.specs.declared.words.Phase.{Phase}
 use Rattle.cr_base.specs.declared.words.Phase.TheVariants.{Submission, Bidding, Reviewing}
 use Rattle.cr_base.specs.declared.words.Role.{Role}
 use Rattle.cr_base.specs.declared.words.Role.TheVariants.{Member, Chair}
-use Rattle.cr_policy.specs.Conference.{alice, bob, carol, dave, erin, fay, gus, hal, Digests, proofs, we_prove, types, we_type}
+use Rattle.cr_policy.specs.Conference.{alice, bob, carol, dave, erin, fay, gus, hal}
+use Rattle.cr_policy.specs.Conference.{Digests, proofs, we_prove, types, we_type}
 use Rattle.cr_policy.specs.Conference.{drafts, we_draft, fewer_proofs, we_prove_less, more_proofs, we_prove_more}
 use Rattle.cr_policy.specs.Conference.{first_version, second_version, only_version, Asides, hot, own_tag, chairs_tag}
 use Rattle.cr_policy.specs.Conference.{first_form, second_form, alices_form}
@@ -67,7 +68,8 @@ new_texts paper title abstract = record (new_title paper title) { abstract = Som
 
 -- a version of its content
 abbrev pub upload : ℕ → ℕ → List ℕ → Sighting
-upload paper version content = record (blank kinds.Uploaded) { paper = Some paper; version = Some version; content = Some content }
+upload paper version content =
+    record (blank kinds.Uploaded) { paper = Some paper; version = Some version; content = Some content }
 
 -- that it is withdrawn
 abbrev pub withdrawal : ℕ → Sighting
@@ -86,13 +88,19 @@ bid_by user paper value = record (bid paper value) { by = Some user }
 
 -- that somebody is assigned to the paper, as what, and the ordinal of her label; and that she no longer is
 abbrev pub assignment : ℕ → ℕ → Kind → ℕ → Sighting
-assignment paper user kind ordinal = record (blank kinds.Assigned) { paper = Some paper; user = Some user; review_kind = Some kind; ordinal = Some ordinal }
+assignment paper user kind ordinal = record (blank kinds.Assigned) {
+  paper = Some paper;
+  user = Some user;
+  review_kind = Some kind;
+  ordinal = Some ordinal;
+}
 
 abbrev pub unassignment : ℕ → ℕ → ℕ → Sighting
-unassignment paper user ordinal = record (blank kinds.Unassigned) { paper = Some paper; user = Some user; ordinal = Some ordinal }
+unassignment paper user ordinal =
+    record (blank kinds.Unassigned) { paper = Some paper; user = Some user; ordinal = Some ordinal }
 
--- of a submission, or of either of these, what members are shown who don't oversee the paper: not who it is where the mode is
--- anonymous
+-- of a submission, or of either of these, what members are shown who don't oversee the paper: not who it
+-- is where the mode is anonymous
 abbrev pub to_members : Mode → Sighting → Sighting
 to_members Anonymous line = record line { by = None; user = None }
 to_members mode line = line
@@ -125,19 +133,22 @@ form_to_authors paper ordinal written = record (form paper ordinal 0 written) { 
 
 -- a comment, of which it is told who wrote it, or under which label
 abbrev pub comment_by : ℕ → ℕ → ℕ → List ℕ → Sighting
-comment_by user paper n text = record (blank kinds.Commented) { paper = Some paper; n = Some n; text = Some text; by = Some user }
+comment_by user paper n text =
+    record (blank kinds.Commented) { paper = Some paper; n = Some n; text = Some text; by = Some user }
 
 abbrev pub comment_under : ℕ → ℕ → ℕ → List ℕ → Sighting
-comment_under ordinal paper n text = record (blank kinds.Commented) { paper = Some paper; n = Some n; text = Some text; ordinal = Some ordinal }
+comment_under ordinal paper n text =
+    record (blank kinds.Commented) { paper = Some paper; n = Some n; text = Some text; ordinal = Some ordinal }
 
--- which of the two members are shown who don't oversee the paper, and what whoever wrote it is shown: the label too. The ordinal is 0
--- where she doesn't review the paper
+-- which of the two members are shown who don't oversee the paper, and what whoever wrote it is shown: the label too.
+-- The ordinal is 0 where she doesn't review the paper
 abbrev pub comment_to_members : Mode → ℕ → ℕ → ℕ → ℕ → List ℕ → Sighting
 comment_to_members Anonymous user ordinal paper n text = comment_under ordinal paper n text
 comment_to_members mode user ordinal paper n text = comment_by user paper n text
 
 abbrev pub own_comment : Mode → ℕ → ℕ → ℕ → ℕ → List ℕ → Sighting
-own_comment mode user ordinal paper n text = record (comment_to_members mode user ordinal paper n text) { mine = true; ordinal = Some ordinal }
+own_comment mode user ordinal paper n text =
+    record (comment_to_members mode user ordinal paper n text) { mine = true; ordinal = Some ordinal }
 
 -- that a tag is turned on or off at the paper
 abbrev pub tagging : ℕ → List ℕ → Bool → Sighting
@@ -242,7 +253,8 @@ opening_to reader d mode =
 abbrev pub bare_papers : View
 bare_papers = bare_paper 1 ∷ bare_paper 2 ∷ bare_paper 3 ∷ []
 
--- an author: all of her own paper, with what the co-author did, and whom they declared; of paper 2 this line, and this of its content;
+-- an author: all of her own paper, with what the co-author did, and whom they declared; of paper 2 this
+-- line, and this of its content;
 -- of paper 3 that it is there
 abbrev pub bob_with : Digests → Mode → Sighting → View → View
 bob_with d mode second content =
@@ -317,8 +329,9 @@ title_alone = new_title 1 more_proofs ∷ []
 abbrev pub last_texts : View
 last_texts = upload 1 2 second_version ∷ new_texts 1 more_proofs we_prove_more ∷ []
 
--- what the committee is told of the papers: of paper 1 this; of the others the last texts, the last version and whether it is
--- withdrawn, and unless the mode is anonymous who wrote them. Chairs are told who did in each mode, as in the open one
+-- what the committee is told of the papers: of paper 1 this; of the others the last texts, the last
+-- version and whether it is withdrawn, and unless the mode is anonymous who wrote them. Chairs are told
+-- who did in each mode, as in the open one
 abbrev pub papers_told : Mode → View → View → View
 papers_told mode head texts =
     head
@@ -329,8 +342,8 @@ papers_told mode head texts =
     ++ withdrawal 3
     ∷ []
 
--- a member in no conflict: all of that, and of the tags those for all. Here and below the view is a function of what is shown of
--- paper 1, which is more where it is accepted
+-- a member in no conflict: all of that, and of the tags those for all. Here and below the view is a function of what
+-- is shown of paper 1, which is more where it is accepted
 abbrev pub hal_to_bidding : Digests → Mode → View → View
 hal_to_bidding d mode head =
     opening_to hal d mode
@@ -369,8 +382,8 @@ carol_to_bidding d mode head texts =
     ∷ mine (bid 2 17)
     ∷ []
 
--- a chair in no conflict: what a member sees, whatever the mode; every conflict, but not who declared it; every bid, and whose it
--- is; the tags for all and those for chairs; and every assignment
+-- a chair in no conflict: what a member sees, whatever the mode; every conflict, but not who declared it; every bid,
+-- and whose it is; the tags for all and those for chairs; and every assignment
 abbrev pub alice_in_bidding : Digests → Mode → View
 alice_in_bidding d mode =
     opening_to alice d mode
@@ -411,8 +424,9 @@ fay_to_bidding d mode head texts =
     ∷ assignment 2 fay Pc 1
     ∷ []
 
--- of paper 1 members in no conflict are shown the last texts, and who wrote it unless the mode is anonymous; those in conflict the
--- last title alone. All others, authors among them: the phase, and not what the committee declares, bids, tags and assigns
+-- of paper 1 members in no conflict are shown the last texts, and who wrote it unless the mode is anonymous; those
+-- in conflict the last title alone. All others, authors among them: the phase, and not what the committee
+-- declares, bids, tags and assigns
 abbrev pub views_in_bidding : Digests → Mode → Asides → Views
 views_in_bidding d mode a = record (opened_to Bidding (views_before d mode)) {
   member = hal_to_bidding d mode (head_to_members mode);
@@ -435,7 +449,8 @@ dave_in_reviewing d mode a =
     ∷ mine (form 1 3 2 second_form)
     ∷ []
 
--- a chair in no conflict, who reviews it too: every assignment, her own form whole, and under which labels there is one
+-- a chair in no conflict, who reviews it too: every assignment, her own form whole, and
+-- under which labels there is one
 abbrev pub alice_in_reviewing : Digests → Mode → View
 alice_in_reviewing d mode =
     alice_in_bidding d mode

@@ -1,9 +1,10 @@
--- Pairs of legal histories that differ in what one kind of entry hides: one user sees the same of both, and another doesn't. Each
--- goes on from the small conference's users and papers.
+-- Pairs of legal histories that differ in what one kind of entry hides: one user sees the same of both, and another
+-- doesn't. Each goes on from the small conference's users and papers.
 use Rattle.std.specs.Prelude.{ℕ, ◌≡◌, true, false, List, [], ◌∷◌, ◌++◌, length, take, Some, None, codes}
 use Rattle.cr_base.specs.declared.entry.Entry.TheVariants.{Registered, Named, PhaseSet, ModeSet, Submitted}
 use Rattle.cr_base.specs.declared.entry.Entry.TheVariants.{Coauthor, Revised, Uploaded, Withdrawn, Conflict}
-use Rattle.cr_base.specs.declared.entry.Entry.TheVariants.{Bid, Assigned, Unassigned, Reviewed, Commented, Tagged, Decided}
+use Rattle.cr_base.specs.declared.entry.Entry.TheVariants.{Bid, Assigned, Unassigned, Reviewed}
+use Rattle.cr_base.specs.declared.entry.Entry.TheVariants.{Commented, Tagged, Decided}
 use Rattle.cr_base.specs.declared.entry.Stamped.{Stamped}
 use Rattle.cr_base.specs.declared.form.Form.{Form}
 use Rattle.cr_base.specs.declared.words.Decision.TheVariants.{Accept, Reject}
@@ -14,8 +15,10 @@ use Rattle.cr_base.specs.declared.words.Phase.TheVariants.{Bidding, Reviewing, D
 use Rattle.cr_base.specs.declared.words.Role.TheVariants.{Member, Chair}
 use Rattle.cr_base.specs.History.{History}
 use Rattle.cr_policy.specs.Conference.{alice, bob, carol, dave, erin, fay, gus, hal, Digests, AreDigests, ◌adds◌}
-use Rattle.cr_policy.specs.Conference.{proofs, we_prove, types, we_type, fewer_proofs, we_prove_less, more_proofs, we_prove_more}
-use Rattle.cr_policy.specs.Conference.{first_version, second_version, only_version, first_form, second_form, agreed, hot}
+use Rattle.cr_policy.specs.Conference.{proofs, we_prove, types, we_type, fewer_proofs}
+use Rattle.cr_policy.specs.Conference.{we_prove_less, more_proofs, we_prove_more}
+use Rattle.cr_policy.specs.Conference.{first_version, second_version, only_version}
+use Rattle.cr_policy.specs.Conference.{first_form, second_form, agreed, hot}
 use Rattle.cr_policy.specs.Conference.{registered, opened, submitted}
 use Rattle.cr_policy.specs.HiddenPayload.{DiffersHidden, AcceptedAlike}
 use Rattle.cr_policy.specs.Legal.{Legal}
@@ -24,8 +27,8 @@ use Rattle.cr_policy.specs.View.{sight, view}
 
 -- ---- pairs
 
--- these entries, or those, stand between the others: both histories are legal, they meet the four conditions, the first user sees the
--- same of them, and the second user doesn't
+-- these entries, or those, stand between the others: both histories are legal, they meet the four conditions, the
+-- first user sees the same of them, and the second user doesn't
 pub record IsPair (to from : ℕ) (before these those after : History) : Type 0 where
   pub legal : Legal (before ++ (these ++ after))
   pub other : Legal (before ++ (those ++ after))
@@ -35,7 +38,8 @@ pub record IsPair (to from : ℕ) (before these those after : History) : Type 0 
 
 -- so it is whatever the digests are
 abbrev pub AllAlikeTo : (to from : ℕ) → (Digests → History) → (these those after : History) → Type 0
-AllAlikeTo to from before these those after = (d : Digests) → AreDigests d → IsPair to from (before d) these those after
+AllAlikeTo to from before these those after =
+    (d : Digests) → AreDigests d → IsPair to from (before d) these those after
 
 -- and of one entry or another
 abbrev pub AlikeTo : (to from : ℕ) → (Digests → History) → (one other : Stamped) → (after : History) → Type 0
@@ -96,11 +100,14 @@ PhaseSetterHidden = AlikeTo bob alice in_papers (alice adds PhaseSet Bidding) (f
 
 -- a title, before the bidding, to a member; and an abstract, in the bidding, to a member in conflict with the paper
 abbrev pub TitleHidden : Type 0
-TitleHidden = AlikeTo dave bob (in_submission Blind) (bob adds Submitted 1 proofs we_prove) (bob adds Submitted 1 types we_prove) []
+TitleHidden =
+    AlikeTo dave bob (in_submission Blind) (bob adds Submitted 1 proofs we_prove)
+    (bob adds Submitted 1 types we_prove) []
 
 abbrev pub AbstractHidden : Type 0
 AbstractHidden = AlikeTo carol dave (in_submission Blind)
-    (bob adds Submitted 1 proofs we_prove) (bob adds Submitted 1 proofs we_type) (bob adds Conflict 1 carol true ∷ bids_open)
+    (bob adds Submitted 1 proofs we_prove) (bob adds Submitted 1 proofs we_type)
+    (bob adds Conflict 1 carol true ∷ bids_open)
 
 -- in the anonymous mode, to a member, who submitted a paper, and with whom
 abbrev pub SubmitterHidden : Type 0
@@ -108,7 +115,8 @@ SubmitterHidden = AlikeTo dave alice (in_submission Anonymous)
     (bob adds Submitted 1 proofs we_prove) (gus adds Submitted 1 proofs we_prove) bids_open
 
 abbrev pub submitted_with : ℕ → History
-submitted_with coauthor = record { maker = bob; more = true; entry = Submitted 1 proofs we_prove } ∷ bob adds Coauthor 1 coauthor ∷ []
+submitted_with coauthor =
+    record { maker = bob; more = true; entry = Submitted 1 proofs we_prove } ∷ bob adds Coauthor 1 coauthor ∷ []
 
 abbrev pub CoauthorHidden : Type 0
 CoauthorHidden = AllAlikeTo dave alice (in_submission Anonymous) (submitted_with gus) (submitted_with erin) bids_open
@@ -116,7 +124,8 @@ CoauthorHidden = AllAlikeTo dave alice (in_submission Anonymous) (submitted_with
 -- the texts of a revision that another follows, and who revised
 abbrev pub RevisionHidden : Type 0
 RevisionHidden = AlikeTo dave gus in_papers
-    (bob adds Revised 1 fewer_proofs we_prove_less) (bob adds Revised 1 types we_type) (bob adds Revised 1 more_proofs we_prove_more ∷ bids_open)
+    (bob adds Revised 1 fewer_proofs we_prove_less) (bob adds Revised 1 types we_type)
+    (bob adds Revised 1 more_proofs we_prove_more ∷ bids_open)
 
 abbrev pub ReviserHidden : Type 0
 ReviserHidden = AlikeTo dave bob in_papers
@@ -125,10 +134,12 @@ ReviserHidden = AlikeTo dave bob in_papers
 -- the content of a version that another follows, and who uploaded
 abbrev pub ContentHidden : Type 0
 ContentHidden = AlikeTo dave gus in_papers
-    (bob adds Uploaded 1 1 first_version) (bob adds Uploaded 1 1 only_version) (bob adds Uploaded 1 2 second_version ∷ bids_open)
+    (bob adds Uploaded 1 1 first_version) (bob adds Uploaded 1 1 only_version)
+    (bob adds Uploaded 1 2 second_version ∷ bids_open)
 
 abbrev pub UploaderHidden : Type 0
-UploaderHidden = AlikeTo dave bob in_papers (bob adds Uploaded 1 1 first_version) (gus adds Uploaded 1 1 first_version) bids_open
+UploaderHidden =
+    AlikeTo dave bob in_papers (bob adds Uploaded 1 1 first_version) (gus adds Uploaded 1 1 first_version) bids_open
 
 -- which author withdrew
 abbrev pub WithdrawerHidden : Type 0
@@ -171,17 +182,21 @@ abbrev pub TagHidden : Type 0
 TagHidden = AlikeTo alice dave tagged (dave adds Tagged 1 private_tag true) (dave adds Tagged 1 private_tag false) []
 
 abbrev pub TaggerHidden : Type 0
-TaggerHidden = AlikeTo alice dave (in_bids Blind) (dave adds Tagged 1 private_tag true) (hal adds Tagged 1 private_tag true) []
+TaggerHidden =
+    AlikeTo alice dave (in_bids Blind) (dave adds Tagged 1 private_tag true) (hal adds Tagged 1 private_tag true) []
 
 -- who is assigned and as what, to the paper's authors; and by whom, to who is
 abbrev pub AssignedHidden : Type 0
-AssignedHidden = AlikeTo bob dave (in_bids Blind) (alice adds Assigned 1 dave Primary 1) (alice adds Assigned 1 hal Primary 1) []
+AssignedHidden =
+    AlikeTo bob dave (in_bids Blind) (alice adds Assigned 1 dave Primary 1) (alice adds Assigned 1 hal Primary 1) []
 
 abbrev pub SeatHidden : Type 0
-SeatHidden = AlikeTo bob dave (in_bids Blind) (alice adds Assigned 1 dave Primary 1) (alice adds Assigned 1 dave Secondary 1) []
+SeatHidden =
+    AlikeTo bob dave (in_bids Blind) (alice adds Assigned 1 dave Primary 1) (alice adds Assigned 1 dave Secondary 1) []
 
 abbrev pub AssignerHidden : Type 0
-AssignerHidden = AlikeTo dave alice (in_bids Blind) (alice adds Assigned 1 dave Primary 1) (fay adds Assigned 1 dave Primary 1) []
+AssignerHidden =
+    AlikeTo dave alice (in_bids Blind) (alice adds Assigned 1 dave Primary 1) (fay adds Assigned 1 dave Primary 1) []
 
 -- who is unassigned, and by whom
 abbrev pub unassigned : ℕ → History
@@ -197,10 +212,12 @@ UnassignerHidden = AlikeTo dave alice assigned (alice adds Unassigned 1 dave 1) 
 
 -- all of a form to the authors, and to the other members, in the reviewing
 abbrev pub FormHidden : Type 0
-FormHidden = AlikeTo bob dave in_reviews (dave adds Reviewed 1 1 1 first_form) (dave adds Reviewed 1 1 1 second_form) []
+FormHidden =
+    AlikeTo bob dave in_reviews (dave adds Reviewed 1 1 1 first_form) (dave adds Reviewed 1 1 1 second_form) []
 
 abbrev pub FormHiddenFromMembers : Type 0
-FormHiddenFromMembers = AlikeTo hal dave in_reviews (dave adds Reviewed 1 1 1 first_form) (dave adds Reviewed 1 1 1 second_form) []
+FormHiddenFromMembers =
+    AlikeTo hal dave in_reviews (dave adds Reviewed 1 1 1 first_form) (dave adds Reviewed 1 1 1 second_form) []
 
 -- what it tells the committee alone, to the authors at the notification
 abbrev pub other_to_pc : Form
@@ -213,19 +230,25 @@ ToPcHidden = AlikeTo bob hal in_reviews
 
 -- in the anonymous mode, who reviews: this member is assigned and writes the form, and the discussion is opened
 abbrev pub reviewed_by : ℕ → History
-reviewed_by member = alice adds Assigned 1 member Primary 1 ∷ alice adds PhaseSet Reviewing ∷ member adds Reviewed 1 1 1 first_form ∷ []
+reviewed_by member =
+    alice adds Assigned 1 member Primary 1 ∷ alice adds PhaseSet Reviewing ∷ member adds Reviewed 1 1 1 first_form ∷ []
 
 abbrev pub ReviewerHidden : Type 0
-ReviewerHidden = AllAlikeTo carol alice (in_bids Anonymous) (reviewed_by dave) (reviewed_by hal) (alice adds PhaseSet Discussion ∷ [])
+ReviewerHidden =
+    AllAlikeTo carol alice (in_bids Anonymous) (reviewed_by dave) (reviewed_by hal)
+    (alice adds PhaseSet Discussion ∷ [])
 
 -- ---- the discussion
 
 -- a comment to the authors; and in the anonymous mode who wrote it, to the other members
 abbrev pub CommentHidden : Type 0
-CommentHidden = AlikeTo bob dave (in_talk Blind) (carol adds Commented 1 1 None agreed) (carol adds Commented 1 1 None we_prove) []
+CommentHidden =
+    AlikeTo bob dave (in_talk Blind) (carol adds Commented 1 1 None agreed) (carol adds Commented 1 1 None we_prove) []
 
 abbrev pub WriterHidden : Type 0
-WriterHidden = AlikeTo hal alice (in_talk Anonymous) (carol adds Commented 1 1 None agreed) (dave adds Commented 1 1 None agreed) []
+WriterHidden =
+    AlikeTo hal alice (in_talk Anonymous) (carol adds Commented 1 1 None agreed)
+    (dave adds Commented 1 1 None agreed) []
 
 -- a decision to the authors, and which chair made it to members
 abbrev pub DecisionHidden : Type 0
@@ -236,8 +259,8 @@ DeciderHidden = AlikeTo dave alice (in_talk Blind) (alice adds Decided 1 Accept)
 
 -- ---- what may be taken out
 
--- the history is legal with the entry and without it, the entry shows the first user nothing, the same papers are accepted, she sees the
--- same, and the second user doesn't
+-- the history is legal with the entry and without it, the entry shows the first user nothing, the same papers are
+-- accepted, she sees the same, and the second user doesn't
 pub record IsRemovable (to from : ℕ) (before after : History) (e : Stamped) : Type 0 where
   pub legal : Legal (before ++ e ∷ after)
   pub other : Legal (before ++ after)
@@ -252,7 +275,8 @@ CommentRemovable =
     (d : Digests) → AreDigests d
     → IsRemovable bob dave (in_talk Blind d) (carol adds Tagged 1 hot true ∷ []) (carol adds Commented 1 1 None agreed)
 
--- the last version of a content, behind another, to a member in conflict with the paper: without it the other is the last
+-- the last version of a content, behind another, to a member in conflict with the paper:
+-- without it the other is the last
 abbrev pub uploaded_once : Digests → History
 uploaded_once d = in_papers d ++ bob adds Conflict 1 carol true ∷ bob adds Uploaded 1 1 first_version ∷ []
 

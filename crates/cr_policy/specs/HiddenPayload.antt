@@ -16,7 +16,8 @@ use Rattle.cr_policy.specs.ViewFacts.{is_user}
 abbrev pub all_of : Stamped → Sighting
 all_of e = entire e.maker e.entry
 
--- what is never hidden by this law: of which kind an entry is, and its paper, ordinal, version, number and tag, where it has one
+-- what is never hidden by this law: of which kind an entry is, and its paper, ordinal, version,
+-- number and tag, where it has one
 pub record Outline : Type 0 where
   pub kind : EntryKind
   pub paper : Option ℕ
@@ -35,7 +36,8 @@ outline e = record {
   tag = (all_of e).tag;
 }
 
--- this holds of each two entries that stand in the same place, in histories that are equally long; `before` stand before the first's
+-- this holds of each two entries that stand in the same place, in histories that are equally long;
+-- `before` stand before the first's
 abbrev pub PlaceByPlace : (Around → Stamped → Stamped → Type 0) → History → History → History → Type 0
 PlaceByPlace Holds before [] [] = Unit {0}
 PlaceByPlace Holds before (e ∷ after) (other ∷ after') =
@@ -52,8 +54,8 @@ AlikeInPlace H H' = PlaceByPlace (λ at e other. outline e ≡ outline other) []
 abbrev pub shown_of : Reader → Around → Stamped → Stamped → Sighting
 shown_of r at e other = sighting (shows (rows_at r at e)) false other
 
--- the two entries differ, if at all, in parts that the first doesn't show the reader; where their makers differ neither is she, and
--- where the users whom they name do neither is she
+-- the two entries differ, if at all, in parts that the first doesn't show the reader; where their makers differ
+-- neither is she, and where the users whom they name do neither is she
 pub record IsHiddenFrom (r : Reader) (at : Around) (e other : Stamped) : Type 0 where
   pub parts : shown_of r at e e ≡ shown_of r at e other
   pub maker : is_number r.number e.maker ≡ is_number r.number other.maker
@@ -99,8 +101,8 @@ Removal = (u : Option ℕ) (before after : History) (e : Stamped)
 
 -- ---- several steps
 
--- the two histories look the same to the user: they meet the four conditions; or the second is the first without an entry that shows her
--- nothing; or it is so the other way round, or of a third between them
+-- the two histories look the same to the user: they meet the four conditions; or the second is the first without an
+-- entry that shows her nothing; or it is so the other way round, or of a third between them
 pub data LooksSame (u : Option ℕ) : History → History → Type 0 where
   unchanged : (H : History) → LooksSame u H H
   differing : (H H' : History) → DiffersHidden u H H' → LooksSame u H H'

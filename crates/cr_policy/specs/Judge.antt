@@ -47,6 +47,7 @@ view_basis user = record {
 abbrev pub judge_row : ℕ → View → BulkRow → Result Drawn Rule
 judge_row user V row = row_judged (facts_in_view (Some user) V) (shown_in_view (Some user) V) user row
 
--- Judge of a bulk: the first rule that it breaks as a whole, or the first row that breaks one, or the entries of all rows and the receipt
+-- Judge of a bulk: the first rule that it breaks as a whole, or the first row that breaks one, or the
+-- entries of all rows and the receipt
 abbrev pub judge_bulk : ℕ → View → List BulkRow → Result Drawn Broken
 judge_bulk user V rows = bulk_judged (view_basis user) user V rows

@@ -6,7 +6,8 @@ use Rattle.cr_base.specs.declared.bulk.BulkRow.{BulkRow}
 use Rattle.cr_base.specs.declared.command.Command.{Command}
 use Rattle.cr_base.specs.declared.command.Query.{Query}
 use Rattle.cr_base.specs.History.{History}
-use Rattle.cr_base.specs.HistoryFacts.{standing_of, is_author, declared_by_authors, accounts_of, papers_of, own_papers_of, own_bytes_of, number_of}
+use Rattle.cr_base.specs.HistoryFacts.{standing_of, is_author, declared_by_authors, accounts_of}
+use Rattle.cr_base.specs.HistoryFacts.{papers_of, own_papers_of, own_bytes_of, number_of}
 use Rattle.cr_base.specs.HistoryFacts.{own_comments_of, is_accepted}
 use Rattle.cr_base.specs.Tables.{tables_of}
 use Rattle.cr_base.specs.Answering.{answer_by_role}
@@ -16,7 +17,8 @@ use Rattle.cr_base.specs.Logins.{command_wants_login}
 use Rattle.cr_history.specs.Invariants.{IsRegistered, Invariants, IsWhole}
 use Rattle.cr_policy.specs.Sighting.{Sighting}
 use Rattle.cr_policy.specs.View.{view}
-use Rattle.cr_policy.specs.ViewFacts.{is_user, standing_in_view, accounts_in_view, papers_in_view, own_papers_in_view, own_bytes_in_view, own_comments_in_view}
+use Rattle.cr_policy.specs.ViewFacts.{is_user, standing_in_view, accounts_in_view, papers_in_view}
+use Rattle.cr_policy.specs.ViewFacts.{own_papers_in_view, own_bytes_in_view, own_comments_in_view}
 use Rattle.cr_policy.specs.ViewFacts.{number_in_view, is_accepted_in_view, declared_in_view}
 use Rattle.cr_policy.specs.Judge.{judge, judge_bulk, answer, needs_login}
 use Rattle.cr_policy.specs.Legal.{Legal, MayAsk}
@@ -26,8 +28,8 @@ abbrev pub StandingFromView : Type 0
 StandingFromView = (u paper : Option ℕ) (H : History) → standing_in_view u paper (view u H) ≡ standing_of u paper H
 
 -- PublicFacts can be read off what anybody sees, whatever the history: who has registered, in which role, under which
--- name, the papers, and which of them are accepted; and so can how many of them are the reader's own, how many bytes she has
--- uploaded, and how many comments she has written
+-- name, the papers, and which of them are accepted; and so can how many of them are the reader's own, how many bytes
+-- she has uploaded, and how many comments she has written
 pub record PublicFactsFromView (u : Option ℕ) (H : History) : Type 0 where
   pub accounts : accounts_in_view (view u H) ≡ accounts_of H
   pub papers : papers_in_view (view u H) ≡ papers_of H
@@ -37,8 +39,8 @@ pub record PublicFactsFromView (u : Option ℕ) (H : History) : Type 0 where
   pub own_comments : own_comments_in_view (view u H) ≡ own_comments_of u H
   pub number : (name : List ℕ) → number_in_view name (view u H) ≡ number_of name H
 
--- ViewSuffices: on a legal history, what checks of role on the tables give of a command, of a bulk or of a query is what the caller's
--- view alone gives
+-- ViewSuffices: on a legal history, what checks of role on the tables give of a command, of a bulk or of a query is
+-- what the caller's view alone gives
 pub record ViewSuffices : Type 0 where
   pub commands : (u : Option ℕ) (H : History) (command : Command) → Legal H
       → MayAsk H (command_wants_login command) u → judge u (view u H) command ≡ judge_by_role (tables_of H) u command
@@ -47,10 +49,12 @@ pub record ViewSuffices : Type 0 where
   pub queries : (u : Option ℕ) (H : History) (query : Query) → Legal H
       → MayAsk H (needs_login (view None H) query) u → answer u (view u H) query ≡ answer_by_role (tables_of H) u query
 
--- DeclaredFromView: on a legal history, whom a paper's authors declared in conflict with it can be read off what an author
--- of it sees
+-- DeclaredFromView: on a legal history, whom a paper's authors declared in conflict with it can be
+-- read off what an author of it sees
 abbrev pub DeclaredFromView : Type 0
-DeclaredFromView = (u : Option ℕ) (p : ℕ) (H : History) → Legal H → IsTrue (is_author u p H) → declared_in_view u p (view u H) ≡ declared_by_authors p H
+DeclaredFromView =
+    (u : Option ℕ) (p : ℕ) (H : History) → Legal H → IsTrue (is_author u p H)
+    → declared_in_view u p (view u H) ≡ declared_by_authors p H
 
 -- a legal history keeps the invariants, and no command's entries are cut off in it
 pub record IsKept (H : History) : Type 0 where

@@ -2,9 +2,10 @@
 use Rattle.std.specs.Prelude.{ℕ, Bool, true, false, List, ◌==◌, ◌||◌}
 use Rattle.std.specs.List.{list_any}
 
--- the parts that an entry may have beside its kind and its paper, which are never hidden; `by` is who made it, `value` that of a
--- bid, `review_kind` what a reviewer is to the paper, `n` a comment's number; the others are marks: `done` that under the label is a form,
--- `outcome` that the decision is what became of the reader's paper, `accepted` that the paper is accepted
+-- the parts that an entry may have beside its kind and its paper, which are never hidden; `by` is who made it,
+-- `value` that of a bid, `review_kind` what a reviewer is to the paper, `n` a comment's number; the others are
+-- marks: `done` that under the label is a form, `outcome` that the decision is what became of the reader's paper,
+-- `accepted` that the paper is accepted
 pub data Part : Type 0 where
   user : Part
   name : Part
@@ -66,7 +67,8 @@ part_number accepted = 25
 abbrev pub these : List Part → Part → Bool
 these parts part = list_any (λ p. part_number p == part_number part) parts
 
--- the part belongs to the whole of an entry, whatever its kind: to its numbers and bytes, so it isn't who made it, and no mark
+-- the part belongs to the whole of an entry, whatever its kind: to its numbers and bytes, so it
+-- isn't who made it, and no mark
 abbrev pub whole : Part → Bool
 whole user = true
 whole name = true

@@ -1,15 +1,18 @@
--- Who is shown which part of an entry: a paragraph for each part, and in it a line for each kind of entry that has it. It
--- is the trigger table turned round and written anew, from what a committee wants: who sees titles, abstracts, authors,
--- review preferences, reviewers, reviews, comments, tags and decisions is the HotCRP manual's, from when they do follows CoCon's phases
--- (CAV 2014). It rests on facts of the history (phase, mode, roles, authors, declared conflicts, withdrawals, decisions) and on no other word of the
--- trigger table or of a paper's page: who is on the committee, who is in conflict, when the bidding begins, what a mode hides and
--- whom a tag is for are said again, so that such a word, changed there so that more is shown, is refused here.
-use Rattle.std.specs.Prelude.{ℕ, Bool, true, false, not, List, [], ◌∷◌, ◌++◌, Option, Some, None, unwrap_or, ◌&&◌, ◌||◌, ◌==◌, if◌then◌else◌}
+-- Who is shown which part of an entry: a paragraph for each part, and in it a line for each kind of entry that has it.
+-- It is the trigger table turned round and written anew, from what a committee wants: who sees titles, abstracts,
+-- authors, review preferences, reviewers, reviews, comments, tags and decisions is the HotCRP manual's, from when they
+-- do follows CoCon's phases (CAV 2014). It rests on facts of the history (phase, mode, roles, authors, declared
+-- conflicts, withdrawals, decisions) and on no other word of the trigger table or of a paper's page: who is on the
+-- committee, who is in conflict, when the bidding begins, what a mode hides and whom a tag is for are said again, so
+-- that such a word, changed there so that more is shown, is refused here.
+use Rattle.std.specs.Prelude.{ℕ, Bool, true, false, not, List, [], ◌∷◌, ◌++◌, Option}
+use Rattle.std.specs.Prelude.{Some, None, unwrap_or, ◌&&◌, ◌||◌, ◌==◌, if◌then◌else◌}
 use Rattle.std.specs.List.{list_any}
 use Rattle.cr_base.specs.declared.entry.Entry.{Entry}
 use Rattle.cr_base.specs.declared.entry.Entry.TheVariants.{Registered, Named, PhaseSet, ModeSet, Submitted}
 use Rattle.cr_base.specs.declared.entry.Entry.TheVariants.{Coauthor, Revised, Uploaded, Withdrawn, Conflict}
-use Rattle.cr_base.specs.declared.entry.Entry.TheVariants.{Bid, Assigned, Unassigned, Reviewed, Commented, Tagged, Decided}
+use Rattle.cr_base.specs.declared.entry.Entry.TheVariants.{Bid, Assigned, Unassigned, Reviewed}
+use Rattle.cr_base.specs.declared.entry.Entry.TheVariants.{Commented, Tagged, Decided}
 use Rattle.cr_base.specs.declared.entry.EntryKind.{EntryKind}
 use Rattle.cr_base.specs.declared.entry.Stamped.{Stamped}
 use Rattle.cr_base.specs.declared.words.Decision.{Decision}
@@ -23,7 +26,8 @@ use Rattle.cr_base.specs.declared.words.Role.{Role}
 use Rattle.cr_base.specs.declared.words.Role.TheVariants.{Account, Member, Chair}
 use Rattle.cr_base.specs.Lists.{given, is_number, until}
 use Rattle.cr_base.specs.History.{History}
-use Rattle.cr_base.specs.HistoryFacts.{phase_of, mode_of, role_of, is_author, is_conflict_on, is_withdrawn, decision_of}
+use Rattle.cr_base.specs.HistoryFacts.{phase_of, mode_of, role_of, is_author}
+use Rattle.cr_base.specs.HistoryFacts.{is_conflict_on, is_withdrawn, decision_of}
 use Rattle.cr_base.specs.Rows.{kind_of}
 
 -- ---- who reads
@@ -171,15 +175,17 @@ abbrev pub begins_discussion : Entry → Bool
 begins_discussion (PhaseSet phase) = is_discussion phase
 begins_discussion _ = false
 
--- a form that stands there is one of those that the committee discusses: it was written when the discussion had begun, or no later
--- one of its label was before that
+-- a form that stands there is one of those that the committee discusses: it was written when the discussion had begun,
+-- or no later one of its label was before that
 abbrev pub is_discussed : ℕ → ℕ → History → History → Bool
 is_discussed p o before later =
-    list_any (λ (e : Stamped). begins_discussion e.entry) before || not (is_reviewed p o (until (λ (e : Stamped). begins_discussion e.entry) later))
+    list_any (λ (e : Stamped). begins_discussion e.entry) before
+    || not (is_reviewed p o (until (λ (e : Stamped). begins_discussion e.entry) later))
 
 -- she reads all of the form: she wrote it, or discusses it
 abbrev pub reads_form : Option ℕ → History → History → History → ℕ → ℕ → ℕ → Bool
-reads_form u H before later maker paper ordinal = is_number u maker || (discusses u paper H && is_discussed paper ordinal before later)
+reads_form u H before later maker paper ordinal =
+    is_number u maker || (discusses u paper H && is_discussed paper ordinal before later)
 
 -- she reads of the form what is for authors: it is the label's last, and she is notified
 abbrev pub learns_form : Option ℕ → History → History → ℕ → ℕ → Bool
@@ -226,16 +232,17 @@ owns u H maker paper = is_number u maker || is_author u paper H
 abbrev pub is_party : Option ℕ → History → ℕ → ℕ → ℕ → Bool
 is_party u H maker paper user = is_number u user || is_number u maker || administers u paper H
 
--- accounts, roles, phases, modes and submissions, all of them. Of a paper's other entries her own and, as an author, all but
--- conflicts that no author made; co-authors where she oversees the paper, where she is eligible for it unless authors are hidden, and
--- where it is in the programme; a revision that none has replaced where she serves, or the paper is in the programme; an upload
--- that none has superseded where she is eligible for the paper, or it appears; a withdrawal where she serves; of conflicts the ones
--- that name her, and all where she oversees the paper; of bids her own, and all where she oversees the paper; of assignments
--- those that she is a party to, all where she discusses the paper, and those to her own paper where she is named its
--- reviewers; of forms her own, the first of each label where she administers the paper, those that are discussed where she discusses
--- it, and of her own paper the last of each label where she is notified; of comments her own, and all where she discusses the
--- paper; of tags those that she set, and those that she reads; and of decisions those that she reads, the last one by which
--- she learns what became of her paper, and the last one of a paper in the programme
+-- accounts, roles, phases, modes and submissions, all of them. Of a paper's other entries her own and, as an author,
+-- all but conflicts that no author made; co-authors where she oversees the paper, where she is eligible for it unless
+-- authors are hidden, and where it is in the programme; a revision that none has replaced where she serves, or the
+-- paper is in the programme; an upload that none has superseded where she is eligible for the paper, or it appears; a
+-- withdrawal where she serves; of conflicts the ones that name her, and all where she oversees the paper; of bids her
+-- own, and all where she oversees the paper; of assignments those that she is a party to, all where she discusses the
+-- paper, and those to her own paper where she is named its reviewers; of forms her own, the first of each label where
+-- she administers the paper, those that are discussed where she discusses it, and of her own paper the last of each
+-- label where she is notified; of comments her own, and all where she discusses the paper; of tags those that she set,
+-- and those that she reads; and of decisions those that she reads, the last one by which she learns what became of her
+-- paper, and the last one of a paper in the programme
 abbrev pub is_told : Option ℕ → History → History → History → ℕ → Entry → Bool
 is_told u H before later maker (Registered user name digest) = true
 is_told u H before later maker (Named user role) = true
@@ -258,8 +265,10 @@ is_told u H before later maker (Conflict paper user on) =
     || (is_author u paper H && is_author (Some maker) paper H)
     || oversees u paper H
 is_told u H before later maker (Bid paper value) = is_number u maker || oversees u paper H
-is_told u H before later maker (Assigned paper user review_kind ordinal) = is_party u H maker paper user || discusses u paper H || is_answered u paper H
-is_told u H before later maker (Unassigned paper user ordinal) = is_party u H maker paper user || discusses u paper H || is_answered u paper H
+is_told u H before later maker (Assigned paper user review_kind ordinal) =
+    is_party u H maker paper user || discusses u paper H || is_answered u paper H
+is_told u H before later maker (Unassigned paper user ordinal) =
+    is_party u H maker paper user || discusses u paper H || is_answered u paper H
 is_told u H before later maker (Reviewed paper ordinal version form) =
     reads_form u H before later maker paper ordinal
     || counts_form u H before paper ordinal
@@ -271,7 +280,8 @@ is_told u H before later maker (Decided paper decision) =
 
 -- ---- the parts of an entry that she is told of
 
--- what a part is for a user at the end of a history: of an entry that stands behind these and before those, by this maker
+-- what a part is for a user at the end of a history: of an entry that stands behind these
+-- and before those, by this maker
 abbrev pub PartFor : Type 0 → Type 0
 PartFor A = Option ℕ → History → History → History → ℕ → Entry → A
 
@@ -303,13 +313,15 @@ paper_for u H before later maker (Tagged paper tag on) = Some paper
 paper_for u H before later maker (Decided paper decision) = Some paper
 paper_for u H before later maker _ = None
 
--- who reviews a paper: to the parties of the assignment, to authors who are named the reviewers, and to those who discuss the
--- paper unless reviewers are hidden
+-- who reviews a paper: to the parties of the assignment, to authors who are named the reviewers, and to those who
+-- discuss the paper unless reviewers are hidden
 abbrev pub reviewer_for : Option ℕ → History → ℕ → ℕ → ℕ → Option ℕ
 reviewer_for u H maker paper user =
-    where_known (is_party u H maker paper user || (discusses u paper H && not (hides_reviewers (mode_of H))) || is_answered u paper H) user
+    where_known (is_party u H maker paper user || (discusses u paper H && not (hides_reviewers (mode_of H)))
+    || is_answered u paper H) user
 
--- the user registered, named to a role, named as a co-author or in a conflict: always; and one who is assigned or unassigned
+-- the user registered, named to a role, named as a co-author or in a conflict: always; and
+-- one who is assigned or unassigned
 abbrev pub user_for : PartFor (Option ℕ)
 user_for u H before later maker (Registered user name digest) = Some user
 user_for u H before later maker (Named user role) = Some user
@@ -344,46 +356,56 @@ abbrev pub mode_for : PartFor (Option Mode)
 mode_for u H before later maker (ModeSet mode) = Some mode
 mode_for u H before later maker _ = None
 
--- who submitted a paper: to its authors, to those who oversee it, to those who are eligible for it unless authors are hidden, and to everyone
--- where it is in the programme;
--- who made a bid: to those who oversee the paper; who made a comment: to those who discuss the paper and are told who comments;
+-- who submitted a paper: to its authors, to those who oversee it, to those who are eligible for it unless authors are
+-- hidden, and to everyone where it is in the programme;
+-- who made a bid: to those who oversee the paper; who made a comment: to those who discuss the
+-- paper and are told who comments;
 -- who made any other entry: to nobody
 abbrev pub maker_for : PartFor (Option ℕ)
 maker_for u H before later maker (Submitted paper title abstract) =
-    where_known (is_author u paper H || oversees u paper H || (is_eligible u paper H && not (hides_authors (mode_of H))) || is_in_programme paper H) maker
+    where_known (is_author u paper H || oversees u paper H
+    || (is_eligible u paper H && not (hides_authors (mode_of H))) || is_in_programme paper H) maker
 maker_for u H before later maker (Bid paper value) = where_known (oversees u paper H) maker
-maker_for u H before later maker (Commented paper n ordinal text) = where_known (discusses u paper H && knows_writers u H) maker
+maker_for u H before later maker (Commented paper n ordinal text) =
+    where_known (discusses u paper H && knows_writers u H) maker
 maker_for u H before later maker _ = None
 
--- a title: to the paper's authors and to whoever made the entry, and the last one to those who serve, and to everyone where the
--- paper is in the programme
+-- a title: to the paper's authors and to whoever made the entry, and the last one to those who serve, and to everyone
+-- where the paper is in the programme
 abbrev pub title_for : PartFor (Option (List ℕ))
 title_for u H before later maker (Submitted paper title abstract) =
-    where_known (is_author u paper H || (not (is_replaced paper later) && (serves u H || is_in_programme paper H))) title
+    where_known (is_author u paper H
+    || (not (is_replaced paper later) && (serves u H || is_in_programme paper H))) title
 title_for u H before later maker (Revised paper title abstract) =
-    where_known (owns u H maker paper || (not (is_replaced paper later) && (serves u H || is_in_programme paper H))) title
+    where_known (owns u H maker paper
+    || (not (is_replaced paper later) && (serves u H || is_in_programme paper H))) title
 title_for u H before later maker _ = None
 
--- an abstract: to the paper's authors and to whoever made the entry, and the last one to those who are eligible for the paper, and to
--- everyone where it appears
+-- an abstract: to the paper's authors and to whoever made the entry, and the last one to those who are eligible for
+-- the paper, and to everyone where it appears
 abbrev pub abstract_for : PartFor (Option (List ℕ))
 abstract_for u H before later maker (Submitted paper title abstract) =
-    where_known (is_author u paper H || (not (is_replaced paper later) && (is_eligible u paper H || appears paper H))) abstract
+    where_known (is_author u paper H
+    || (not (is_replaced paper later) && (is_eligible u paper H || appears paper H))) abstract
 abstract_for u H before later maker (Revised paper title abstract) =
-    where_known (owns u H maker paper || (not (is_replaced paper later) && (is_eligible u paper H || appears paper H))) abstract
+    where_known (owns u H maker paper
+    || (not (is_replaced paper later) && (is_eligible u paper H || appears paper H))) abstract
 abstract_for u H before later maker _ = None
 
--- a version's number, and its content: to the paper's authors and to whoever made the entry, and the last one to those who
--- are eligible for the paper, and to everyone where it appears
+-- a version's number, and its content: to the paper's authors and to whoever made the entry, and the last one to those
+-- who are eligible for the paper, and to everyone where it appears
 abbrev pub version_for : PartFor (Option ℕ)
 version_for u H before later maker (Uploaded paper version content) =
-    where_known (owns u H maker paper || (not (is_superseded paper later) && (is_eligible u paper H || appears paper H))) version
-version_for u H before later maker (Reviewed paper ordinal version form) = where_known (reads_form u H before later maker paper ordinal) version
+    where_known (owns u H maker paper
+    || (not (is_superseded paper later) && (is_eligible u paper H || appears paper H))) version
+version_for u H before later maker (Reviewed paper ordinal version form) =
+    where_known (reads_form u H before later maker paper ordinal) version
 version_for u H before later maker _ = None
 
 abbrev pub content_for : PartFor (Option (List ℕ))
 content_for u H before later maker (Uploaded paper version content) =
-    where_known (owns u H maker paper || (not (is_superseded paper later) && (is_eligible u paper H || appears paper H))) content
+    where_known (owns u H maker paper
+    || (not (is_superseded paper later) && (is_eligible u paper H || appears paper H))) content
 content_for u H before later maker _ = None
 
 -- whether a conflict, or a tag, is on: always
@@ -399,11 +421,12 @@ value_for u H before later maker _ = None
 
 -- what a reviewer is to the paper: to the parties of the assignment, and to those who discuss the paper
 abbrev pub review_kind_for : PartFor (Option Kind)
-review_kind_for u H before later maker (Assigned paper user review_kind ordinal) = where_known (is_party u H maker paper user || discusses u paper H) review_kind
+review_kind_for u H before later maker (Assigned paper user review_kind ordinal) =
+    where_known (is_party u H maker paper user || discusses u paper H) review_kind
 review_kind_for u H before later maker _ = None
 
--- the ordinal of a label: of an assignment and of a form always; of a comment to its maker, and to those who discuss the paper and
--- aren't told who comments
+-- the ordinal of a label: of an assignment and of a form always; of a comment to its maker, and to those who discuss
+-- the paper and aren't told who comments
 abbrev pub ordinal_for : PartFor (Option ℕ)
 ordinal_for u H before later maker (Assigned paper user review_kind ordinal) = Some ordinal
 ordinal_for u H before later maker (Unassigned paper user ordinal) = Some ordinal
@@ -412,12 +435,15 @@ ordinal_for u H before later maker (Commented paper n ordinal text) =
     where_known (is_number u maker || (discusses u paper H && not (knows_writers u H))) (unwrap_or ordinal 0)
 ordinal_for u H before later maker _ = None
 
--- the score, the confidence and the text to the authors of a form: to those who read all of it, and to authors who learn of it
+-- the score, the confidence and the text to the authors of a form: to those who read all of it,
+-- and to authors who learn of it
 abbrev pub reads_review : Option ℕ → History → History → History → ℕ → ℕ → ℕ → Bool
-reads_review u H before later maker paper ordinal = reads_form u H before later maker paper ordinal || learns_form u H later paper ordinal
+reads_review u H before later maker paper ordinal =
+    reads_form u H before later maker paper ordinal || learns_form u H later paper ordinal
 
 abbrev pub score_for : PartFor (Option ℕ)
-score_for u H before later maker (Reviewed paper ordinal version form) = where_known (reads_review u H before later maker paper ordinal) form.score
+score_for u H before later maker (Reviewed paper ordinal version form) =
+    where_known (reads_review u H before later maker paper ordinal) form.score
 score_for u H before later maker _ = None
 
 abbrev pub confidence_for : PartFor (Option ℕ)
@@ -432,12 +458,14 @@ to_authors_for u H before later maker _ = None
 
 -- the text to the committee: to those who read all of the form
 abbrev pub to_pc_for : PartFor (Option (List ℕ))
-to_pc_for u H before later maker (Reviewed paper ordinal version form) = where_known (reads_form u H before later maker paper ordinal) form.to_pc
+to_pc_for u H before later maker (Reviewed paper ordinal version form) =
+    where_known (reads_form u H before later maker paper ordinal) form.to_pc
 to_pc_for u H before later maker _ = None
 
 -- the mark that there is a form under the label: to those who administer the paper, of the first
 abbrev pub done_for : PartFor (Option Bool)
-done_for u H before later maker (Reviewed paper ordinal version form) = where_known (counts_form u H before paper ordinal) true
+done_for u H before later maker (Reviewed paper ordinal version form) =
+    where_known (counts_form u H before paper ordinal) true
 done_for u H before later maker _ = None
 
 -- a comment's number, and its text: always
@@ -473,7 +501,9 @@ accepted_for u H before later maker _ = None
 -- ---- all entries
 
 -- the part of each entry that she is told of, in order, where these stand before them; H is the whole history
-abbrev pub each_told : {A : Type 0} → Option ℕ → History → (History → History → ℕ → Entry → A) → History → History → List A
+abbrev pub each_told : {A : Type 0} → Option ℕ → History → (History → History → ℕ → Entry → A)
+    → History → History → List A
 each_told u H part before [] = []
 each_told u H part before (e ∷ later) =
-    given (is_told u H before later e.maker e.entry) (part before later e.maker e.entry) ++ each_told u H part (before ++ e ∷ []) later
+    given (is_told u H before later e.maker e.entry) (part before later e.maker e.entry)
+    ++ each_told u H part (before ++ e ∷ []) later

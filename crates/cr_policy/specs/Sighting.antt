@@ -5,7 +5,8 @@ use Rattle.cr_base.specs.declared.entry.EntryKind.TheVariants as kinds
 use Rattle.cr_base.specs.declared.entry.Entry.{Entry}
 use Rattle.cr_base.specs.declared.entry.Entry.TheVariants.{Registered, Named, PhaseSet, ModeSet, Submitted}
 use Rattle.cr_base.specs.declared.entry.Entry.TheVariants.{Coauthor, Revised, Uploaded, Withdrawn, Conflict}
-use Rattle.cr_base.specs.declared.entry.Entry.TheVariants.{Bid, Assigned, Unassigned, Reviewed, Commented, Tagged, Decided}
+use Rattle.cr_base.specs.declared.entry.Entry.TheVariants.{Bid, Assigned, Unassigned, Reviewed}
+use Rattle.cr_base.specs.declared.entry.Entry.TheVariants.{Commented, Tagged, Decided}
 use Rattle.cr_base.specs.declared.entry.Stamped.{Stamped}
 use Rattle.cr_base.specs.declared.words.Decision.{Decision}
 use Rattle.cr_base.specs.declared.words.Kind.{Kind}
@@ -89,19 +90,30 @@ blank kind = record {
 -- decides: a mark tells by being shown, and when that is, the rows of the trigger table say. Of a decision to
 -- reject, or of one that isn't the last on its paper, none of them shows `accepted`.
 abbrev pub entire : ℕ → Entry → Sighting
-entire by (Registered user name digest) = record (blank kinds.Registered) { user = Some user; name = Some name; digest = Some digest }
+entire by (Registered user name digest) =
+    record (blank kinds.Registered) { user = Some user; name = Some name; digest = Some digest }
 entire by (Named user role) = record (blank kinds.Named) { user = Some user; role = Some role }
 entire by (PhaseSet phase) = record (blank kinds.PhaseSet) { phase = Some phase }
 entire by (ModeSet mode) = record (blank kinds.ModeSet) { mode = Some mode }
-entire by (Submitted paper title abstract) = record (blank kinds.Submitted) { paper = Some paper; by = Some by; title = Some title; abstract = Some abstract }
+entire by (Submitted paper title abstract) =
+    record (blank kinds.Submitted) { paper = Some paper; by = Some by; title = Some title; abstract = Some abstract }
 entire by (Coauthor paper user) = record (blank kinds.Coauthor) { paper = Some paper; user = Some user }
-entire by (Revised paper title abstract) = record (blank kinds.Revised) { paper = Some paper; title = Some title; abstract = Some abstract }
-entire by (Uploaded paper version content) = record (blank kinds.Uploaded) { paper = Some paper; version = Some version; content = Some content }
+entire by (Revised paper title abstract) =
+    record (blank kinds.Revised) { paper = Some paper; title = Some title; abstract = Some abstract }
+entire by (Uploaded paper version content) =
+    record (blank kinds.Uploaded) { paper = Some paper; version = Some version; content = Some content }
 entire by (Withdrawn paper) = record (blank kinds.Withdrawn) { paper = Some paper }
-entire by (Conflict paper user on) = record (blank kinds.Conflict) { paper = Some paper; user = Some user; on = Some on }
+entire by (Conflict paper user on) =
+    record (blank kinds.Conflict) { paper = Some paper; user = Some user; on = Some on }
 entire by (Bid paper value) = record (blank kinds.Bid) { paper = Some paper; by = Some by; value = Some value }
-entire by (Assigned paper user review_kind ordinal) = record (blank kinds.Assigned) { paper = Some paper; user = Some user; review_kind = Some review_kind; ordinal = Some ordinal }
-entire by (Unassigned paper user ordinal) = record (blank kinds.Unassigned) { paper = Some paper; user = Some user; ordinal = Some ordinal }
+entire by (Assigned paper user review_kind ordinal) = record (blank kinds.Assigned) {
+  paper = Some paper;
+  user = Some user;
+  review_kind = Some review_kind;
+  ordinal = Some ordinal;
+}
+entire by (Unassigned paper user ordinal) =
+    record (blank kinds.Unassigned) { paper = Some paper; user = Some user; ordinal = Some ordinal }
 entire by (Reviewed paper ordinal version form) = record (blank kinds.Reviewed) {
   paper = Some paper;
   version = Some version;
@@ -113,10 +125,21 @@ entire by (Reviewed paper ordinal version form) = record (blank kinds.Reviewed) 
   done = Some true;
 }
 entire by (Commented paper n ordinal text) =
-    record (blank kinds.Commented) { paper = Some paper; by = Some by; n = Some n; ordinal = Some (unwrap_or ordinal 0); text = Some text }
+    record (blank kinds.Commented) {
+      paper = Some paper;
+      by = Some by;
+      n = Some n;
+      ordinal = Some (unwrap_or ordinal 0);
+      text = Some text;
+    }
 entire by (Tagged paper tag on) = record (blank kinds.Tagged) { paper = Some paper; tag = Some tag; on = Some on }
 entire by (Decided paper decision) =
-    record (blank kinds.Decided) { paper = Some paper; decision = Some decision; outcome = Some true; accepted = Some true }
+    record (blank kinds.Decided) {
+      paper = Some paper;
+      decision = Some decision;
+      outcome = Some true;
+      accepted = Some true;
+    }
 
 -- ---- the parts that are shown
 

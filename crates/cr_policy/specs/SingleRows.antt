@@ -53,7 +53,8 @@ pub record IsItsRows (H : History) (bulk : BulkCall) (drawn : Drawn) : Type 0 wh
   pub same : unmarked (H ++ drawn.group) ≡ unmarked singly
   pub receipt : drawn.receipt ≡ receipts.Rows (length bulk.rows)
 
--- so many rows of the bulk are accepted one after another, and behind them the next one, which has this number, breaks this rule
+-- so many rows of the bulk are accepted one after another, and behind them the next one, which
+-- has this number, breaks this rule
 pub record IsFirstBroken (H : History) (bulk : BulkCall) (n : ℕ) (rule : Rule) : Type 0 where
   pub before : List BulkRow
   pub row : BulkRow
@@ -64,10 +65,11 @@ pub record IsFirstBroken (H : History) (bulk : BulkCall) (n : ℕ) (rule : Rule)
   pub leads : LeadSingly H bulk.user before singly
   pub breaks : judge_row bulk.user (view (Some bulk.user) singly) row ≡ Err rule
 
--- BulkIsItsRows: on a legal history a bulk that is accepted is its rows one after another, and one that is refused for a row is
--- refused for the first that is broken behind those before it
+-- BulkIsItsRows: on a legal history a bulk that is accepted is its rows one after another, and one that is refused for
+-- a row is refused for the first that is broken behind those before it
 pub record BulkIsItsRows : Type 0 where
   pub accepted : (H : History) (bulk : BulkCall) (drawn : Drawn) → Legal H → IsBulkAllowed H bulk
       → judge_bulk bulk.user (view (Some bulk.user) H) bulk.rows ≡ Ok drawn → IsItsRows H bulk drawn
   pub refused : (H : History) (bulk : BulkCall) (n : ℕ) (rule : Rule) → Legal H → IsBulkAllowed H bulk
-      → judge_bulk bulk.user (view (Some bulk.user) H) bulk.rows ≡ Err (broken.Row n rule) → IsFirstBroken H bulk n rule
+      → judge_bulk bulk.user (view (Some bulk.user) H) bulk.rows ≡ Err (broken.Row n rule)
+      → IsFirstBroken H bulk n rule

@@ -5,7 +5,8 @@ use Rattle.std.specs.List.{list_any}
 use Rattle.cr_base.specs.declared.entry.Entry.{Entry}
 use Rattle.cr_base.specs.declared.entry.Entry.TheVariants.{Registered, Named, PhaseSet, ModeSet, Submitted}
 use Rattle.cr_base.specs.declared.entry.Entry.TheVariants.{Coauthor, Revised, Uploaded, Withdrawn, Conflict}
-use Rattle.cr_base.specs.declared.entry.Entry.TheVariants.{Bid, Assigned, Unassigned, Reviewed, Commented, Tagged, Decided}
+use Rattle.cr_base.specs.declared.entry.Entry.TheVariants.{Bid, Assigned, Unassigned, Reviewed}
+use Rattle.cr_base.specs.declared.entry.Entry.TheVariants.{Commented, Tagged, Decided}
 use Rattle.cr_base.specs.declared.words.Phase.{Phase}
 use Rattle.cr_base.specs.declared.standing.Standing.{Standing}
 use Rattle.cr_base.specs.declared.words.Phase.TheVariants.{Bidding, Discussion, Notification}
@@ -13,7 +14,8 @@ use Rattle.cr_base.specs.declared.words.Mode.{Mode}
 use Rattle.cr_base.specs.declared.words.Role.{Role}
 use Rattle.cr_base.specs.Decisions.{is_published}
 use Rattle.cr_base.specs.Lists.{is_nothing, is_number, until}
-use Rattle.cr_base.specs.History.{History, all_told, opens_discussion, title_told, upload_told, form_told, decision_told}
+use Rattle.cr_base.specs.History.{History, all_told, opens_discussion, title_told}
+use Rattle.cr_base.specs.History.{upload_told, form_told, decision_told}
 use Rattle.cr_base.specs.HistoryFacts.{phase_of, mode_of, role_of, is_author, is_conflicted, is_accepted}
 use Rattle.cr_base.specs.Page.{is_clear_member, is_clear_chair}
 use Rattle.cr_base.specs.Phases.{is_from}
@@ -49,7 +51,14 @@ reader u H = record {
 
 -- how the reader stands to a paper; no row asks whether she reviews it
 abbrev pub standing_to : Reader → ℕ → Standing
-standing_to r p = record { phase = r.now; mode = r.mode; role = r.rank; author = r.author p; conflicted = r.conflicted p; reviewer = false }
+standing_to r p = record {
+  phase = r.now;
+  mode = r.mode;
+  role = r.rank;
+  author = r.author p;
+  conflicted = r.conflicted p;
+  reviewer = false;
+}
 
 -- what stands around an entry: the history before it, and what follows it
 pub record Around : Type 0 where
@@ -148,7 +157,8 @@ seat_rows r paper user =
     ∷ is_clear_chair (standing_to r paper) see whole
     ∷ (is_clear_member (standing_to r paper) && is_from Discussion r.now)
     see these (part.review_kind ∷ part.ordinal ∷ [])
-    ∷ (is_clear_member (standing_to r paper) && unless_anonymous r && is_from Discussion r.now) see these (part.user ∷ [])
+    ∷ (is_clear_member (standing_to r paper) && unless_anonymous r && is_from Discussion r.now)
+    see these (part.user ∷ [])
     ∷ (authors r paper && in_open_mode r && is_from Notification r.now) see these (part.user ∷ part.ordinal ∷ [])
     ∷ []
 
@@ -224,7 +234,8 @@ rows r at by (Unassigned paper user ordinal) = seat_rows r paper user
 rows r at by (Reviewed paper ordinal version form) =
     (at.first && is_clear_chair (standing_to r paper)) see these (part.ordinal ∷ part.done ∷ [])
     ∷ ((at.last_before_discussion || at.from_discussion) && discusses r paper) see whole
-    ∷ (at.last && authors r paper && is_from Notification r.now) see these (part.ordinal ∷ part.score ∷ part.confidence ∷ part.to_authors ∷ [])
+    ∷ (at.last && authors r paper && is_from Notification r.now)
+    see these (part.ordinal ∷ part.score ∷ part.confidence ∷ part.to_authors ∷ [])
     ∷ []
 rows r at by (Commented paper n ordinal text) =
     discusses r paper see these (part.n ∷ part.text ∷ [])

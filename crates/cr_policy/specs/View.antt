@@ -5,7 +5,8 @@ use Rattle.cr_base.specs.Lists.{given}
 use Rattle.cr_base.specs.History.{History}
 use Rattle.cr_policy.specs.Part.{whole}
 use Rattle.cr_policy.specs.Sighting.{Sighting, sighting}
-use Rattle.cr_policy.specs.Triggers.{Reader, reader, Around, position_of, TriggerRow, rows, user_named, ◌see◌, applies_any, shows}
+use Rattle.cr_policy.specs.Triggers.{Reader, reader, Around, position_of, TriggerRow}
+use Rattle.cr_policy.specs.Triggers.{rows, user_named, ◌see◌, applies_any, shows}
 
 -- the rows of the table, and last the entry's own maker's, who sees it whole
 abbrev pub rows_at : Reader → Around → Stamped → List TriggerRow
@@ -25,7 +26,8 @@ sight r at e = given (is_seen r at e) (joined r at e)
 -- what each of the entries shows, where `before` stand before them
 abbrev pub sights : Reader → History → History → List Sighting
 sights r before [] = []
-sights r before (e ∷ after) = sight r (record { before = before; after = after }) e ++ sights r (before ++ e ∷ []) after
+sights r before (e ∷ after) =
+    sight r (record { before = before; after = after }) e ++ sights r (before ++ e ∷ []) after
 
 abbrev pub View : Type 0
 View = List Sighting

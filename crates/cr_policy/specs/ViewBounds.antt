@@ -1,7 +1,8 @@
 -- The bounds of a view (the word is CoCon's, CAV 2014): of each part of the entries who is shown it, neither more
 -- nor less, and what that leaves for those who should know little. They hold of every history, legal or not, of
 -- every user and of nobody.
-use Rattle.std.specs.Prelude.{ℕ, Bool, true, false, ◌≡◌, ◌≤◌, ◌||◌, ◌&&◌, not, List, [], length, map, Option, Some, None, All, IsTrue, IsFalse, if◌then◌else◌}
+use Rattle.std.specs.Prelude.{ℕ, Bool, true, false, ◌≡◌, ◌≤◌, ◌||◌, ◌&&◌, not, List, [], length}
+use Rattle.std.specs.Prelude.{map, Option, Some, None, All, IsTrue, IsFalse, if◌then◌else◌}
 use Rattle.std.specs.List.{flat_map, list_any}
 use Rattle.cr_base.specs.declared.entry.Entry.{Entry}
 use Rattle.cr_base.specs.declared.entry.Entry.TheVariants.{Coauthor, Conflict, Assigned, Unassigned, Reviewed}
@@ -14,11 +15,15 @@ use Rattle.cr_base.specs.HistoryFacts.{phase_of, mode_of, role_of, is_author}
 use Rattle.cr_policy.specs.Sighting.{Sighting, blank}
 use Rattle.cr_policy.specs.View.{view}
 use Rattle.cr_policy.specs.ViewFacts.{only, is_user, is_kind}
-use Rattle.cr_policy.specs.ShownTo.{PartFor, each_told, chairs_committee, is_past_reviewing, is_past_discussion, hides_reviewers, names_reviewers}
-use Rattle.cr_policy.specs.ShownTo.{serves, is_eligible, oversees, administers, discusses, is_in_programme, appears, is_chairs, is_setters, kind_for, mark_for, paper_for, user_for, name_for}
-use Rattle.cr_policy.specs.ShownTo.{digest_for, role_for, phase_for, mode_for, maker_for, title_for, abstract_for, version_for, content_for}
+use Rattle.cr_policy.specs.ShownTo.{PartFor, each_told, chairs_committee, is_past_reviewing}
+use Rattle.cr_policy.specs.ShownTo.{is_past_discussion, hides_reviewers, names_reviewers}
+use Rattle.cr_policy.specs.ShownTo.{serves, is_eligible, oversees, administers, discusses, is_in_programme, appears}
+use Rattle.cr_policy.specs.ShownTo.{is_chairs, is_setters, kind_for, mark_for, paper_for, user_for, name_for}
+use Rattle.cr_policy.specs.ShownTo.{digest_for, role_for, phase_for, mode_for, maker_for}
+use Rattle.cr_policy.specs.ShownTo.{title_for, abstract_for, version_for, content_for}
 use Rattle.cr_policy.specs.ShownTo.{switch_for, value_for, review_kind_for, ordinal_for}
-use Rattle.cr_policy.specs.ShownTo.{score_for, confidence_for, to_authors_for, to_pc_for, done_for, n_for, text_for, tag_for, decision_for, outcome_for, accepted_for}
+use Rattle.cr_policy.specs.ShownTo.{score_for, confidence_for, to_authors_for, to_pc_for, done_for}
+use Rattle.cr_policy.specs.ShownTo.{n_for, text_for, tag_for, decision_for, outcome_for, accepted_for}
 
 -- ---- each part
 
@@ -125,7 +130,8 @@ AcceptedShown = Shows (λ (s : Sighting). s.accepted) accepted_for
 
 -- the sighting is on the paper, of an entry that assigns or unassigns another than the reader, and isn't her own
 abbrev pub is_of_other : Option ℕ → ℕ → Sighting → Bool
-is_of_other u p s = (is_kind kinds.Assigned s || is_kind kinds.Unassigned s) && is_number s.paper p && not (s.mine || is_user u s.user)
+is_of_other u p s =
+    (is_kind kinds.Assigned s || is_kind kinds.Unassigned s) && is_number s.paper p && not (s.mine || is_user u s.user)
 
 -- of the bids on a paper who doesn't oversee it is shown none but her own
 abbrev pub BidsAreOwn : Type 0
@@ -136,7 +142,8 @@ BidsAreOwn =
 -- of who reviews a paper its authors are shown nothing, but in the open mode from the notification on
 abbrev pub ReviewersFromAuthors : Type 0
 ReviewersFromAuthors =
-    (u : Option ℕ) (p : ℕ) (H : History) → IsTrue (is_author u p H) → IsFalse (names_reviewers (mode_of H) && is_past_discussion (phase_of H))
+    (u : Option ℕ) (p : ℕ) (H : History) → IsTrue (is_author u p H)
+    → IsFalse (names_reviewers (mode_of H) && is_past_discussion (phase_of H))
     → All (λ (s : Sighting). IsFalse (is_of_other u p s)) (view u H)
 
 -- nor is anybody before the discussion, but chairs in no conflict with the paper
@@ -170,7 +177,8 @@ FormsEarly =
 abbrev pub FormsFromAuthors : Type 0
 FormsFromAuthors =
     (u : Option ℕ) (p : ℕ) (H : History) → IsTrue (is_author u p H)
-    → All (λ (s : Sighting). IsTrue (is_others kinds.Reviewed p s) → IsTrue (is_past_discussion (phase_of H)) × (s.to_pc ≡ None)) (view u H)
+    → All (λ (s : Sighting). IsTrue (is_others kinds.Reviewed p s)
+    → IsTrue (is_past_discussion (phase_of H)) × (s.to_pc ≡ None)) (view u H)
 
 -- of the comments on a paper, and of its tags, they are shown none
 abbrev pub CommentsFromAuthors : Type 0
@@ -208,7 +216,8 @@ DecisionsEarly =
     (u : Option ℕ) (p : ℕ) (H : History) → IsFalse (discusses u p H) → IsFalse (is_past_discussion (phase_of H))
     → All (λ (s : Sighting). IsFalse (is_others kinds.Decided p s)) (view u H)
 
--- nobody but they and the paper's authors is ever shown more than that it is accepted, and that where it is in the programme
+-- nobody but they and the paper's authors is ever shown more than that it is accepted, and
+-- that where it is in the programme
 abbrev pub DecisionsUntold : Type 0
 DecisionsUntold =
     (u : Option ℕ) (p : ℕ) (H : History) → IsFalse (is_author u p H || discusses u p H)
@@ -223,16 +232,22 @@ DecisionsUntold =
 abbrev pub part_shown : {A : Type 0} → (Sighting → Option A) → ℕ → Sighting → List A
 part_shown part p s = only (is_number s.paper p && not s.mine) (listed (part s))
 
--- of a paper's titles that they didn't give it themselves, others than its authors are shown one at most, and of its abstracts
--- and its contents too
+-- of a paper's titles that they didn't give it themselves, others than its authors are shown one at most, and of its
+-- abstracts and its contents too
 abbrev pub OneTitle : Type 0
-OneTitle = (u : Option ℕ) (p : ℕ) (H : History) → IsFalse (is_author u p H) → length (flat_map (part_shown (λ (s : Sighting). s.title) p) (view u H)) ≤ 1
+OneTitle =
+    (u : Option ℕ) (p : ℕ) (H : History) → IsFalse (is_author u p H)
+    → length (flat_map (part_shown (λ (s : Sighting). s.title) p) (view u H)) ≤ 1
 
 abbrev pub OneAbstract : Type 0
-OneAbstract = (u : Option ℕ) (p : ℕ) (H : History) → IsFalse (is_author u p H) → length (flat_map (part_shown (λ (s : Sighting). s.abstract) p) (view u H)) ≤ 1
+OneAbstract =
+    (u : Option ℕ) (p : ℕ) (H : History) → IsFalse (is_author u p H)
+    → length (flat_map (part_shown (λ (s : Sighting). s.abstract) p) (view u H)) ≤ 1
 
 abbrev pub OneContent : Type 0
-OneContent = (u : Option ℕ) (p : ℕ) (H : History) → IsFalse (is_author u p H) → length (flat_map (part_shown (λ (s : Sighting). s.content) p) (view u H)) ≤ 1
+OneContent =
+    (u : Option ℕ) (p : ℕ) (H : History) → IsFalse (is_author u p H)
+    → length (flat_map (part_shown (λ (s : Sighting). s.content) p) (view u H)) ≤ 1
 
 -- and of the decisions on a paper that she didn't make herself who doesn't discuss it is shown one at most
 abbrev pub OneDecision : Type 0
@@ -242,18 +257,18 @@ OneDecision =
 
 -- ---- who neither wrote a paper nor is eligible for it
 
--- what lets one know more of a paper who neither wrote it nor is eligible for it: whether she serves, whether she administers the paper, whether it
--- is in the programme, and whether it appears
+-- what lets one know more of a paper who neither wrote it nor is eligible for it: whether she serves, whether she
+-- administers the paper, whether it is in the programme, and whether it appears
 pub record Outsider : Type 0 where
   pub serving : Bool
   pub administering : Bool
   pub announced : Bool
   pub appearing : Bool
 
--- all that a sighting on a paper has for her: the number; the title where she serves, and that it is withdrawn; the whole of a
--- conflict or an assignment that names her; the whole of what she made; where she administers the paper before the bidding the whole of
--- each assignment, and under which labels there is a form; of a paper in the programme that it is accepted, its authors and its
--- title; and of one that appears its abstract and its content
+-- all that a sighting on a paper has for her: the number; the title where she serves, and that it is withdrawn; the
+-- whole of a conflict or an assignment that names her; the whole of what she made; where she administers the paper
+-- before the bidding the whole of each assignment, and under which labels there is a form; of a paper in the programme
+-- that it is accepted, its authors and its title; and of one that appears its abstract and its content
 abbrev pub IsLeft : Option ℕ → Outsider → EntryKind → Sighting → Type 0
 IsLeft u is kinds.Registered s = ⊥
 IsLeft u is kinds.Named s = ⊥
@@ -266,20 +281,36 @@ IsLeft u is kinds.Submitted s =
       title = if is.serving || is.announced then s.title else None;
       abstract = if is.appearing then s.abstract else None;
     }
-IsLeft u is kinds.Coauthor s = IsTrue (s.mine || is.announced) × (s ≡ record (blank kinds.Coauthor) { mine = s.mine; paper = s.paper; user = s.user })
+IsLeft u is kinds.Coauthor s =
+    IsTrue (s.mine || is.announced)
+    × (s ≡ record (blank kinds.Coauthor) { mine = s.mine; paper = s.paper; user = s.user })
 IsLeft u is kinds.Revised s =
     IsTrue (s.mine || is.serving || is.announced)
-    × (s ≡ record (blank kinds.Revised) { mine = s.mine; paper = s.paper; title = s.title; abstract = if s.mine || is.appearing then s.abstract else None })
+    × (s ≡ record (blank kinds.Revised) {
+      mine = s.mine;
+      paper = s.paper;
+      title = s.title;
+      abstract = if s.mine || is.appearing then s.abstract else None;
+    })
 IsLeft u is kinds.Uploaded s =
     IsTrue (s.mine || is.appearing)
     × (s ≡ record (blank kinds.Uploaded) { mine = s.mine; paper = s.paper; version = s.version; content = s.content })
-IsLeft u is kinds.Withdrawn s = IsTrue (s.mine || is.serving) × (s ≡ record (blank kinds.Withdrawn) { mine = s.mine; paper = s.paper })
+IsLeft u is kinds.Withdrawn s =
+    IsTrue (s.mine || is.serving) × (s ≡ record (blank kinds.Withdrawn) { mine = s.mine; paper = s.paper })
 IsLeft u is kinds.Conflict s =
-    IsTrue (s.mine || is_user u s.user) × (s ≡ record (blank kinds.Conflict) { mine = s.mine; paper = s.paper; user = s.user; on = s.on })
-IsLeft u is kinds.Bid s = IsTrue s.mine × (s ≡ record (blank kinds.Bid) { mine = s.mine; paper = s.paper; value = s.value })
+    IsTrue (s.mine || is_user u s.user)
+    × (s ≡ record (blank kinds.Conflict) { mine = s.mine; paper = s.paper; user = s.user; on = s.on })
+IsLeft u is kinds.Bid s =
+    IsTrue s.mine × (s ≡ record (blank kinds.Bid) { mine = s.mine; paper = s.paper; value = s.value })
 IsLeft u is kinds.Assigned s =
     IsTrue (s.mine || is_user u s.user || is.administering)
-    × (s ≡ record (blank kinds.Assigned) { mine = s.mine; paper = s.paper; user = s.user; review_kind = s.review_kind; ordinal = s.ordinal })
+    × (s ≡ record (blank kinds.Assigned) {
+      mine = s.mine;
+      paper = s.paper;
+      user = s.user;
+      review_kind = s.review_kind;
+      ordinal = s.ordinal;
+    })
 IsLeft u is kinds.Unassigned s =
     IsTrue (s.mine || is_user u s.user || is.administering)
     × (s ≡ record (blank kinds.Unassigned) { mine = s.mine; paper = s.paper; user = s.user; ordinal = s.ordinal })
@@ -297,8 +328,10 @@ IsLeft u is kinds.Reviewed s =
       done = if is.administering then s.done else None;
     })
 IsLeft u is kinds.Commented s =
-    IsTrue s.mine × (s ≡ record (blank kinds.Commented) { mine = s.mine; paper = s.paper; n = s.n; ordinal = s.ordinal; text = s.text })
-IsLeft u is kinds.Tagged s = IsTrue s.mine × (s ≡ record (blank kinds.Tagged) { mine = s.mine; paper = s.paper; tag = s.tag; on = s.on })
+    IsTrue s.mine × (s
+    ≡ record (blank kinds.Commented) { mine = s.mine; paper = s.paper; n = s.n; ordinal = s.ordinal; text = s.text })
+IsLeft u is kinds.Tagged s =
+    IsTrue s.mine × (s ≡ record (blank kinds.Tagged) { mine = s.mine; paper = s.paper; tag = s.tag; on = s.on })
 IsLeft u is kinds.Decided s =
     IsTrue (s.mine || is.announced)
     × (s ≡ record (blank kinds.Decided) {
@@ -310,7 +343,12 @@ IsLeft u is kinds.Decided s =
 
 -- what she is to the paper
 abbrev pub outsider : Option ℕ → ℕ → History → Outsider
-outsider u p H = record { serving = serves u H; administering = administers u p H; announced = is_in_programme p H; appearing = appears p H }
+outsider u p H = record {
+  serving = serves u H;
+  administering = administers u p H;
+  announced = is_in_programme p H;
+  appearing = appears p H;
+}
 
 -- so of any other than an author: one in conflict, one who isn't on the committee, and all before the bidding
 abbrev pub OutsidersShown : Type 0
@@ -320,8 +358,9 @@ OutsidersShown =
 
 -- ---- strangers, and nobody
 
--- all that is public of an entry: accounts with their names and roles, phases, modes, and the papers' numbers; of a paper in the
--- programme that it is accepted, its authors and its last title; and of one that appears its last abstract and content
+-- all that is public of an entry: accounts with their names and roles, phases, modes, and the papers'
+-- numbers; of a paper in the programme that it is accepted, its authors and its last title; and of one that
+-- appears its last abstract and content
 abbrev pub IsPublic : Bool → Bool → EntryKind → Sighting → Type 0
 IsPublic announced appearing kinds.Registered s = s ≡ record (blank kinds.Registered) { user = s.user; name = s.name }
 IsPublic announced appearing kinds.Named s = s ≡ record (blank kinds.Named) { user = s.user; role = s.role }
@@ -334,12 +373,18 @@ IsPublic announced appearing kinds.Submitted s =
       title = if announced then s.title else None;
       abstract = if appearing then s.abstract else None;
     }
-IsPublic announced appearing kinds.Coauthor s = IsTrue announced × (s ≡ record (blank kinds.Coauthor) { paper = s.paper; user = s.user })
+IsPublic announced appearing kinds.Coauthor s =
+    IsTrue announced × (s ≡ record (blank kinds.Coauthor) { paper = s.paper; user = s.user })
 IsPublic announced appearing kinds.Revised s =
     IsTrue announced
-    × (s ≡ record (blank kinds.Revised) { paper = s.paper; title = s.title; abstract = if appearing then s.abstract else None })
+    × (s ≡ record (blank kinds.Revised) {
+      paper = s.paper;
+      title = s.title;
+      abstract = if appearing then s.abstract else None;
+    })
 IsPublic announced appearing kinds.Uploaded s =
-    IsTrue appearing × (s ≡ record (blank kinds.Uploaded) { paper = s.paper; version = s.version; content = s.content })
+    IsTrue appearing
+    × (s ≡ record (blank kinds.Uploaded) { paper = s.paper; version = s.version; content = s.content })
 IsPublic announced appearing kinds.Withdrawn s = ⊥
 IsPublic announced appearing kinds.Conflict s = ⊥
 IsPublic announced appearing kinds.Bid s = ⊥
@@ -348,7 +393,8 @@ IsPublic announced appearing kinds.Unassigned s = ⊥
 IsPublic announced appearing kinds.Reviewed s = ⊥
 IsPublic announced appearing kinds.Commented s = ⊥
 IsPublic announced appearing kinds.Tagged s = ⊥
-IsPublic announced appearing kinds.Decided s = IsTrue announced × (s ≡ record (blank kinds.Decided) { paper = s.paper; accepted = Some true })
+IsPublic announced appearing kinds.Decided s =
+    IsTrue announced × (s ≡ record (blank kinds.Decided) { paper = s.paper; accepted = Some true })
 
 -- what the sighting has is public, by what became of its paper
 abbrev pub IsPublicIn : History → Sighting → Type 0
@@ -369,7 +415,8 @@ is_reviewing (Unassigned paper user ordinal) = true
 is_reviewing (Reviewed paper ordinal version form) = true
 is_reviewing _ = false
 
--- she wrote nothing, doesn't serve, no entry on a paper names her, and she is no chair where somebody was assigned or has reviewed
+-- she wrote nothing, doesn't serve, no entry on a paper names her, and she is no chair where
+-- somebody was assigned or has reviewed
 pub record IsStranger (u : Option ℕ) (H : History) : Type 0 where
   pub author : (p : ℕ) → IsFalse (is_author u p H)
   pub serving : IsFalse (serves u H)
@@ -378,7 +425,8 @@ pub record IsStranger (u : Option ℕ) (H : History) : Type 0 where
 
 -- strangers are shown what is public, and their own entries
 abbrev pub StrangersShown : Type 0
-StrangersShown = (u : Option ℕ) (H : History) → IsStranger u H → All (λ (s : Sighting). IsFalse s.mine → IsPublicIn H s) (view u H)
+StrangersShown =
+    (u : Option ℕ) (H : History) → IsStranger u H → All (λ (s : Sighting). IsFalse s.mine → IsPublicIn H s) (view u H)
 
 -- nobody is shown what is public
 abbrev pub NobodyShown : Type 0

@@ -1,5 +1,7 @@
--- ViewFacts and Quotas: what a view says of the conference, of its papers and of its reader, folds over the view alone.
-use Rattle.std.specs.Prelude.{ℕ, Bool, true, false, List, [], ◌∷◌, Option, Some, None, is_some, length, map, filter, not, ◌==◌, ◌&&◌, ◌||◌, ◌++◌, if◌then◌else◌}
+-- ViewFacts and Quotas: what a view says of the conference, of its papers and of its
+-- reader, folds over the view alone.
+use Rattle.std.specs.Prelude.{ℕ, Bool, true, false, List, [], ◌∷◌, Option, Some, None, is_some}
+use Rattle.std.specs.Prelude.{length, map, filter, not, ◌==◌, ◌&&◌, ◌||◌, ◌++◌, if◌then◌else◌}
 use Rattle.std.specs.List.{flat_map, list_any}
 use Rattle.std.specs.Str.{bytes_eq}
 use Rattle.cr_base.specs.declared.entry.EntryKind.{EntryKind}
@@ -66,7 +68,8 @@ abbrev pub upload_shown : Option ℕ → Option (List ℕ) → List Upload
 upload_shown (Some version) (Some content) = record { version = version; content = content } ∷ []
 upload_shown _ _ = []
 
--- the seat that is shown, of the kinds of entry that give a user hers: the ordinal of an assignment, and that it is gone
+-- the seat that is shown, of the kinds of entry that give a user hers: the ordinal of an
+-- assignment, and that it is gone
 abbrev pub ordinal_by_kind : EntryKind → Option ℕ → List (Option ℕ)
 ordinal_by_kind kinds.Assigned ordinal = map (λ (o : ℕ). Some o) (listed ordinal)
 ordinal_by_kind kinds.Unassigned ordinal = map (λ (o : ℕ). None) (listed ordinal)
@@ -85,7 +88,8 @@ label_shown (Some o) = if o == 0 then None else Some o
 
 -- the comment whose number and text are shown
 abbrev pub comment_shown : Option ℕ → Option ℕ → Option ℕ → Option (List ℕ) → List CommentTold
-comment_shown (Some n) writer ordinal (Some text) = record { n = n; writer = writer; ordinal = label_shown ordinal; text = text } ∷ []
+comment_shown (Some n) writer ordinal (Some text) =
+    record { n = n; writer = writer; ordinal = label_shown ordinal; text = text } ∷ []
 comment_shown _ writer ordinal _ = []
 
 -- the tag that is shown, on or off; a private one where it is the reader's own
@@ -134,7 +138,8 @@ conflict_user_seen p s = only (is_number s.paper p) (of_kind kinds.Conflict s (l
 
 -- the same, where it is the reader's own or names another than her
 abbrev pub own_or_other_seen : Option ℕ → ℕ → Sighting → List ℕ
-own_or_other_seen u p s = only (is_number s.paper p && (s.mine || not (is_user u s.user))) (of_kind kinds.Conflict s (listed s.user))
+own_or_other_seen u p s =
+    only (is_number s.paper p && (s.mine || not (is_user u s.user))) (of_kind kinds.Conflict s (listed s.user))
 
 -- the user's bid on the paper; and the reader's own
 abbrev pub bid_seen : Option ℕ → ℕ → Sighting → List ℕ
@@ -150,7 +155,8 @@ ordinal_seen u p s = only (is_number s.paper p && is_user u s.user) (ordinal_by_
 -- the reviewer whom it gives the paper, and the ordinal of the one whom it takes
 abbrev pub assigned_seen : ℕ → Sighting → List SeatTold
 assigned_seen p s =
-    only (is_number s.paper p) (of_kind kinds.Assigned s (map (λ (o : ℕ). record { ordinal = o; kind = s.review_kind; user = s.user }) (listed s.ordinal)))
+    only (is_number s.paper p) (of_kind kinds.Assigned s
+    (map (λ (o : ℕ). record { ordinal = o; kind = s.review_kind; user = s.user }) (listed s.ordinal)))
 
 abbrev pub unassigned_seen : ℕ → Sighting → List ℕ
 unassigned_seen p s = only (is_number s.paper p) (of_kind kinds.Unassigned s (listed s.ordinal))
@@ -163,7 +169,8 @@ form_seen p o s =
 
 abbrev pub own_form_seen : ℕ → Sighting → List FormTold
 own_form_seen p s =
-    only (is_number s.paper p && s.mine) (of_kind kinds.Reviewed s (form_shown s.version s.score s.confidence s.to_authors s.to_pc))
+    only (is_number s.paper p && s.mine)
+    (of_kind kinds.Reviewed s (form_shown s.version s.score s.confidence s.to_authors s.to_pc))
 
 -- that there is a form under the label of this ordinal
 abbrev pub done_seen : ℕ → ℕ → Sighting → List Bool
@@ -246,7 +253,9 @@ papers_in_view V = flat_map paper_seen V
 
 -- the accounts, in the order of their registration, each with its role
 abbrev pub accounts_in_view : View → List AccountLine
-accounts_in_view V = map (λ (r : Registration). record { user = r.user; name = r.name; role = role_in_view (Some r.user) V }) (flat_map registration_seen V)
+accounts_in_view V =
+    map (λ (r : Registration). record { user = r.user; name = r.name; role = role_in_view (Some r.user) V })
+    (flat_map registration_seen V)
 
 -- the user who registered this name
 abbrev pub number_in_view : List ℕ → View → Option ℕ
@@ -271,7 +280,8 @@ is_conflicted_in_view u p V = is_author_in_view u p V || is_conflict_on_in_view 
 -- DeclaredOf, for an author: whom those conflicts name that are her own, or name another than her, or stand before the
 -- bidding was opened. Where the history is legal, an author made each of these, and no others
 abbrev pub declared_in_view : Option ℕ → ℕ → View → List ℕ
-declared_in_view u p V = flat_map (conflict_user_seen p) (until bidding_seen V) ++ flat_map (own_or_other_seen u p) (since bidding_seen V)
+declared_in_view u p V =
+    flat_map (conflict_user_seen p) (until bidding_seen V) ++ flat_map (own_or_other_seen u p) (since bidding_seen V)
 
 -- the ordinal under which the user reviews the paper: the last entry shown on the two tells it, or that there is none
 abbrev pub ordinal_in_view : Option ℕ → ℕ → View → Option ℕ
@@ -299,7 +309,8 @@ own_bid_in_view p V = last (flat_map (own_bid_seen p) V)
 
 abbrev pub bids_in_view : ℕ → View → List BidTold
 bids_in_view p V =
-    flat_map (λ (a : AccountLine). map (λ (value : ℕ). record { user = a.user; value = value }) (listed (bid_in_view (Some a.user) p V))) (accounts_in_view V)
+    flat_map (λ (a : AccountLine). map (λ (value : ℕ). record { user = a.user; value = value })
+    (listed (bid_in_view (Some a.user) p V))) (accounts_in_view V)
 
 -- whoever was assigned to the paper, as far as that is shown, by label
 abbrev pub seats_in_view : ℕ → View → List SeatTold
@@ -311,8 +322,9 @@ reviewers_in_view p V = seats_left (flat_map (unassigned_seen p) V) (seats_in_vi
 
 -- ---- reviews, comments and tags
 
--- FormsOf: of each label's forms that are shown the last, which the paper's authors read; the last before the discussion and all
--- later ones, which the committee discusses; the reader's own, which she reads while reviews are written; and whether there is one
+-- FormsOf: of each label's forms that are shown the last, which the paper's authors read; the last before the
+-- discussion and all later ones, which the committee discusses; the reader's own, which she reads while reviews are
+-- written; and whether there is one
 abbrev pub forms_in_view : ℕ → ℕ → View → List FormTold
 forms_in_view p o V = flat_map (form_seen p o) V
 
@@ -320,7 +332,8 @@ abbrev pub last_form_in_view : ℕ → ℕ → View → Option FormTold
 last_form_in_view p o V = last (forms_in_view p o V)
 
 abbrev pub forms_discussed_in_view : ℕ → ℕ → View → List FormTold
-forms_discussed_in_view p o V = listed (last (forms_in_view p o (until discussion_seen V))) ++ forms_in_view p o (since discussion_seen V)
+forms_discussed_in_view p o V =
+    listed (last (forms_in_view p o (until discussion_seen V))) ++ forms_in_view p o (since discussion_seen V)
 
 abbrev pub own_forms_in_view : ℕ → View → List FormTold
 own_forms_in_view p V = flat_map (own_form_seen p) V
@@ -345,8 +358,8 @@ title_in_view p V = last (flat_map (title_seen p) V)
 abbrev pub abstract_in_view : ℕ → View → Option (List ℕ)
 abstract_in_view p V = last (flat_map (abstract_seen p) V)
 
--- VersionsOf: what is shown of what was uploaded to the paper, in order; where the reader is no author of it, `uploads_told`
--- leaves the last alone
+-- VersionsOf: what is shown of what was uploaded to the paper, in order; where the reader is no author of it,
+-- `uploads_told` leaves the last alone
 abbrev pub uploads_in_view : ℕ → View → List Upload
 uploads_in_view p V = flat_map (upload_seen p) V
 

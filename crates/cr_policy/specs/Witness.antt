@@ -1,8 +1,9 @@
--- Two registrations, a submission, a declared conflict and a bulk after them, so that no law on legal histories is empty; and
--- what is seen of them.
+-- Two registrations, a submission, a declared conflict and a bulk after them, so that no law on legal histories is
+-- empty; and what is seen of them.
 use Rattle.std.specs.Prelude.{ℕ, Bool, true, false, List, [], ◌∷◌, ◌++◌, Option, Some, None, codes}
 use Rattle.cr_base.specs.declared.bulk.BulkRow.{BulkRow}
-use Rattle.cr_base.specs.declared.entry.Entry.TheVariants.{Registered, Named, PhaseSet, ModeSet, Submitted, Conflict, Assigned, Unassigned, Tagged}
+use Rattle.cr_base.specs.declared.entry.Entry.TheVariants.{Registered, Named, PhaseSet, ModeSet, Submitted}
+use Rattle.cr_base.specs.declared.entry.Entry.TheVariants.{Conflict, Assigned, Unassigned, Tagged}
 use Rattle.cr_base.specs.declared.entry.EntryKind.TheVariants as kinds
 use Rattle.cr_base.specs.declared.words.Kind.TheVariants.{Primary, Pc}
 use Rattle.cr_base.specs.declared.words.Mode.TheVariants.{Anonymous}
@@ -24,32 +25,40 @@ two_registrations alice bob =
 
 -- what a registration shows: the digest to its maker alone
 abbrev pub account_shown : ℕ → List ℕ → Option (List ℕ) → Bool → Sighting
-account_shown user name digest mine = record (blank kinds.Registered) { mine = mine; user = Some user; name = Some name; digest = digest }
+account_shown user name digest mine =
+    record (blank kinds.Registered) { mine = mine; user = Some user; name = Some name; digest = digest }
 
 abbrev pub named_chair : ℕ → Bool → Sighting
 named_chair user mine = record (blank kinds.Named) { mine = mine; user = Some user; role = Some Chair }
 
 -- what nobody sees of the two registrations: no digest
 abbrev pub seen_by_nobody : View
-seen_by_nobody = account_shown 1 (codes "alice") None false ∷ named_chair 1 false ∷ account_shown 2 (codes "bob") None false ∷ []
+seen_by_nobody =
+    account_shown 1 (codes "alice") None false ∷ named_chair 1 false ∷ account_shown 2 (codes "bob") None false ∷ []
 
 -- what alice sees: her own digest, and not bob's
 abbrev pub seen_by_alice : List ℕ → View
-seen_by_alice digest = account_shown 1 (codes "alice") (Some digest) true ∷ named_chair 1 true ∷ account_shown 2 (codes "bob") None false ∷ []
+seen_by_alice digest =
+    account_shown 1 (codes "alice") (Some digest) true ∷ named_chair 1 true
+    ∷ account_shown 2 (codes "bob") None false ∷ []
 
 -- ---- a submission
 
 -- then alice sets the mode
 abbrev pub made_anonymous : List ℕ → List ℕ → History
-made_anonymous alice bob = two_registrations alice bob ++ record { maker = 1; more = false; entry = ModeSet Anonymous } ∷ []
+made_anonymous alice bob =
+    two_registrations alice bob ++ record { maker = 1; more = false; entry = ModeSet Anonymous } ∷ []
 
 -- and the phase
 abbrev pub submission_opened : List ℕ → List ℕ → History
-submission_opened alice bob = made_anonymous alice bob ++ record { maker = 1; more = false; entry = PhaseSet Submission } ∷ []
+submission_opened alice bob =
+    made_anonymous alice bob ++ record { maker = 1; more = false; entry = PhaseSet Submission } ∷ []
 
 -- and bob submits a paper
 abbrev pub one_submission : List ℕ → List ℕ → History
-one_submission alice bob = submission_opened alice bob ++ record { maker = 2; more = false; entry = Submitted 1 (codes "Proofs") (codes "We prove.") } ∷ []
+one_submission alice bob =
+    submission_opened alice bob
+    ++ record { maker = 2; more = false; entry = Submitted 1 (codes "Proofs") (codes "We prove.") } ∷ []
 
 -- the mode and the phase that alice set, as she sees them
 abbrev pub mode_shown : Sighting
@@ -65,7 +74,13 @@ paper_seen_alone = record (blank kinds.Submitted) { paper = Some 1 }
 -- the submission as bob sees it, who made it and so is the paper's author
 abbrev pub paper_seen_by_author : Sighting
 paper_seen_by_author =
-    record (blank kinds.Submitted) { mine = true; paper = Some 1; by = Some 2; title = Some (codes "Proofs"); abstract = Some (codes "We prove.") }
+    record (blank kinds.Submitted) {
+      mine = true;
+      paper = Some 1;
+      by = Some 2;
+      title = Some (codes "Proofs");
+      abstract = Some (codes "We prove.");
+    }
 
 -- what alice sees, a chair, before the bidding
 abbrev pub submission_seen_by_alice : List ℕ → View
@@ -102,11 +117,13 @@ two_members alice bob carol dave =
 
 -- bob, the author, declares carol in conflict with his paper
 abbrev pub one_conflict : List ℕ → List ℕ → List ℕ → List ℕ → History
-one_conflict alice bob carol dave = two_members alice bob carol dave ++ record { maker = 2; more = false; entry = Conflict 1 3 true } ∷ []
+one_conflict alice bob carol dave =
+    two_members alice bob carol dave ++ record { maker = 2; more = false; entry = Conflict 1 3 true } ∷ []
 
 -- and alice opens the bidding
 abbrev pub bidding_opened : List ℕ → List ℕ → List ℕ → List ℕ → History
-bidding_opened alice bob carol dave = one_conflict alice bob carol dave ++ record { maker = 1; more = false; entry = PhaseSet Bidding } ∷ []
+bidding_opened alice bob carol dave =
+    one_conflict alice bob carol dave ++ record { maker = 1; more = false; entry = PhaseSet Bidding } ∷ []
 
 -- ---- a bulk
 

@@ -13,7 +13,8 @@ use Rattle.cr_policy.specs.ViewFacts.{declared_in_view, authors_in_view, title_i
 use Rattle.cr_policy.specs.Judge.{judge_bulk}
 use Rattle.cr_policy.specs.Legal.{Legal}
 use Rattle.cr_policy.specs.Witness.{two_registrations, seen_by_nobody, seen_by_alice, one_submission}
-use Rattle.cr_policy.specs.Witness.{submission_seen_by_alice, submission_seen_by_bob, bidding_opened, four_rows, rows_added, twice_assigned, bulk_given}
+use Rattle.cr_policy.specs.Witness.{submission_seen_by_alice, submission_seen_by_bob, bidding_opened}
+use Rattle.cr_policy.specs.Witness.{four_rows, rows_added, twice_assigned, bulk_given}
 
 -- a history of two users is legal
 pub record IsLegalWitness (H : History) : Type 0 where
@@ -23,15 +24,17 @@ pub record IsLegalWitness (H : History) : Type 0 where
 
 -- alice's and bob's registrations are one, whatever their digests are
 abbrev pub TwoRegistrations : Type 0
-TwoRegistrations = (alice bob : List ℕ) → length alice ≡ 32 → length bob ≡ 32 → IsLegalWitness (two_registrations alice bob)
+TwoRegistrations =
+    (alice bob : List ℕ) → length alice ≡ 32 → length bob ≡ 32 → IsLegalWitness (two_registrations alice bob)
 
 -- nobody sees a digest in it, and alice no other than her own
 abbrev pub DigestsHidden : Type 0
 DigestsHidden =
-    (alice bob : List ℕ) → (view None (two_registrations alice bob) ≡ seen_by_nobody) × (view (Some 1) (two_registrations alice bob) ≡ seen_by_alice alice)
+    (alice bob : List ℕ) → (view None (two_registrations alice bob) ≡ seen_by_nobody)
+    × (view (Some 1) (two_registrations alice bob) ≡ seen_by_alice alice)
 
--- with a submission after them the history is legal too; of the paper alice, a chair, sees its number alone, and bob, its
--- author, the whole
+-- with a submission after them the history is legal too; of the paper alice, a chair, sees its number alone,
+-- and bob, its author, the whole
 pub record IsSubmissionWitness (alice bob : List ℕ) : Type 0 where
   pub legal : Legal (one_submission alice bob)
   pub chair : role_of (Some 1) (one_submission alice bob) ≡ Chair
@@ -43,9 +46,9 @@ pub record IsSubmissionWitness (alice bob : List ℕ) : Type 0 where
 abbrev pub OneSubmission : Type 0
 OneSubmission = (alice bob : List ℕ) → length alice ≡ 32 → length bob ≡ 32 → IsSubmissionWitness alice bob
 
--- with two members and a conflict after it, and the bidding opened, the history is legal. carol, the member whom the author
--- declared, sees no abstract of the paper; dave, the other member, sees it, and in the anonymous mode not who wrote the
--- paper; alice, a chair, sees who did; and bob, its author, whom he declared
+-- with two members and a conflict after it, and the bidding opened, the history is legal. carol, the member whom the
+-- author declared, sees no abstract of the paper; dave, the other member, sees it, and in the anonymous mode not who
+-- wrote the paper; alice, a chair, sees who did; and bob, its author, whom he declared
 pub record IsConflictWitness (H : History) : Type 0 where
   pub legal : Legal H
   pub conflicted : IsTrue (is_conflicted (Some 3) 1 H)
@@ -62,10 +65,11 @@ OneConflict =
     (alice bob carol dave : List ℕ) → length alice ≡ 32 → length bob ≡ 32 → length carol ≡ 32 → length dave ≡ 32
     → IsConflictWitness (bidding_opened alice bob carol dave)
 
--- with a bulk of the chair's after that the history is legal; another bulk is refused for its third row, which breaks a rule only
--- behind the second
+-- with a bulk of the chair's after that the history is legal; another bulk is refused for its third row, which
+-- breaks a rule only behind the second
 pub record IsBulkWitness (before after : History) : Type 0 where
-  pub accepted : judge_bulk 1 (view (Some 1) before) four_rows ≡ Ok (record { group = rows_added; receipt = receipts.Rows 4 })
+  pub accepted : judge_bulk 1 (view (Some 1) before) four_rows
+      ≡ Ok (record { group = rows_added; receipt = receipts.Rows 4 })
   pub legal : Legal after
   pub refused : judge_bulk 1 (view (Some 1) before) twice_assigned ≡ Err (broken.Row 3 rules.AlreadyAssigned)
 

@@ -8,18 +8,26 @@
 
 ghost use Rattle.std.specs.Prelude.{ℕ, Option};
 ghost use Rattle.cr_base.specs.History.{History};
-ghost use Rattle.cr_policy.specs.ConferenceLaws.{ConferenceLegal, ViewsBeforeBidding, ViewsInBidding, ViewsInReviewing};
-ghost use Rattle.cr_policy.specs.ConferenceLaws.{ViewsInDiscussion, ViewsAtNotification, ViewsAtClose, ViewsReversed, TwinsAlike, AsidesHidden};
+ghost use Rattle.cr_policy.specs.ConferenceLaws.{ConferenceLegal, ViewsBeforeBidding};
+ghost use Rattle.cr_policy.specs.ConferenceLaws.{ViewsInBidding, ViewsInReviewing};
+ghost use Rattle.cr_policy.specs.ConferenceLaws.{ViewsInDiscussion, ViewsAtNotification, ViewsAtClose};
+ghost use Rattle.cr_policy.specs.ConferenceLaws.{ViewsReversed, TwinsAlike, AsidesHidden};
 ghost use Rattle.cr_policy.specs.ConferenceLaws.{VerdictsHidden};
 ghost use Rattle.cr_policy.specs.HiddenPayload.{HiddenPayload, Removal};
 ghost use Rattle.cr_policy.specs.HiddenPairs.{CommentRemovable, VersionRemovable};
-ghost use Rattle.cr_policy.specs.HiddenPairs.{DigestHidden, NamerHidden, ModeSetterHidden, PhaseSetterHidden, TitleHidden, AbstractHidden};
-ghost use Rattle.cr_policy.specs.HiddenPairs.{SubmitterHidden, CoauthorHidden, RevisionHidden, ReviserHidden, ContentHidden, UploaderHidden};
-ghost use Rattle.cr_policy.specs.HiddenPairs.{WithdrawerHidden, DeclaredHidden, SwitchHidden, DeclarerHidden, BidHidden, BidderHidden};
-ghost use Rattle.cr_policy.specs.HiddenPairs.{TagHidden, TaggerHidden, AssignedHidden, SeatHidden, AssignerHidden, UnassignedHidden};
-ghost use Rattle.cr_policy.specs.HiddenPairs.{UnassignerHidden, FormHidden, FormHiddenFromMembers, ToPcHidden, ReviewerHidden, CommentHidden};
+ghost use Rattle.cr_policy.specs.HiddenPairs.{DigestHidden, NamerHidden, ModeSetterHidden};
+ghost use Rattle.cr_policy.specs.HiddenPairs.{PhaseSetterHidden, TitleHidden, AbstractHidden};
+ghost use Rattle.cr_policy.specs.HiddenPairs.{SubmitterHidden, CoauthorHidden, RevisionHidden};
+ghost use Rattle.cr_policy.specs.HiddenPairs.{ReviserHidden, ContentHidden, UploaderHidden};
+ghost use Rattle.cr_policy.specs.HiddenPairs.{WithdrawerHidden, DeclaredHidden, SwitchHidden};
+ghost use Rattle.cr_policy.specs.HiddenPairs.{DeclarerHidden, BidHidden, BidderHidden};
+ghost use Rattle.cr_policy.specs.HiddenPairs.{TagHidden, TaggerHidden, AssignedHidden};
+ghost use Rattle.cr_policy.specs.HiddenPairs.{SeatHidden, AssignerHidden, UnassignedHidden};
+ghost use Rattle.cr_policy.specs.HiddenPairs.{UnassignerHidden, FormHidden, FormHiddenFromMembers};
+ghost use Rattle.cr_policy.specs.HiddenPairs.{ToPcHidden, ReviewerHidden, CommentHidden};
 ghost use Rattle.cr_policy.specs.HiddenPairs.{WriterHidden, DecisionHidden, DeciderHidden};
-ghost use Rattle.cr_policy.specs.Laws.{StandingFromView, PublicFactsFromView, ViewSuffices, DeclaredFromView, LegalKeeps};
+ghost use Rattle.cr_policy.specs.Laws.{StandingFromView, PublicFactsFromView};
+ghost use Rattle.cr_policy.specs.Laws.{ViewSuffices, DeclaredFromView, LegalKeeps};
 ghost use Rattle.cr_policy.specs.SingleRows.{BulkIsItsRows};
 ghost use Rattle.cr_policy.specs.FirstTold.{FirstTold};
 ghost use Rattle.cr_policy.specs.GoesOn.{GoesOn};
@@ -29,15 +37,21 @@ ghost use Rattle.cr_policy.specs.MayDo.{PermissionsAsSaid};
 ghost use Rattle.cr_policy.specs.MayRead.{ReadingAsSaid};
 ghost use Rattle.cr_policy.specs.Laws.{DigestsAreOwn};
 ghost use Rattle.cr_policy.specs.WitnessLaws.{TwoRegistrations, DigestsHidden, OneSubmission, OneConflict, OneBulk};
-ghost use Rattle.cr_policy.specs.ViewBounds.{EntriesShown, MarksShown, PapersShown, UsersShown, NamesShown, DigestsShown};
-ghost use Rattle.cr_policy.specs.ViewBounds.{RolesShown, PhasesShown, ModesShown, MakersShown, TitlesShown, AbstractsShown};
-ghost use Rattle.cr_policy.specs.ViewBounds.{VersionsShown, ContentsShown, SwitchesShown, ValuesShown, SeatsShown, OrdinalsShown};
-ghost use Rattle.cr_policy.specs.ViewBounds.{ScoresShown, ConfidencesShown, TextsToAuthorsShown, TextsToPcShown, DoneShown};
+ghost use Rattle.cr_policy.specs.ViewBounds.{EntriesShown, MarksShown, PapersShown};
+ghost use Rattle.cr_policy.specs.ViewBounds.{UsersShown, NamesShown, DigestsShown};
+ghost use Rattle.cr_policy.specs.ViewBounds.{RolesShown, PhasesShown, ModesShown};
+ghost use Rattle.cr_policy.specs.ViewBounds.{MakersShown, TitlesShown, AbstractsShown};
+ghost use Rattle.cr_policy.specs.ViewBounds.{VersionsShown, ContentsShown, SwitchesShown};
+ghost use Rattle.cr_policy.specs.ViewBounds.{ValuesShown, SeatsShown, OrdinalsShown};
+ghost use Rattle.cr_policy.specs.ViewBounds.{ScoresShown, ConfidencesShown};
+ghost use Rattle.cr_policy.specs.ViewBounds.{TextsToAuthorsShown, TextsToPcShown, DoneShown};
 ghost use Rattle.cr_policy.specs.ViewBounds.{NumbersShown, CommentsShown, TagsShown, FormsEarly, FormsFromAuthors};
-ghost use Rattle.cr_policy.specs.ViewBounds.{DecisionsShown, OutcomesShown, AcceptedShown, DecisionsEarly, DecisionsUntold};
+ghost use Rattle.cr_policy.specs.ViewBounds.{DecisionsShown, OutcomesShown, AcceptedShown};
+ghost use Rattle.cr_policy.specs.ViewBounds.{DecisionsEarly, DecisionsUntold};
 ghost use Rattle.cr_policy.specs.ViewBounds.{CommentsFromAuthors, WritersUnnamed, PrivateTagsAreOwn, ChairsTags};
 ghost use Rattle.cr_policy.specs.ViewBounds.{BidsAreOwn, ReviewersFromAuthors, ReviewersEarly, ReviewersUnnamed};
-ghost use Rattle.cr_policy.specs.ViewBounds.{OneTitle, OneAbstract, OneContent, OneDecision, OutsidersShown, StrangersShown, NobodyShown};
+ghost use Rattle.cr_policy.specs.ViewBounds.{OneTitle, OneAbstract, OneContent, OneDecision};
+ghost use Rattle.cr_policy.specs.ViewBounds.{OutsidersShown, StrangersShown, NobodyShown};
 
 /// How a user stands can be read off what she sees: phase, mode, role and her ties to any paper, of
 /// every history and for every user, nobody among them. An author sees all authors of her paper, and
@@ -52,33 +66,34 @@ pub fn law_standing()
 {}
 
 /// What checks of role on the tables of a legal history give is what the caller's view alone gives:
-/// of every command and of every bulk its broken rule, with the number of a bulk's row that breaks one, or the entries that it adds
-/// and its receipt, of every query its answer, for every registered user, and for nobody where no login is wanted. A bulk's rows are
-/// judged one behind the other, each on the view with the entries of those before it, which are the caller's own. The accepted papers, a paper's page, its content,
-/// its reviews and the comments on it are among the answers: what the caller's standing lets her have, its texts, its authors, its versions,
-/// whether it is withdrawn, who is declared in conflict with it and whom its authors declared, her own bid, label and forms,
-/// all bids, who reviews it and has written of it, the forms that are hers to read, the comments with their writers or their
-/// labels, and the tags that are for her, is in her view, and no more is needed.
+/// of every command and of every bulk its broken rule, with the number of a bulk's row that breaks one, or the entries
+/// that it adds and its receipt, of every query its answer, for every registered user, and for nobody where no login
+/// is wanted. A bulk's rows are judged one behind the other, each on the view with the entries of those before it,
+/// which are the caller's own. The accepted papers, a paper's page, its content, its reviews and the comments on it
+/// are among the answers: what the caller's standing lets her have, its texts, its authors, its versions, whether it
+/// is withdrawn, who is declared in conflict with it and whom its authors declared, her own bid, label and forms, all
+/// bids, who reviews it and has written of it, the forms that are hers to read, the comments with their writers or
+/// their labels, and the tags that are for her, is in her view, and no more is needed.
 pub fn law_view_suffices()
     ensures { ViewSuffices }
 {}
 
-/// A bulk is its rows one after another, on a legal history. Where it is accepted, each row tells a command; given singly, one
-/// after another, these are all accepted, and what they add is what the bulk adds, but for the marks that another entry
-/// follows. Where it is refused for a row, the commands of those before it are accepted singly, and behind them that row breaks
-/// the rule that is told.
+/// A bulk is its rows one after another, on a legal history. Where it is accepted, each row tells a command; given
+/// singly, one after another, these are all accepted, and what they add is what the bulk adds, but for the marks that
+/// another entry follows. Where it is refused for a row, the commands of those before it are accepted singly, and
+/// behind them that row breaks the rule that is told.
 pub fn law_bulk()
     ensures { BulkIsItsRows }
 {}
 
 /// Who may do what, and what comes of it, said a second time and in a committee's words: a sentence for each command,
-/// each query and each bulk, over the facts of a history. On every legal history, whoever calls: a command is accepted,
-/// and a query answered, exactly where its sentence holds; and a bulk exactly where its caller is a chair, the committee
-/// works, and she may do what each row asks for when its turn comes, of which none is a conflict of her own. An accepted
-/// command adds the entries that its line says, by its maker, all but the last with the mark that another follows, and is
-/// answered what its line says. Each of the eight actions of a row asks for the command that its line says. No list of
-/// checks is read there, nor what these lists read of phases, roles and accepted papers; which of the rules is told,
-/// where a sentence doesn't hold, is left open.
+/// each query and each bulk, over the facts of a history. On every legal history, whoever calls: a command is
+/// accepted, and a query answered, exactly where its sentence holds; and a bulk exactly where its caller is a chair,
+/// the committee works, and she may do what each row asks for when its turn comes, of which none is a conflict of her
+/// own. An accepted command adds the entries that its line says, by its maker, all but the last with the mark that
+/// another follows, and is answered what its line says. Each of the eight actions of a row asks for the command that
+/// its line says. No list of checks is read there, nor what these lists read of phases, roles and accepted papers;
+/// which of the rules is told, where a sentence doesn't hold, is left open.
 pub fn law_permissions()
     ensures commands { PermissionsAsSaid }
     ensures reading { ReadingAsSaid }
@@ -114,7 +129,8 @@ pub fn law_declared()
 /// herself and every other maker has registered before, users and papers are numbered as they come,
 /// names are new, phases go on by one, and what is set, submitted, named or declared is so in its
 /// phase, by whom may. No command's entries are cut off, nor a bulk's, and authors declare conflicts before the
-/// bidding. A history is legal that commands and bulks lead to. So a digest is its user's alone: no view shows it to anybody else.
+/// bidding. A history is legal that commands and bulks lead to. So a digest is its user's alone: no
+/// view shows it to anybody else.
 pub fn law_legal()
     ensures invariants { LegalKeeps }
     ensures own_digests { DigestsAreOwn }
@@ -124,9 +140,9 @@ pub fn law_legal()
 /// no other than her own. One that goes on with a submission: before the bidding a chair sees of it
 /// the paper's number alone, not who made it, title or abstract; its author sees all of it. And one
 /// that goes on from there to the bidding, in the anonymous mode: the member whom the author declared in
-/// conflict sees no abstract, and the other member sees it but not who wrote it. From there the chair goes on with a bulk, which
-/// assigns that member, takes him off, assigns him anew under another label and tags the paper; a bulk that assigns him twice is
-/// refused for the second of these rows.
+/// conflict sees no abstract, and the other member sees it but not who wrote it. From there the chair goes on with a
+/// bulk, which assigns that member, takes him off, assigns him anew under another label and tags the paper; a bulk
+/// that assigns him twice is refused for the second of these rows.
 pub fn law_witness()
     ensures legal { TwoRegistrations }
     ensures hidden { DigestsHidden }
@@ -137,19 +153,20 @@ pub fn law_witness()
 
 /// What each kind of reader sees of a small conference, entry by entry and all of it: nobody, an
 /// account, an author, a co-author, a member in no conflict, one who reviews, a chair who does, and a member and a
-/// chair in conflict, of three papers with every kind of entry, in each mode, before the bidding, in it, in the reviewing, in
-/// the discussion, at the notification and at the close. A paper is rejected first and accepted then, one is rejected, and one is
-/// withdrawn; and where the two are decided the other way round, it is told what is seen at the close by who isn't on the committee.
+/// chair in conflict, of three papers with every kind of entry, in each mode, before the bidding, in it, in the
+/// reviewing, in the discussion, at the notification and at the close. A paper is rejected first and accepted then,
+/// one is rejected, and one is withdrawn; and where the two are decided the other way round, it is told what is seen
+/// at the close by who isn't on the committee.
 ///
 /// It has a twin, in which another member reviews a paper and writes its forms in the
 /// first one's place: what the paper's authors see of the two is the same, up to the discussion, and later but in
-/// the open mode; and so is what a member and a chair in conflict with the paper see, in all phases. Whatever a private tag,
-/// what a form tells the committee alone and a comment are, all four see the same in all phases.
+/// the open mode; and so is what a member and a chair in conflict with the paper see, in all phases. Whatever a
+/// private tag, what a form tells the committee alone and a comment are, all four see the same in all phases.
 ///
-/// Whatever the chairs decide, nobody, accounts and authors see the same before the notification, and so do a member and a chair in
-/// conflict with a paper, whatever is decided of that one. From the notification on they all do where the same papers are accepted,
-/// and where authors have the same last decision on each paper of their own: no earlier decision is told them, and whether
-/// another's paper is rejected or undecided isn't either.
+/// Whatever the chairs decide, nobody, accounts and authors see the same before the notification, and so do a member
+/// and a chair in conflict with a paper, whatever is decided of that one. From the notification on they all do where
+/// the same papers are accepted, and where authors have the same last decision on each paper of their own: no earlier
+/// decision is told them, and whether another's paper is rejected or undecided isn't either.
 pub fn law_views()
     ensures legal { ConferenceLegal }
     ensures before { ViewsBeforeBidding }
@@ -171,12 +188,13 @@ pub fn law_views()
 /// reviews a paper little, for all but the chairs in no conflict with it; nothing that stands in another's review
 /// before the discussion, and for authors none before the notification and never what is for the committee; no
 /// comments and tags of others for authors; who comments, in the anonymous mode, for such chairs alone; private tags
-/// for whoever sets them, and tags for chairs for such chairs; no decision before the notification for all but those who
-/// discuss the paper, and for all but them and its authors never more than that it is accepted; of a paper's titles, abstracts
-/// and contents the last one, for all but its authors, and of decisions for all but those who discuss it; little of a paper for
-/// outsiders, who neither wrote it nor are eligible for it, so in conflict, or on no committee, or before the bidding; for strangers what is
-/// public and their own entries; and for nobody what is public, an accepted paper's title and authors among it, and once the
-/// conference is closed its abstract and its content.
+/// for whoever sets them, and tags for chairs for such chairs; no decision before the notification for all but
+/// those who discuss the paper, and for all but them and its authors never more than that it is accepted; of a
+/// paper's titles, abstracts and contents the last one, for all but its authors, and of decisions for all but
+/// those who discuss it; little of a paper for outsiders, who neither wrote it nor are eligible for it, so in
+/// conflict, or on no committee, or before the bidding; for strangers what is public and their own entries;
+/// and for nobody what is public, an accepted paper's title and authors among it, and once the conference is
+/// closed its abstract and its content.
 pub fn law_bounds()
     ensures entries { EntriesShown }
     ensures marks { MarksShown }
@@ -228,29 +246,32 @@ pub fn law_bounds()
     ensures nobody { NobodyShown }
 {}
 
-/// Two histories that differ in nothing that a user is shown look the same to her; and so they do to an unauthenticated caller, of what
-/// she isn't shown. Their entries are alike one by one: of the same kind and on the same paper, with the same label, version, number and tag.
-/// What differs is a part that the table doesn't show her, or who made an entry or is named by it, where she is neither. The same papers are
-/// accepted, and of each conflict with a paper of hers it is the same whether an author of that declared it. They need not be legal.
+/// Two histories that differ in nothing that a user is shown look the same to her; and so they do to an
+/// unauthenticated caller, of what she isn't shown. Their entries are alike one by one: of the same kind and on the
+/// same paper, with the same label, version, number and tag. What differs is a part that the table doesn't show her,
+/// or who made an entry or is named by it, where she is neither. The same papers are accepted, and of each conflict
+/// with a paper of hers it is the same whether an author of that declared it. They need not be legal.
 pub fn law_hidden_payload()
     ensures { HiddenPayload }
 {}
 
-/// An entry that shows a user nothing can be taken out of a history, where the same papers stay accepted: she sees the same without
-/// it, and so does an unauthenticated caller of one that shows her nothing. Another entry may take its place, as the last of a paper's texts, say, or the first form under a label; it is
-/// shown no more there than the one that was taken out, so nothing more.
+/// An entry that shows a user nothing can be taken out of a history, where the same papers stay accepted: she sees the
+/// same without it, and so does an unauthenticated caller of one that shows her nothing. Another entry may take its
+/// place, as the last of a paper's texts, say, or the first form under a label; it is shown no more there than the one
+/// that was taken out, so nothing more.
 pub fn law_removed()
     ensures { Removal }
 {}
 
-/// For each kind of entry, and each part of it that is hidden from some, two legal histories that differ there and meet the conditions
-/// of [`law_hidden_payload`] for one user, who sees the same of both, while another user doesn't: the digest of a registration; who
-/// named a member, and who set a mode or a phase; a paper's title and abstract, and in the anonymous mode its authors; a
-/// revision's texts and an upload's content, where others follow, and who made them; who withdrew; whom an author declares in
-/// conflict, whether a chair turns that off, and which author declared; a bid and whose it is; whether a private tag is on and whose
-/// it is; who is assigned, as what and by whom, and who is unassigned and by whom; a form before it is read, what it tells the
-/// committee alone, and in the anonymous mode who wrote it; a comment and who wrote it; and a decision and who made it. The
-/// last two clauses are of [`law_removed`]: a comment, and the last version of a content, whose place another takes.
+/// For each kind of entry, and each part of it that is hidden from some, two legal histories that differ there and
+/// meet the conditions of [`law_hidden_payload`] for one user, who sees the same of both, while another user doesn't:
+/// the digest of a registration; who named a member, and who set a mode or a phase; a paper's title and abstract, and
+/// in the anonymous mode its authors; a revision's texts and an upload's content, where others follow, and who made
+/// them; who withdrew; whom an author declares in conflict, whether a chair turns that off, and which author declared;
+/// a bid and whose it is; whether a private tag is on and whose it is; who is assigned, as what and by whom, and who
+/// is unassigned and by whom; a form before it is read, what it tells the committee alone, and in the anonymous mode
+/// who wrote it; a comment and who wrote it; and a decision and who made it. The last two clauses are of
+/// [`law_removed`]: a comment, and the last version of a content, whose place another takes.
 pub fn law_hidden_pairs()
     ensures digests { DigestHidden }
     ensures namers { NamerHidden }

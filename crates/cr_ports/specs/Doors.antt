@@ -1,5 +1,6 @@
 -- Doors, which give connections: how many, how they answer, and what they tell of those that came back.
-use Rattle.std.specs.Prelude.{◌≡◌, ℕ, zero, suc, ◌+◌, ◌/◌, ◌%◌, ◌<◌, ◌≤◌, List, [], ◌∷◌, ◌++◌, Bool, true, false, nat_lt, if◌then◌else◌, Option, Some, None}
+use Rattle.std.specs.Prelude.{◌≡◌, ℕ, zero, suc, ◌+◌, ◌/◌, ◌%◌, ◌<◌, ◌≤◌, List, [], ◌∷◌, ◌++◌}
+use Rattle.std.specs.Prelude.{Bool, true, false, nat_lt, if◌then◌else◌, Option, Some, None}
 use Rattle.cr_ports.specs.Count.{Rises}
 use Rattle.cr_ports.specs.declared.door.DoorAnswer.{DoorAnswer}
 use Rattle.cr_ports.specs.declared.door.DoorAnswer.TheVariants as answers
@@ -30,7 +31,8 @@ gives (next.Conn source sink) = true
 gives next.Done = false
 gives next.Failed = false
 
--- How many connections are left, before and behind an answer: a connection is one of them, and `Done` comes exactly where none is left.
+-- How many connections are left, before and behind an answer: a connection is one of them, and `Done`
+-- comes exactly where none is left.
 abbrev pub LeftAfter : {I O : Type 0} → NextConnection I O → ℕ → ℕ → Type 0
 LeftAfter (next.Conn source sink) before now = before ≡ now + 1
 LeftAfter next.Done before now = (before ≡ 0) × (now ≡ 0)
@@ -56,7 +58,8 @@ unasked = record { last = None; out = None; served = [] }
 
 -- the log once this was answered
 abbrev pub answered : {I O : Type 0} → DoorLog I O → NextConnection I O → DoorLog I O
-answered log (next.Conn source sink) = record { last = Some answers.Conn; out = Some (source, sink); served = log.served }
+answered log (next.Conn source sink) =
+    record { last = Some answers.Conn; out = Some (source, sink); served = log.served }
 answered log next.Done = record { last = Some answers.Done; out = log.out; served = log.served }
 answered log next.Failed = record { last = Some answers.Failed; out = log.out; served = log.served }
 

@@ -1,5 +1,6 @@
 -- Doors and gates in memory, as contracts see them, and what each of their calls does.
-use Rattle.std.specs.Prelude.{◌≡◌, ℕ, zero, suc, ◌-◌, List, [], ◌∷◌, ◌++◌, length, replicate, ◌==◌, if◌then◌else◌, slice_get, Option, None, Some}
+use Rattle.std.specs.Prelude.{◌≡◌, ℕ, zero, suc, ◌-◌, List, [], ◌∷◌, ◌++◌, length}
+use Rattle.std.specs.Prelude.{replicate, ◌==◌, if◌then◌else◌, slice_get, Option, None, Some}
 use Rattle.cr_ports.specs.Calls.{Advances, Listed, fails}
 use Rattle.cr_ports.specs.Count.{counted}
 use Rattle.cr_ports.specs.Doors.{DoorLog}
@@ -52,7 +53,8 @@ next_faults next.Failed faults = counted faults
 
 -- ---- gates
 
--- gates: the connections that no door took yet, the openings, which calls of each door fail, the doors that were shut last, and the faults
+-- gates: the connections that no door took yet, the openings, which calls of each door fail, the doors that
+-- were shut last, and the faults
 pub record Gated : Type 0 where
   pub coming : List (Input × Output)
   pub opens : Listed

@@ -1,7 +1,9 @@
 //! A door in memory, which tells all that it did.
-ghost use Rattle.std.specs.Prelude.{◌≡◌, ◌+◌, ◌≤◌, ℕ, List, Option, Some, [], length, IfOk, IsTrue, IsFalse, is_some, vec_len, vec_capacity, if◌then◌else◌};
+ghost use Rattle.std.specs.Prelude.{◌≡◌, ◌+◌, ◌≤◌, ℕ, List, Option, Some, [], length, IfOk, IsTrue};
+ghost use Rattle.std.specs.Prelude.{IsFalse, is_some, vec_len, vec_capacity, if◌then◌else◌};
 ghost use Rattle.std.specs.VecDeque.{deque_len};
-ghost use Rattle.cr_ports.specs.Doors.{FaultsAfterNext, LeftAfter, and_answer, and_back, answered, given_back, gives, unasked};
+ghost use Rattle.cr_ports.specs.Doors.{FaultsAfterNext, LeftAfter, and_answer};
+ghost use Rattle.cr_ports.specs.Doors.{and_back, answered, given_back, gives, unasked};
 ghost use Rattle.cr_ports.specs.MemoryDoors.{CallsAfter, and_coming, answer_of, next_answer, next_faults};
 
 use crate::calls::Calls;
@@ -80,7 +82,8 @@ impl Model for MemDoor {
     } };
 
     // What is out, and what is still to come, has room behind what came back.
-    ghost invariant = { λ d. vec_len d.served + (if is_some d.out then 1 else 0) + deque_len d.coming ≤ vec_capacity d.served };
+    ghost invariant = { λ d. vec_len d.served + (if is_some d.out then 1 else 0) + deque_len d.coming
+        ≤ vec_capacity d.served };
 }
 
 impl MemDoor {

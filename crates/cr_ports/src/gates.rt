@@ -32,8 +32,8 @@ pub trait Gates {
 
     /// Doors at the address, one a worker, which give so many connections together.
     ///
-    /// Doors are counted from 0. Each gives the quotient of `connections` by `workers`, and the first of them, as many as the
-    /// remainder tells, one more. Each door is new: nothing is out, and no fault was counted.
+    /// Doors are counted from 0. Each gives the quotient of `connections` by `workers`, and the first of them, as many
+    /// as the remainder tells, one more. Each door is new: nothing is out, and no fault was counted.
     ///
     /// `Failed` comes only where the count of faults rose, or stands at its last value, and
     /// `OutOfMemory` only where it is as it was. In memory it costs a look at each connection; an
@@ -49,7 +49,8 @@ pub trait Gates {
         ensures shares { OnDoors result (λ doors. map Self.Door.left doors ≡ shares workers connections) }
         ensures idle { OnDoors result (λ doors. All (λ door. IsFalse (Self.Door.is_out door)) doors) }
         ensures fresh { OnDoors result (λ doors. All (λ door. Self.Door.faults door ≡ 0) doors) }
-        ensures unasked { OnDoors result (λ doors. All (λ door. IfSome (Self.Door.log door) (λ log. log ≡ unasked)) doors) }
+        ensures unasked { OnDoors result
+            (λ doors. All (λ door. IfSome (Self.Door.log door) (λ log. log ≡ unasked)) doors) }
         ensures same { logs self.new ≡ logs self.old }
         ensures faults { FaultsAfterOpen result (faults self.old) (faults self.new) };
 

@@ -1,6 +1,8 @@
 //! Gates in memory, which tell all that their doors did.
-ghost use Rattle.std.specs.Prelude.{◌≡◌, ◌<◌, ◌≤◌, ◌+◌, ◌-◌, ◌^◌, ◌++◌, ◌∷◌, ◌↔◌, min, ℕ, List, [], length, map, take, drop, flat_map};
-ghost use Rattle.std.specs.Prelude.{sum_by, replicate, All, Some, slice_get, option_map, IfOk, IfSome, OnOk, OnErr, IsTrue, IsFalse, is_some};
+ghost use Rattle.std.specs.Prelude.{◌≡◌, ◌<◌, ◌≤◌, ◌+◌, ◌-◌, ◌^◌, ◌++◌, ◌∷◌, ◌↔◌, min};
+ghost use Rattle.std.specs.Prelude.{ℕ, List, [], length, map, take, drop, flat_map};
+ghost use Rattle.std.specs.Prelude.{sum_by, replicate, All, Some, slice_get, option_map};
+ghost use Rattle.std.specs.Prelude.{IfOk, IfSome, OnOk, OnErr, IsTrue, IsFalse, is_some};
 ghost use Rattle.std.specs.VecDeque.{deque_len};
 ghost use Rattle.cr_ports.specs.Calls.{Advances, fails};
 ghost use Rattle.cr_ports.specs.Count.{Gains};
@@ -123,7 +125,8 @@ fn take_share(coming: &mut VecDeque<Planned>, share: u32) -> Result<VecDeque<Pla
 
 /// The list of door number `i`, which is empty where none is listed.
 fn failing_at(alloc: Global, failing: &[Vec<u64>], i: u32) -> Result<Vec<u64>, AllocError>
-    ensures { IfOk result (λ list. record { failing = list.items; made = 0 } ≡ listed_at (slice_get (map (λ l. l.items) failing.now) i)) }
+    ensures { IfOk result (λ list. record { failing = list.items; made = 0 }
+        ≡ listed_at (slice_get (map (λ l. l.items) failing.now) i)) }
 {
     match failing.get(i as usize) {
         Some(list) => list.clone(),
@@ -144,8 +147,10 @@ fn make_doors(
     ensures shares { IfOk result (λ doors. map (λ door. length door.coming) doors.items ≡ shares workers connections) }
     ensures logs { IfOk result (λ doors. All (λ door. door.log ≡ unasked) doors.items) }
     ensures faults { IfOk result (λ doors. All (λ door. door.faults ≡ 0) doors.items) }
-    ensures coming { IfOk result (λ doors. flat_map (λ door. door.coming) doors.items ++ coming.new.items ≡ coming.old.items) }
-    ensures calls { IfOk result (λ doors. map (λ door. door.calls) doors.items ≡ calls_below workers (map (λ l. l.items) failing.now)) }
+    ensures coming { IfOk result (λ doors. flat_map (λ door. door.coming) doors.items ++ coming.new.items
+        ≡ coming.old.items) }
+    ensures calls { IfOk result (λ doors. map (λ door. door.calls) doors.items
+        ≡ calls_below workers (map (λ l. l.items) failing.now)) }
 {
     let mut doors = Vec::with_capacity(alloc, workers as usize)?;
     'making: for i in 0..workers {
@@ -179,7 +184,8 @@ impl Gates for MemGates {
     /// of memory it may have fewer left. The address isn't looked at.
     fn open(&mut self, alloc: Global, addr: &str, workers: u32, connections: u32) -> Opened<MemDoor>
         requires { 0 < workers }
-        ensures shares { OnDoors result (λ doors. map (λ door. length door.coming) doors ≡ shares workers connections) }
+        ensures shares { OnDoors result (λ doors. map (λ door. length door.coming) doors
+            ≡ shares workers connections) }
         ensures idle { OnDoors result (λ doors. All (λ door. IsFalse (is_some door.log.out)) doors) }
         ensures fresh { OnDoors result (λ doors. All (λ door. door.faults ≡ 0) doors) }
         ensures unasked { OnDoors result (λ doors. All (λ door. IfSome (Some door.log) (λ log. log ≡ unasked)) doors) }
@@ -192,8 +198,10 @@ impl Gates for MemGates {
         ensures opens { Advances self.old.opens self.new.opens }
 
         // The doors have the connections, in order, and the calls that are listed for them.
-        ensures coming { OnDoors result (λ doors. flat_map (λ door. door.coming) doors ++ self.new.coming ≡ filled connections self.old.coming) }
-        ensures calls { OnDoors result (λ doors. map (λ door. door.calls) doors ≡ calls_below workers self.old.failing) }
+        ensures coming { OnDoors result (λ doors. flat_map (λ door. door.coming) doors ++ self.new.coming
+            ≡ filled connections self.old.coming) }
+        ensures calls { OnDoors result (λ doors. map (λ door. door.calls) doors
+            ≡ calls_below workers self.old.failing) }
         ensures failing { self.new.failing ≡ self.old.failing }
         ensures shut { self.new.shut ≡ self.old.shut }
     {
@@ -212,11 +220,13 @@ impl Gates for MemGates {
 
     fn shut(&mut self, doors: Vec<MemDoor>)
         requires { All (λ door. IsFalse (is_some door.log.out)) doors.items }
-        ensures told { IfSome (Some (map (λ door. door.log) self.new.shut)) (λ logs. map (λ door. Some door.log) doors.items ≡ map Some logs) }
+        ensures told { IfSome (Some (map (λ door. door.log) self.new.shut))
+            (λ logs. map (λ door. Some door.log) doors.items ≡ map Some logs) }
         ensures count { Gains self.old.faults (sum_by (λ door. door.faults) doors.items) self.new.faults }
 
         ensures shut { self.new.shut ≡ doors.items }
-        ensures faults { self.new.faults ≡ min (self.old.faults + sum_by (λ door. door.faults) doors.items) (2 ^ 64 - 1) }
+        ensures faults { self.new.faults
+            ≡ min (self.old.faults + sum_by (λ door. door.faults) doors.items) (2 ^ 64 - 1) }
         ensures coming { self.new.coming ≡ self.old.coming }
         ensures opens { self.new.opens ≡ self.old.opens }
         ensures failing { self.new.failing ≡ self.old.failing }

@@ -1,5 +1,6 @@
 //! Keepers in memory, which tell all their rows.
-ghost use Rattle.std.specs.Prelude.{◌≡◌, ◌≢◌, ◌<◌, ◌++◌, ◌↔◌, ℕ, List, [], IfOk, IfSome, OnOk, OnErr, IsTrue, Some, Result, length, slice_get};
+ghost use Rattle.std.specs.Prelude.{◌≡◌, ◌≢◌, ◌<◌, ◌++◌, ◌↔◌, ℕ, List, [], IfOk, IfSome};
+ghost use Rattle.std.specs.Prelude.{OnOk, OnErr, IsTrue, Some, Result, length, slice_get};
 ghost use Rattle.cr_base.specs.declared.row.Row.{Row};
 ghost use Rattle.cr_ports.specs.Calls.{Advances, fails};
 ghost use Rattle.cr_ports.specs.Count.{Rises};

@@ -28,7 +28,8 @@ pub trait Shelf {
     /// `Failed` comes only where the count of faults rose, or stands at its last value, and
     /// `OutOfMemory` only where it is as it was. An adapter may look at all that stands there.
     fn open(&mut self, path: &str) -> Result<Self::Keeper, KeeperError>
-        ensures found { IfOk result (λ keeper. IfSome (rows self.old) (λ files. Self.Keeper.rows keeper ≡ Some (files path.now))) }
+        ensures found { IfOk result
+            (λ keeper. IfSome (rows self.old) (λ files. Self.Keeper.rows keeper ≡ Some (files path.now))) }
         ensures fresh { IfOk result (λ keeper. Self.Keeper.faults keeper ≡ 0) }
         ensures opened { OnOk result (has_opened self.new path.now) }
         ensures same { rows self.new ≡ rows self.old }
@@ -38,6 +39,7 @@ pub trait Shelf {
     /// faults rises by at least the keeper's. Takes no memory.
     fn shut(&mut self, path: &str, keeper: Self::Keeper)
         requires { has_opened self.old path.now }
-        ensures kept { IfSome (Self.Keeper.rows keeper) (λ kept. rows self.new ≡ and_file (rows self.old) path.now kept) }
+        ensures kept { IfSome (Self.Keeper.rows keeper)
+            (λ kept. rows self.new ≡ and_file (rows self.old) path.now kept) }
         ensures count { Gains (faults self.old) (Self.Keeper.faults keeper) (faults self.new) };
 }

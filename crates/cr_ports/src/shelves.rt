@@ -97,8 +97,10 @@ impl MemShelf {
     /// A keeper of copies of the rows at the path, which fails as the lists tell.
     fn keeper_at(&self, path: &str) -> Result<MemKeeper, AllocError>
         ensures rows { IfOk result (λ keeper. keeper.rows ≡ files self.now.stores path.now) }
-        ensures appends { IfOk result (λ keeper. (keeper.appends.failing ≡ self.now.failing_appends) × (keeper.appends.made ≡ 0)) }
-        ensures reads { IfOk result (λ keeper. (keeper.reads.failing ≡ self.now.failing_reads) × (keeper.reads.made ≡ 0)) }
+        ensures appends { IfOk result (λ keeper. (keeper.appends.failing ≡ self.now.failing_appends)
+            × (keeper.appends.made ≡ 0)) }
+        ensures reads { IfOk result (λ keeper. (keeper.reads.failing ≡ self.now.failing_reads)
+            × (keeper.reads.made ≡ 0)) }
         ensures faults { IfOk result (λ keeper. keeper.faults ≡ 0) }
     {
         let rows = copies_of(self.alloc, self.rows_at(path))?;
@@ -145,7 +147,8 @@ impl Shelf for MemShelf {
     ghost faults = { λ s. s.faults };
 
     fn open(&mut self, path: &str) -> Result<MemKeeper, KeeperError>
-        ensures found { IfOk result (λ keeper. IfSome (Some (files self.old.stores)) (λ found. Some keeper.rows ≡ Some (found path.now))) }
+        ensures found { IfOk result
+            (λ keeper. IfSome (Some (files self.old.stores)) (λ found. Some keeper.rows ≡ Some (found path.now))) }
         ensures fresh { IfOk result (λ keeper. keeper.faults ≡ 0) }
         ensures opened { OnOk result (IsTrue (has_store self.new.stores path.now)) }
         ensures same { Some (files self.new.stores) ≡ Some (files self.old.stores) }
@@ -155,9 +158,12 @@ impl Shelf for MemShelf {
         ensures failed { (result ≡ Err KeeperError.Failed) ↔ IsTrue (fails self.old.opens) }
         ensures faults { self.new.faults ≡ faults_after (fails self.old.opens) self.old.faults }
         ensures opens { Advances self.old.opens self.new.opens }
-        ensures appends { IfOk result (λ keeper. (keeper.appends.failing ≡ self.old.failing_appends) × (keeper.appends.made ≡ 0)) }
-        ensures reads { IfOk result (λ keeper. (keeper.reads.failing ≡ self.old.failing_reads) × (keeper.reads.made ≡ 0)) }
-        ensures lists { (self.new.failing_appends ≡ self.old.failing_appends) × (self.new.failing_reads ≡ self.old.failing_reads) }
+        ensures appends { IfOk result (λ keeper. (keeper.appends.failing ≡ self.old.failing_appends)
+            × (keeper.appends.made ≡ 0)) }
+        ensures reads { IfOk result (λ keeper. (keeper.reads.failing ≡ self.old.failing_reads)
+            × (keeper.reads.made ≡ 0)) }
+        ensures lists { (self.new.failing_appends ≡ self.old.failing_appends)
+            × (self.new.failing_reads ≡ self.old.failing_reads) }
     {
         if self.opens.begin() {
             self.faults = self.faults.saturating_add(1);
@@ -174,13 +180,15 @@ impl Shelf for MemShelf {
 
     fn shut(&mut self, path: &str, keeper: MemKeeper)
         requires { IsTrue (has_store self.old.stores path.now) }
-        ensures kept { IfSome (Some keeper.rows) (λ kept. Some (files self.new.stores) ≡ and_file (Some (files self.old.stores)) path.now kept) }
+        ensures kept { IfSome (Some keeper.rows)
+            (λ kept. Some (files self.new.stores) ≡ and_file (Some (files self.old.stores)) path.now kept) }
         ensures count { Gains self.old.faults keeper.faults self.new.faults }
 
         ensures files { files self.new.stores ≡ with_rows (files self.old.stores) path.now keeper.rows }
         ensures faults { self.new.faults ≡ min (self.old.faults + keeper.faults) (2 ^ 64 - 1) }
         ensures opens { self.new.opens ≡ self.old.opens }
-        ensures lists { (self.new.failing_appends ≡ self.old.failing_appends) × (self.new.failing_reads ≡ self.old.failing_reads) }
+        ensures lists { (self.new.failing_appends ≡ self.old.failing_appends)
+            × (self.new.failing_reads ≡ self.old.failing_reads) }
     {
         let (rows, faults) = keeper.into_parts();
         self.faults = self.faults.saturating_add(faults);

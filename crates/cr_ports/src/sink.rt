@@ -34,8 +34,9 @@ pub trait Sink {
         ensures failed { result ≡ WriteStep.Failed → Rises (faults self.old) (faults self.new) }
         ensures steady { result ≢ WriteStep.Failed → faults self.new ≡ faults self.old };
 
-    /// Tells that an answer begins: what is written from here on, up to the next such call, is one answer. A sink that gives each answer
-    /// a time measures it from the first write behind this call on; any other needn't know. Nothing is written, and nothing fails.
+    /// Tells that an answer begins: what is written from here on, up to the next such call, is one answer. A sink that
+    /// gives each answer a time measures it from the first write behind this call on; any other needn't know. Nothing
+    /// is written, and nothing fails.
     fn begin_answer(&mut self)
         ensures { self.new ≡ self.old }
     {}

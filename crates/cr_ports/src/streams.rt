@@ -121,7 +121,8 @@ impl<W: Write> Sink for WriteSink<W> {
         ensures failed { result ≡ WriteStep.Failed → Rises self.old.faults self.new.faults }
         ensures steady { result ≢ WriteStep.Failed → self.new.faults ≡ self.old.faults }
 
-        // The writer has what is told as taken behind what it had, and where that fails at most the front of the piece.
+        // The writer has what is told as taken behind what it had, and where that fails
+        // at most the front of the piece.
         ensures written { HasWritten result (W.contents self.old.stream) (W.contents self.new.stream) piece.now }
     {
         match self.writer.write(piece) {

@@ -12,8 +12,10 @@ pub struct WriteFault;
 /// of faults rose, or stands at its last value, and bytes are missing then; else the count is as it was.
 /// Behind a fault nothing more is written. Takes no memory.
 pub fn write_all<O: Sink>(sink: &mut O, bytes: &[u8]) -> Result<(), WriteFault>
-    ensures whole { OnOk result (Writes bytes.now (outlet_of O.taken O.faults sink.old) (outlet_of O.taken O.faults sink.new)) }
-    ensures failed { OnErr result (BreaksOff [] bytes.now (outlet_of O.taken O.faults sink.old) (outlet_of O.taken O.faults sink.new)) }
+    ensures whole { OnOk result
+        (Writes bytes.now (outlet_of O.taken O.faults sink.old) (outlet_of O.taken O.faults sink.new)) }
+    ensures failed { OnErr result
+        (BreaksOff [] bytes.now (outlet_of O.taken O.faults sink.old) (outlet_of O.taken O.faults sink.new)) }
 {
     let mut at = 0;
     'writing: while at < bytes.len() {

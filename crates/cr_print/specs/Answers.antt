@@ -40,7 +40,8 @@ unless_head is_head content = if is_head then [] else content
 
 -- the head tells the content's length whether the content follows or not
 abbrev pub answer_text : AnswerHead → List ℕ → Sending → List ℕ
-answer_text head content sending = head_text head (length content) sending.closes ++ unless_head sending.is_head content
+answer_text head content sending =
+    head_text head (length content) sending.closes ++ unless_head sending.is_head content
 
 -- the head of an answer whose content is JSON
 abbrev pub json_head : Status → Extra → AnswerHead
@@ -52,7 +53,8 @@ served_text content sending = answer_text (json_head Okay Nothing) content sendi
 
 -- a refused request
 unfoldable pub refusal_text : Refused → Sending → List ℕ
-refusal_text refused sending = answer_text (json_head (refused_status refused) (extra_of refused)) (refusal_content refused) sending
+refusal_text refused sending =
+    answer_text (json_head (refused_status refused) (extra_of refused)) (refusal_content refused) sending
 
 -- what ends the connection before a whole request was read
 abbrev pub closing_text : Refusal → Bool → List ℕ

@@ -3,7 +3,8 @@ use Rattle.std.specs.Prelude.{ℕ, List, ◌++◌, Some, codes, decimal}
 use Rattle.std.specs.Option.{option_map}
 use Rattle.json.specs.Print.{quoted}
 use Rattle.cr_base.specs.declared.page.Page.{Page}
-use Rattle.cr_json.specs.Json.{Member, member_of, truth_text, bid_text, decided_text, label_text, names_text, numbers_text, object_text}
+use Rattle.cr_json.specs.Json.{Member, member_of, truth_text, bid_text, decided_text}
+use Rattle.cr_json.specs.Json.{label_text, names_text, numbers_text, object_text}
 use Rattle.cr_json.specs.Reviewers.{bids_text, reviewers_text}
 
 -- the keys of a page in the order of their bytes, each where it is told

@@ -3,7 +3,8 @@ use Rattle.std.specs.Prelude.{ℕ, List, ◌++◌, Some, codes, decimal}
 use Rattle.json.specs.Print.{quoted}
 use Rattle.cr_base.specs.Words.{phase_name, mode_name, role_name}
 use Rattle.cr_base.specs.declared.reply.Receipt.{Receipt}
-use Rattle.cr_base.specs.declared.reply.Receipt.TheVariants.{User, Phase, Paper, Named, Mode, Changed, Version, Bid, Label, Comment, Rows}
+use Rattle.cr_base.specs.declared.reply.Receipt.TheVariants.{User, Phase, Paper, Named, Mode, Changed}
+use Rattle.cr_base.specs.declared.reply.Receipt.TheVariants.{Version, Bid, Label, Comment, Rows}
 use Rattle.cr_print.specs.declared.status.Status.{Status}
 use Rattle.cr_print.specs.declared.status.Status.TheVariants.{Okay, Created}
 use Rattle.cr_json.specs.Json.{Member, bid_text, label_text, member_of, object_text}
@@ -26,7 +27,8 @@ unfoldable pub receipt_members : Receipt → List Member
 receipt_members (User user) = member_of (codes "user") (Some (decimal user))
 receipt_members (Phase phase) = member_of (codes "phase") (Some (quoted (phase_name phase)))
 receipt_members (Paper paper) = member_of (codes "paper") (Some (decimal paper))
-receipt_members (Named name role) = member_of (codes "name") (Some (quoted name)) ++ member_of (codes "role") (Some (quoted (role_name role)))
+receipt_members (Named name role) =
+    member_of (codes "name") (Some (quoted name)) ++ member_of (codes "role") (Some (quoted (role_name role)))
 receipt_members (Mode mode) = member_of (codes "mode") (Some (quoted (mode_name mode)))
 receipt_members (Changed paper) = member_of (codes "paper") (Some (decimal paper))
 receipt_members (Version version) = member_of (codes "version") (Some (decimal version))

@@ -2,14 +2,20 @@
 use Rattle.std.specs.Prelude.{ℕ, List, [], ◌++◌, Some, codes, decimal}
 use Rattle.json.specs.Print.{quoted}
 use Rattle.cr_base.specs.declared.reply.Rule.{Rule as BaseRule}
-use Rattle.cr_base.specs.declared.reply.Rule.TheVariants.{NameTaken, FullAccounts, NotChair, WrongPhase, FullPapers, QuotaPapers, NoPaper}
-use Rattle.cr_base.specs.declared.reply.Rule.TheVariants.{NotMember, NoUser, AlreadyNamed, NotAuthor, NotAMember, Conflict, Withdrawn, QuotaBytes}
-use Rattle.cr_base.specs.declared.reply.Rule.TheVariants.{NoContent, AuthorConflict, TargetConflict, AlreadyAssigned, LabelsSpent, NotAssigned}
-use Rattle.cr_base.specs.declared.reply.Rule.TheVariants.{HasReview, NotReviewer, QuotaComments, BadAction, BadTag, BulkSelf}
+use Rattle.cr_base.specs.declared.reply.Rule.TheVariants.{NameTaken, FullAccounts, NotChair}
+use Rattle.cr_base.specs.declared.reply.Rule.TheVariants.{WrongPhase, FullPapers, QuotaPapers, NoPaper}
+use Rattle.cr_base.specs.declared.reply.Rule.TheVariants.{NotMember, NoUser, AlreadyNamed, NotAuthor}
+use Rattle.cr_base.specs.declared.reply.Rule.TheVariants.{NotAMember, Conflict, Withdrawn, QuotaBytes}
+use Rattle.cr_base.specs.declared.reply.Rule.TheVariants.{NoContent, AuthorConflict, TargetConflict}
+use Rattle.cr_base.specs.declared.reply.Rule.TheVariants.{AlreadyAssigned, LabelsSpent, NotAssigned}
+use Rattle.cr_base.specs.declared.reply.Rule.TheVariants.{HasReview, NotReviewer, QuotaComments}
+use Rattle.cr_base.specs.declared.reply.Rule.TheVariants.{BadAction, BadTag, BulkSelf}
 use Rattle.cr_http.specs.declared.refusal.Refusal.{Refusal}
-use Rattle.cr_http.specs.declared.refusal.Refusal.TheVariants.{HeadTooLarge, BadHttp, NoHost, LengthRequired, BadLength, TooLarge}
+use Rattle.cr_http.specs.declared.refusal.Refusal.TheVariants.{HeadTooLarge, BadHttp, NoHost}
+use Rattle.cr_http.specs.declared.refusal.Refusal.TheVariants.{LengthRequired, BadLength, TooLarge}
 use Rattle.cr_print.specs.declared.refused.Refused.{Refused}
-use Rattle.cr_print.specs.declared.refused.Refused.TheVariants.{Closing, NoRoute, WrongMethod, Unauthorized, BadBody, BadQuery, Rule, Row, KeeperFault, NoMemory}
+use Rattle.cr_print.specs.declared.refused.Refused.TheVariants.{Closing, NoRoute, WrongMethod, Unauthorized}
+use Rattle.cr_print.specs.declared.refused.Refused.TheVariants.{BadBody, BadQuery, Rule, Row, KeeperFault, NoMemory}
 use Rattle.cr_print.specs.declared.head.Extra.{Extra}
 use Rattle.cr_print.specs.declared.head.Extra.TheVariants.{Nothing, Challenge, Allow}
 use Rattle.cr_print.specs.declared.status.Status.{Status}
@@ -136,7 +142,8 @@ further_members Unauthorized = []
 further_members BadBody = []
 further_members (BadQuery offset) = member_of (codes "place") (Some (decimal offset))
 further_members (Rule rule) = []
-further_members (Row row rule) = member_of (codes "row") (Some (decimal row)) ++ member_of (codes "rule") (Some (quoted (rule_name rule)))
+further_members (Row row rule) =
+    member_of (codes "row") (Some (decimal row)) ++ member_of (codes "rule") (Some (quoted (rule_name rule)))
 further_members KeeperFault = []
 further_members NoMemory = []
 

@@ -1,9 +1,12 @@
 -- The code and the phrase of each status (RFC 9110, section 15; RFC 6585, section 5; RFC 4918, section 11.5).
 use Rattle.std.specs.Prelude.{ℕ, List, codes}
 use Rattle.cr_print.specs.declared.status.Status.{Status}
-use Rattle.cr_print.specs.declared.status.Status.TheVariants.{Okay, Created, BadRequest, Unauthorized, Forbidden, NotFound}
-use Rattle.cr_print.specs.declared.status.Status.TheVariants.{MethodNotAllowed, Conflict, LengthRequired, ContentTooLarge}
-use Rattle.cr_print.specs.declared.status.Status.TheVariants.{HeaderFieldsTooLarge, ServiceUnavailable, InsufficientStorage}
+use Rattle.cr_print.specs.declared.status.Status.TheVariants.{Okay, Created, BadRequest}
+use Rattle.cr_print.specs.declared.status.Status.TheVariants.{Unauthorized, Forbidden, NotFound}
+use Rattle.cr_print.specs.declared.status.Status.TheVariants.{MethodNotAllowed, Conflict}
+use Rattle.cr_print.specs.declared.status.Status.TheVariants.{LengthRequired, ContentTooLarge}
+use Rattle.cr_print.specs.declared.status.Status.TheVariants.{HeaderFieldsTooLarge}
+use Rattle.cr_print.specs.declared.status.Status.TheVariants.{ServiceUnavailable, InsufficientStorage}
 
 unfoldable pub code_of : Status → ℕ
 code_of Okay = 200

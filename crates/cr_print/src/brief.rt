@@ -32,7 +32,8 @@ pub(crate) fn print_brief(into: &mut Vec<u8>, start: usize, head: AnswerHead, se
     requires begins { start ≤ vec_len into.old }
     requires brief { vec_len into.old ≤ start + 288 }
     requires room { start + 512 ≤ vec_capacity into.old }
-    ensures items { into.new.items ≡ take start into.old.items ++ answer_text head (drop start into.old.items) sending }
+    ensures items { into.new.items ≡ take start into.old.items
+        ++ answer_text head (drop start into.old.items) sending }
     ensures within { vec_len into.new ≤ start + 512 }
     ensures capacity { vec_capacity into.old ≤ vec_capacity into.new }
 {

@@ -2,7 +2,8 @@
 ghost use Rattle.std.specs.Prelude.{◌≡◌, ◌≤◌, length};
 ghost use Rattle.cr_json.specs.Put.{HasRoom, Puts};
 ghost use Rattle.cr_print.specs.Answers.{json_head};
-ghost use Rattle.cr_print.specs.Head.{media_type_name, status_line, extra_line, type_line, length_line, close_line, head_text};
+ghost use Rattle.cr_print.specs.Head.{media_type_name, status_line, extra_line};
+ghost use Rattle.cr_print.specs.Head.{type_line, length_line, close_line, head_text};
 
 use crate::put::put;
 use crate::status::Status;

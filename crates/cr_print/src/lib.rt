@@ -1,7 +1,8 @@
 //! The bytes of every answer.
 //!
-//! An answer is appended to a buffer whole or not at all; of a paper's content and of a report the head alone is, and the
-//! bytes are lent behind it. Refusals and receipts are written into room that was made before, so that writing them can't fail;
+//! An answer is appended to a buffer whole or not at all; of a paper's content and of a report the head
+//! alone is, and the bytes are lent behind it. Refusals and receipts are written into room that was made
+//! before, so that writing them can't fail;
 //! `print_reply` makes its own room.
 //!
 //! Contents are JSON by the one writer of `cr_json`.

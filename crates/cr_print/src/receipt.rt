@@ -40,7 +40,8 @@ fn add_named(
     name: &Short,
     role: Role,
 ) -> Result<(), AllocError>
-    ensures adds { AddsMembers result into.old into.new object.old.is_first object.new.is_first (receipt_members (receipts.Named name.now role)) }
+    ensures adds { AddsMembers result into.old into.new object.old.is_first object.new.is_first
+        (receipt_members (receipts.Named name.now role)) }
     ensures room { Takes result into.old into.new 286 }
 {
     object.string(into, "name", name.as_slice())?;
@@ -51,7 +52,8 @@ fn add_named(
 /// Writes what a receipt tells.
 #[tactic(auto, unfolding(crate::specs::Receipt::receipt_members))]
 fn add_receipt(object: &mut Object, into: &mut Vec<u8>, receipt: &Receipt) -> Result<(), AllocError>
-    ensures adds { AddsMembers result into.old into.new object.old.is_first object.new.is_first (receipt_members receipt.now) }
+    ensures adds { AddsMembers result into.old into.new object.old.is_first object.new.is_first
+        (receipt_members receipt.now) }
     ensures room { Takes result into.old into.new 286 }
 {
     match receipt {

@@ -2,7 +2,8 @@
 ghost use Rattle.std.specs.Prelude.{◌≡◌, ◌≤◌, length};
 ghost use Rattle.cr_json.specs.Put.{Appends, HasRoom, Puts, Takes};
 ghost use Rattle.cr_json.specs.Json.{AddsMembers};
-ghost use Rattle.cr_print.specs.Refused.{closing_name, rule_name, refused_name, closing_status, rule_status, refused_status, extra_of, further_members, refusal_content};
+ghost use Rattle.cr_print.specs.Refused.{closing_name, rule_name, refused_name, closing_status, rule_status};
+ghost use Rattle.cr_print.specs.Refused.{refused_status, extra_of, further_members, refusal_content};
 ghost use Rattle.cr_print.specs.Answers.{refusal_text};
 ghost use Rattle.cr_print.specs.declared.refused.Refused.TheVariants as refused;
 
@@ -32,8 +33,8 @@ pub enum Refused {
     BadBody,
     /// The search spells nothing that can be searched for (400); the answer tells where.
     BadQuery {
-        /// The last offset in the search's text, in bytes from 0 to 1,024, up to which that can be the beginning of a search; 0 where
-        /// there is no text.
+        /// The last offset in the search's text, in bytes from 0 to 1,024, up to which that can be the beginning of a
+        /// search; 0 where there is no text.
         offset: usize,
     },
     /// A rule of the conference is broken.
@@ -193,7 +194,8 @@ fn extra(refused: Refused) -> Extra
 
 /// Writes which row of a bulk breaks which rule.
 fn add_row(object: &mut Object, into: &mut Vec<u8>, row: u64, rule: Rule) -> Result<(), AllocError>
-    ensures adds { AddsMembers result into.old into.new object.old.is_first object.new.is_first (further_members (refused.Row row rule)) }
+    ensures adds { AddsMembers result into.old into.new object.old.is_first object.new.is_first
+        (further_members (refused.Row row rule)) }
     ensures room { Takes result into.old into.new 133 }
 {
     object.number(into, "row", row)?;
@@ -204,7 +206,8 @@ fn add_row(object: &mut Object, into: &mut Vec<u8>, row: u64, rule: Rule) -> Res
 /// Writes what a refusal tells beside why.
 #[tactic(auto, unfolding(crate::specs::Refused::further_members))]
 fn add_further(object: &mut Object, into: &mut Vec<u8>, refused: Refused) -> Result<(), AllocError>
-    ensures adds { AddsMembers result into.old into.new object.old.is_first object.new.is_first (further_members refused) }
+    ensures adds { AddsMembers result into.old into.new object.old.is_first object.new.is_first
+        (further_members refused) }
     ensures room { Takes result into.old into.new 133 }
 {
     match refused {

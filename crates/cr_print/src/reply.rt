@@ -2,7 +2,8 @@
 ghost use Rattle.std.specs.Prelude.{◌≡◌, OnErr, map};
 ghost use Rattle.cr_json.specs.Put.{HasRoom, Puts};
 ghost use Rattle.cr_print.specs.Prints.{Prints};
-ghost use Rattle.cr_print.specs.Answers.{bytes_head, content_front, text_head, report_front, served_text, list_text, papers_text, found_text, page_text, me_text, front_text, block_text, IsBrief};
+ghost use Rattle.cr_print.specs.Answers.{bytes_head, content_front, text_head, report_front, served_text, list_text};
+ghost use Rattle.cr_print.specs.Answers.{papers_text, found_text, page_text, me_text, front_text, block_text, IsBrief};
 
 use crate::brief::ANSWER_ROOM;
 use crate::conference::print_conference;
@@ -131,13 +132,13 @@ fn print_report_front(into: &mut Vec<u8>, length: usize, sending: Sending)
     print_head(into, head_of_text(), length, sending.closes);
 }
 
-/// Appends the answer of a reply, all but what `block` lends: so neither a paper's content nor a report is ever copied here, and
-/// its head alone is appended. Every other answer is appended whole.
+/// Appends the answer of a reply, all but what `block` lends: so neither a paper's content nor a report is ever copied
+/// here, and its head alone is appended. Every other answer is appended whole.
 ///
 /// An error comes only for lack of memory, and `into` then has the bytes that it had; its room may
-/// have grown. It never comes for a receipt, a refusal, the conference, a count, a content or a report where room for 512
-/// bytes is there. The content of a list, a page, what was found or what one is told of oneself is made in a vector of its
-/// own, to HEAD too, and copied once.
+/// have grown. It never comes for a receipt, a refusal, the conference, a count, a content or a report where room for
+/// 512 bytes is there. The content of a list, a page, what was found or what one is told of oneself is made in a
+/// vector of its own, to HEAD too, and copied once.
 #[tactic(auto, unfolding(crate::specs::Answers::accounts_text, crate::specs::Answers::reviews_text, crate::specs::Answers::comments_text))]
 pub fn print_reply(into: &mut Vec<u8>, reply: &Reply, sending: Sending) -> Result<(), AllocError>
     ensures prints { Prints result into.old into.new (front_text sending reply.now) }
@@ -193,8 +194,8 @@ pub fn print_reply(into: &mut Vec<u8>, reply: &Reply, sending: Sending) -> Resul
     }
 }
 
-/// What is to be written behind what `print_reply` appended: a paper's content as it is kept, or the text of a report, unless the
-/// answer is to HEAD, and nothing of any other reply. It is lent, so this takes no memory and no time.
+/// What is to be written behind what `print_reply` appended: a paper's content as it is kept, or the text of a report,
+/// unless the answer is to HEAD, and nothing of any other reply. It is lent, so this takes no memory and no time.
 pub fn block(reply: &Reply, sending: Sending) -> &[u8]
     ensures { result.now ≡ block_text sending reply.now }
 {

@@ -1,7 +1,8 @@
 //! The process: the top call over the words of the command line, standard input and standard output, files as
 //! stores, and sockets.
 //!
-//! A program's `main` hands its runtime to `run`, once as what it is and once as what may wait and start threads, and has nothing else in it.
+//! A program's `main` hands its runtime to `run`, once as what it is and once as what may wait and start
+//! threads, and has nothing else in it.
 #![tactic(auto)]
 
 use cr_net::TcpGates;
@@ -74,8 +75,8 @@ fn tell(
     }
 }
 
-/// Does what the command line asks for, and gives the status that the process is to end with. `handle` is the same runtime,
-/// as one that may wait: a library can't tell that of `rt`.
+/// Does what the command line asks for, and gives the status that the process is to end with. `handle` is the same
+/// runtime, as one that may wait: a library can't tell that of `rt`.
 pub fn run<R: Threads + Wait + Sync>(rt: &HostRuntime, handle: &R) -> ExitCode {
     let mut input = ReadSource::new(rt.stdin());
     let mut out = WriteSink::new(rt.stdout());

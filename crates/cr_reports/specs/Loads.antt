@@ -1,5 +1,6 @@
 -- How much each user reviews, counted seat by seat.
-use Rattle.std.specs.Prelude.{ℕ, Bool, true, false, not, ◌≡◌, ◌≤◌, ◌<◌, ◌+◌, ◌&&◌, ◌==◌, List, [], ◌++◌, get_or, fold, Some, if◌then◌else◌}
+use Rattle.std.specs.Prelude.{ℕ, Bool, true, false, not, ◌≡◌, ◌≤◌, ◌<◌, ◌+◌, ◌&&◌}
+use Rattle.std.specs.Prelude.{◌==◌, List, [], ◌++◌, get_or, fold, Some, if◌then◌else◌}
 use Rattle.cr_base.specs.declared.pairs.Order.TheVariants.{ByPaper}
 use Rattle.cr_base.specs.declared.pairs.Tie.{Tie}
 use Rattle.cr_base.specs.declared.reply.AccountLine.{AccountLine}
@@ -28,10 +29,12 @@ abbrev pub with_form : Bool → Load → Load
 with_form true load = record load { written = load.written + 1 }
 with_form false load = load
 
--- the user's load with a seat of a paper under whose labels forms are written: where it is hers, and she hasn't left it
+-- the user's load with a seat of a paper under whose labels forms are written: where it
+-- is hers, and she hasn't left it
 abbrev pub with_seat : (ℕ → Bool) → ℕ → Load → Tie Seat → Load
 with_seat written user load seat =
-    if not seat.value.vacated && seat.pair.user == user then with_form (written seat.value.ordinal) (with_kind seat.value.kind load) else load
+    if not seat.value.vacated && seat.pair.user == user
+    then with_form (written seat.value.ordinal) (with_kind seat.value.kind load) else load
 
 -- with these seats of it, and with all of its seats
 abbrev pub with_seats : (ℕ → Bool) → ℕ → List (Tie Seat) → Load → Load
@@ -42,7 +45,8 @@ with_paper t user p load = with_seats (is_written_in t.reviews p) user (ties_of 
 
 -- with the papers that the caller is in no conflict with
 abbrev pub with_clear : Tables → ℕ → ℕ → Load → ℕ → Load
-with_clear t caller user load p = if is_clear_of (facts_of_tables t (Some caller)) p then with_paper t user p load else load
+with_clear t caller user load p =
+    if is_clear_of (facts_of_tables t (Some caller)) p then with_paper t user p load else load
 
 abbrev pub with_papers : Tables → ℕ → ℕ → List ℕ → Load → Load
 with_papers t caller user papers load = fold (with_clear t caller user) load papers

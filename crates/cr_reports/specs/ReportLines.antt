@@ -11,7 +11,8 @@ use Rattle.cr_base.specs.Checks.{judged}
 use Rattle.cr_base.specs.History.{FormTold}
 use Rattle.cr_base.specs.Lists.{listed}
 use Rattle.cr_base.specs.Page.{shows_reviewer}
-use Rattle.cr_base.specs.Reports.{decision_line, hundredths, in_four, in_two, is_clear_of, last_scores, letter_form, line_end}
+use Rattle.cr_base.specs.Reports.{decision_line, hundredths, in_four, in_two}
+use Rattle.cr_base.specs.Reports.{is_clear_of, last_scores, letter_form, line_end}
 use Rattle.cr_base.specs.Reports.{report_checks, report_told, scores_line, space, title_by, two_decimals, writer_named}
 use Rattle.cr_base.specs.Reviews.{last_form_in, written_told}
 use Rattle.cr_base.specs.Sources.{decision_by, facts_of_tables, shown_in_tables}
@@ -27,7 +28,8 @@ report_due t user report =
 
 -- the user may have it: no rule is broken
 abbrev pub MayHave : Tables → ℕ → Report → Type 0
-MayHave t user report = ◌≡◌ {A = Result (Unit {0}) Rule} (Ok tt) (judged (report_checks (facts_of_tables t (Some user)) report) tt)
+MayHave t user report =
+    ◌≡◌ {A = Result (Unit {0}) Rule} (Ok tt) (judged (report_checks (facts_of_tables t (Some user)) report) tt)
 
 -- the user is in no conflict with the paper, and it isn't withdrawn
 abbrev pub is_open_to : Tables → ℕ → ℕ → Bool
@@ -55,7 +57,9 @@ counted t user is_such p = one (is_open_to t user p && is_such (decided t p))
 
 -- the last form under a label of a paper, for one who stands so to it
 abbrev pub forms_under : Tables → Standing → ℕ → ℕ → List ℕ
-forms_under t by p o = flat_map (letter_form o (label_name t (shows_reviewer by) p o)) (listed (option_map written_told (last_form_in t.reviews p o)))
+forms_under t by p o =
+    flat_map (letter_form o (label_name t (shows_reviewer by) p o))
+    (listed (option_map written_told (last_form_in t.reviews p o)))
 
 -- the first lines of a form: an empty one, and its label with its writer; and the line of its grades
 unfoldable pub form_heading : ℕ → Option (List ℕ) → List ℕ

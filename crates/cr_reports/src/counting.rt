@@ -1,9 +1,10 @@
-//! How much each user reviews, counted in place in one pass over the papers' seats: a load for each user by her number, and one for 0,
-//! which nobody has.
+//! How much each user reviews, counted in place in one pass over the papers' seats: a load for each user by her
+//! number, and one for 0, which nobody has.
 ghost use Rattle.std.specs.Prelude.{◌≡◌, ◌<◌, ◌+◌, ◌^◌, ℕ, IfOk, length, replicate};
 ghost use Rattle.cr_base.specs.Papers.{paper_numbers};
 ghost use Rattle.cr_base.specs.Reviews.{is_written_in};
-ghost use Rattle.cr_reports.specs.Loads.{AreFew, Becomes, load_at, no_load, with_clear, with_paper, with_papers, with_seat};
+ghost use Rattle.cr_reports.specs.Loads.{AreFew, Becomes, load_at, no_load, with_clear};
+ghost use Rattle.cr_reports.specs.Loads.{with_paper, with_papers, with_seat};
 
 use crate::counts::Load;
 use cr_base::{LAST_NUMBER, PaperNo, Seat, Tie, UserNo};
@@ -67,9 +68,9 @@ fn count_clear(loads: &mut [Load], live: &Live, caller: UserNo, paper: PaperNo)
     count_paper(loads, live, paper);
 }
 
-/// How much each user reviews of the papers that the caller is in no conflict with; an error only for lack of memory. One pass over
-/// all papers: of each two binary searches at most for the conflict, two for its seats, and for each of these what `is_written` does.
-/// Takes 32 bytes for each number that a user may have.
+/// How much each user reviews of the papers that the caller is in no conflict with; an error only for lack of memory.
+/// One pass over all papers: of each two binary searches at most for the conflict, two for its seats, and for each of
+/// these what `is_written` does. Takes 32 bytes for each number that a user may have.
 pub(crate) fn count_all(alloc: Global, live: &Live, caller: UserNo) -> Result<Vec<Load>, AllocError>
     ensures long { IfOk result (λ loads. length loads.items ≡ 10000) }
     ensures counted { IfOk result (λ loads. (user : ℕ) → user < 10000 → load_at loads.items user

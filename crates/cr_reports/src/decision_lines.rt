@@ -1,6 +1,7 @@
 //! The report of decisions.
 ghost use Rattle.std.specs.Prelude.{◌≡◌, ◌++◌, ◌+◌, ◌<◌, ◌^◌, OnOk, Some, if◌then◌else◌, []};
-ghost use Rattle.cr_base.specs.Reports.{decision_word, decisions_end, decisions_told, is_accepting, is_undecided, is_rejecting};
+ghost use Rattle.cr_base.specs.Reports.{decision_word, decisions_end, decisions_told};
+ghost use Rattle.cr_base.specs.Reports.{is_accepting, is_undecided, is_rejecting};
 ghost use Rattle.cr_base.specs.Sources.{facts_of_tables, shown_in_tables};
 ghost use Rattle.cr_reports.specs.ReportLines.{counted, decided, decision_line_at, is_open_to};
 
@@ -52,10 +53,14 @@ fn append_paper(
     requires rejected { tally.old.rejected < 2 ^ 32 }
     requires undecided { tally.old.undecided < 2 ^ 32 }
     ensures text { OnOk result (into.new.items
-        ≡ into.old.items ++ (if is_open_to live.now.tables user paper then decision_line_at live.now.tables paper else [])) }
-    ensures accepted { OnOk result (tally.new.accepted ≡ tally.old.accepted + counted live.now.tables user is_accepting paper) }
-    ensures rejected { OnOk result (tally.new.rejected ≡ tally.old.rejected + counted live.now.tables user is_rejecting paper) }
-    ensures undecided { OnOk result (tally.new.undecided ≡ tally.old.undecided + counted live.now.tables user is_undecided paper) }
+        ≡ into.old.items ++ (if is_open_to live.now.tables user paper
+        then decision_line_at live.now.tables paper else [])) }
+    ensures accepted { OnOk result (tally.new.accepted
+        ≡ tally.old.accepted + counted live.now.tables user is_accepting paper) }
+    ensures rejected { OnOk result (tally.new.rejected
+        ≡ tally.old.rejected + counted live.now.tables user is_rejecting paper) }
+    ensures undecided { OnOk result (tally.new.undecided
+        ≡ tally.old.undecided + counted live.now.tables user is_undecided paper) }
 {
     if !is_open_to(live, user, paper) {
         return Ok(());
@@ -69,7 +74,8 @@ fn append_paper(
 /// Appends the last line, of how many papers were decided which way.
 #[tactic(auto, unfolding(cr_base::specs::Reports::decisions_end))]
 fn append_end(into: &mut Vec<u8>, tally: &Tally) -> Result<(), AllocError>
-    ensures { OnOk result (into.new.items ≡ into.old.items ++ decisions_end tally.now.accepted tally.now.rejected tally.now.undecided) }
+    ensures { OnOk result (into.new.items ≡ into.old.items
+        ++ decisions_end tally.now.accepted tally.now.rejected tally.now.undecided) }
 {
     append(into, b"accept ")?;
     append_number(into, tally.accepted)?;
@@ -87,7 +93,8 @@ pub(crate) fn append_decisions(
     user: UserNo,
 ) -> Result<(), AllocError>
     ensures { OnOk result (into.new.items
-        ≡ into.old.items ++ decisions_told (facts_of_tables live.now.tables (Some user)) (shown_in_tables live.now.tables)) }
+        ≡ into.old.items ++ decisions_told (facts_of_tables live.now.tables (Some user))
+        (shown_in_tables live.now.tables)) }
 {
     let mut tally = Tally {
         accepted: 0,

@@ -60,7 +60,8 @@ fn append_form(
     writer: &Option<Short>,
     written: &WrittenForm,
 ) -> Result<(), AllocError>
-    ensures { OnOk result (into.new.items ≡ into.old.items ++ letter_form label writer.now (written_told written.now)) }
+    ensures { OnOk result (into.new.items ≡ into.old.items
+        ++ letter_form label writer.now (written_told written.now)) }
 {
     append_heading(into, label, writer)?;
     append_grades(into, written)?;
@@ -91,7 +92,8 @@ fn append_forms(
     by: &Standing,
     paper: PaperNo,
 ) -> Result<(), AllocError>
-    ensures { OnOk result (into.new.items ≡ into.old.items ++ by_labels (forms_under live.now.tables by.now paper) most_labels) }
+    ensures { OnOk result (into.new.items ≡ into.old.items
+        ++ by_labels (forms_under live.now.tables by.now paper) most_labels) }
 {
     for before in 0..MOST_LABELS {
         append_label(into, live, by, paper, Ordinal::new(before + 1))?;
@@ -129,7 +131,8 @@ pub(crate) fn append_letter(
     paper: PaperNo,
 ) -> Result<(), AllocError>
     ensures { OnOk result (into.new.items
-        ≡ into.old.items ++ letter_told (facts_of_tables live.now.tables (Some user)) (shown_in_tables live.now.tables) paper) }
+        ≡ into.old.items ++ letter_told (facts_of_tables live.now.tables (Some user))
+        (shown_in_tables live.now.tables) paper) }
 {
     append_named(into, paper, live.title(paper))?;
     append_decided(into, decision_word(&live.decision(paper)))?;

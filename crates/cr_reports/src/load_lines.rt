@@ -53,7 +53,8 @@ pub(crate) fn append_loads(
     user: UserNo,
 ) -> Result<(), AllocError>
     ensures { OnOk result (into.new.items
-        ≡ into.old.items ++ load_told (facts_of_tables live.now.tables (Some user)) (shown_in_tables live.now.tables)) }
+        ≡ into.old.items ++ load_told (facts_of_tables live.now.tables (Some user))
+        (shown_in_tables live.now.tables)) }
 {
     let loads = count_all(alloc, live, user)?;
     let accounts = live.accounts(alloc)?;

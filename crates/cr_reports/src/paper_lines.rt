@@ -31,7 +31,8 @@ fn append_paper(
     paper: PaperNo,
 ) -> Result<(), AllocError>
     ensures { OnOk result (into.new.items
-        ≡ into.old.items ++ paper_line (facts_of_tables live.now.tables (Some user)) (shown_in_tables live.now.tables) paper) }
+        ≡ into.old.items ++ paper_line (facts_of_tables live.now.tables (Some user))
+        (shown_in_tables live.now.tables) paper) }
 {
     let mark = mark(live.is_withdrawn(paper), live.is_in_conflict(user, paper));
     append_in_four(into, paper.number())?;
@@ -55,7 +56,8 @@ fn append_end(into: &mut Vec<u8>, count: u64) -> Result<(), AllocError>
 /// Appends the line of each paper, and how many there are.
 pub(crate) fn append_papers(into: &mut Vec<u8>, live: &Live, user: UserNo) -> Result<(), AllocError>
     ensures { OnOk result (into.new.items
-        ≡ into.old.items ++ papers_told (facts_of_tables live.now.tables (Some user)) (shown_in_tables live.now.tables)) }
+        ≡ into.old.items ++ papers_told (facts_of_tables live.now.tables (Some user))
+        (shown_in_tables live.now.tables)) }
 {
     for before in 0..live.paper_count() {
         append_paper(into, live, user, PaperNo::new(before + 1))?;

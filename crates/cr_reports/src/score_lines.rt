@@ -54,7 +54,8 @@ fn append_paper(
     paper: PaperNo,
 ) -> Result<(), AllocError>
     ensures { OnOk result (into.new.items
-        ≡ into.old.items ++ (if is_open_to live.now.tables user paper then scores_line_at live.now.tables paper else [])) }
+        ≡ into.old.items ++ (if is_open_to live.now.tables user paper
+        then scores_line_at live.now.tables paper else [])) }
 {
     if !is_open_to(live, user, paper) {
         return Ok(());
@@ -65,7 +66,8 @@ fn append_paper(
 /// Appends the line of each paper that is told and has scores.
 pub(crate) fn append_scores(into: &mut Vec<u8>, live: &Live, user: UserNo) -> Result<(), AllocError>
     ensures { OnOk result (into.new.items
-        ≡ into.old.items ++ scores_told (facts_of_tables live.now.tables (Some user)) (shown_in_tables live.now.tables)) }
+        ≡ into.old.items ++ scores_told (facts_of_tables live.now.tables (Some user))
+        (shown_in_tables live.now.tables)) }
 {
     for before in 0..live.paper_count() {
         append_paper(into, live, user, PaperNo::new(before + 1))?;

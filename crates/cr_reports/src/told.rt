@@ -14,8 +14,8 @@ use cr_base::{Blob, Report, UserNo};
 use cr_view::{AnswerError, Live};
 use std::alloc::{AllocError, Global};
 
-/// The report that the user asks for, or the first broken rule, which takes no memory; an error for lack of memory only where no rule
-/// is broken.
+/// The report that the user asks for, or the first broken rule, which takes no memory; an error for lack of
+/// memory only where no rule is broken.
 pub(crate) fn told(
     alloc: Global,
     live: &Live,
@@ -34,7 +34,8 @@ pub(crate) fn told(
 /// The text of a report that the user may have; an error only for lack of memory.
 fn text(alloc: Global, live: &Live, user: UserNo, report: &Report) -> Result<Blob, AllocError>
     requires { MayHave live.now.tables user report.now }
-    ensures { IfOk result (λ text. text ≡ report_told (facts_of_tables live.now.tables (Some user)) (shown_in_tables live.now.tables) report.now) }
+    ensures { IfOk result (λ text. text
+        ≡ report_told (facts_of_tables live.now.tables (Some user)) (shown_in_tables live.now.tables) report.now) }
 {
     let mut text = Vec::new(alloc);
     append(&mut text, alloc, live, user, report)?;
@@ -51,7 +52,8 @@ fn append(
 ) -> Result<(), AllocError>
     requires { MayHave live.now.tables user report.now }
     ensures { OnOk result (into.new.items
-        ≡ into.old.items ++ report_told (facts_of_tables live.now.tables (Some user)) (shown_in_tables live.now.tables) report.now) }
+        ≡ into.old.items ++ report_told (facts_of_tables live.now.tables (Some user))
+        (shown_in_tables live.now.tables) report.now) }
 {
     match report {
         Report::Papers => append_papers(into, live, user),

@@ -26,4 +26,5 @@ is_written ordinal (Since phase) form = is_under ordinal form && is_from phase f
 
 -- the last of these forms that passes a test
 abbrev pub last_that : (WrittenForm → Bool) → List (Filed WrittenForm) → Option WrittenForm
-last_that passes forms = option_map (λ (x : Filed WrittenForm). x.value) (find (λ (x : Filed WrittenForm). passes x.value) (reverse forms))
+last_that passes forms =
+    option_map (λ (x : Filed WrittenForm). x.value) (find (λ (x : Filed WrittenForm). passes x.value) (reverse forms))

@@ -4,7 +4,8 @@ ghost use Rattle.std.specs.Option.{option_copied};
 ghost use Rattle.cr_base.specs.Checks.{judged, review_checks};
 ghost use Rattle.cr_base.specs.Filed.{filed_of};
 ghost use Rattle.cr_base.specs.Lists.{last};
-ghost use Rattle.cr_base.specs.Reviews.{no_reviews, reviews_after, last_form_in, last_form_before, forms_from, is_written_in};
+ghost use Rattle.cr_base.specs.Reviews.{no_reviews, reviews_after, last_form_in};
+ghost use Rattle.cr_base.specs.Reviews.{last_form_before, forms_from, is_written_in};
 ghost use Rattle.cr_reviews.specs.Labels.{has_label};
 ghost use Rattle.cr_reviews.specs.Under.{forms_by};
 

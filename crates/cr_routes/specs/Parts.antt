@@ -1,6 +1,7 @@
--- What a path is found to be: its resource, and what its parameters take of it. A path is told by the parts between its
--- slashes (RFC 3986, section 3.3), and no router comes into it.
-use Rattle.std.specs.Prelude.{ℕ, List, [], ◌∷◌, length, Bool, true, false, ◌==◌, nat_le, Option, Some, None, option_map, find, if◌then◌else◌}
+-- What a path is found to be: its resource, and what its parameters take of it. A path is told by the parts between
+-- its slashes (RFC 3986, section 3.3), and no router comes into it.
+use Rattle.std.specs.Prelude.{ℕ, List, [], ◌∷◌, length, Bool, true, false, ◌==◌, nat_le}
+use Rattle.std.specs.Prelude.{Option, Some, None, option_map, find, if◌then◌else◌}
 use Rattle.std.specs.List.{slice_split}
 use Rattle.std.specs.Str.{bytes_eq}
 use Rattle.std.specs.Cmp.Lexicographic.{pointwise}
@@ -66,7 +67,11 @@ found_at path = option_map (found_as path) (find (λ line. fits_parts (parts lin
 -- the same of what the program has, which lends the parts
 abbrev pub seen : Matched → FoundPath
 seen f =
-    record { resource = f.resource; first = option_map (λ t. t.now) f.first; second = option_map (λ t. t.now) f.second }
+    record {
+      resource = f.resource;
+      first = option_map (λ t. t.now) f.first;
+      second = option_map (λ t. t.now) f.second;
+    }
 
 -- at most two parts of a listed path are parameters
 abbrev pub has_few_parameters : List ℕ → Bool

@@ -1,10 +1,13 @@
 -- The paths of the server, which are its own (docs/API.md, section 5).
 use Rattle.std.specs.Prelude.{ℕ, List, [], ◌∷◌, codes}
 use Rattle.cr_routes.specs.declared.resource.Resource.{Resource}
-use Rattle.cr_routes.specs.declared.resource.Resource.TheVariants.{Register, Accepted, Accounts, Members, Mode, Phase, Me, Search}
-use Rattle.cr_routes.specs.declared.resource.Resource.TheVariants.{Papers, Paper, Content, Version, Conflicts, Bid, Reviewers, Reviewer}
+use Rattle.cr_routes.specs.declared.resource.Resource.TheVariants.{Register, Accepted, Accounts}
+use Rattle.cr_routes.specs.declared.resource.Resource.TheVariants.{Members, Mode, Phase, Me, Search}
+use Rattle.cr_routes.specs.declared.resource.Resource.TheVariants.{Papers, Paper, Content, Version}
+use Rattle.cr_routes.specs.declared.resource.Resource.TheVariants.{Conflicts, Bid, Reviewers, Reviewer}
 use Rattle.cr_routes.specs.declared.resource.Resource.TheVariants.{Review, Reviews, Comments, Tag, Decision, Bulk}
-use Rattle.cr_routes.specs.declared.resource.Resource.TheVariants.{PapersReport, ScoresReport, LoadReport, DecisionsReport, Letter}
+use Rattle.cr_routes.specs.declared.resource.Resource.TheVariants.{PapersReport, ScoresReport}
+use Rattle.cr_routes.specs.declared.resource.Resource.TheVariants.{LoadReport, DecisionsReport, Letter}
 
 -- each path, with its resource; a parameter is written in braces. They stand in the order in which the router keeps
 -- them: by their bytes, a path behind those that it is the start of

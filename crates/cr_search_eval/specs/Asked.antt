@@ -11,7 +11,12 @@ use Rattle.cr_view.specs.Replies.{facts_at}
 
 -- the paper, as the user asks of it
 abbrev pub asked_of : Tables → ℕ → ℕ → Asked
-asked_of t user paper = record { user = user; paper = paper; by = standing_at t (Some user) (Some paper); accepted = is_accepted_in t paper }
+asked_of t user paper = record {
+  user = user;
+  paper = paper;
+  by = standing_at t (Some user) (Some paper);
+  accepted = is_accepted_in t paper;
+}
 
 -- the facts that her page of it reads
 abbrev pub facts_for : Tables → Asked → Facts

@@ -13,4 +13,5 @@ told_to t user p = told_of_paper (facts_of_tables t (Some user)) (shown_in_table
 
 -- those of these papers that the search finds for her
 abbrev pub found_of : Tables → ℕ → List Step → List ℕ → List FoundPaper
-found_of t user search papers = map (λ (p : ℕ). found_paper p (told_to t user p)) (filter (λ (p : ℕ). is_found (told_to t user p) search) papers)
+found_of t user search papers =
+    map (λ (p : ℕ). found_paper p (told_to t user p)) (filter (λ (p : ℕ). is_found (told_to t user p) search) papers)

@@ -10,7 +10,8 @@ use crate::terms::term_holds;
 use cr_base::{Search, Step};
 use cr_view::Live;
 
-/// Whether the search holds of the paper; the empty one does. A term is tried where the truth isn't known by those before it;
+/// Whether the search holds of the paper; the empty one does. A term is tried where the truth
+/// isn't known by those before it;
 /// takes no memory.
 pub(crate) fn search_holds(live: &Live, asked: &Asked, search: &Search) -> bool
     ensures { result ≡ search_holds (term_holds (told_at live.now.tables asked.now)) search.now }
@@ -34,7 +35,8 @@ fn operands(steps: &[Step], second: u16) -> (&[Step], &[Step])
 /// Whether the search that these steps spell holds: the last one is its operation, behind its operands.
 fn steps_hold(live: &Live, asked: &Asked, steps: &[Step]) -> bool
     requires { Spelled steps.now }
-    ensures { (t : Tree) → steps.now ≡ steps_of t → result ≡ tree_holds (term_holds (told_at live.now.tables asked.now)) t }
+    ensures { (t : Tree) → steps.now ≡ steps_of t
+        → result ≡ tree_holds (term_holds (told_at live.now.tables asked.now)) t }
 {
     match &steps[steps.len() - 1] {
         Step::Term(term) => term_holds(live, asked, term),

@@ -1,5 +1,5 @@
-//! Which papers a search finds, by the tables. A term is tried on the field that it names and on no other, as the caller is
-//! told it; a paper without a title for her is passed over before any term.
+//! Which papers a search finds, by the tables. A term is tried on the field that it names and on no other, as the
+//! caller is told it; a paper without a title for her is passed over before any term.
 #![tactic(auto)]
 
 mod asked;

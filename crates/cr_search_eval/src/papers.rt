@@ -14,11 +14,12 @@ use cr_base::{FoundPaper, FoundPapers, PaperNo, Reply, Search, Text, UserNo};
 use cr_view::Live;
 use std::alloc::{AllocError, Global};
 
-/// Whether the search holds of the paper, by what the user is told of it. A few reads by number and four binary searches for
-/// how she stands to the paper, and for each term that decides it what its field costs; takes no memory.
+/// Whether the search holds of the paper, by what the user is told of it. A few reads by number and four binary
+/// searches for how she stands to the paper, and for each term that decides it what its field costs; takes no memory.
 pub fn matches(live: &Live, user: UserNo, search: &Search, paper: PaperNo) -> bool
     ensures { result ≡ search_holds
-        (term_holds (told_of_paper (facts_of_tables live.now.tables (Some user)) (shown_in_tables live.now.tables) (Some user) paper)) search.now }
+        (term_holds (told_of_paper (facts_of_tables live.now.tables (Some user)) (shown_in_tables live.now.tables)
+        (Some user) paper)) search.now }
 {
     let asked = Asked::new(live, user, paper);
     search_holds(live, &asked, search)
@@ -53,8 +54,9 @@ fn count_one(live: &Live, user: UserNo, search: &Search, paper: PaperNo) -> u64
     }
 }
 
-/// The papers that the search finds for the user, by number, each with its last title; an error only for lack of memory. A walk
-/// over all papers, which costs each what `matches` does. Shares the titles, and takes no memory but for the answer.
+/// The papers that the search finds for the user, by number, each with its last title; an error only for
+/// lack of memory. A walk over all papers, which costs each what `matches` does. Shares the titles, and
+/// takes no memory but for the answer.
 pub fn found(
     alloc: Global,
     live: &Live,
@@ -62,7 +64,8 @@ pub fn found(
     search: &Search,
 ) -> Result<FoundPapers, AllocError>
     ensures { IfOk result (λ found. found
-        ≡ found_by (facts_of_tables live.now.tables (Some user)) (shown_in_tables live.now.tables) (Some user) search.now) }
+        ≡ found_by (facts_of_tables live.now.tables (Some user)) (shown_in_tables live.now.tables)
+        (Some user) search.now) }
 {
     let mut papers = Vec::new(alloc);
     for before in 0..live.paper_count() {
@@ -79,7 +82,8 @@ fn push_found(
     title: Option<&Text>,
 ) -> Result<(), AllocError>
     ensures { OnOk result (papers.new.items
-        ≡ papers.old.items ++ listed (option_map (λ title. record { paper = paper; title = title }) (option_copied title.entry))) }
+        ≡ papers.old.items
+        ++ listed (option_map (λ title. record { paper = paper; title = title }) (option_copied title.entry))) }
 {
     if let Some(title) = title {
         let title = title.copy()?;
@@ -91,7 +95,8 @@ fn push_found(
 /// How many papers the search finds for the user. The same walk; takes no memory.
 pub fn count(live: &Live, user: UserNo, search: &Search) -> u64
     ensures { result
-        ≡ length (found_by (facts_of_tables live.now.tables (Some user)) (shown_in_tables live.now.tables) (Some user) search.now) }
+        ≡ length (found_by (facts_of_tables live.now.tables (Some user)) (shown_in_tables live.now.tables)
+        (Some user) search.now) }
 {
     let mut count = 0;
     for before in 0..live.paper_count() {
@@ -110,7 +115,8 @@ pub fn answer(
 ) -> Result<Reply, AllocError>
     requires { IsSome caller.now }
     ensures { IfOk result (λ reply. reply
-        ≡ search_told (facts_of_tables live.now.tables caller.now) (shown_in_tables live.now.tables) caller.now search.now only_count) }
+        ≡ search_told (facts_of_tables live.now.tables caller.now)
+        (shown_in_tables live.now.tables) caller.now search.now only_count) }
 {
     let Some(user) = caller else {
         unreachable!();

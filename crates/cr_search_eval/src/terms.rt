@@ -3,7 +3,8 @@ ghost use Rattle.std.specs.Prelude.{◌≡◌, false, if◌then◌else◌, not};
 ghost use Rattle.std.specs.List.{list_any};
 ghost use Rattle.std.specs.Option.{option_copied, option_map, option_map_or};
 ghost use Rattle.cr_base.specs.Accounts.{account_at};
-ghost use Rattle.cr_base.specs.Searching.{has_decision, has_feature, name_has, number_decided, reviewer_has, stands_so, term_holds, text_has};
+ghost use Rattle.cr_base.specs.Searching.{has_decision, has_feature, name_has, number_decided};
+ghost use Rattle.cr_base.specs.Searching.{reviewer_has, stands_so, term_holds, text_has};
 ghost use Rattle.cr_base.specs.declared.search.Feature.TheVariants as features;
 ghost use Rattle.cr_search_eval.specs.Asked.{told_at};
 ghost use Rattle.cr_view.specs.Replies.{holder_name};
@@ -13,8 +14,8 @@ use crate::text::contains;
 use cr_base::{Blob, Decision, Feature, Seat, Short, Standing, Status, Term, Text, Tie};
 use cr_view::Live;
 
-/// Whether the term holds of the paper. It costs the one read that the field which it names does (see `Live`), and a look at
-/// each byte of the texts that it looks into; takes no memory.
+/// Whether the term holds of the paper. It costs the one read that the field which it names does (see `Live`), and a
+/// look at each byte of the texts that it looks into; takes no memory.
 pub(crate) fn term_holds(live: &Live, asked: &Asked, term: &Term) -> bool
     ensures { result ≡ term_holds (told_at live.now.tables asked.now) term.now }
 {
@@ -89,7 +90,8 @@ fn name_has(value: &Blob, name: &Option<Short>) -> bool
 
 /// Whether the name of who is tied so has it. A read by number.
 fn tied_has(live: &Live, value: &Blob, tie: &Tie<()>) -> bool
-    ensures { result ≡ text_has value.now (option_map (λ a. a.name) (account_at live.now.tables.accounts tie.now.pair.user)) }
+    ensures { result ≡ text_has value.now
+        (option_map (λ a. a.name) (account_at live.now.tables.accounts tie.now.pair.user)) }
 {
     name_has(value, &live.name_of(tie.pair.user))
 }
@@ -97,7 +99,8 @@ fn tied_has(live: &Live, value: &Blob, tie: &Tie<()>) -> bool
 /// Whether one of the names of those who are tied so has it. A read by number for each.
 fn some_tied_has(live: &Live, value: &Blob, ties: &[Tie<()>]) -> bool
     ensures { result
-        ≡ list_any (λ tie. text_has value.now (option_map (λ a. a.name) (account_at live.now.tables.accounts tie.pair.user))) ties.now }
+        ≡ list_any (λ tie. text_has value.now
+        (option_map (λ a. a.name) (account_at live.now.tables.accounts tie.pair.user))) ties.now }
 {
     ties.iter().any(|tie| tied_has(live, value, tie))
 }

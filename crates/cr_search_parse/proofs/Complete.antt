@@ -31,7 +31,10 @@ pub with_operand-item : (s t : Tree) → with_operand step.And (steps_of s) (den
 with_operand-item s t = ap (with_operand step.And (steps_of s)) (append-nil (steps_of t)) ∙ with_operand-steps_of step.And s (steps_of t)
 
 -- the same as a state, with the terms of both
-item_more : (around : List Level) (alternatives : List Step) (s t : Tree) (a b c : ℕ) → Some (state around alternatives (with_operand step.And (steps_of s) (denied 0 (steps_of t))) 0 ended (a + b + c)) ≡ Some (state around alternatives (steps_of s ++ (steps_of t ++ (step.And (length (steps_of t)) ∷ []))) 0 ended (a + (b + c)))
+item_more : (around : List Level) (alternatives : List Step) (s t : Tree) (a b c : ℕ)
+    → Some (state around alternatives (with_operand step.And (steps_of s) (denied 0 (steps_of t))) 0 ended (a + b + c))
+    ≡ Some (state around alternatives (steps_of s ++ (steps_of t ++ (step.And (length (steps_of t)) ∷ [])))
+    0 ended (a + (b + c)))
 item_more around alternatives s t a b c =
     ap (λ (xs : List Step). Some (state around alternatives xs 0 ended (a + b + c))) (with_operand-item s t)
     ∙ ap (λ (n : ℕ). Some (state around alternatives (steps_of s ++ (steps_of t ++ (step.And (length (steps_of t)) ∷ []))) 0 ended n)) (add_assoc a b c)
@@ -43,7 +46,11 @@ other_more around a items n m k =
     ∙ ap (λ (j : ℕ). Some (state around (steps_of (any_tree a)) items 0 ended j)) (add_assoc n m k)
 
 mutual
-  reads-item : (i : Item) (around : List Level) (alternatives items : List Step) (negations : ℕ) (next : Next) (terms : ℕ) → negations + levels_depth around + item_depth i ≤ 64 → terms + item_terms i ≤ 128 → after_symbols (state around alternatives items negations next terms) (item_symbols i) ≡ Some (state around alternatives (with_operand step.And items (denied negations (steps_of (item_tree i)))) 0 ended (terms + item_terms i))
+  reads-item : (i : Item) (around : List Level) (alternatives items : List Step) (negations : ℕ) (next : Next)
+      (terms : ℕ) → negations + levels_depth around + item_depth i ≤ 64 → terms + item_terms i ≤ 128
+      → after_symbols (state around alternatives items negations next terms) (item_symbols i)
+      ≡ Some (state around alternatives (with_operand step.And items (denied negations (steps_of (item_tree i)))) 0
+      ended (terms + item_terms i))
   reads-item (term text t is) around alternatives items negations next terms low few =
       after_one (state around alternatives items negations next terms) _ (word text) [] (after_word-term (state around alternatives items negations next terms) text t is few)
   reads-item added around alternatives items negations next terms low few =
@@ -65,7 +72,10 @@ mutual
       ∙ after_gaps (record { around = level ∷ around; level = level_of a; next = ended; terms = terms + any_terms a }) m (closes ∷ []) refl
       ∙ ap (λ (xs : List Step). Some (state around alternatives (with_operand step.And items (denied negations xs)) 0 ended (terms + any_terms a))) (level_steps-level_of a)
 
-  reads-all : (a : All) (around : List Level) (alternatives : List Step) (next : Next) (terms : ℕ) → levels_depth around + all_depth a ≤ 64 → terms + all_terms a ≤ 128 → after_symbols (state around alternatives [] 0 next terms) (all_symbols a) ≡ Some (state around alternatives (steps_of (all_tree a)) 0 ended (terms + all_terms a))
+  reads-all : (a : All) (around : List Level) (alternatives : List Step) (next : Next) (terms : ℕ)
+      → levels_depth around + all_depth a ≤ 64 → terms + all_terms a ≤ 128
+      → after_symbols (state around alternatives [] 0 next terms) (all_symbols a)
+      ≡ Some (state around alternatives (steps_of (all_tree a)) 0 ended (terms + all_terms a))
   reads-all (one i) around alternatives next terms low few =
       reads-item i around alternatives [] 0 next terms (omega arith) few
       ∙ ap (λ (xs : List Step). Some (state around alternatives xs 0 ended (terms + item_terms i))) (append-nil (steps_of (item_tree i)))
@@ -81,7 +91,9 @@ mutual
       ∙ reads-item i around alternatives (steps_of (all_tree a)) 0 wanted (terms + all_terms a) (omega arith) (omega arith)
       ∙ item_more around alternatives (all_tree a) (item_tree i) terms (all_terms a) (item_terms i)
 
-  reads-any : (a : Any) (around : List Level) (next : Next) (terms : ℕ) → levels_depth around + any_depth a ≤ 64 → terms + any_terms a ≤ 128 → after_symbols (state around [] [] 0 next terms) (any_symbols a) ≡ Some (record { around = around; level = level_of a; next = ended; terms = terms + any_terms a })
+  reads-any : (a : Any) (around : List Level) (next : Next) (terms : ℕ) → levels_depth around + any_depth a ≤ 64
+      → terms + any_terms a ≤ 128 → after_symbols (state around [] [] 0 next terms) (any_symbols a)
+      ≡ Some (record { around = around; level = level_of a; next = ended; terms = terms + any_terms a })
   reads-any (sole a) around next terms low few = reads-all a around [] next terms low few
   reads-any (other a n m b) around next terms low few =
       after_row _ _ (any_symbols a) (gap_symbols n ++ (word or_word ∷ (gap_symbols m ++ all_symbols b))) (reads-any a around next terms (omega arith) (omega arith))

@@ -16,7 +16,10 @@ pub after_symbols-append : (s : State) (xs ys : List Symbol) → after_symbols s
 after_symbols-append s [] ys = refl
 after_symbols-append s (x ∷ xs) ys = both_rows (after_symbol s x) (λ t. after_symbols-append t xs ys)
   where
-    both_rows : (o : Option State) → ((t : State) → after_symbols t (xs ++ ys) ≡ option_and_then (λ (u : State). after_symbols u ys) (after_symbols t xs)) → option_and_then (λ (t : State). after_symbols t (xs ++ ys)) o ≡ option_and_then (λ (u : State). after_symbols u ys) (option_and_then (λ (t : State). after_symbols t xs) o)
+    both_rows : (o : Option State) → ((t : State)
+        → after_symbols t (xs ++ ys) ≡ option_and_then (λ (u : State). after_symbols u ys) (after_symbols t xs))
+        → option_and_then (λ (t : State). after_symbols t (xs ++ ys)) o
+        ≡ option_and_then (λ (u : State). after_symbols u ys) (option_and_then (λ (t : State). after_symbols t xs) o)
     both_rows None more = refl
     both_rows (Some t) more = more t
 

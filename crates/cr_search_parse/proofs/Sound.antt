@@ -175,7 +175,9 @@ Waits-or base here level terms h m i low = record {
     regroup : (a b c : List Symbol) (x : Symbol) (d e : List Symbol) → (((a ++ (b ++ c)) ++ (x ∷ [])) ++ d) ++ e ≡ a ++ ((b ++ (c ++ (x ∷ (d ++ e)))) ++ [])
     regroup a b c x d e = simp (append_assoc, append-nil)
 
-Has-close : (base : ℕ) (front here : List Symbol) (level inner : Level) (terms inner_terms : ℕ) → Waits base front level terms → Has (level.negations + 1 + base) here inner inner_terms → Has base (front ++ (opens ∷ (here ++ (closes ∷ [])))) (with_item (level_steps inner) level) (terms + inner_terms)
+Has-close : (base : ℕ) (front here : List Symbol) (level inner : Level) (terms inner_terms : ℕ)
+    → Waits base front level terms → Has (level.negations + 1 + base) here inner inner_terms
+    → Has base (front ++ (opens ∷ (here ++ (closes ∷ [])))) (with_item (level_steps inner) level) (terms + inner_terms)
 Has-close base front here level inner terms inner_terms waits h =
     Has-at (waits (grouped h.before h.syntax h.behind) (deep (any_depth h.syntax) h.low))
     (ap (λ (xs : List Symbol). front ++ (opens ∷ (xs ++ (closes ∷ [])))) h.spelled
@@ -256,7 +258,11 @@ alone : (n base : ℕ) → n + base ≤ 64 → 0 + base ≤ 64
 alone n base low = omega arith
 
 -- one symbol more in the level
-Reached-more : (past : List Symbol) (x : Symbol) (around : List Level) (level new_level : Level) (next new_next : Next) (terms new_terms n : ℕ) (h : Reached past around level next terms) → Here new_next (levels_depth around) (h.here ++ (x ∷ [])) new_level n → new_terms ≡ h.outer_terms + n → new_level.negations + levels_depth around ≤ 64 → new_terms ≤ 128 → Reached (past ++ (x ∷ [])) around new_level new_next new_terms
+Reached-more : (past : List Symbol) (x : Symbol) (around : List Level) (level new_level : Level) (next new_next : Next)
+    (terms new_terms n : ℕ) (h : Reached past around level next terms)
+    → Here new_next (levels_depth around) (h.here ++ (x ∷ [])) new_level n → new_terms ≡ h.outer_terms + n
+    → new_level.negations + levels_depth around ≤ 64 → new_terms ≤ 128
+    → Reached (past ++ (x ∷ [])) around new_level new_next new_terms
 Reached-more past x around level new_level next new_next terms new_terms n h inside terms_are low few = record {
   outer = h.outer;
   here = h.here ++ (x ∷ []);
@@ -271,7 +277,10 @@ Reached-more past x around level new_level next new_next terms new_terms n h ins
 }
 
 -- an item
-Reached-item : (past : List Symbol) (x : Symbol) (around : List Level) (level : Level) (next : Next) (terms : ℕ) (i : Item) → item_symbols i ≡ x ∷ [] → item_depth i ≡ 0 → terms + item_terms i ≤ 128 → Reached past around level next terms → Reached (past ++ (x ∷ [])) around (with_item (steps_of (item_tree i)) level) ended (terms + item_terms i)
+Reached-item : (past : List Symbol) (x : Symbol) (around : List Level) (level : Level) (next : Next) (terms : ℕ)
+    (i : Item) → item_symbols i ≡ x ∷ [] → item_depth i ≡ 0
+    → terms + item_terms i ≤ 128 → Reached past around level next terms
+    → Reached (past ++ (x ∷ [])) around (with_item (steps_of (item_tree i)) level) ended (terms + item_terms i)
 Reached-item past x around level next terms i is flat few h =
     Reached-more past x around level (with_item (steps_of (item_tree i)) level) next ended terms (terms + item_terms i) (h.here_terms + item_terms i) h
     (Has-at (Here-waits next (levels_depth around) h.here level h.here_terms h.inside i (deep level.negations (levels_depth around) (item_depth i) flat h.low)) (ap (λ (xs : List Symbol). h.here ++ xs) (sym is)) refl refl)
@@ -331,7 +340,10 @@ At-open past around level next terms t h e =
     regroup : (a b c : List Symbol) → (a ++ b) ++ c ≡ (a ++ (b ++ c)) ++ []
     regroup a b c = simp (append_assoc, append-nil)
 
-At-negation : (past : List Symbol) (x : Symbol) (around : List Level) (level : Level) (next new_next : Next) (terms : ℕ) (t : State) (h : Reached past around level next terms) → Here new_next (levels_depth around) (h.here ++ (x ∷ [])) (record level { negations = level.negations + 1 }) h.here_terms → if_shallow (one_negation_more new_next (of around level next terms)) ≡ Some t → At (past ++ (x ∷ [])) t
+At-negation : (past : List Symbol) (x : Symbol) (around : List Level) (level : Level) (next new_next : Next)
+    (terms : ℕ) (t : State) (h : Reached past around level next terms) → Here new_next (levels_depth around)
+    (h.here ++ (x ∷ [])) (record level { negations = level.negations + 1 }) h.here_terms
+    → if_shallow (one_negation_more new_next (of around level next terms)) ≡ Some t → At (past ++ (x ∷ [])) t
 At-negation past x around level next new_next terms t h inside e =
     let s : State = one_negation_more new_next (of around level next terms) in
     let read : (depth s ≤ 64) × (Some s ≡ Some t) = shallow-some s t e in

@@ -6,10 +6,12 @@
 --   all   = item *( gap [ "AND" gap ] item )
 --   item  = "-" item | "NOT" gap item | "(" spaces any spaces ")" | term
 --
--- A gap is spaces, and may be empty at a parenthesis. Since a chunk is a longest run, two chunks never stand side by side: so a gap
--- between them has spaces wherever the symbols are those of a text, and nothing more is asked of it here. Since spaces are a longest run
--- too, a gap of a text has one run of them or none. Here it has any number, so that what a reader makes of symbols needs no condition.
-use Rattle.std.specs.Prelude.{◌≡◌, ◌≤◌, ℕ, ◌==◌, ◌+◌, max, List, [], ◌∷◌, ◌++◌, codes, Option, Some, None, if◌then◌else◌, replicate}
+-- A gap is spaces, and may be empty at a parenthesis. Since a chunk is a longest run, two chunks never stand side by
+-- side: so a gap between them has spaces wherever the symbols are those of a text, and nothing more is asked of it
+-- here. Since spaces are a longest run too, a gap of a text has one run of them or none. Here it has any number, so
+-- that what a reader makes of symbols needs no condition.
+use Rattle.std.specs.Prelude.{◌≡◌, ◌≤◌, ℕ, ◌==◌, ◌+◌, max, List, [], ◌∷◌, ◌++◌}
+use Rattle.std.specs.Prelude.{codes, Option, Some, None, if◌then◌else◌, replicate}
 use Rattle.std.specs.List.{flat_map}
 use Rattle.cr_base.specs.Search.{Tree, asks, denies, both, either}
 use Rattle.cr_base.specs.declared.search.Term.{Term}
@@ -19,8 +21,8 @@ use Rattle.cr_search_parse.specs.Terms.{term_of}
 
 -- ---- symbols
 
--- What a run is to the grammar. A chunk is the dashes that it begins with, each a negation, and the word behind them. A sample is no
--- text's: it is an item that is added to one, see Offsets.
+-- What a run is to the grammar. A chunk is the dashes that it begins with, each a negation, and the word behind them.
+-- A sample is no text's: it is an item that is added to one, see Offsets.
 pub data Symbol : Type 0 where
   gap opens closes dash sample : Symbol
   word : List ℕ → Symbol
@@ -89,16 +91,19 @@ abbrev mutual
   item_symbols added = sample ∷ []
   item_symbols (dashed i) = dash ∷ item_symbols i
   item_symbols (negated spaced i) = word not_word ∷ (gap_symbols spaced ++ item_symbols i)
-  item_symbols (grouped before a behind) = opens ∷ (gap_symbols before ++ (any_symbols a ++ (gap_symbols behind ++ (closes ∷ []))))
+  item_symbols (grouped before a behind) =
+      opens ∷ (gap_symbols before ++ (any_symbols a ++ (gap_symbols behind ++ (closes ∷ []))))
 
   pub all_symbols : All → List Symbol
   all_symbols (one i) = item_symbols i
   all_symbols (beside a spaced i) = all_symbols a ++ (gap_symbols spaced ++ item_symbols i)
-  all_symbols (joined a before behind i) = all_symbols a ++ (gap_symbols before ++ (word and_word ∷ (gap_symbols behind ++ item_symbols i)))
+  all_symbols (joined a before behind i) =
+      all_symbols a ++ (gap_symbols before ++ (word and_word ∷ (gap_symbols behind ++ item_symbols i)))
 
   pub any_symbols : Any → List Symbol
   any_symbols (sole a) = all_symbols a
-  any_symbols (other a before behind b) = any_symbols a ++ (gap_symbols before ++ (word or_word ∷ (gap_symbols behind ++ all_symbols b)))
+  any_symbols (other a before behind b) =
+      any_symbols a ++ (gap_symbols before ++ (word or_word ∷ (gap_symbols behind ++ all_symbols b)))
 
 -- ---- what they are
 
@@ -157,7 +162,8 @@ abbrev mutual
 
 -- ---- queries
 
--- symbols that are a query, with its tree, which an empty one hasn't: no item stands too deep, and the terms aren't too many
+-- symbols that are a query, with its tree, which an empty one hasn't: no item stands too
+-- deep, and the terms aren't too many
 abbrev pub IsQuery : List Symbol → Option Tree → Type 0
 IsQuery symbols None = (spaced : ℕ) × (symbols ≡ gap_symbols spaced)
 IsQuery symbols (Some tree) =

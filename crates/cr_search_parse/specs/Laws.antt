@@ -5,8 +5,8 @@ use Rattle.cr_base.specs.Search.{Tree, all_steps}
 use Rattle.cr_base.specs.declared.search.Step.{Step}
 use Rattle.cr_search_parse.specs.Offsets.{Spells, IsBad}
 
--- what the grammar says of a text: these are the steps of a tree that it spells, within the limits on bytes, levels and terms; or it is bad
--- at this offset
+-- what the grammar says of a text: these are the steps of a tree that it spells, within the limits on bytes, levels
+-- and terms; or it is bad at this offset
 abbrev pub GrammarSays : List ℕ → Result (List Step) ℕ → Type 0
 GrammarSays text (Ok steps) = (tree : Option Tree) × (steps ≡ all_steps tree) × Spells text tree
 GrammarSays text (Err offset) = IsBad text offset

@@ -4,13 +4,15 @@ use Rattle.cr_base.specs.Search.{Tree}
 use Rattle.cr_search_parse.specs.Grammar.{sample, closes, symbols_of, IsQuery}
 use Rattle.cr_search_parse.specs.Runs.{Run, runs_of, runs_length}
 
--- Runs are a good beginning where they can be completed: with `(a`, which is taken for one item more that counts neither in depth nor
--- in terms, and some number of closing parentheses, they are a query. A sample stands for `(a` with its own closing parenthesis.
+-- Runs are a good beginning where they can be completed: with `(a`, which is taken for one item more that counts
+-- neither in depth nor in terms, and some number of closing parentheses, they are a query. A sample stands for `(a`
+-- with its own closing parenthesis.
 abbrev pub IsGood : List Run → Type 0
-IsGood runs = (closings : ℕ) × (tree : Option Tree) × IsQuery (symbols_of runs ++ (sample ∷ replicate closings closes)) tree
+IsGood runs =
+    (closings : ℕ) × (tree : Option Tree) × IsQuery (symbols_of runs ++ (sample ∷ replicate closings closes)) tree
 
--- The cuts of a text are its two ends and the offsets between its runs. The offset is the last cut before the first that isn't good,
--- and the text's length where all are.
+-- The cuts of a text are its two ends and the offsets between its runs. The offset is the last cut before the first
+-- that isn't good, and the text's length where all are.
 abbrev pub IsOffset : List Run → ℕ → Type 0
 IsOffset runs offset =
     (n : ℕ) × (n ≤ length runs) × (offset ≡ runs_length (take n runs)) × ((k : ℕ) → k ≤ n → IsGood (take k runs))
@@ -28,4 +30,5 @@ Spells text tree = (length text ≤ most_bytes) × IsQuery (symbols_of (runs_of 
 abbrev pub IsBad : List ℕ → ℕ → Type 0
 IsBad text offset =
     ((most_bytes < length text) × (offset ≡ most_bytes))
-    ⊎ ((length text ≤ most_bytes) × ((tree : Option Tree) → IsQuery (symbols_of (runs_of text)) tree → ⊥) × IsOffset (runs_of text) offset)
+    ⊎ ((length text ≤ most_bytes) × ((tree : Option Tree) → IsQuery (symbols_of (runs_of text)) tree → ⊥)
+    × IsOffset (runs_of text) offset)

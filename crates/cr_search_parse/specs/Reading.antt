@@ -2,7 +2,8 @@
 -- (Dijkstra's shunting-yard algorithm). What a text is the grammar says (Grammar, Offsets); but it is a relation,
 -- and whoever needs a function of the text, as a wish does, takes `text_read`. What that gives is what the grammar
 -- says of the text, and the grammar says nothing else of it: `law_reading`.
-use Rattle.std.specs.Prelude.{ℕ, ◌+◌, nat_lt, List, [], ◌∷◌, ◌++◌, length, Option, Some, None, Result, Ok, Err, replicate, if◌then◌else◌}
+use Rattle.std.specs.Prelude.{ℕ, ◌+◌, nat_lt, List, [], ◌∷◌, ◌++◌, length, Option}
+use Rattle.std.specs.Prelude.{Some, None, Result, Ok, Err, replicate, if◌then◌else◌}
 use Rattle.std.specs.Option.{option_and_then, option_map_or}
 use Rattle.cr_base.specs.declared.search.Step.{Step}
 use Rattle.cr_base.specs.declared.search.Step.TheVariants as step
@@ -13,8 +14,8 @@ use Rattle.cr_search_parse.specs.Offsets.{most_bytes}
 use Rattle.cr_search_parse.specs.Runs.{Run, runs_of, run_length}
 use Rattle.cr_search_parse.specs.Terms.{term_of, is_and, is_or, is_not}
 
--- What was read between two parentheses: the steps of the alternatives that have ended and of the items that have, both none at first; and how
--- many negations wait for the item that comes.
+-- What was read between two parentheses: the steps of the alternatives that have ended and of the items that have,
+-- both none at first; and how many negations wait for the item that comes.
 pub record Level : Type 0 where
   pub alternatives : List Step
   pub items : List Step
@@ -63,7 +64,11 @@ denied n item = item ++ replicate n step.Not
 
 -- an item has ended
 abbrev pub with_item : List Step → Level → Level
-with_item item level = record { alternatives = level.alternatives; items = with_operand step.And level.items (denied level.negations item); negations = 0 }
+with_item item level = record {
+  alternatives = level.alternatives;
+  items = with_operand step.And level.items (denied level.negations item);
+  negations = 0;
+}
 
 abbrev pub after_item : List Step → State → State
 after_item item s = record s { level = with_item item s.level; next = ended }
@@ -96,7 +101,8 @@ after_close s ended (level ∷ around) = Some (closed (level_steps s.level) leve
 after_close s _ around = None
 
 abbrev pub after_or : State → Next → Option State
-after_or s ended = Some (record s { level = record { alternatives = level_steps s.level; items = []; negations = 0 }; next = wanted })
+after_or s ended =
+    Some (record s { level = record { alternatives = level_steps s.level; items = []; negations = 0 }; next = wanted })
 after_or s _ = None
 
 abbrev pub after_and : State → Next → Option State
@@ -127,7 +133,8 @@ after_symbol s (word text) = after_word s text
 
 abbrev pub after_symbols : State → List Symbol → Option State
 after_symbols s [] = Some s
-after_symbols s (symbol ∷ symbols) = option_and_then (λ (next : State). after_symbols next symbols) (after_symbol s symbol)
+after_symbols s (symbol ∷ symbols) =
+    option_and_then (λ (next : State). after_symbols next symbols) (after_symbol s symbol)
 
 -- the steps of what was read, where it may end so
 abbrev pub at_end : Next → List Level → Level → Option (List Step)
@@ -145,11 +152,12 @@ abbrev pub ended_at : ℕ → Option (List Step) → Result (List Step) ℕ
 ended_at offset None = Err offset
 ended_at offset (Some steps) = Ok steps
 
--- what these runs come to, which begin at this offset in their text: the steps of a search, or the offset of the first run that can't come
--- there
+-- what these runs come to, which begin at this offset in their text: the steps of a search, or the offset of the
+-- first run that can't come there
 abbrev pub runs_read : List Run → ℕ → State → Result (List Step) ℕ
 runs_read [] offset s = ended_at offset (steps_read s)
-runs_read (run ∷ runs) offset s = option_map_or (runs_read runs (offset + run_length run)) (after_symbols s (run_symbols run)) (Err offset)
+runs_read (run ∷ runs) offset s =
+    option_map_or (runs_read runs (offset + run_length run)) (after_symbols s (run_symbols run)) (Err offset)
 
 -- what a text is: the steps of the one search that it spells, or the offset of a bad one
 abbrev pub text_read : List ℕ → Result (List Step) ℕ

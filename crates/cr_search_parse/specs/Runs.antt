@@ -1,5 +1,5 @@
--- How a text falls into runs: spaces, parentheses, and chunks, the longest runs of everything else. A quotation mark makes a
--- chunk of everything up to the next such mark; without one, of the rest of the text.
+-- How a text falls into runs: spaces, parentheses, and chunks, the longest runs of everything else. A quotation mark
+-- makes a chunk of everything up to the next such mark; without one, of the rest of the text.
 use Rattle.std.specs.Prelude.{ℕ, Bool, true, false, not, ◌==◌, ◌+◌, List, [], ◌∷◌, length, if◌then◌else◌}
 
 pub data Run : Type 0 where

@@ -1,6 +1,7 @@
 -- How the code's reader stands for a state of reading.
 use Rattle.std.specs.declared.alloc.Global.{Global}
-use Rattle.std.specs.Prelude.{◌≡◌, ◌≤◌, ℕ, ◌+◌, List, [], ◌∷◌, ◌++◌, length, replicate, Option, Some, None, Result, Ok, Err, Vec, if◌then◌else◌, ◌==◌}
+use Rattle.std.specs.Prelude.{◌≡◌, ◌≤◌, ℕ, ◌+◌, List, [], ◌∷◌, ◌++◌, length, replicate}
+use Rattle.std.specs.Prelude.{Option, Some, None, Result, Ok, Err, Vec, if◌then◌else◌, ◌==◌}
 use Rattle.cr_base.specs.declared.search.Step.{Step}
 use Rattle.cr_base.specs.declared.search.Step.TheVariants as step
 use Rattle.cr_search_parse.specs.Reading.{State, Level, Next, first, ended, wanted, touching, depth, levels_depth}
@@ -19,7 +20,8 @@ next_told told.Touching = touching
 
 -- how many steps a level has
 abbrev pub counted : Level → Counts
-counted level = record { alternatives = length level.alternatives; items = length level.items; negations = level.negations }
+counted level =
+    record { alternatives = length level.alternatives; items = length level.items; negations = level.negations }
 
 -- the same of more levels, the outermost first
 abbrev pub all_counted : List Level → List Counts
@@ -78,4 +80,8 @@ behind_item level count =
 -- how many steps the level has then
 abbrev pub counts_behind_item : Counts → ℕ → Counts
 counts_behind_item level count =
-    record { alternatives = level.alternatives; items = count_behind level.items (count + level.negations); negations = 0 }
+    record {
+      alternatives = level.alternatives;
+      items = count_behind level.items (count + level.negations);
+      negations = 0;
+    }

@@ -20,8 +20,9 @@ const MOST_BYTES: usize = 1_024;
 pub enum ParseError {
     /// It is none.
     BadQuery {
-        /// Up to here it could still have become one, in bytes from its start: one of its ends, or where a parenthesis or a chunk, which is
-        /// what stands between those and spaces, begins or ends. At most its length; of a text of more than 1,024 bytes always 1,024.
+        /// Up to here it could still have become one, in bytes from its start: one of its ends, or where a parenthesis
+        /// or a chunk, which is what stands between those and spaces, begins or ends. At most its length; of a text of
+        /// more than 1,024 bytes always 1,024.
         offset: usize,
     },
     /// Memory ran out.
@@ -58,10 +59,10 @@ fn read_steps(alloc: Global, text: &[u8]) -> Result<Vec<Step>, ParseError>
     }
 }
 
-/// The search that a text is, or `BadQuery`: where the text stops being the beginning of one. It is none if it has more than 1,024 bytes or more
-/// than 128 terms, or if an item stands inside more than 64 of dashes, `NOT`s and parentheses. `OutOfMemory` may come of any text of at most
-/// 1,024 bytes. Memory is taken for the steps, the terms and the open parentheses alone. It costs a few looks at each byte, and none at those of
-/// a longer text.
+/// The search that a text is, or `BadQuery`: where the text stops being the beginning of one. It is none if it has
+/// more than 1,024 bytes or more than 128 terms, or if an item stands inside more than 64 of dashes, `NOT`s and
+/// parentheses. `OutOfMemory` may come of any text of at most 1,024 bytes. Memory is taken for the steps, the terms
+/// and the open parentheses alone. It costs a few looks at each byte, and none at those of a longer text.
 pub fn parse(alloc: Global, text: &[u8]) -> Result<Search, ParseError>
     ensures found { IfOk result (λ search. Spells text.now (tree_of search)) }
     ensures only { (tree : Option Tree) → Spells text.now tree → IsFound result (all_steps tree) }

@@ -4,7 +4,8 @@ ghost use Rattle.cr_base.specs.declared.search.Step.TheVariants as step;
 ghost use Rattle.cr_search_parse.specs.Grammar.{gap, opens, closes, chunk_symbols, run_symbols};
 ghost use Rattle.cr_search_parse.specs.Cutting.{run_told};
 ghost use Rattle.cr_search_parse.specs.Runs.{run_length};
-ghost use Rattle.cr_search_parse.specs.Reading.{State, start, one_negation_more, if_shallow, after_and, after_or, after_term};
+ghost use Rattle.cr_search_parse.specs.Reading.{State, start, one_negation_more, if_shallow};
+ghost use Rattle.cr_search_parse.specs.Reading.{after_and, after_or, after_term};
 ghost use Rattle.cr_search_parse.specs.Reading.{after_word, after_symbol, after_symbols, steps_read};
 ghost use Rattle.cr_search_parse.specs.Standing.{Stands, StandsForOne, weight, Takes, TakesSteps, next_told};
 ghost use Rattle.cr_search_parse.specs.Standing.{operation_behind, count_behind, behind_item, counts_behind_item};
@@ -65,8 +66,8 @@ enum Next {
     Touching,
 }
 
-/// What was read between two parentheses, in steps of the reader's: those of the alternatives that have ended, and behind them those
-/// of the items that have.
+/// What was read between two parentheses, in steps of the reader's: those of the alternatives that have ended, and
+/// behind them those of the items that have.
 #[derive(Clone, Copy)]
 struct Level {
     alternatives: u16,
@@ -135,7 +136,8 @@ fn count_behind(first: u16, second: u16) -> u16
 /// Ends a level, whose steps come last, and gives their number.
 fn end_level(steps: &mut Vec<Step>, level: Level) -> Result<u16, AllocError>
     requires { level.alternatives + level.items < 65535 }
-    ensures steps { OnOk result (steps.new.items ≡ steps.old.items ++ operation_behind level.alternatives (step.Or level.items)) }
+    ensures steps { OnOk result (steps.new.items
+        ≡ steps.old.items ++ operation_behind level.alternatives (step.Or level.items)) }
     ensures count { IfOk result (λ count. count ≡ count_behind level.alternatives level.items) }
 {
     push_behind(
@@ -234,7 +236,8 @@ impl Reader {
     fn negation(&mut self, next: Next) -> Result<(), Stop>
         requires stands { StandsForOne self.old }
         requires light { weight self.old < 60000 }
-        ensures takes { (s : State) → Stands self.old s → Takes result self.new (if_shallow (one_negation_more (next_told next) s)) }
+        ensures takes { (s : State) → Stands self.old s
+            → Takes result self.new (if_shallow (one_negation_more (next_told next) s)) }
         ensures grows { OnOk result (weight self.new ≤ weight self.old + 2) }
     {
         if self.outside + self.level.negations >= MOST_DEPTH {
@@ -332,7 +335,8 @@ impl Reader {
     fn chunk(&mut self, text: &[u8]) -> Result<(), Stop>
         requires stands { StandsForOne self.old }
         requires light { weight self.old + 2 * length text.now < 60000 }
-        ensures takes { (s : State) → Stands self.old s → Takes result self.new (after_symbols s (chunk_symbols text.now)) }
+        ensures takes { (s : State) → Stands self.old s
+            → Takes result self.new (after_symbols s (chunk_symbols text.now)) }
         ensures grows { OnOk result (weight self.new ≤ weight self.old + 2 * length text.now) }
     {
         for (i, byte) in text.iter().enumerate() {
@@ -348,7 +352,8 @@ impl Reader {
     pub(crate) fn read(&mut self, run: &Run) -> Result<(), Stop>
         requires stands { StandsForOne self.old }
         requires light { weight self.old + 2 * run_length (run_told run.now) < 60000 }
-        ensures takes { (s : State) → Stands self.old s → Takes result self.new (after_symbols s (run_symbols (run_told run.now))) }
+        ensures takes { (s : State) → Stands self.old s
+            → Takes result self.new (after_symbols s (run_symbols (run_told run.now))) }
         ensures grows { OnOk result (weight self.new ≤ weight self.old + 2 * run_length (run_told run.now)) }
     {
         match run {

@@ -49,8 +49,8 @@ fn ends_chunk(byte: u8) -> bool
     byte == b' ' || byte == b'(' || byte == b')'
 }
 
-/// How many bytes the chunk has that a text begins with: a quotation mark takes in all up to the next such mark, or to the end
-/// where none follows.
+/// How many bytes the chunk has that a text begins with: a quotation mark takes in all up to the next such mark, or
+/// to the end where none follows.
 fn chunk_len(text: &[u8]) -> usize
     ensures count { result ≡ chunk_length false text.now }
     ensures within { result ≤ length text.now }

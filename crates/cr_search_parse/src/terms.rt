@@ -3,9 +3,11 @@ ghost use Rattle.std.specs.Prelude.{◌≡◌, ◌<◌, ◌+◌, if◌then◌els
 ghost use Rattle.std.specs.Prelude.{IfOk, IfSome, IfNone, IsTrue, IsFalse};
 ghost use Rattle.std.specs.List.{list_all};
 ghost use Rattle.cr_base.specs.Lists.{until, since};
-ghost use Rattle.cr_search_parse.specs.Terms.{is_quoted_byte, is_word_byte, is_word as is_word_text, begins_with as begins};
+ghost use Rattle.cr_search_parse.specs.Terms.{is_quoted_byte, is_word_byte};
+ghost use Rattle.cr_search_parse.specs.Terms.{is_word as is_word_text, begins_with as begins};
 ghost use Rattle.cr_search_parse.specs.Terms.{behind_first as behind, before_closing as closed, quoted as quoted_text};
-ghost use Rattle.cr_search_parse.specs.Terms.{term_value as value_text, decision_asked as decision, status_asked as status};
+ghost use Rattle.cr_search_parse.specs.Terms.{term_value as value_text};
+ghost use Rattle.cr_search_parse.specs.Terms.{decision_asked as decision, status_asked as status};
 ghost use Rattle.cr_search_parse.specs.Terms.{feature_asked as feature, keyed as keyed_term, is_and as and_word};
 ghost use Rattle.cr_search_parse.specs.Terms.{is_or as or_word, is_not as not_word, is_plain as plain_word};
 ghost use Rattle.cr_search_parse.specs.Terms.{is_colon, has_colon, term_of};

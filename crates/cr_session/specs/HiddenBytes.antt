@@ -1,5 +1,5 @@
--- HiddenBytes: two runs in which a user wishes the same, and which differ at her wishes only in what she isn't shown, agree in every
--- byte that she is answered.
+-- HiddenBytes: two runs in which a user wishes the same, and which differ at her wishes only in what she isn't shown,
+-- agree in every byte that she is answered.
 use Rattle.std.specs.Prelude.{◌≡◌, ℕ, List, [], ◌∷◌, ◌++◌, Option, Bool}
 use Rattle.cr_base.specs.History.{History}
 use Rattle.cr_base.specs.Lists.{given}
@@ -18,7 +18,8 @@ pub record Asked : Type 0 where
 abbrev pub asks : Option ℕ → History → List WishInTurn → List Asked
 asks u H [] = []
 asks u H (w ∷ ws) =
-    given (is_hers u H w.wish) (record { before = H; wish = w.wish; closes = w.closes }) ++ asks u (after_wish H w.wish) ws
+    given (is_hers u H w.wish) (record { before = H; wish = w.wish; closes = w.closes })
+    ++ asks u (after_wish H w.wish) ws
 
 -- she wishes the same, and what stands before looks the same to her
 pub record AskedAlike (u : Option ℕ) (one other : Asked) : Type 0 where
@@ -36,6 +37,7 @@ AllAskedAlike u _ _ = ⊥
 abbrev pub AsksAlike : Option ℕ → Run → Run → Type 0
 AsksAlike u one other = AllAskedAlike u (asks u one.opening one.wishes) (asks u other.opening other.wishes)
 
--- for every user, nobody among them, and any two runs, whatever they open with and whoever else asks whatever else in them
+-- for every user, nobody among them, and any two runs, whatever they open with and whoever
+-- else asks whatever else in them
 abbrev pub HiddenBytes : Type 0
 HiddenBytes = (u : Option ℕ) (one other : Run) → AsksAlike u one other → HearsAlike u one other

@@ -1,4 +1,5 @@
--- Wishes that are judged in turns of one pass of the book's lock: between two of its turns other passes may take theirs.
+-- Wishes that are judged in turns of one pass of the book's lock: between two of its
+-- turns other passes may take theirs.
 use Rattle.std.specs.Prelude.{ℕ, ◌≡◌, ◌≤◌, ◌+◌, List, [], ◌∷◌, IsSome, MatchBool}
 use mathlib.Core.List.{IsPrefix}
 use Rattle.cr_base.specs.declared.entry.Stamped.{Stamped}
@@ -10,9 +11,9 @@ use Rattle.cr_session.specs.Replay.{JudgedWish, CountsLoss, history_after}
 abbrev pub KnownPass : Type 0
 KnownPass = Known Stamped
 
--- A wish was judged in one turn of the pass. The turn's group is what the wish adds to the history at the turn's place, and
--- nothing where that was lost. It is marked where something was lost, and elsewhere only where the keeper's count of
--- faults stands at its last value.
+-- A wish was judged in one turn of the pass. The turn's group is what the wish adds to the history at the turn's
+-- place, and nothing where that was lost. It is marked where something was lost, and elsewhere only where the keeper's
+-- count of faults stands at its last value.
 pub record TakesTurn (j : JudgedWish) (p p' : KnownPass) : Type 0 where
   -- the history at the turn's place holds all that the pass had seen
   pub saw : IsPrefix p.seen j.seen

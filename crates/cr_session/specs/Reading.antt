@@ -26,7 +26,8 @@ IsUnfinished text = StandsAt text clean ⊎ StandsAt text cut
 
 -- memory may run out in reading on: for more bytes, or for the body or the search of the request at the front
 abbrev pub MayWantToRead : List ℕ → Type 0
-MayWantToRead text = IsUnfinished text ⊎ ((w : Wish) × (rest : List ℕ) × StandsWish text w rest × LooksBehindPath w.what)
+MayWantToRead text =
+    IsUnfinished text ⊎ ((w : Wish) × (rest : List ℕ) × StandsWish text w rest × LooksBehindPath w.what)
 
 -- what the answer says of the text that came so far, and what of it is kept
 abbrev pub Says : WishRead → List ℕ → List ℕ → Type 0
@@ -55,11 +56,12 @@ IsBoundedRead reads.Cut = Unit {0}
 IsBoundedRead reads.ReadFault = Unit {0}
 IsBoundedRead (reads.OutOfMemory head) = Unit {0}
 
--- the wish of the request at hand, or memory ran out where its body or its search was looked at, told to HEAD exactly where the request
--- is one to HEAD
+-- the wish of the request at hand, or memory ran out where its body or its search was looked at, told to HEAD exactly
+-- where the request is one to HEAD
 abbrev pub IsAtHand : WishRead → Option RequestText → Type 0
 IsAtHand (reads.Wish w) request = IfSome request (λ r. w ≡ wish_text r)
-IsAtHand (reads.OutOfMemory head) request = IfSome request (λ r. (head ≡ is_head_method r.head) × LooksBehindPath (wish_text r).what)
+IsAtHand (reads.OutOfMemory head) request =
+    IfSome request (λ r. (head ≡ is_head_method r.head) × LooksBehindPath (wish_text r).what)
 IsAtHand (reads.Malformed why head) request = ⊥
 IsAtHand reads.Clean request = ⊥
 IsAtHand reads.Cut request = ⊥

@@ -1,5 +1,6 @@
 -- Replay: wishes that were judged one after another, their answers, and the history that they lead to.
-use Rattle.std.specs.Prelude.{ℕ, ◌≡◌, ◌≤◌, ◌+◌, List, [], ◌∷◌, ◌++◌, Bool, true, false, if◌then◌else◌, map, IsSome, MatchBool}
+use Rattle.std.specs.Prelude.{ℕ, ◌≡◌, ◌≤◌, ◌+◌, List, [], ◌∷◌, ◌++◌, Bool, true}
+use Rattle.std.specs.Prelude.{false, if◌then◌else◌, map, IsSome, MatchBool}
 use Rattle.cr_base.specs.History.{History}
 use Rattle.cr_book.specs.Seen.{SeenBook}
 use Rattle.cr_ports.specs.Count.{Rises}
@@ -18,7 +19,8 @@ ledger_of faults book = record { history = book.log; faults = faults book.keeper
 
 -- ---- one turn
 
--- a wish that was judged: the history at its turn, and whether what it added was lost, since the keeper failed to keep it
+-- a wish that was judged: the history at its turn, and whether what it added was lost,
+-- since the keeper failed to keep it
 pub record JudgedWish : Type 0 where
   pub wish : Wish
   pub seen : History
@@ -32,7 +34,8 @@ history_after j = if j.lost then j.seen else after_wish j.seen j.wish
 unfoldable pub answer_to : ℕ → JudgedWish → List ℕ
 answer_to n j = if j.lost then unkept j.wish (closes n j.wish) else told j.seen j.wish (closes n j.wish)
 
--- the keeper's count of faults over a turn: it rose, its last value aside, where something was lost, and stands elsewhere
+-- the keeper's count of faults over a turn: it rose, its last value aside, where something
+-- was lost, and stands elsewhere
 abbrev pub CountsLoss : Bool → ℕ → ℕ → Type 0
 CountsLoss true faults faults' = (faults ≤ faults') × Rises faults faults'
 CountsLoss false faults faults' = faults' ≡ faults

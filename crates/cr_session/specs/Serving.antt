@@ -1,5 +1,5 @@
--- What one connection did, from its first byte to its end, however its turns are taken: ConnectionInHistory where they are
--- those of a pass, and ConnectionBytes where they are all the turns that there are.
+-- What one connection did, from its first byte to its end, however its turns are taken: ConnectionInHistory where they
+-- are those of a pass, and ConnectionBytes where they are all the turns that there are.
 use Rattle.std.specs.Prelude.{◌≡◌, ◌⊎◌, ℕ, ◌+◌, ◌≤◌, length, List, [], ◌∷◌, ◌++◌, Option, Some, None, Bool}
 use Rattle.cr_base.specs.Lists.{listed}
 use Rattle.cr_ports.specs.Count.{Rises}
@@ -42,7 +42,8 @@ world_of read_faults taken write_faults state source sink = record {
 
 -- the note of it was written behind the answers, or its write broke off
 abbrev pub TellsWantOfMemory : List ℕ → Bool → Outlet → Outlet → Type 0
-TellsWantOfMemory before head s s' = Writes (before ++ no_memory_text head) s s' ⊎ BreaksOff before (no_memory_text head) s s'
+TellsWantOfMemory before head s s' =
+    Writes (before ++ no_memory_text head) s s' ⊎ BreaksOff before (no_memory_text head) s s'
 
 -- ---- by the ending
 
@@ -85,8 +86,8 @@ WritesRefusal endings.OutOfMemory why head s s' = ⊥
 
 -- ---- nothing is read ahead
 
--- the text, from request number n on, has some of these wishes whole, or none, none of them closes, and what stands behind
--- them can't be told without more bytes, or the end
+-- the text, from request number n on, has some of these wishes whole, or none, none of them closes, and what stands
+-- behind them can't be told without more bytes, or the end
 pub record WantsBehind (n : ℕ) (wishes : List Wish) (text : List ℕ) : Type 0 where
   pub first : List Wish
   pub others : List Wish
@@ -95,23 +96,27 @@ pub record WantsBehind (n : ℕ) (wishes : List Wish) (text : List ℕ) : Type 0
   pub reaches : Reaches n text first rest
   pub unsettled : IsUnsettled rest
 
--- Each read was made at a text that wants more behind wishes that were answered: so what stands behind them, a wish whose
--- answer failed and a refusal among it, wasn't settled when the last byte was asked for.
-abbrev pub ReadsNoFurther : {S : Type 0} → (S → Option (List ℕ)) → (S → S → List ℕ → Type 0) → ℕ → List JudgedWish → S → S → List ℕ → List ℕ → Type 0
-ReadsNoFurther left gives n answered source source' old new = ReadsWhile left gives (WantsBehind n (wishes_of answered)) source source' old new
+-- Each read was made at a text that wants more behind wishes that were answered: so what stands behind them, a wish
+-- whose answer failed and a refusal among it, wasn't settled when the last byte was asked for.
+abbrev pub ReadsNoFurther : {S : Type 0} → (S → Option (List ℕ)) → (S → S → List ℕ → Type 0) → ℕ → List JudgedWish → S
+    → S → List ℕ → List ℕ → Type 0
+ReadsNoFurther left gives n answered source source' old new =
+    ReadsWhile left gives (WantsBehind n (wishes_of answered)) source source' old new
 
 -- ---- a whole connection
 
--- Of turns on a state of the type B: these wishes were judged in turn from one state to the other, and memory ran out in
--- the turn of this wish.
+-- Of turns on a state of the type B: these wishes were judged in turn from one state to the other, and memory
+-- ran out in the turn of this wish.
 module _ {B : Type 0} (Judges : List JudgedWish → B → B → Type 0) (Lacks : Wish → B → B → Type 0) where
   -- memory ran out behind the answers so far: in reading what comes next, or in the turn of the wish that was read
   abbrev pub MayLackMemory : B → B → List ℕ → Type 0
-  MayLackMemory b b' rest = (MayWantToRead rest × (b' ≡ b)) ⊎ ((w : Wish) × (after : List ℕ) × StandsWish rest w after × Lacks w b b')
+  MayLackMemory b b' rest =
+      (MayWantToRead rest × (b' ≡ b)) ⊎ ((w : Wish) × (after : List ℕ) × StandsWish rest w after × Lacks w b b')
 
-  -- From request number n on, where these bytes came of this text: which wishes were answered whole, which one was judged
-  -- and its answer's write failed, and what the sink took.
-  abbrev pub EndsAs : Ending → ℕ → List ℕ → List ℕ → List JudgedWish → Option JudgedWish → B → B → Outlet → Outlet → Type 0
+  -- From request number n on, where these bytes came of this text: which wishes were answered whole, which one was
+  -- judged and its answer's write failed, and what the sink took.
+  abbrev pub EndsAs : Ending → ℕ → List ℕ → List ℕ → List JudgedWish → Option JudgedWish → B → B
+      → Outlet → Outlet → Type 0
   EndsAs ending n came text answered (Some failed) b b' s s' =
       (ending ≡ endings.WriteFault) × Begins n text (wishes_of (answered ++ failed ∷ []))
       × BreaksOff (answers n answered) (answer_to (n + length answered) failed) s s'
@@ -122,7 +127,8 @@ module _ {B : Type 0} (Judges : List JudgedWish → B → B → Type 0) (Lacks :
   EndsAs (endings.Closed whys.Asked) n came text answered None b b' s s' =
       Spells n text (wishes_of answered) asked × Writes (answers n answered) s s'
   EndsAs (endings.Closed (whys.Refused why)) n came text answered None b b' s s' =
-      (head : Bool) × Spells n text (wishes_of answered) (closed why head) × Writes (answers n answered ++ closing_text why head) s s'
+      (head : Bool) × Spells n text (wishes_of answered) (closed why head)
+      × Writes (answers n answered ++ closing_text why head) s s'
   EndsAs endings.ReadFault n came text answered None b b' s s' =
       (Spells n came (wishes_of answered) ended_clean ⊎ Spells n came (wishes_of answered) ended_cut)
       × Writes (answers n answered) s s'
@@ -134,7 +140,8 @@ module _ {B : Type 0} (Judges : List JudgedWish → B → B → Type 0) (Lacks :
       × (head : Bool) × IsToHead rest head × TellsWantOfMemory (answers n answered) head s s'
 
   -- A connection from request number n on, with these bytes in the inbox, up to its ending.
-  pub record Connection {S : Type 0} (left : S → Option (List ℕ)) (gives : S → S → List ℕ → Type 0) (ending : Ending) (n : ℕ) (inbox : List ℕ)
+  pub record Connection {S : Type 0} (left : S → Option (List ℕ)) (gives : S → S → List ℕ → Type 0)
+      (ending : Ending) (n : ℕ) (inbox : List ℕ)
       (w w' : World B S) : Type 0 where
     -- the bytes that the source gave
     pub got : List ℕ
@@ -152,7 +159,8 @@ module _ {B : Type 0} (Judges : List JudgedWish → B → B → Type 0) (Lacks :
     pub needed : ReadsNoFurther left gives n answered w.source w'.source inbox (inbox ++ got)
 
   -- The same up to a request that doesn't close, behind so many requests.
-  pub record GoesOn {S : Type 0} (left : S → Option (List ℕ)) (gives : S → S → List ℕ → Type 0) (count n : ℕ) (inbox inbox' : List ℕ)
+  pub record GoesOn {S : Type 0} (left : S → Option (List ℕ)) (gives : S → S → List ℕ → Type 0)
+      (count n : ℕ) (inbox inbox' : List ℕ)
       (w w' : World B S) : Type 0 where
     pub got : List ℕ
     pub given : left w.source ≡ and_left got (left w'.source)
@@ -165,7 +173,8 @@ module _ {B : Type 0} (Judges : List JudgedWish → B → B → Type 0) (Lacks :
     pub needed : ReadsNoFurther left gives n answered w.source w'.source inbox (inbox ++ got)
 
   -- A connection over a source that had this text left: what came of it, and what is left.
-  pub record WholeText {S : Type 0} (left : S → Option (List ℕ)) (ending : Ending) (b : List ℕ) (w w' : World B S) : Type 0 where
+  pub record WholeText {S : Type 0} (left : S → Option (List ℕ)) (ending : Ending) (b : List ℕ)
+      (w w' : World B S) : Type 0 where
     pub came : List ℕ
     pub rest : List ℕ
     pub parts : b ≡ came ++ rest
@@ -180,21 +189,26 @@ module _ {B : Type 0} (Judges : List JudgedWish → B → B → Type 0) (Lacks :
 
 -- ---- the turns of a pass: between them others may take theirs
 
-abbrev pub ConnectionInHistory : {S : Type 0} → (S → Option (List ℕ)) → (S → S → List ℕ → Type 0) → Ending → ℕ → List ℕ → World KnownPass S → World KnownPass S
+abbrev pub ConnectionInHistory : {S : Type 0} → (S → Option (List ℕ)) → (S → S → List ℕ → Type 0) → Ending → ℕ → List ℕ
+    → World KnownPass S → World KnownPass S
     → Type 0
 ConnectionInHistory left gives ending n inbox w w' = Connection TakesTurns TurnsInVain left gives ending n inbox w w'
 
 -- the same of the whole text that the source had left
-abbrev pub WholeInHistory : {S : Type 0} → (S → Option (List ℕ)) → Ending → List ℕ → World KnownPass S → World KnownPass S → Type 0
+abbrev pub WholeInHistory : {S : Type 0} → (S → Option (List ℕ)) → Ending → List ℕ → World KnownPass S
+    → World KnownPass S → Type 0
 WholeInHistory left ending b w w' = WholeText TakesTurns TurnsInVain left ending b w w'
 
 -- up to a request that doesn't close
-abbrev pub GoesOnInHistory : {S : Type 0} → (S → Option (List ℕ)) → (S → S → List ℕ → Type 0) → ℕ → ℕ → List ℕ → List ℕ → World KnownPass S → World KnownPass S
+abbrev pub GoesOnInHistory : {S : Type 0} → (S → Option (List ℕ)) → (S → S → List ℕ → Type 0) → ℕ → ℕ → List ℕ → List ℕ
+    → World KnownPass S → World KnownPass S
     → Type 0
-GoesOnInHistory left gives count n inbox inbox' w w' = GoesOn TakesTurns TurnsInVain left gives count n inbox inbox' w w'
+GoesOnInHistory left gives count n inbox inbox' w w' =
+    GoesOn TakesTurns TurnsInVain left gives count n inbox inbox' w w'
 
 -- what one round of the loop did
-abbrev pub OneRound : {S : Type 0} → (S → Option (List ℕ)) → (S → S → List ℕ → Type 0) → Option Ending → ℕ → List ℕ → List ℕ → World KnownPass S
+abbrev pub OneRound : {S : Type 0} → (S → Option (List ℕ)) → (S → S → List ℕ → Type 0) → Option Ending → ℕ → List ℕ
+    → List ℕ → World KnownPass S
     → World KnownPass S → Type 0
 OneRound left gives None n inbox inbox' w w' = GoesOnInHistory left gives 1 n inbox inbox' w w'
 OneRound left gives (Some ending) n inbox inbox' w w' = ConnectionInHistory left gives ending n inbox w w'
@@ -205,8 +219,10 @@ OneRound left gives (Some ending) n inbox inbox' w w' = ConnectionInHistory left
 abbrev pub StaysInVain : Wish → Ledger → Ledger → Type 0
 StaysInVain w b b' = (b' ≡ b) × MayWantMemory b.history w
 
-abbrev pub ConnectionBytes : {S : Type 0} → (S → Option (List ℕ)) → (S → S → List ℕ → Type 0) → Ending → ℕ → List ℕ → World Ledger S → World Ledger S → Type 0
+abbrev pub ConnectionBytes : {S : Type 0} → (S → Option (List ℕ)) → (S → S → List ℕ → Type 0) → Ending → ℕ → List ℕ
+    → World Ledger S → World Ledger S → Type 0
 ConnectionBytes left gives ending n inbox w w' = Connection Replays StaysInVain left gives ending n inbox w w'
 
-abbrev pub WholeBytes : {S : Type 0} → (S → Option (List ℕ)) → Ending → List ℕ → World Ledger S → World Ledger S → Type 0
+abbrev pub WholeBytes : {S : Type 0} → (S → Option (List ℕ)) → Ending → List ℕ → World Ledger S
+    → World Ledger S → Type 0
 WholeBytes left ending b w w' = WholeText Replays StaysInVain left ending b w w'

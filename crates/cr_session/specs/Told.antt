@@ -59,7 +59,8 @@ served_to u V sending (Query query) = reply_text (answer u V query) sending
 -- the answer's bytes to what a caller wishes: whoever can't be told from nobody is answered one and the same, where a
 -- login is wanted
 abbrev pub told_to : Option ℕ → View → Sending → What → List ℕ
-told_to u V sending what = if is_unauthorized u V what then refusal_text refused.Unauthorized sending else served_to u V sending what
+told_to u V sending what =
+    if is_unauthorized u V what then refusal_text refused.Unauthorized sending else served_to u V sending what
 
 -- the answer's bytes to a wish, computed from its caller's view
 unfoldable pub told : History → Wish → Bool → List ℕ

@@ -1,6 +1,7 @@
 -- What one turn and one request do.
 use mathlib.Core.List.{IsPrefix}
-use Rattle.std.specs.Prelude.{◌≡◌, ◌≢◌, ℕ, List, [], ◌++◌, Bool, true, false, Option, Some, None, IsSome, Result, Ok, Err, IsOk}
+use Rattle.std.specs.Prelude.{◌≡◌, ◌≢◌, ℕ, List, [], ◌++◌, Bool, true, false}
+use Rattle.std.specs.Prelude.{Option, Some, None, IsSome, Result, Ok, Err, IsOk}
 use Rattle.cr_base.specs.declared.bulk.Broken.{Broken}
 use Rattle.cr_base.specs.declared.bulk.Broken.TheVariants as broken
 use Rattle.cr_base.specs.declared.bulk.BulkRow.{BulkRow}
@@ -54,8 +55,8 @@ abbrev pub turn_block : TurnResult → Sending → List ℕ
 turn_block (turns.Answered reply) sending = block_text sending reply
 turn_block turn sending = []
 
--- memory may run out in the turn of what a caller wishes on her view: for a command or a bulk that Judge accepts, and for a query
--- that Answer doesn't refuse
+-- memory may run out in the turn of what a caller wishes on her view: for a command or a bulk that Judge accepts, and
+-- for a query that Answer doesn't refuse
 abbrev pub WantsRoom : Option ℕ → View → What → Type 0
 WantsRoom u V whats.NoRoute = ⊥
 WantsRoom u V (whats.WrongMethod resource) = ⊥
@@ -82,7 +83,8 @@ pub record AnswersWish (turn : TurnResult) (w : Wish) (b b' : Ledger) : Type 0 w
 abbrev pub Turns : TurnResult → Wish → Ledger → Ledger → Type 0
 Turns (turns.Refused refused) w b b' = AnswersWish (turns.Refused refused) w b b'
 Turns (turns.Accepted receipt) w b b' = AnswersWish (turns.Accepted receipt) w b b'
-Turns (turns.Answered reply) w b b' = AnswersWish (turns.Answered reply) w b b' × (b' ≡ b) × ((IsBrief reply → ⊥) → MayWantMemory b.history w)
+Turns (turns.Answered reply) w b b' =
+    AnswersWish (turns.Answered reply) w b b' × (b' ≡ b) × ((IsBrief reply → ⊥) → MayWantMemory b.history w)
 Turns turns.Lost w b b' = IsSome (drawn b.history w) × (b'.history ≡ b.history) × CountsLoss true b.faults b'.faults
 Turns turns.OutOfMemory w b b' = (b' ≡ b) × MayWantMemory b.history w
 
@@ -166,7 +168,9 @@ pub record TurnsInVain (w : Wish) (p p' : KnownPass) : Type 0 where
 -- what one request did, as number n: it was judged once and answered once, or its answer's write failed, or memory was
 -- wanting where it may be, and then nothing was added or written
 abbrev pub ServesRequest : RequestOutcome → ℕ → Wish → KnownPass → KnownPass → Outlet → Outlet → Type 0
-ServesRequest served.Goes n w p p' s s' = (j : JudgesInTurn w p p') × (closes n w ≡ false) × Writes (answer_to n j.judged) s s'
-ServesRequest served.Closes n w p p' s s' = (j : JudgesInTurn w p p') × (closes n w ≡ true) × Writes (answer_to n j.judged) s s'
+ServesRequest served.Goes n w p p' s s' =
+    (j : JudgesInTurn w p p') × (closes n w ≡ false) × Writes (answer_to n j.judged) s s'
+ServesRequest served.Closes n w p p' s s' =
+    (j : JudgesInTurn w p p') × (closes n w ≡ true) × Writes (answer_to n j.judged) s s'
 ServesRequest served.WriteFault n w p p' s s' = (j : JudgesInTurn w p p') × BreaksOff [] (answer_to n j.judged) s s'
 ServesRequest served.OutOfMemory n w p p' s s' = (s' ≡ s) × TurnsInVain w p p'

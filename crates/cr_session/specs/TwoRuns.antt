@@ -13,8 +13,8 @@ pub record WishInTurn : Type 0 where
   pub wish : Wish
   pub closes : Bool
 
--- a run: the history that it opens with, and then what is asked, by whomever and on whichever connection, where nothing
--- that Judge accepts is lost
+-- a run: the history that it opens with, and then what is asked, by whomever and on whichever connection, where
+-- nothing that Judge accepts is lost
 pub record Run : Type 0 where
   pub opening : History
   pub wishes : List WishInTurn
@@ -40,7 +40,8 @@ is_hers u H w = is_same u (caller H w)
 abbrev pub meets : Option ℕ → History → List WishInTurn → List Moment
 meets u H [] = []
 meets u H (w ∷ ws) =
-    given (is_hers u H w.wish) (record { seen = view u H; wish = w.wish; closes = w.closes }) ++ meets u (after_wish H w.wish) ws
+    given (is_hers u H w.wish) (record { seen = view u H; wish = w.wish; closes = w.closes })
+    ++ meets u (after_wish H w.wish) ws
 
 -- what she is answered from this history on
 abbrev pub hears : Option ℕ → History → List WishInTurn → List (List ℕ)

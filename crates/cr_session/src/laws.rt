@@ -14,10 +14,10 @@ pub fn law_two_runs()
     ensures { TwoRuns }
 {}
 
-/// Two runs in which a user wishes the same agree in every byte that she is answered where, at each of her wishes, what was done before
-/// differs only in what she isn't shown: where the histories meet the four conditions of cr_policy's `law_hidden_payload`, or one is
-/// the other without entries that show her nothing, or they come to be alike in several such steps. Whoever else may ask whatever
-/// else.
+/// Two runs in which a user wishes the same agree in every byte that she is answered where, at each of her wishes,
+/// what was done before differs only in what she isn't shown: where the histories meet the four conditions of
+/// cr_policy's `law_hidden_payload`, or one is the other without entries that show her nothing, or they come to be
+/// alike in several such steps. Whoever else may ask whatever else.
 pub fn law_hidden_bytes()
     ensures { HiddenBytes }
 {}
@@ -33,5 +33,6 @@ pub fn law_counted_faults()
 
 /// Over any turns of a pass at most as many commands are lost as the pass has marks more.
 pub fn law_marked_losses()
-    ensures { (judged : List JudgedWish) (p p' : KnownPass) → TakesTurns judged p p' → marks p.mine + lost_count judged ≤ marks p'.mine }
+    ensures { (judged : List JudgedWish) (p p' : KnownPass) → TakesTurns judged p p'
+        → marks p.mine + lost_count judged ≤ marks p'.mine }
 {}

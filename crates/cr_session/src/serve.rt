@@ -4,7 +4,8 @@ ghost use Rattle.cr_ports.specs.Count.{Rises};
 ghost use Rattle.cr_wire.specs.Bounds.{IsBoundedWhat};
 ghost use Rattle.cr_wire.specs.Wishes.{closes};
 ghost use Rattle.cr_session.specs.Passing.{StaysPass};
-ghost use Rattle.cr_session.specs.Serving.{ConnectionInHistory, TellsWantOfMemory, WritesRefusal, OneRound, WholeInHistory, world_of};
+ghost use Rattle.cr_session.specs.Serving.{ConnectionInHistory, TellsWantOfMemory};
+ghost use Rattle.cr_session.specs.Serving.{WritesRefusal, OneRound, WholeInHistory, world_of};
 ghost use Rattle.cr_session.specs.Turning.{Sends, ServesRequest};
 ghost use Rattle.cr_ports.specs.Writing.{outlet_of};
 
@@ -82,7 +83,8 @@ fn serve_request<R: Wait, K: Keeper, O: Sink>(
     requires few { pass.old.turns < 2 ^ 40 }
     requires bounded { IsBoundedWhat wish.what }
     requires room { 512 ≤ vec_capacity reply.old }
-    ensures serves { ServesRequest result number wish pass.old pass.new (outlet_of O.taken O.faults sink.old) (outlet_of O.taken O.faults sink.new) }
+    ensures serves { ServesRequest result number wish pass.old pass.new (outlet_of O.taken O.faults sink.old)
+        (outlet_of O.taken O.faults sink.new) }
     ensures pass { StaysPass 1 pass.old pass.new }
     ensures room { 512 ≤ vec_capacity reply.new }
 {
@@ -104,7 +106,8 @@ fn serve_request<R: Wait, K: Keeper, O: Sink>(
 
 /// Writes an answer: what was printed of it, and what stands behind that, which isn't copied.
 fn send<O: Sink>(sink: &mut O, front: &[u8], block: &[u8], close: bool) -> RequestOutcome
-    ensures { Sends result close (front.now ++ block.now) (outlet_of O.taken O.faults sink.old) (outlet_of O.taken O.faults sink.new) }
+    ensures { Sends result close (front.now ++ block.now) (outlet_of O.taken O.faults sink.old)
+        (outlet_of O.taken O.faults sink.new) }
 {
     sink.begin_answer();
     match write_all(sink, front) {
@@ -121,7 +124,8 @@ fn send<O: Sink>(sink: &mut O, front: &[u8], block: &[u8], close: bool) -> Reque
 /// Writes the answer to what is no request, in room that was made when the connection began.
 fn refuse<O: Sink>(sink: &mut O, reply: &mut Vec<u8>, why: Refusal, is_head: bool) -> Ending
     requires { 512 ≤ vec_capacity reply.old }
-    ensures refuses { WritesRefusal result why is_head (outlet_of O.taken O.faults sink.old) (outlet_of O.taken O.faults sink.new) }
+    ensures refuses { WritesRefusal result why is_head (outlet_of O.taken O.faults sink.old)
+        (outlet_of O.taken O.faults sink.new) }
     ensures room { 512 ≤ vec_capacity reply.new }
 {
     reply.clear();
@@ -139,7 +143,8 @@ fn refuse<O: Sink>(sink: &mut O, reply: &mut Vec<u8>, why: Refusal, is_head: boo
 
 /// Writes that memory ran out, as far as the sink takes it, and tells that the connection ended so. Takes no memory.
 pub fn note_no_memory<O: Sink>(sink: &mut O, is_head: bool) -> Ending
-    ensures notes { TellsWantOfMemory [] is_head (outlet_of O.taken O.faults sink.old) (outlet_of O.taken O.faults sink.new) }
+    ensures notes { TellsWantOfMemory [] is_head (outlet_of O.taken O.faults sink.old)
+        (outlet_of O.taken O.faults sink.new) }
     ensures ending { result ≡ Ending.OutOfMemory }
 {
     sink.begin_answer();
@@ -163,7 +168,8 @@ fn serve_next_request<R: Wait, K: Keeper, S: Source, O: Sink>(
     requires few { pass.old.turns < 2 ^ 40 }
     requires room { 512 ≤ vec_capacity reply.old }
     ensures round { let world = world_of S.faults O.taken O.faults in
-        OneRound S.left S.read_gives result number inbox.old inbox.new (world pass.old source.old sink.old) (world pass.new source.new sink.new) }
+        OneRound S.left S.read_gives result number inbox.old inbox.new (world pass.old source.old sink.old)
+        (world pass.new source.new sink.new) }
     ensures pass { StaysPass 1 pass.old pass.new }
     ensures room { 512 ≤ vec_capacity reply.new }
 {
@@ -185,13 +191,13 @@ fn serve_next_request<R: Wait, K: Keeper, S: Source, O: Sink>(
     }
 }
 
-/// Serves a connection to its end: reads requests from the source, judges each in one turn of the lock, and writes each
-/// answer to the sink before the next request is read. Reading and writing are outside of the turns, in which other
-/// passes take theirs.
+/// Serves a connection to its end: reads requests from the source, judges each in one turn of the lock, and
+/// writes each answer to the sink before the next request is read. Reading and writing are outside of the turns,
+/// in which other passes take theirs.
 ///
-/// Each answer is the one that is told on the history at its turn's place, which holds all that the pass had seen; what an
-/// accepted command adds stands there once. 503 comes only at a turn that is marked, for an accepted command or bulk, which then
-/// adds nothing. The pass takes one turn a request, at most 1,048,576, and no other.
+/// Each answer is the one that is told on the history at its turn's place, which holds all that the pass had seen;
+/// what an accepted command adds stands there once. 503 comes only at a turn that is marked, for an accepted command
+/// or bulk, which then adds nothing. The pass takes one turn a request, at most 1,048,576, and no other.
 ///
 /// Each ending's cause is in the contract: `Clean`, `Cut` and `Closed` exactly by what the bytes spell,
 /// `ReadFault` and `WriteFault` only where that count of faults rose, or stands at its last value, and no
@@ -212,7 +218,8 @@ pub fn serve_connection<R: Wait, K: Keeper, S: Source, O: Sink>(
     requires own { pass.old.lock ≡ lock.now.lock }
     requires few { pass.old.turns ≤ 2 ^ 40 - 2 ^ 20 }
     ensures connection { let world = world_of S.faults O.taken O.faults in
-        ConnectionInHistory S.left S.read_gives result 0 [] (world pass.old source.old sink.old) (world pass.new source.new sink.new) }
+        ConnectionInHistory S.left S.read_gives result 0 [] (world pass.old source.old sink.old)
+        (world pass.new source.new sink.new) }
 
     // The same of the whole text that the source had left.
     ensures whole { let world = world_of S.faults O.taken O.faults in

@@ -11,7 +11,8 @@ ghost use Rattle.cr_wire.specs.Bounds.{IsBoundedWhat};
 ghost use Rattle.cr_wire.specs.Caller.{caller};
 ghost use Rattle.cr_session.specs.Replay.{Ledger, ledger_of};
 ghost use Rattle.cr_session.specs.Told.{as_bulk, is_unauthorized};
-ghost use Rattle.cr_session.specs.Turning.{Turns, IsBulkCaller, ChangesBook, AnswersQuery, refused_for, turn_block, turn_front, MayWantToPrint};
+ghost use Rattle.cr_session.specs.Turning.{Turns, IsBulkCaller, ChangesBook, AnswersQuery};
+ghost use Rattle.cr_session.specs.Turning.{refused_for, turn_block, turn_front, MayWantToPrint};
 
 use cr_base::{Broken, BulkRows, Command, Query, Receipt, Reply, UserNo};
 use cr_book::{AnswerError, Book, BookError};
@@ -56,9 +57,9 @@ pub(crate) fn in_turn<R: Wait, K: Keeper>(
     lock.turn(rt, pass, |book: &mut Book<K>| take_turn(book, wish))
 }
 
-/// Judges or answers a wish. Takes no memory on a refusal: `TurnResult::OutOfMemory` comes only for a command or a bulk
-/// that is accepted and for a query that isn't refused, and then nothing changed. Who calls is asked first, by one look-up
-/// by name; whoever can't be told from nobody is refused alike where a login is wanted.
+/// Judges or answers a wish. Takes no memory on a refusal: `TurnResult::OutOfMemory` comes only for a command or a
+/// bulk that is accepted and for a query that isn't refused, and then nothing changed. Who calls is asked first, by
+/// one look-up by name; whoever can't be told from nobody is refused alike where a login is wanted.
 pub(crate) fn take_turn<K: Keeper>(book: &mut Book<K>, wish: Wish) -> TurnResult
     requires { IsBoundedWhat wish.what }
     ensures { Turns result wish (ledger_of K.faults book.old) (ledger_of K.faults book.new) }
@@ -79,7 +80,8 @@ pub(crate) fn take_turn<K: Keeper>(book: &mut Book<K>, wish: Wish) -> TurnResult
     }
 }
 
-/// Whether nobody wishes what wants a login; the book tells of the page and the content of a paper whether it is published.
+/// Whether nobody wishes what wants a login; the book tells of the page and the content of a
+/// paper whether it is published.
 fn is_unauthorized<K: Keeper>(book: &Book<K>, caller: &Option<UserNo>, what: &What) -> bool
     ensures { result ≡ is_unauthorized caller.now (view caller.now book.now.log) what.now }
 {
@@ -104,7 +106,8 @@ fn caller_of<K: Keeper>(book: &Book<K>, wish: &Wish) -> Option<UserNo>
 /// Judges a command.
 fn judge<K: Keeper>(book: &mut Book<K>, caller: &Option<UserNo>, command: Command) -> TurnResult
     requires { IsAllowed book.old.log (record { caller = caller.now; command = command }) }
-    ensures { ChangesBook K.faults result (as_bulk (judge caller.now (view caller.now book.old.log) command)) book.old book.new }
+    ensures { ChangesBook K.faults result
+        (as_bulk (judge caller.now (view caller.now book.old.log) command)) book.old book.new }
 {
     match book.command(caller, command) {
         Ok(receipt) => TurnResult::Accepted(receipt),
@@ -117,7 +120,8 @@ fn judge<K: Keeper>(book: &mut Book<K>, caller: &Option<UserNo>, command: Comman
 /// Judges a bulk, of which a registered user is the caller.
 fn judge_bulk<K: Keeper>(book: &mut Book<K>, caller: &Option<UserNo>, rows: BulkRows) -> TurnResult
     requires { IsBulkCaller book.old.log caller.now rows }
-    ensures { ChangesBook K.faults result (judge_bulk (maker_of caller.now) (view caller.now book.old.log) rows) book.old book.new }
+    ensures { ChangesBook K.faults result
+        (judge_bulk (maker_of caller.now) (view caller.now book.old.log) rows) book.old book.new }
 {
     match caller {
         Some(user) => judge_rows(book, *user, rows),
@@ -160,8 +164,8 @@ fn answer<K: Keeper>(book: &Book<K>, caller: &Option<UserNo>, query: &Query) -> 
     }
 }
 
-/// Appends the answer to what a turn came to, but for what `block_of` lends: only a query's answer may want more memory than
-/// the room that was made before, and none of those that are bounded. The room never gets smaller.
+/// Appends the answer to what a turn came to, but for what `block_of` lends: only a query's answer may want more
+/// memory than the room that was made before, and none of those that are bounded. The room never gets smaller.
 pub(crate) fn print_turn(
     reply: &mut Vec<u8>,
     turn: &TurnResult,

@@ -12,7 +12,9 @@ is_done_for position by = position.first && is_clear_chair by
 
 -- a clear member from the discussion, of the last before the discussion and of all later ones
 abbrev pub is_discussed_by : Position → Standing → Bool
-is_discussed_by position by = (position.last_before_discussion || position.from_discussion) && (is_clear_member by && is_from Discussion by.phase)
+is_discussed_by position by =
+    (position.last_before_discussion || position.from_discussion)
+    && (is_clear_member by && is_from Discussion by.phase)
 
 -- an author from the notification, of the last
 abbrev pub is_for_author : Position → Standing → Bool

@@ -10,10 +10,12 @@ use Rattle.cr_sights.specs.Series.{AreLast}
 
 -- the entry at this place stands so
 abbrev pub IsPositionIn : History → ℕ → Position → Type 0
-IsPositionIn H at position = IfSome (slice_get H at) (λ (e : Stamped). position_of (record { before = take at H; after = drop (at + 1) H }) e.entry ≡ position)
+IsPositionIn H at position =
+    IfSome (slice_get H at)
+    (λ (e : Stamped). position_of (record { before = take at H; after = drop (at + 1) H }) e.entry ≡ position)
 
--- What is noted when the entries up to a place were passed: the last places of each series among those, in the whole history, and
--- among the entries that stand before the discussion was opened, and how many these are.
+-- What is noted when the entries up to a place were passed: the last places of each series among those, in the whole
+-- history, and among the entries that stand before the discussion was opened, and how many these are.
 pub record AreNoted (positions : Positions) (H : History) (at : ℕ) : Type 0 where
   pub passed : AreLast positions.passed.places.items (take at H)
   pub all : AreLast positions.all.places.items H

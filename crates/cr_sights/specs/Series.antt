@@ -1,6 +1,8 @@
--- Series: what several entries may give a paper, one after another. They are numbered, 29 for each paper: at index 0 stand its
--- texts, at 27 its content, at 28 the decisions on it, and between the first two the forms under the label of this ordinal.
-use Rattle.std.specs.Prelude.{◌≡◌, ℕ, ◌+◌, ◌/◌, ◌%◌, ◌==◌, ◌&&◌, nat_le, Bool, true, false, not, List, [], ◌∷◌, Option, Some, None, if◌then◌else◌, slice_index}
+-- Series: what several entries may give a paper, one after another. They are numbered, 29 for each paper: at
+-- index 0 stand its texts, at 27 its content, at 28 the decisions on it, and between the first two the forms
+-- under the label of this ordinal.
+use Rattle.std.specs.Prelude.{◌≡◌, ℕ, ◌+◌, ◌/◌, ◌%◌, ◌==◌, ◌&&◌, nat_le, Bool, true, false, not}
+use Rattle.std.specs.Prelude.{List, [], ◌∷◌, Option, Some, None, if◌then◌else◌, slice_index}
 use Rattle.std.specs.List.{list_any}
 use Rattle.cr_base.specs.declared.entry.Entry.{Entry}
 use Rattle.cr_base.specs.declared.entry.Entry.TheVariants.{Submitted, Revised, Uploaded, Reviewed, Decided}

@@ -40,13 +40,14 @@ fn shows_decision(by: &Standing, is_last: bool, mine: bool) -> bool
 /// Whether she is told of a decision: who is shown what was decided is, and of the last on an accepted paper everyone.
 fn tells_decision(by: &Standing, is_last: bool, accepted: bool, mine: bool) -> bool
     ensures { result ≡ ((is_clear_member by.now && is_from phases.Discussion by.now.phase)
-        || ((is_last && by.now.author && is_from phases.Notification by.now.phase) || ((is_last && accepted) || mine))) }
+        || ((is_last && by.now.author && is_from phases.Notification by.now.phase)
+        || ((is_last && accepted) || mine))) }
 {
     shows_decision(by, is_last, mine) || is_announced(is_last, accepted)
 }
 
-/// What a decision shows her: its paper, what was decided where she may know that, and that it is what became of her paper,
-/// or that the paper is accepted, where it is so; or nothing where she isn't told of it.
+/// What a decision shows her: its paper, what was decided where she may know that, and that it is what became of her
+/// paper, or that the paper is accepted, where it is so; or nothing where she isn't told of it.
 pub(crate) fn decision<'a>(
     live: &Live,
     reader: UserNo,

@@ -1,7 +1,7 @@
 //! What a user sees of a history, entry by entry, found in the tables: no view is made in memory.
 //!
-//! `sight` gives what one entry shows, by the tables and by where it stands among those of its series; `write_view` writes
-//! it line by line, `view_len` counts the lines.
+//! `sight` gives what one entry shows, by the tables and by where it stands among those of its series; `write_view`
+//! writes it line by line, `view_len` counts the lines.
 #![tactic(auto)]
 
 mod asked;

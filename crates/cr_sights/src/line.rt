@@ -45,7 +45,8 @@ fn by_told<'a>(sighting: &'a Sighting) -> Option<&'a UserNo>
 
 /// Writes the members up to `decision`.
 fn add_first(object: &mut Object, into: &mut Vec<u8>, sighting: &Sighting) -> Result<(), AllocError>
-    ensures { AddsMembers result into.old into.new object.old.is_first object.new.is_first (first_members sighting.now) }
+    ensures { AddsMembers result into.old into.new object.old.is_first object.new.is_first
+        (first_members sighting.now) }
 {
     add(object, into, "abstract", sighting.abstract_)?;
     object.truth(into, "accepted", sighting.accepted)?;
@@ -62,7 +63,8 @@ fn add_second(
     into: &mut Vec<u8>,
     sighting: &Sighting,
 ) -> Result<(), AllocError>
-    ensures { AddsMembers result into.old into.new object.old.is_first object.new.is_first (second_members sighting.now) }
+    ensures { AddsMembers result into.old into.new object.old.is_first object.new.is_first
+        (second_members sighting.now) }
 {
     add(object, into, "digest", sighting.digest)?;
     object.truth(into, "done", sighting.done)?;
@@ -75,7 +77,8 @@ fn add_second(
 
 /// Writes the members from `name` to `phase`.
 fn add_third(object: &mut Object, into: &mut Vec<u8>, sighting: &Sighting) -> Result<(), AllocError>
-    ensures { AddsMembers result into.old into.new object.old.is_first object.new.is_first (third_members sighting.now) }
+    ensures { AddsMembers result into.old into.new object.old.is_first object.new.is_first
+        (third_members sighting.now) }
 {
     add(object, into, "name", sighting.name)?;
     object.truth(into, "on", sighting.on)?;
@@ -92,7 +95,8 @@ fn add_fourth(
     into: &mut Vec<u8>,
     sighting: &Sighting,
 ) -> Result<(), AllocError>
-    ensures { AddsMembers result into.old into.new object.old.is_first object.new.is_first (fourth_members sighting.now) }
+    ensures { AddsMembers result into.old into.new object.old.is_first object.new.is_first
+        (fourth_members sighting.now) }
 {
     add(object, into, "role", sighting.role.as_ref())?;
     add(object, into, "score", sighting.score.as_ref())?;
@@ -105,7 +109,8 @@ fn add_fourth(
 
 /// Writes the members from `to_authors` on.
 fn add_last(object: &mut Object, into: &mut Vec<u8>, sighting: &Sighting) -> Result<(), AllocError>
-    ensures { AddsMembers result into.old into.new object.old.is_first object.new.is_first (last_members sighting.now) }
+    ensures { AddsMembers result into.old into.new object.old.is_first object.new.is_first
+        (last_members sighting.now) }
 {
     add(object, into, "to_authors", sighting.to_authors)?;
     add(object, into, "to_pc", sighting.to_pc)?;

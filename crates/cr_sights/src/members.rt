@@ -19,7 +19,8 @@ pub(crate) trait Part {
 
     /// Writes it as the member of a key; an error only for lack of memory.
     fn write(&self, object: &mut Object, into: &mut Vec<u8>, key: &str) -> Result<(), AllocError>
-        ensures { AddsMembers result into.old into.new object.old.is_first object.new.is_first (member_of key.now (Some (text self.now))) };
+        ensures { AddsMembers result into.old into.new object.old.is_first object.new.is_first
+            (member_of key.now (Some (text self.now))) };
 }
 
 /// Writes a part as the member of a key, where it is shown; an error only for lack of memory.

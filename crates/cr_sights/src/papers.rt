@@ -8,7 +8,8 @@ ghost use Rattle.cr_base.specs.Words.{is_member};
 ghost use Rattle.cr_base.specs.declared.words.Phase.TheVariants as phases;
 ghost use Rattle.cr_base.specs.declared.entry.EntryKind.TheVariants as kinds;
 ghost use Rattle.cr_base.specs.Rows.{kind_of};
-ghost use Rattle.cr_policy.specs.Triggers.{Around, authors, members, none_alike, published, standing_to, unless_anonymous, user_named};
+ghost use Rattle.cr_policy.specs.Triggers.{Around, authors, members, none_alike, published};
+ghost use Rattle.cr_policy.specs.Triggers.{standing_to, unless_anonymous, user_named};
 ghost use Rattle.cr_policy.specs.View.{sight as sight_at};
 ghost use Rattle.cr_sights.specs.Readers.{reader_in};
 
@@ -21,7 +22,8 @@ use cr_view::Live;
 /// Whether she is shown the title of a submission or a revision.
 fn shows_title(by: &Standing, mine: bool, is_last: bool, accepted: bool) -> bool
     ensures { result ≡ (by.now.author
-        || ((is_last && is_member by.now.role && is_from phases.Bidding by.now.phase) || ((is_last && accepted) || mine))) }
+        || ((is_last && is_member by.now.role && is_from phases.Bidding by.now.phase)
+        || ((is_last && accepted) || mine))) }
 {
     by.author || is_last && by.role.is_member() && is_bidding(by) || is_last && accepted || mine
 }
@@ -64,7 +66,8 @@ fn tells_revision(live: &Live, reader: UserNo, maker: UserNo, is_last: bool, pap
 /// the bidding, and everyone, where the paper is published.
 fn tells_upload(live: &Live, reader: UserNo, maker: UserNo, is_last: bool, paper: PaperNo) -> bool
     ensures { let r = reader_in live.now.tables (Some reader) in
-        result ≡ (authors r paper || ((is_last && is_clear_member (standing_to r paper) && is_from phases.Bidding r.now)
+        result
+        ≡ (authors r paper || ((is_last && is_clear_member (standing_to r paper) && is_from phases.Bidding r.now)
         || ((is_last && published r paper) || user_named r maker))) }
 {
     let by = live.standing(&Some(reader), &Some(paper));

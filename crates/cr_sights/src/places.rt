@@ -7,9 +7,10 @@ use crate::series::series;
 use cr_base::Stamped;
 use std::alloc::{AllocError, Global};
 
-/// At which place the last entry of each series stands among some entries, counted from 1, by the number of the series;
-/// 0 where no entry is of it, as past the end. It takes 232 bytes for each number of a paper up to the greatest one, so
-/// 2.3 MB for 9,999 papers, and up to twice that as it grows.
+/// At which place the last entry of each series stands among some entries, counted from
+/// 1, by the number of the series;
+/// 0 where no entry is of it, as past the end. It takes 232 bytes for each number of a paper up to the greatest one,
+/// so 2.3 MB for 9,999 papers, and up to twice that as it grows.
 #[derive(Drop)]
 pub(crate) struct Places {
     places: Vec<usize>,
@@ -52,8 +53,8 @@ impl Places {
         Ok(())
     }
 
-    /// Whether the last entry of a series stands at this place, or for 0 whether there is none; true where the series is
-    /// none.
+    /// Whether the last entry of a series stands at this place, or for 0 whether there is none;
+    /// true where the series is none.
     pub(crate) fn is_last_at(&self, series: &Option<u32>, place: usize) -> bool
         ensures { result ≡ is_last_at self.now.places.items series.now place }
     {

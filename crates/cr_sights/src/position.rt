@@ -1,8 +1,8 @@
 //! Where an entry stands among those of its series.
 use std::marker::Model;
 
-/// Where an entry stands among those of its series: a paper's texts, its content, the forms under one of its labels, or the
-/// decisions on it.
+/// Where an entry stands among those of its series: a paper's texts, its content, the forms under one of its
+/// labels, or the decisions on it.
 /// An entry of any other kind is the first and the last of its own.
 ///
 /// Contracts see it as the trigger table asks for it.

@@ -43,8 +43,8 @@ fn shows_all(by: &Standing, position: Position, mine: bool) -> bool
     is_discussed_by(by, position) || mine
 }
 
-/// Whether she is shown the grades of a form and its text to the authors: who discusses it is, the paper's authors where
-/// it is for them, and who wrote it.
+/// Whether she is shown the grades of a form and its text to the authors: who discusses it is, the paper's authors
+/// where it is for them, and who wrote it.
 fn shows_grades(by: &Standing, position: Position, mine: bool) -> bool
     ensures { result ≡ (is_discussed_by position by.now || (is_for_author position by.now || mine)) }
 {
@@ -53,13 +53,14 @@ fn shows_grades(by: &Standing, position: Position, mine: bool) -> bool
 
 /// Whether she is told of a form: who is told that there is one, or shown its grades.
 fn tells_review(by: &Standing, position: Position, mine: bool) -> bool
-    ensures { result ≡ (is_done_for position by.now || (is_discussed_by position by.now || (is_for_author position by.now || mine))) }
+    ensures { result ≡ (is_done_for position by.now
+        || (is_discussed_by position by.now || (is_for_author position by.now || mine))) }
 {
     is_done_for(by, position) || shows_grades(by, position, mine)
 }
 
-/// What a form shows her: its paper and its label, and of the other parts those that she may know; or nothing where she
-/// isn't told of it.
+/// What a form shows her: its paper and its label, and of the other parts those that she may know; or
+/// nothing where she isn't told of it.
 pub(crate) fn review<'a>(
     live: &Live,
     reader: UserNo,

@@ -35,8 +35,8 @@ fn sees_reviewers(by: &Standing) -> bool
     by.author && by.mode.is_overt() && by.phase.is_from(Phase::Notification)
 }
 
-/// Whether she is shown who has a seat: who is named or made the entry, clear chairs, clear members from the discussion
-/// unless the mode is anonymous, and authors who are shown their reviewers.
+/// Whether she is shown who has a seat: who is named or made the entry, clear chairs, clear members from the
+/// discussion unless the mode is anonymous, and authors who are shown their reviewers.
 fn shows_user(by: &Standing, named: bool, made: bool) -> bool
     ensures { result ≡ (named || (is_clear_chair by.now
         || ((is_clear_member by.now && (not (is_anonymous by.now.mode) && is_from phases.Discussion by.now.phase))
@@ -46,7 +46,8 @@ fn shows_user(by: &Standing, named: bool, made: bool) -> bool
     named || knows || sees_reviewers(by) || made
 }
 
-/// Whether she is shown what a seat is: who is named or made the entry, clear chairs, and clear members from the discussion.
+/// Whether she is shown what a seat is: who is named or made the entry, clear chairs, and
+/// clear members from the discussion.
 fn shows_kind(by: &Standing, named: bool, made: bool) -> bool
     ensures { result ≡ (named || (is_clear_chair by.now
         || ((is_clear_member by.now && is_from phases.Discussion by.now.phase) || made))) }
@@ -54,7 +55,8 @@ fn shows_kind(by: &Standing, named: bool, made: bool) -> bool
     named || by.is_clear_chair() || discusses(by) || made
 }
 
-/// Whether she is told of a seat, and shown its ordinal: who is shown what it is, and authors who are shown their reviewers.
+/// Whether she is told of a seat, and shown its ordinal: who is shown what it is, and authors
+/// who are shown their reviewers.
 fn shows_ordinal(by: &Standing, named: bool, made: bool) -> bool
     ensures { result ≡ (named || (is_clear_chair by.now
         || ((is_clear_member by.now && is_from phases.Discussion by.now.phase)
@@ -71,7 +73,8 @@ fn seat_parts(
     paper: PaperNo,
     user: UserNo,
 ) -> Option<SeatParts>
-    ensures told { applies_any (rows_with (reader_in live.now.tables (Some reader)) maker paper user) ≡ is_some result }
+    ensures told { applies_any (rows_with (reader_in live.now.tables (Some reader)) maker paper user)
+        ≡ is_some result }
     ensures parts { IfSome result (AreShown (rows_with (reader_in live.now.tables (Some reader)) maker paper user)) }
 {
     let by = live.standing(&Some(reader), &Some(paper));

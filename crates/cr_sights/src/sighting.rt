@@ -48,8 +48,8 @@ pub struct Sighting<'a> {
     pub value: Option<Bid>,
     /// What the user who was assigned is to the paper.
     pub review_kind: Option<Kind>,
-    /// The ordinal of the label under which she reviews it, or did; that of a form's label; and of a comment that of its
-    /// writer's, 0 where she didn't review the paper.
+    /// The ordinal of the label under which she reviews it, or did; that of a form's label; and of a comment that of
+    /// its writer's, 0 where she didn't review the paper.
     pub ordinal: Option<u64>,
     /// How good a form says that the paper is.
     pub score: Option<Grade>,

@@ -23,12 +23,14 @@ fn is_for_all(tag: &Tag) -> bool
     !tag.is_private() && !tag.is_for_chairs()
 }
 
-/// Whether she is told of a tag: from the bidding clear members are of one for all, and clear chairs of one for chairs;
+/// Whether she is told of a tag: from the bidding clear members are of one for all, and
+/// clear chairs of one for chairs;
 /// and who set it.
 fn tells_tag(live: &Live, reader: UserNo, maker: UserNo, paper: PaperNo, tag: &Tag) -> bool
     ensures { let r = reader_in live.now.tables (Some reader) in
         result ≡ ((is_tag_for_all tag.now && is_clear_member (standing_to r paper) && is_from phases.Bidding r.now)
-        || ((is_for_chairs tag.now && is_clear_chair (standing_to r paper) && is_from phases.Bidding r.now) || user_named r maker)) }
+        || ((is_for_chairs tag.now && is_clear_chair (standing_to r paper) && is_from phases.Bidding r.now)
+        || user_named r maker)) }
 {
     let by = live.standing(&Some(reader), &Some(paper));
     is_for_all(tag) && by.is_clear_member() && is_bidding(&by)

@@ -33,7 +33,8 @@ fn tells_comment(live: &Live, reader: UserNo, maker: UserNo, paper: PaperNo) -> 
 
 /// Whether she is shown who wrote a comment.
 fn shows_writer(live: &Live, reader: UserNo, paper: PaperNo) -> bool
-    ensures { let r = reader_in live.now.tables (Some reader) in result ≡ (she_discusses r paper && names_writers r paper) }
+    ensures { let r = reader_in live.now.tables (Some reader) in
+        result ≡ (she_discusses r paper && names_writers r paper) }
 {
     let by = live.standing(&Some(reader), &Some(paper));
     discusses(&by) && names_writers(&by)

@@ -29,9 +29,9 @@ pub enum ViewError {
 /// an error some part of the lines was written. `WriteFault` comes only where the sink's count of faults rose, or
 /// stands at its last value; else the count is as it was, and `OutOfMemory` comes for lack of memory alone.
 ///
-/// Costs at most four walks over the history, with a few look-ups and one write an entry, a buffer for the longest line, where
-/// of a content its length alone is written, and what tells where entries stand: 696 bytes for each number of a paper
-/// up to the greatest one, so 7 MB for 9,999 papers, and up to twice that as it grows.
+/// Costs at most four walks over the history, with a few look-ups and one write an entry, a buffer for the longest
+/// line, where of a content its length alone is written, and what tells where entries stand: 696 bytes for each number
+/// of a paper up to the greatest one, so 7 MB for 9,999 papers, and up to twice that as it grows.
 pub fn write_view<O: Sink>(
     alloc: Global,
     live: &Live,
@@ -40,7 +40,8 @@ pub fn write_view<O: Sink>(
     sink: &mut O,
 ) -> Result<(), ViewError>
     ensures { let outlet = outlet_of O.taken O.faults in
-        WritesView result (lines_text (sights (reader_in live.now.tables (Some reader)) [] log.now)) (outlet sink.old) (outlet sink.new) }
+        WritesView result (lines_text (sights (reader_in live.now.tables (Some reader)) [] log.now))
+        (outlet sink.old) (outlet sink.new) }
 {
     let Ok(mut positions) = Positions::of(alloc, log) else {
         return Err(ViewError::OutOfMemory);

@@ -14,4 +14,5 @@ pub record IsAt (x : Filed SetTag) (tags : TagsState) (index : ℕ) : Type 0 whe
 pub record IsGapFor (x : Filed SetTag) (tags : TagsState) (index : ℕ) : Type 0 where
   pub in_range : index ≤ length tags
   pub before : (k : ℕ) (d : Filed SetTag) → k < index → filed_order (slice_index_or tags k d) x ≡ Less
-  pub behind : (k : ℕ) (d : Filed SetTag) → index ≤ k → k < length tags → filed_order (slice_index_or tags k d) x ≡ Greater
+  pub behind : (k : ℕ) (d : Filed SetTag) → index ≤ k → k < length tags
+      → filed_order (slice_index_or tags k d) x ≡ Greater

@@ -1,5 +1,6 @@
 //! The tags that are on.
-ghost use Rattle.std.specs.Prelude.{◌≡◌, ◌≤◌, ◌<◌, ◌+◌, ◌&&◌, OnOk, IfOk, MatchResult, Some, true, false, length, map, is_some};
+ghost use Rattle.std.specs.Prelude.{◌≡◌, ◌≤◌, ◌<◌, ◌+◌, ◌&&◌, OnOk, IfOk, MatchResult};
+ghost use Rattle.std.specs.Prelude.{Some, true, false, length, map, is_some};
 ghost use Rattle.std.specs.Str.{bytes_eq};
 ghost use Rattle.std.specs.List.{list_any};
 ghost use Rattle.cr_base.specs.Checks.{judged, tag_checks};
@@ -200,7 +201,8 @@ impl Tags {
     /// Turns the tag on, for which there is room; takes no memory.
     fn insert(&mut self, paper: PaperNo, tag: Tag, owner: Option<UserNo>)
         requires { 0 < self.old.room }
-        ensures tags { self.new.tags ≡ tag_switched true (filed paper (record { tag = tag; owner = owner })) self.old.tags }
+        ensures tags { self.new.tags ≡ tag_switched true
+            (filed paper (record { tag = tag; owner = owner })) self.old.tags }
         ensures room { self.old.room ≤ self.new.room + 1 }
     {
         let filed = set_at(paper, tag, owner);
@@ -215,7 +217,8 @@ impl Tags {
 
     /// Turns the tag off; nothing changes where it wasn't on.
     fn remove(&mut self, paper: PaperNo, tag: Tag, owner: Option<UserNo>)
-        ensures tags { self.new.tags ≡ tag_switched false (filed paper (record { tag = tag; owner = owner })) self.old.tags }
+        ensures tags { self.new.tags ≡ tag_switched false
+            (filed paper (record { tag = tag; owner = owner })) self.old.tags }
         ensures room { self.old.room ≤ self.new.room }
     {
         if let Ok(index) = self.index_of(&set_at(paper, tag, owner)) {

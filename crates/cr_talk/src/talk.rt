@@ -76,7 +76,8 @@ impl Talk {
         withdrawn: bool,
     ) -> Result<u64, Rule>
         ensures { result ≡ judged
-            (comment_checks by.now (record { there = is_some paper.now; withdrawn = withdrawn }) (own_comments_in self.now.talk (Some maker)))
+            (comment_checks by.now (record { there = is_some paper.now; withdrawn = withdrawn })
+            (own_comments_in self.now.talk (Some maker)))
             (length (comments_in self.now.talk (unwrap_or paper.now 0)) + 1) }
     {
         let Some(paper) = paper else {

@@ -81,10 +81,10 @@ reviewers_listed u p H =
     (map (reviewer_shown u p H s) (filter (is_left p (view u H)) (listed s.ordinal))))
     (view u H)
 
--- each of these keys of the page of a paper that is there. Bids: to those who oversee it; of each user the last that is
--- shown. Reviewers: to those who oversee it, to those who discuss it, and to authors who are answered; those who are
--- shown and not taken off. Tags: to those who are eligible for it; those that are on by the last sighting of each, her
--- own private ones among them, and those for chairs where she is one.
+-- each of these keys of the page of a paper that is there. Bids: to those who oversee it; of each user the last that
+-- is shown. Reviewers: to those who oversee it, to those who discuss it, and to authors who are answered; those who
+-- are shown and not taken off. Tags: to those who are eligible for it; those that are on by the last sighting of each,
+-- her own private ones among them, and those for chairs where she is one.
 pub record SeatsTold (u : Option ℕ) (p : ℕ) (H : History) : Type 0 where
   pub bids : page_told (λ page. page.bids) u p H ≡ where_known (oversees u p H) (bids_listed p (view u H))
   pub reviewers : page_told (λ page. page.reviewers) u p H

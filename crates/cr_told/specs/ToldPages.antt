@@ -119,14 +119,14 @@ some_names (u ∷ users) V = Some (names_shown (u ∷ users) V)
 
 -- each key of the page of a paper that is there: when it is on the page, and what it holds. The page is answered to
 -- whoever is on the committee, is an author, or is shown that the paper is accepted. Title and abstract: exactly where
--- the view shows one of the paper, and it is the last. Authors: exactly where the view shows one, and they are all that
--- it shows, in order. Withdrawn: to authors and to those who serve, and it says whether the view shows that it was.
--- Versions: exactly where the view shows an abstract, and they are those of the uploads that it shows. Decision: to
--- those who discuss it, to authors who are notified, and to everyone who is shown that the paper is accepted, and then
--- it is that; else the last one that is shown. Conflict: to the committee and to authors; she is shown to be an author,
--- or in conflict. Conflicts: to those who oversee it; whoever is shown in conflict, by number. Declared: to authors;
--- whom an author named, by number. Bid: to those who are eligible for it; the last of her own that is shown, else 20,
--- for none. Label: to the committee's members in no conflict; the one under which she is shown to review it.
+-- the view shows one of the paper, and it is the last. Authors: exactly where the view shows one, and they are all
+-- that it shows, in order. Withdrawn: to authors and to those who serve, and it says whether the view shows that it
+-- was. Versions: exactly where the view shows an abstract, and they are those of the uploads that it shows. Decision:
+-- to those who discuss it, to authors who are notified, and to everyone who is shown that the paper is accepted, and
+-- then it is that; else the last one that is shown. Conflict: to the committee and to authors; she is shown to be an
+-- author, or in conflict. Conflicts: to those who oversee it; whoever is shown in conflict, by number. Declared: to
+-- authors; whom an author named, by number. Bid: to those who are eligible for it; the last of her own that is shown,
+-- else 20, for none. Label: to the committee's members in no conflict; the one under which she is shown to review it.
 pub record PageTold (u : Option ℕ) (p : ℕ) (H : History) : Type 0 where
   pub paper : page_told (λ page. Some page.paper) u p H
       ≡ where_known (is_on_committee (role_of u H) || is_author u p H || is_shown_accepted p (view u H)) p

@@ -166,8 +166,8 @@ is_tag_told u H s =
 -- an answer tells this part of a sighting of this kind: the accounts who registered, under which name, and in which
 -- role; the conference its phase and mode; the paper's page its title, abstract, authors, versions, conflicts, bids,
 -- reviewers, tags and decision, and the reader's own bid and label; the content of a version; the reviews and the
--- comments their lines; the accepted papers that it is one; and what she is told of herself with which papers she is in
--- conflict, and which she reviews. A line for each part that a kind has, and nothing else is told
+-- comments their lines; the accepted papers that it is one; and what she is told of herself with which papers she is
+-- in conflict, and which she reviews. A line for each part that a kind has, and nothing else is told
 abbrev pub is_told : Option ℕ → History → Sighting → EntryKind → Part → Bool
 is_told u H s kinds.Registered part.user = lists (accounts_given u H) (λ line. is_number s.user line.user)
 is_told u H s kinds.Registered part.name =
@@ -268,7 +268,8 @@ scores_at p o V =
     flat_map (λ (t : Sighting). only (is_kind kinds.Reviewed t && (is_number t.paper p && is_number t.ordinal o))
     (listed t.score)) V
 
--- a later form under the label is shown: to authors, any; to others, one before the discussion is opened after this one
+-- a later form under the label is shown: to authors, any; to others, one before the
+-- discussion is opened after this one
 abbrev pub is_followed : Option ℕ → History → Sighting → View → Bool
 is_followed u H s after =
     not (is_nothing

@@ -1,5 +1,5 @@
--- Told of all: each sighting on a paper has its place, a key of the paper's page or a list that is answered, or else it
--- is the reader's own on a paper that she isn't eligible for.
+-- Told of all: each sighting on a paper has its place, a key of the paper's page or a list that is answered, or else
+-- it is the reader's own on a paper that she isn't eligible for.
 use Rattle.std.specs.Prelude.{ℕ, Bool, true, not, ◌&&◌, ◌||◌, Option, Some, is_some, All, IsTrue}
 use Rattle.cr_base.specs.declared.command.Query.TheVariants as queries
 use Rattle.cr_base.specs.declared.entry.EntryKind.{EntryKind}

@@ -1,5 +1,5 @@
--- Told of reports: to whom each is answered, and that its lines have what the view shows. How a line is laid out is the
--- report's (Reports); who reviews a paper in the load, and the forms of the letter, are the facts of the view that
+-- Told of reports: to whom each is answered, and that its lines have what the view shows. How a line is laid out is
+-- the report's (Reports); who reviews a paper in the load, and the forms of the letter, are the facts of the view that
 -- stand behind the reviewers and the reviews.
 use Rattle.std.specs.Prelude.{ℕ, Bool, true, false, not, ◌≡◌, ◌&&◌, ◌||◌, List, [], ◌++◌}
 use Rattle.std.specs.Prelude.{length, map, filter, Option, Some, None, unwrap_or, if◌then◌else◌}
@@ -41,8 +41,8 @@ report_answered _ = None
 
 -- ---- what the view shows of a paper
 
--- the last title; whether the reader is shown as an author, or in conflict; and the decision: to accept the paper where
--- it is shown to be accepted
+-- the last title; whether the reader is shown as an author, or in conflict; and the decision: to accept the paper
+-- where it is shown to be accepted
 abbrev pub title_shown : ℕ → View → List ℕ
 title_shown p V = unwrap_or (last (shown_on p (λ (s : Sighting). s.title) V)) []
 

@@ -80,8 +80,8 @@ is_reviewing_now _ = false
 abbrev pub reviews_now : Option ℕ → ℕ → History → Bool
 reviews_now u p H = is_eligible u p H && is_reviewer u p H && is_reviewing_now (phase_of H)
 
--- the reviews of a paper are answered to authors who are notified, to those who discuss it, and in the reviewing to its
--- reviewers
+-- the reviews of a paper are answered to authors who are notified, to those who discuss it, and in
+-- the reviewing to its reviewers
 abbrev pub ReviewsTold : Type 0
 ReviewsTold =
     (u : Option ℕ) (p : ℕ) (H : History) → Legal H → IsSubmitted H p

@@ -20,7 +20,8 @@ pub record Surroundings (I C D : Type 0) : Type 0 where
   pub stores : ShelfState
   pub gates : GatesState C D
 
-abbrev pub around_of : {I O S G C D : Type 0} → (I → ℕ) → (O → Option (List ℕ)) → (O → ℕ) → (S → Option Files) → (S → ℕ)
+abbrev pub around_of : {I O S G C D : Type 0} → (I → ℕ) → (O → Option (List ℕ)) → (O → ℕ)
+    → (S → Option Files) → (S → ℕ)
     → (G → ℕ) → (G → Option (List (DoorLog C D))) → I → O → S → G → Surroundings I C D
 around_of read_faults taken write_faults files shelf_faults gate_faults logs input out shelf gates = record {
   outside = outside_of read_faults taken write_faults input out;
@@ -40,16 +41,18 @@ pub record IsCounted {I C D : Type 0} (exit : Exit) (a a' : Surroundings I C D) 
   pub keeper : exit ≡ exits.KeeperFault → Rises a.stores.faults a'.stores.faults
   pub listen : exit ≡ exits.ListenFault → Rises a.gates.faults a'.gates.faults
 
--- One connection from the empty history on, or from that of a store on; many connections over a store; the view of a store; or a
--- drill. The last three read no input, and all but serving leave the gates alone. A drill has no store.
-abbrev pub DoesJob : {K I C D : Type 0} → (K → Option (List Row)) → (I → Option (List ℕ)) → (I → I → List ℕ → Type 0) → Streams C D
+-- One connection from the empty history on, or from that of a store on; many connections over a store; the view of a
+-- store; or a drill. The last three read no input, and all but serving leave the gates alone. A drill has no store.
+abbrev pub DoesJob : {K I C D : Type 0} → (K → Option (List Row)) → (I → Option (List ℕ))
+    → (I → I → List ℕ → Type 0) → Streams C D
     → NamedJob → Exit → Surroundings I C D → Surroundings I C D → Type 0
 DoesJob rows left gives streams (pipe_job None) exit a a' =
     ServesPipe left gives [] exit a.outside a'.outside × (a'.stores ≡ a.stores) × (a'.gates ≡ a.gates)
 DoesJob rows left gives streams (pipe_job (Some path)) exit a a' =
     PipesStore rows path left gives exit a.outside a'.outside a.stores a'.stores × (a'.gates ≡ a.gates)
 DoesJob rows left gives streams (serve_job listen workers connections path) exit a a' =
-    ServesGates rows path streams workers connections exit a.outside.output a'.outside.output a.stores a'.stores a.gates a'.gates
+    ServesGates rows path streams workers connections exit a.outside.output a'.outside.output a.stores
+    a'.stores a.gates a'.gates
     × (a'.outside.input ≡ a.outside.input) × (a'.outside.read_faults ≡ a.outside.read_faults)
 DoesJob rows left gives streams (view_job path name) exit a a' =
     TellsStore path name exit a.outside.output a'.outside.output a.stores a'.stores
@@ -59,7 +62,8 @@ DoesJob rows left gives streams (drill_job seed steps) exit a a' =
     × (a'.outside.input ≡ a.outside.input) × (a'.outside.read_faults ≡ a.outside.read_faults) × (a'.gates ≡ a.gates)
 
 -- the same, unless memory ran out before it began
-abbrev pub Does : {K I C D : Type 0} → (K → Option (List Row)) → (I → Option (List ℕ)) → (I → I → List ℕ → Type 0) → Streams C D
+abbrev pub Does : {K I C D : Type 0} → (K → Option (List Row)) → (I → Option (List ℕ))
+    → (I → I → List ℕ → Type 0) → Streams C D
     → NamedJob → Exit → Surroundings I C D → Surroundings I C D → Type 0
 Does rows left gives streams job exit a a' = IsUntouched exit a a' ⊎ DoesJob rows left gives streams job exit a a'
 
@@ -71,15 +75,17 @@ pub record HasHistory (path : List ℕ) (H : History) (s s' : ShelfState) : Type
   pub spells : rows_of H ≡ files path
   pub faultless : Rises s.faults s'.faults → ⊥
 
--- Where nothing fails, all that the input's bytes spell is answered, from the empty history on or from the store's; each door
--- gives its share of connections; the view of the store's history is told whole, or nobody there has the name; and so is the
--- summary of a drill. Memory may be wanting.
-abbrev pub AnswersJob : {I C D : Type 0} → (I → Option (List ℕ)) → NamedJob → Exit → Surroundings I C D → Surroundings I C D → Type 0
+-- Where nothing fails, all that the input's bytes spell is answered, from the empty history on or from the store's;
+-- each door gives its share of connections; the view of the store's history is told whole, or nobody there has the
+-- name; and so is the summary of a drill. Memory may be wanting.
+abbrev pub AnswersJob : {I C D : Type 0} → (I → Option (List ℕ)) → NamedJob → Exit → Surroundings I C D
+    → Surroundings I C D → Type 0
 AnswersJob left (pipe_job None) exit a a' =
     (b : List ℕ) → left a.outside.input ≡ Some b → IsFaultless a.outside a'.outside
     → (exit ≡ exits.OutOfMemory) ⊎ AnswersAll [] exit b a.outside a'.outside
 AnswersJob left (pipe_job (Some path)) exit a a' =
-    (b : List ℕ) → left a.outside.input ≡ Some b → IsFaultless a.outside a'.outside → (H : History) → HasHistory path H a.stores a'.stores
+    (b : List ℕ) → left a.outside.input ≡ Some b → IsFaultless a.outside a'.outside → (H : History)
+    → HasHistory path H a.stores a'.stores
     → (exit ≡ exits.OutOfMemory) ⊎ AnswersAll H exit b a.outside a'.outside
 AnswersJob left (serve_job listen workers connections path) exit a a' =
     (Rises a.outside.output.faults a'.outside.output.faults → ⊥) → (Rises a.gates.faults a'.gates.faults → ⊥)

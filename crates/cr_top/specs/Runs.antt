@@ -27,23 +27,32 @@ pub record Outside (I : Type 0) : Type 0 where
   pub output : Outlet
 
 abbrev pub outside_of : {I O : Type 0} → (I → ℕ) → (O → Option (List ℕ)) → (O → ℕ) → I → O → Outside I
-outside_of read_faults taken write_faults input out = record { input = input; read_faults = read_faults input; output = outlet_of taken write_faults out }
+outside_of read_faults taken write_faults input out =
+    record { input = input; read_faults = read_faults input; output = outlet_of taken write_faults out }
 
 -- the same beside a history and its keeper's count of faults
 abbrev pub world : {I : Type 0} → Outside I → History → ℕ → World Ledger I
-world o H faults = record { state = record { history = H; faults = faults }; source = o.input; read_faults = o.read_faults; sink = o.output }
+world o H faults = record {
+  state = record { history = H; faults = faults };
+  source = o.input;
+  read_faults = o.read_faults;
+  sink = o.output;
+}
 
 -- ---- one connection from an opening history on
 
--- From this history on, whose rows the keeper had, a connection was served to its ending, and the keeper was handed back
--- with the rows of the last history.
+-- From this history on, whose rows the keeper had, a connection was served to its ending, and the keeper was handed
+-- back with the rows of the last history.
 pub record Pipes {K I : Type 0} (rows : K → Option (List Row)) (faults : K → ℕ) (left : I → Option (List ℕ))
-    (gives : I → I → List ℕ → Type 0) (opening : History) (ending : Ending) (keeper keeper' : K) (o o' : Outside I) : Type 0 where
+    (gives : I → I → List ℕ → Type 0) (opening : History) (ending : Ending) (keeper keeper' : K)
+    (o o' : Outside I) : Type 0 where
   pub history : History
   pub legal : Legal history
   pub kept : IsKept rows keeper' history
-  pub connection : ConnectionBytes left gives ending 0 [] (world o opening (faults keeper)) (world o' history (faults keeper'))
-  pub whole : (b : List ℕ) → left o.input ≡ Some b → WholeBytes left ending b (world o opening (faults keeper)) (world o' history (faults keeper'))
+  pub connection : ConnectionBytes left gives ending 0 [] (world o opening (faults keeper))
+      (world o' history (faults keeper'))
+  pub whole : (b : List ℕ) → left o.input ≡ Some b
+      → WholeBytes left ending b (world o opening (faults keeper)) (world o' history (faults keeper'))
 
 -- ---- the exits
 

@@ -40,8 +40,8 @@ TellsEntries false entries o o' = BreaksOff [] (entries_line entries) o o'
 
 -- ---- the doors
 
--- A door as gates open it: no connection is out, it has counted no fault, and it tells that it wasn't asked yet, where it tells
--- what it did.
+-- A door as gates open it: no connection is out, it has counted no fault, and it tells that it wasn't asked
+-- yet, where it tells what it did.
 pub record IsNew {I O : Type 0} (d : SeenDoor I O) : Type 0 where
   pub back : d.is_out ≡ false
   pub faults : d.faults ≡ 0
@@ -51,33 +51,39 @@ pub record IsNew {I O : Type 0} (d : SeenDoor I O) : Type 0 where
 abbrev pub AreNew : {D I O : Type 0} → (D → SeenDoor I O) → List D → Type 0
 AreNew seen doors = Every IsNew (map seen doors)
 
--- a door's last answer, by how the workers ended: its share was given; or that, or it failed; or, for lack of memory, any
+-- a door's last answer, by how the workers ended: its share was given; or that, or it
+-- failed; or, for lack of memory, any
 abbrev pub DoorEndsBy : {I O : Type 0} → Worked → DoorLog I O → Type 0
 DoorEndsBy worked.Done log = log.last ≡ Some answers.Done
 DoorEndsBy worked.DoorFailed log = (log.last ≡ Some answers.Done) ⊎ (log.last ≡ Some answers.Failed)
 DoorEndsBy worked.OutOfMemory log = Unit {0}
 
--- Doors that were shut, with the connections that were served by each, by what the gates tell: each connection as it was given
--- and as it came back, in order, and the door's last answer.
-pub record AreDoorsTold {I O : Type 0} (ended : Worked) (works : List (DoorWork I O)) (logs : List (DoorLog I O)) : Type 0 where
+-- Doors that were shut, with the connections that were served by each, by what the gates tell: each connection as it
+-- was given and as it came back, in order, and the door's last answer.
+pub record AreDoorsTold {I O : Type 0} (ended : Worked) (works : List (DoorWork I O))
+    (logs : List (DoorLog I O)) : Type 0 where
   pub served : map (λ (log : DoorLog I O). log.served) logs ≡ map (λ (w : DoorWork I O). ends_of w.connections) works
   pub last : Every (DoorEndsBy ended) logs
 
 -- ---- answers that a command wasn't kept
 
--- how many wishes of these connections were lost to the keeper: each has such an answer, or a part of it where its write failed
-abbrev pub lost_in : {I O : Type 0} → (streams : Streams I O) (first last : History) (connections : List (ServedConnection I O))
+-- how many wishes of these connections were lost to the keeper: each has such an answer, or a
+-- part of it where its write failed
+abbrev pub lost_in : {I O : Type 0}
+    → (streams : Streams I O) (first last : History) (connections : List (ServedConnection I O))
     → Every (IsServedWithin streams first last) connections → ℕ
 lost_in streams first last [] served = 0
 lost_in streams first last (c ∷ cs) served =
-    lost_count (served.0.served.connection.answered ++ listed served.0.served.connection.failed) + lost_in streams first last cs served.1
+    lost_count (served.0.served.connection.answered ++ listed served.0.served.connection.failed)
+    + lost_in streams first last cs served.1
 
 -- ---- connections were served
 
--- From the history of the rows at the path on workers served the connections that their doors gave, one door each, and the
--- exit is by how they ended: 0 or 5 where each door gave its share, 7 where one failed, and 9 where memory ran out. The
--- rows at the path are then those of the last history, and the output has the number of its entries.
-pub record ServesMany {K I O : Type 0} (rows : K → Option (List Row)) (path : List ℕ) (streams : Streams I O) (workers connections : ℕ)
+-- From the history of the rows at the path on workers served the connections that their doors gave, one door each, and
+-- the exit is by how they ended: 0 or 5 where each door gave its share, 7 where one failed, and 9 where memory ran
+-- out. The rows at the path are then those of the last history, and the output has the number of its entries.
+pub record ServesMany {K I O : Type 0} (rows : K → Option (List Row)) (path : List ℕ) (streams : Streams I O)
+    (workers connections : ℕ)
     (exit : Exit) (o o' : Outlet) (s s' : ShelfState) (g g' : GatesState I O) : Type 0 where
   pub opening : History
   pub opens : Legal opening
@@ -93,10 +99,12 @@ pub record ServesMany {K I O : Type 0} (rows : K → Option (List Row)) (path : 
   pub faults : ℕ
   -- What the connections did, on one history: each as it came, on beginnings of it, however their turns interleave.
   pub ended : Worked
-  pub serves : ServesHistory streams ended doors doors' (record { history = opening; faults = 0 }) (record { history = history; faults = faults })
-  -- With exit 0 or 5 as many connections were served by each door as its share was, and with 0, 5 or 7 none ended for lack of
-  -- memory.
-  pub all : ended ≡ worked.Done → map (λ (w : DoorWork I O). length w.connections) serves.works ≡ shares workers connections
+  pub serves : ServesHistory streams ended doors doors' (record { history = opening; faults = 0 })
+      (record { history = history; faults = faults })
+  -- With exit 0 or 5 as many connections were served by each door as its share was, and with 0, 5 or 7
+  -- none ended for lack of memory.
+  pub all : ended ≡ worked.Done
+      → map (λ (w : DoorWork I O). length w.connections) serves.works ≡ shares workers connections
   pub none_lacked : ended ≢ worked.OutOfMemory → NoneLacked (connections_of serves.works)
   -- the line at the end
   pub written : Bool

@@ -1,5 +1,5 @@
--- What a run does with the rows of a store: it opens them as a history, or tells why they don't open, and leaves the rows of
--- the last history.
+-- What a run does with the rows of a store: it opens them as a history, or tells why they don't open, and
+-- leaves the rows of the last history.
 use Rattle.std.specs.Prelude.{◌≡◌, ◌≢◌, ◌≤◌, ◌⊎◌, ℕ, List, [], Option, Some, None, is_some, IfSome, IsTrue}
 use Rattle.std.specs.Option.{option_map}
 use Rattle.cr_base.specs.declared.row.Row.{Row}
@@ -48,8 +48,8 @@ KeepsFiles s s' = IfSome s.files (λ files. (path : List ℕ) → rows_told_at s
 
 -- ---- opening
 
--- The rows at the path are those of one legal history, the book's; its keeper tells them where the shelf does and has counted
--- no fault, and nothing changed.
+-- The rows at the path are those of one legal history, the book's; its keeper tells them where the shelf does and has
+-- counted no fault, and nothing changed.
 pub record OpensStore {K : Type 0} (rows : K → Option (List Row)) (faults : K → ℕ) (path : List ℕ) (book : SeenBook K)
     (s s' : ShelfState) : Type 0 where
   pub legal : Legal book.log
@@ -66,7 +66,8 @@ pub record IsBadStore (rows : List Row) (row kind : ℕ) : Type 0 where
   pub bad : IsBadAt rows row found
   pub none : (H : History) → Legal H → rows_of H ≢ rows
 
--- why it doesn't open, by the exit: the shelf or its keeper failed, which was counted; a row is bad; or memory runs out
+-- why it doesn't open, by the exit: the shelf or its keeper failed, which was counted; a
+-- row is bad; or memory runs out
 abbrev pub IsWhyShut : List ℕ → Exit → ShelfState → ShelfState → Type 0
 IsWhyShut path exits.KeeperFault s s' = Rises s.faults s'.faults
 IsWhyShut path (exits.BadStore row kind) s s' = IfSome s.files (λ files. IsBadStore (files path) row kind)
@@ -81,8 +82,9 @@ pub record StaysShut (path : List ℕ) (exit : Exit) (s s' : ShelfState) : Type 
 
 -- ---- one connection over a store
 
--- From the history of the rows at the path on a connection was served to its ending, by which the exit is; the rows there
--- are then those of the last history. The keeper counted so many faults, and the shelf's count rose by as many at least.
+-- From the history of the rows at the path on a connection was served to its ending, by which the exit is;
+-- the rows there are then those of the last history. The keeper counted so many faults, and the shelf's
+-- count rose by as many at least.
 pub record ServesStore {K I : Type 0} (rows : K → Option (List Row)) (path : List ℕ) (left : I → Option (List ℕ))
     (gives : I → I → List ℕ → Type 0) (exit : Exit) (o o' : Outside I) (s s' : ShelfState) : Type 0 where
   pub opening : History
@@ -94,23 +96,29 @@ pub record ServesStore {K I : Type 0} (rows : K → Option (List Row)) (path : L
   pub legal : Legal history
   pub faults : ℕ
   pub connection : ConnectionBytes left gives ending 0 [] (world o opening 0) (world o' history faults)
-  pub whole : (b : List ℕ) → left o.input ≡ Some b → WholeBytes left ending b (world o opening 0) (world o' history faults)
+  pub whole : (b : List ℕ) → left o.input ≡ Some b
+      → WholeBytes left ending b (world o opening 0) (world o' history faults)
   pub kept : TellsRows rows → s'.files ≡ and_file s.files path (rows_of history)
   pub counted : Gains s.faults faults s'.faults
 
 -- a store that doesn't open leaves input and output as they were
-abbrev pub PipesStore : {K I : Type 0} → (K → Option (List Row)) → List ℕ → (I → Option (List ℕ)) → (I → I → List ℕ → Type 0)
+abbrev pub PipesStore : {K I : Type 0} → (K → Option (List Row)) → List ℕ → (I → Option (List ℕ))
+    → (I → I → List ℕ → Type 0)
     → Exit → Outside I → Outside I → ShelfState → ShelfState → Type 0
-PipesStore rows path left gives exit o o' s s' = (StaysShut path exit s s' × (o' ≡ o)) ⊎ ServesStore rows path left gives exit o o' s s'
+PipesStore rows path left gives exit o o' s s' =
+    (StaysShut path exit s s' × (o' ≡ o)) ⊎ ServesStore rows path left gives exit o o' s s'
 
 -- ---- a view of a store
 
--- What was told of a user's view of a history, by the exit: all its lines; a part of them, behind which a write failed or
--- memory ran out; or that nobody has registered the name.
+-- What was told of a user's view of a history, by the exit: all its lines; a part of them, behind which a write failed
+-- or memory ran out; or that nobody has registered the name.
 abbrev pub TellsView : History → List ℕ → Exit → Outlet → Outlet → Type 0
-TellsView H name exits.Done s s' = (user : ℕ) × (number_of name H ≡ Some user) × Writes (lines_text (view (Some user) H)) s s'
-TellsView H name exits.WriteFault s s' = (user : ℕ) × (number_of name H ≡ Some user) × BreaksOff [] (lines_text (view (Some user) H)) s s'
-TellsView H name exits.OutOfMemory s s' = (user : ℕ) × (number_of name H ≡ Some user) × StopsShort (lines_text (view (Some user) H)) s s'
+TellsView H name exits.Done s s' =
+    (user : ℕ) × (number_of name H ≡ Some user) × Writes (lines_text (view (Some user) H)) s s'
+TellsView H name exits.WriteFault s s' =
+    (user : ℕ) × (number_of name H ≡ Some user) × BreaksOff [] (lines_text (view (Some user) H)) s s'
+TellsView H name exits.OutOfMemory s s' =
+    (user : ℕ) × (number_of name H ≡ Some user) × StopsShort (lines_text (view (Some user) H)) s s'
 TellsView H name exits.NoUser s s' = (number_of name H ≡ None) × (s' ≡ s)
 TellsView H name _ s s' = ⊥
 

@@ -17,8 +17,8 @@ use std::sync::Wait;
 ///
 /// It has the only pass of the lock that it makes round the book, so it waits for nobody.
 ///
-/// `ReadFault` comes only where the count of `input` has risen, or stands at its last value, `WriteFault` so for `out`, and no other
-/// ending lets a count rise. `OutOfMemory` comes
+/// `ReadFault` comes only where the count of `input` has risen, or stands at its last value, `WriteFault` so for
+/// `out`, and no other ending lets a count rise. `OutOfMemory` comes
 /// for lack of memory alone, and behind a wish that was read only where it wanted some: see
 /// `serve_connection`.
 pub fn pipe<R: Wait, K: Keeper, I: Source, O: Sink>(
@@ -29,14 +29,16 @@ pub fn pipe<R: Wait, K: Keeper, I: Source, O: Sink>(
     out: &mut O,
 ) -> (Ending, K)
     ensures pipes { let outside = outside_of I.faults O.taken O.faults in
-        Pipes K.rows K.faults I.left I.read_gives book.log result.0 book.keeper result.1 (outside input.old out.old) (outside input.new out.new) }
+        Pipes K.rows K.faults I.left I.read_gives book.log result.0 book.keeper result.1 (outside input.old out.old)
+        (outside input.new out.new) }
 
     // Where nothing fails, the keeper's calls included, all that the input's bytes spell is answered,
     // or memory runs out.
     ensures answers { let outside = outside_of I.faults O.taken O.faults in
         (b : List ℕ) → I.left input.old ≡ Some b → IsFaultless (outside input.old out.old) (outside input.new out.new)
         → (Rises (K.faults book.keeper) (K.faults result.1) → ⊥)
-        → (exit_of result.0 ≡ Exit.OutOfMemory) ⊎ AnswersAll book.log (exit_of result.0) b (outside input.old out.old) (outside input.new out.new) }
+        → (exit_of result.0 ≡ Exit.OutOfMemory)
+        ⊎ AnswersAll book.log (exit_of result.0) b (outside input.old out.old) (outside input.new out.new) }
     ensures read_fault { result.0 ≡ Ending.ReadFault → Rises (I.faults input.old) (I.faults input.new) }
     ensures write_fault { result.0 ≡ Ending.WriteFault → Rises (O.faults out.old) (O.faults out.new) }
 {

@@ -23,8 +23,10 @@ use std::thread::Threads;
 
 /// Writes how the program is called. Takes no memory.
 fn refuse_words<O: Sink>(out: &mut O) -> Exit
-    ensures usage { result ≡ Exit.Usage → Writes usage (outlet_of O.taken O.faults out.old) (outlet_of O.taken O.faults out.new) }
-    ensures fault { result ≡ Exit.WriteFault → BreaksOff [] usage (outlet_of O.taken O.faults out.old) (outlet_of O.taken O.faults out.new) }
+    ensures usage { result ≡ Exit.Usage
+        → Writes usage (outlet_of O.taken O.faults out.old) (outlet_of O.taken O.faults out.new) }
+    ensures fault { result ≡ Exit.WriteFault
+        → BreaksOff [] usage (outlet_of O.taken O.faults out.old) (outlet_of O.taken O.faults out.new) }
     ensures either { (result ≡ Exit.Usage) ⊎ (result ≡ Exit.WriteFault) }
 {
     match write_all(out, usage_text()) {
@@ -45,13 +47,17 @@ fn do_job<R: Threads + Wait + Sync, I: Source, O: Sink, S: Shelf, G: Gates>(
 ) -> Exit
     requires { IsInRange (job_seen job) }
     ensures does { let around = around_of I.faults O.taken O.faults S.rows S.faults G.faults G.logs in
-        Does S.Keeper.rows I.left I.read_gives (streams_of G.Door.In.left G.Door.In.read_gives G.Door.In.faults G.Door.Out.taken G.Door.Out.faults)
-        (job_seen job.entry) result (around input.old out.old shelf.old gates.old) (around input.new out.new shelf.new gates.new) }
+        Does S.Keeper.rows I.left I.read_gives
+        (streams_of G.Door.In.left G.Door.In.read_gives G.Door.In.faults G.Door.Out.taken G.Door.Out.faults)
+        (job_seen job.entry) result (around input.old out.old shelf.old gates.old)
+        (around input.new out.new shelf.new gates.new) }
     ensures answers { let around = around_of I.faults O.taken O.faults S.rows S.faults G.faults G.logs in
-        AnswersJob I.left (job_seen job.entry) result (around input.old out.old shelf.old gates.old) (around input.new out.new shelf.new gates.new) }
+        AnswersJob I.left (job_seen job.entry) result (around input.old out.old shelf.old gates.old)
+        (around input.new out.new shelf.new gates.new) }
     ensures known { result ≢ Exit.Usage }
     ensures counted { let around = around_of I.faults O.taken O.faults S.rows S.faults G.faults G.logs in
-        IsCounted result (around input.old out.old shelf.old gates.old) (around input.new out.new shelf.new gates.new) }
+        IsCounted result (around input.old out.old shelf.old gates.old)
+        (around input.new out.new shelf.new gates.new) }
 {
     match job {
         Job::Pipe { store: None } => {
@@ -80,20 +86,23 @@ fn do_job<R: Threads + Wait + Sync, I: Source, O: Sink, S: Shelf, G: Gates>(
     }
 }
 
-/// Does what the words ask for, the first of which is the program's name. `pipe` serves one connection over `input` and
-/// `out`, from the empty history on, whose rows it keeps in memory, or from the history of the rows of a store on, which
-/// are those of the last history when it ends. `serve` serves many connections, which the gates' doors give, from the history
-/// of a store's rows on: however their turns interleave, there is one history. `view` prints what a user sees of a store's
-/// history. `drill` makes up commands from a number, gives them to a book in memory, and prints what they come to.
+/// Does what the words ask for, the first of which is the program's name. `pipe` serves one connection over
+/// `input` and `out`, from the empty history on, whose rows it keeps in memory, or from the history of the rows of
+/// a store on, which are those of the last history when it ends. `serve` serves many connections, which the gates'
+/// doors give, from the history of a store's rows on: however their turns interleave, there is one history. `view`
+/// prints what a user sees of a store's history. `drill` makes up commands from a number, gives them to a book in
+/// memory, and prints what they come to.
 ///
-/// - `Done` comes only where the connection's ending is `Clean` or `Closed`, each door gave its share and no connection ended
-///   for lack of memory, or the view or the drill's summary was printed; `Cut` exactly where the ending is `Cut`.
+/// - `Done` comes only where the connection's ending is `Clean` or `Closed`, each door gave its share and
+///   no connection ended for lack of memory, or the view or the drill's summary was printed; `Cut`
+///   exactly where the ending is `Cut`.
 /// - `Usage` comes exactly where `clap` refuses the words, a call for help included, unless memory is
 ///   wanting or the usage line can't be written. Then nothing is read.
-/// - `BadStore` comes exactly where the store's rows don't open as a legal history, and `KeeperFault` only where the count
-///   of `shelf` rose in this call, or stands at its last value. Then nothing is read and nothing written, and no gate asked.
-/// - `ListenFault` comes only where the count of `gates` rose in this call, or stands at its last value. Where they weren't
-///   opened, nothing is written.
+/// - `BadStore` comes exactly where the store's rows don't open as a legal history, and `KeeperFault` only
+///   where the count of `shelf` rose in this call, or stands at its last value. Then nothing is read and
+///   nothing written, and no gate asked.
+/// - `ListenFault` comes only where the count of `gates` rose in this call, or stands at its last value. Where they
+///   weren't opened, nothing is written.
 /// - `NoUser` comes exactly where `view` opened its store and nobody there has registered the name.
 /// - `ReadFault` and `WriteFault` come only where the count of `input`, of `out` rose in this call, or
 ///   stands at its last value.
@@ -107,29 +116,34 @@ pub fn top<R: Threads + Wait + Sync, I: Source, O: Sink, S: Shelf, G: Gates>(
     shelf: &mut S,
     gates: &mut G,
 ) -> Exit
-    // What the job that the words name did: one connection, or many, whose bytes are the answers that its wishes are told, each
-    // on the caller's view of the one history at its turn's place; or a user's view; or a drill's summary.
+    // What the job that the words name did: one connection, or many, whose bytes are the answers that its wishes are
+    // told, each on the caller's view of the one history at its turn's place; or a user's view; or a drill's summary.
     ensures does { let around = around_of I.faults O.taken O.faults S.rows S.faults G.faults G.logs in
         (job : NamedJob) → AreFor words.now job
-        → Does S.Keeper.rows I.left I.read_gives (streams_of G.Door.In.left G.Door.In.read_gives G.Door.In.faults G.Door.Out.taken G.Door.Out.faults)
+        → Does S.Keeper.rows I.left I.read_gives
+        (streams_of G.Door.In.left G.Door.In.read_gives G.Door.In.faults G.Door.Out.taken G.Door.Out.faults)
         job result (around input.old out.old shelf.old gates.old) (around input.new out.new shelf.new gates.new) }
 
-    // Where nothing fails, all that the input's bytes spell is answered, each door gives its share, and the view is told whole,
-    // or memory runs out.
+    // Where nothing fails, all that the input's bytes spell is answered, each door gives its share, and the view is
+    // told whole, or memory runs out.
     ensures answers { let around = around_of I.faults O.taken O.faults S.rows S.faults G.faults G.logs in
         (job : NamedJob) → AreFor words.now job
-        → AnswersJob I.left job result (around input.old out.old shelf.old gates.old) (around input.new out.new shelf.new gates.new) }
+        → AnswersJob I.left job result (around input.old out.old shelf.old gates.old)
+        (around input.new out.new shelf.new gates.new) }
 
     // Words that name no job are answered by the usage line, and nothing is read.
     ensures refuses { let around = around_of I.faults O.taken O.faults S.rows S.faults G.faults G.logs in
-        let a = around input.old out.old shelf.old gates.old in let a' = around input.new out.new shelf.new gates.new in
+        let a = around input.old out.old shelf.old gates.old in
+        let a' = around input.new out.new shelf.new gates.new in
         AreRefused words.now
-        → IsUntouched result a a' ⊎ (TellsUsage result a.outside a'.outside × (shelf.new ≡ shelf.old) × (gates.new ≡ gates.old)) }
+        → IsUntouched result a a'
+        ⊎ (TellsUsage result a.outside a'.outside × (shelf.new ≡ shelf.old) × (gates.new ≡ gates.old)) }
     ensures usage { result ≡ Exit.Usage → AreRefused words.now }
     ensures passes { PassTest words.now → result ≢ Exit.Usage }
 
     ensures counted { let around = around_of I.faults O.taken O.faults S.rows S.faults G.faults G.logs in
-        IsCounted result (around input.old out.old shelf.old gates.old) (around input.new out.new shelf.new gates.new) }
+        IsCounted result (around input.old out.old shelf.old gates.old)
+        (around input.new out.new shelf.new gates.new) }
 {
     match read_words(alloc, words) {
         Ok(job) => do_job(rt, alloc, job, input, out, shelf, gates),

@@ -23,10 +23,11 @@ use std::alloc::Global;
 use std::sync::Wait;
 use std::thread::Threads;
 
-/// Writes how many entries the history has: `entries K` and a line's end. Behind a fault nothing more is written. Takes no
-/// memory.
+/// Writes how many entries the history has: `entries K` and a line's end. Behind a fault nothing
+/// more is written. Takes no memory.
 fn tell_entries<O: Sink>(out: &mut O, entries: u64) -> Result<(), WriteFault>
-    ensures { TellsEntries (is_ok result) entries (outlet_of O.taken O.faults out.old) (outlet_of O.taken O.faults out.new) }
+    ensures { TellsEntries (is_ok result) entries (outlet_of O.taken O.faults out.old)
+        (outlet_of O.taken O.faults out.new) }
 {
     let mut digits = Buffer::new();
     write_all(out, b"entries ")?;
@@ -53,12 +54,15 @@ fn open_gates<G: Gates>(
     gates: &mut G,
 ) -> Result<Vec<G::Door>, Exit>
     requires { 1 ≤ address.workers }
-    ensures shared { IfOk result (λ doors. map G.Door.left doors.items ≡ shares address.entry.workers address.entry.connections) }
-    ensures new { IfOk result (λ doors. AreNew (door_of G.Door.left G.Door.is_out G.Door.faults G.Door.log) doors.items) }
+    ensures shared { IfOk result (λ doors. map G.Door.left doors.items
+        ≡ shares address.entry.workers address.entry.connections) }
+    ensures new { IfOk result
+        (λ doors. AreNew (door_of G.Door.left G.Door.is_out G.Door.faults G.Door.log) doors.items) }
     ensures same { IfOk result (λ doors. G.faults gates.new ≡ G.faults gates.old) }
     ensures logs { IfOk result (λ doors. G.logs gates.new ≡ G.logs gates.old) }
     ensures refused { let gates_at = gates_of G.faults G.logs in
-        IfErr result (λ exit. IsWhyClosed exit (gates_at gates.old) (gates_at gates.new) × (G.faults gates.old ≤ G.faults gates.new)) }
+        IfErr result (λ exit. IsWhyClosed exit (gates_at gates.old) (gates_at gates.new)
+        × (G.faults gates.old ≤ G.faults gates.new)) }
 {
     match gates.open(alloc, address.listen, address.workers, address.connections) {
         Opened::Doors(doors) => Ok(doors),
@@ -67,7 +71,8 @@ fn open_gates<G: Gates>(
     }
 }
 
-/// Serves the connections of new doors, from the history of a book on that was opened at the path, and shuts gates and store.
+/// Serves the connections of new doors, from the history of a book on that was opened at the
+/// path, and shuts gates and store.
 #[tactic(none)]
 fn serve_open_book<R: Threads + Wait + Sync, S: Shelf, G: Gates, O: Sink>(
     rt: &R,
@@ -83,11 +88,14 @@ fn serve_open_book<R: Threads + Wait + Sync, S: Shelf, G: Gates, O: Sink>(
     requires few { turns_for (total G.Door.left doors.items) ≤ 2 ^ 40 }
     requires new { AreNew (door_of G.Door.left G.Door.is_out G.Door.faults G.Door.log) doors.items }
     requires open { S.has_opened shelf.old path.now }
-    ensures { let outlet = outlet_of O.taken O.faults in let stores = state_of S.rows S.faults in let gates_at = gates_of G.faults G.logs in
+    ensures { let outlet = outlet_of O.taken O.faults in let stores = state_of S.rows S.faults in
+        let gates_at = gates_of G.faults G.logs in
         (s : ShelfState) → OpensStore S.Keeper.rows S.Keeper.faults path.now book s (stores shelf.old)
         → (workers connections : ℕ) → map G.Door.left doors.items ≡ shares workers connections
-        → ServesMany S.Keeper.rows path.now (streams_of G.Door.In.left G.Door.In.read_gives G.Door.In.faults G.Door.Out.taken G.Door.Out.faults)
-        workers connections result (outlet out.old) (outlet out.new) s (stores shelf.new) (gates_at gates.old) (gates_at gates.new) }
+        → ServesMany S.Keeper.rows path.now
+        (streams_of G.Door.In.left G.Door.In.read_gives G.Door.In.faults G.Door.Out.taken G.Door.Out.faults)
+        workers connections result (outlet out.old) (outlet out.new) s (stores shelf.new)
+        (gates_at gates.old) (gates_at gates.new) }
 {
     let (ended, book, doors) = serve_book(rt, alloc, book, doors);
     gates.shut(doors);
@@ -96,9 +104,9 @@ fn serve_open_book<R: Threads + Wait + Sync, S: Shelf, G: Gates, O: Sink>(
     exit_of_workers(ended, tell_entries(out, entries).is_ok())
 }
 
-/// Serves so many connections at the address from the history of the rows at the path on, which are then those of the last
-/// history: each worker those of a door of its own, one after another. Then writes `entries K`, K the number of entries of the
-/// history. Where the rows don't open no gate is asked, and where the gates don't nothing is written.
+/// Serves so many connections at the address from the history of the rows at the path on, which are then those of the
+/// last history: each worker those of a door of its own, one after another. Then writes `entries K`, K the number of
+/// entries of the history. Where the rows don't open no gate is asked, and where the gates don't nothing is written.
 pub fn serve_store<R: Threads + Wait + Sync, S: Shelf, G: Gates, O: Sink>(
     rt: &R,
     alloc: Global,
@@ -110,8 +118,10 @@ pub fn serve_store<R: Threads + Wait + Sync, S: Shelf, G: Gates, O: Sink>(
 ) -> Exit
     requires workers { (1 ≤ address.workers) × (address.workers ≤ 64) }
     requires connections { (1 ≤ address.connections) × (address.connections ≤ 65536) }
-    ensures serves { let outlet = outlet_of O.taken O.faults in let stores = state_of S.rows S.faults in let gates_at = gates_of G.faults G.logs in
-        ServesGates S.Keeper.rows path.now (streams_of G.Door.In.left G.Door.In.read_gives G.Door.In.faults G.Door.Out.taken G.Door.Out.faults)
+    ensures serves { let outlet = outlet_of O.taken O.faults in let stores = state_of S.rows S.faults in
+        let gates_at = gates_of G.faults G.logs in
+        ServesGates S.Keeper.rows path.now
+        (streams_of G.Door.In.left G.Door.In.read_gives G.Door.In.faults G.Door.Out.taken G.Door.Out.faults)
         address.entry.workers address.entry.connections result (outlet out.old) (outlet out.new)
         (stores shelf.old) (stores shelf.new) (gates_at gates.old) (gates_at gates.new) }
 

@@ -47,9 +47,11 @@ pub(crate) fn open_store<S: Shelf>(
     shelf: &mut S,
 ) -> Result<Book<S::Keeper>, Exit>
     ensures opened { let stores = state_of S.rows S.faults in
-        IfOk result (λ book. OpensStore S.Keeper.rows S.Keeper.faults path.now book (stores shelf.old) (stores shelf.new)) }
+        IfOk result (λ book. OpensStore S.Keeper.rows S.Keeper.faults path.now book
+        (stores shelf.old) (stores shelf.new)) }
     ensures open { OnOk result (S.has_opened shelf.new path.now) }
-    ensures refused { IfErr result (λ exit. StaysShut path.now exit (state_of S.rows S.faults shelf.old) (state_of S.rows S.faults shelf.new)) }
+    ensures refused { IfErr result
+        (λ exit. StaysShut path.now exit (state_of S.rows S.faults shelf.old) (state_of S.rows S.faults shelf.new)) }
 {
     let keeper = match shelf.open(path) {
         Ok(keeper) => keeper,
@@ -78,8 +80,8 @@ pub fn pipe_store<R: Wait, S: Shelf, I: Source, O: Sink>(
         PipesStore S.Keeper.rows path.now I.left I.read_gives result
         (outside input.old out.old) (outside input.new out.new) (stores shelf.old) (stores shelf.new) }
 
-    // Where nothing fails and the rows are a legal history's, all that the input's bytes spell is answered from that history
-    // on, or memory runs out.
+    // Where nothing fails and the rows are a legal history's, all that the input's bytes spell is answered from that
+    // history on, or memory runs out.
     ensures answers { let outside = outside_of I.faults O.taken O.faults in
         (b : List ℕ) → I.left input.old ≡ Some b → IsFaultless (outside input.old out.old) (outside input.new out.new)
         → (Rises (S.faults shelf.old) (S.faults shelf.new) → ⊥)

@@ -34,7 +34,8 @@ fn user_named<K: Keeper>(book: &Book<K>, name: &str) -> Option<UserNo>
 /// Prints the view of the user who registered the name.
 fn print_view<K: Keeper, O: Sink>(book: &Book<K>, name: &str, out: &mut O) -> Exit
     requires { Legal book.now.log }
-    ensures { TellsView book.now.log name.now result (outlet_of O.taken O.faults out.old) (outlet_of O.taken O.faults out.new) }
+    ensures { TellsView book.now.log name.now result (outlet_of O.taken O.faults out.old)
+        (outlet_of O.taken O.faults out.new) }
 {
     let Some(user) = user_named(book, name) else {
         return Exit::NoUser;
@@ -46,8 +47,8 @@ fn print_view<K: Keeper, O: Sink>(book: &Book<K>, name: &str, out: &mut O) -> Ex
     }
 }
 
-/// Prints what the user who registered the name sees of the history of the rows at the path, a line a sighting. The rows
-/// stay as they are.
+/// Prints what the user who registered the name sees of the history of the rows at the path, a line a
+/// sighting. The rows stay as they are.
 pub fn view_store<S: Shelf, O: Sink>(
     alloc: Global,
     path: &str,
@@ -58,8 +59,8 @@ pub fn view_store<S: Shelf, O: Sink>(
     ensures views { let outlet = outlet_of O.taken O.faults in let stores = state_of S.rows S.faults in
         TellsStore path.now name.now result (outlet out.old) (outlet out.new) (stores shelf.old) (stores shelf.new) }
 
-    // Where nothing fails and the rows are a legal history's, its view is told whole, or nobody has the name; or memory is
-    // wanting.
+    // Where nothing fails and the rows are a legal history's, its view is told whole, or nobody has
+    // the name; or memory is wanting.
     ensures answers { let outlet = outlet_of O.taken O.faults in
         (Rises (O.faults out.old) (O.faults out.new) → ⊥) → (Rises (S.faults shelf.old) (S.faults shelf.new) → ⊥)
         → (files : Files) → S.rows shelf.old ≡ Some files → (H : History) → Legal H → rows_of H ≡ files path.now

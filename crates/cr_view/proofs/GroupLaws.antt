@@ -22,14 +22,20 @@ some-grouped maker entry [] = omega arith
 some-grouped maker entry (next ∷ entries) = omega arith
 
 -- behind others, the one before gets the mark
-marked-last : (maker : ℕ) (entries : List Entry) (next : Entry) (k : ℕ) (a : Stamped) → k + 1 ≡ length (grouped maker entries) → a ≡ get_or (grouped maker entries) k a → slice_set (grouped maker entries) k (record a { more = true }) ++ record { maker = maker; more = false; entry = next } ∷ [] ≡ grouped maker (entries ++ next ∷ [])
+marked-last : (maker : ℕ) (entries : List Entry) (next : Entry) (k : ℕ) (a : Stamped)
+    → k + 1 ≡ length (grouped maker entries) → a ≡ get_or (grouped maker entries) k a
+    → slice_set (grouped maker entries) k (record a { more = true })
+    ++ record { maker = maker; more = false; entry = next } ∷ [] ≡ grouped maker (entries ++ next ∷ [])
 marked-last maker [] next k a h is = absurd (omega (arith, h))
 marked-last maker (x ∷ []) next zero a h is = ap (λ (s : Stamped). record s { more = true } ∷ record { maker = maker; more = false; entry = next } ∷ []) is
 marked-last maker (x ∷ []) next (suc k) a h is = absurd (omega (arith, h))
 marked-last maker (x ∷ y ∷ entries) next zero a h is = let n = some-grouped maker y entries in absurd (omega (arith, h, n))
 marked-last maker (x ∷ y ∷ entries) next (suc k) a h is = ap (λ rest. record { maker = maker; more = true; entry = x } ∷ rest) (marked-last maker (y ∷ entries) next k a (omega (arith, h)) is)
 
-pub marked-last-at : (maker : ℕ) (entries : List Entry) (next : Entry) (k : ℕ) (a : Stamped) (items : List Stamped) → items ≡ grouped maker entries → k + 1 ≡ length items → a ≡ get_or items k a → slice_set items k (record a { more = true }) ++ record { maker = maker; more = false; entry = next } ∷ [] ≡ grouped maker (entries ++ next ∷ [])
+pub marked-last-at : (maker : ℕ) (entries : List Entry) (next : Entry) (k : ℕ) (a : Stamped) (items : List Stamped)
+    → items ≡ grouped maker entries → k + 1 ≡ length items → a ≡ get_or items k a
+    → slice_set items k (record a { more = true }) ++ record { maker = maker; more = false; entry = next } ∷ []
+    ≡ grouped maker (entries ++ next ∷ [])
 marked-last-at maker entries next k a items is n at = ap (λ xs. slice_set xs k (record a { more = true }) ++ record { maker = maker; more = false; entry = next } ∷ []) is ∙ marked-last maker entries next k a (n ∙ ap length is) (at ∙ ap (λ xs. get_or xs k a) is)
 
 -- the first user is made a chair

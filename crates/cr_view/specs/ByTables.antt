@@ -9,13 +9,15 @@ use Rattle.cr_base.specs.declared.target.Target.{Target}
 use Rattle.cr_base.specs.declared.words.Kind.{Kind}
 use Rattle.cr_base.specs.declared.words.Role.{Role}
 use Rattle.cr_base.specs.Accounts.{number_at, role_at, role_in, lines_of}
-use Rattle.cr_base.specs.Checks.{NamedPaper, ◌breaks◌, judged, of_role, register_checks, submit_checks, name_checks, comment_checks}
+use Rattle.cr_base.specs.Checks.{NamedPaper, ◌breaks◌, judged, of_role, register_checks}
+use Rattle.cr_base.specs.Checks.{submit_checks, name_checks, comment_checks}
 use Rattle.cr_base.specs.Drawn.{Drawn, registration_drawn, submission_drawn, naming_drawn, comment_drawn}
 use Rattle.cr_base.specs.Judging.{conflict_judged, assignment_judged, unassignment_judged}
 use Rattle.cr_base.specs.Lists.{listed, at_some}
 use Rattle.cr_base.specs.Papers.{paper_count, own_count, is_withdrawn_at}
 use Rattle.cr_base.specs.Seats.{ordinal_in}
-use Rattle.cr_base.specs.Sources.{standing_at, facts_of_tables, shown_in_tables, has_paper, paper_named, target_named, user_among}
+use Rattle.cr_base.specs.Sources.{standing_at, facts_of_tables, shown_in_tables}
+use Rattle.cr_base.specs.Sources.{has_paper, paper_named, target_named, user_among}
 use Rattle.cr_base.specs.Tables.{Tables}
 use Rattle.cr_base.specs.Talk.{comments_in, own_comments_in}
 use Rattle.cr_view.specs.declared.assigning.Named.{Named}
@@ -42,17 +44,24 @@ submission_at t maker title abstract authors = submission_of t maker (users_at t
 abbrev pub naming_of : Tables → ℕ → Option ℕ → List ℕ → Role → Result Drawn Rule
 naming_of t maker target name role =
     let asked = option_map of_role (option_and_then (role_at t.accounts) target) in
-    judged (name_checks (standing_at t (Some maker) None) asked role) (naming_drawn maker (unwrap_or target 0) name role)
+    judged
+    (name_checks (standing_at t (Some maker) None) asked role)
+    (naming_drawn maker (unwrap_or target 0) name role)
 
 abbrev pub naming_at : Tables → ℕ → Option (List ℕ) → Role → Result Drawn Rule
 naming_at t maker name role = naming_of t maker (target_at t.accounts name) (unwrap_or name []) role
 
 -- the paper of this number, with how `maker` stands to it; and the paper that is named, or that there is none
 abbrev pub named_of : Tables → ℕ → Option ℕ → Named
-named_of t maker paper = record { by = standing_at t (Some maker) paper; paper = unwrap_or paper 0; withdrawn = at_some (is_withdrawn_at t.papers) paper }
+named_of t maker paper = record {
+  by = standing_at t (Some maker) paper;
+  paper = unwrap_or paper 0;
+  withdrawn = at_some (is_withdrawn_at t.papers) paper;
+}
 
 abbrev pub named_at : Tables → ℕ → Option ℕ → Result Named Rule
-named_at t maker paper = judged (not (has_paper (facts_of_tables t None) paper) breaks rules.NoPaper ∷ []) (named_of t maker paper)
+named_at t maker paper =
+    judged (not (has_paper (facts_of_tables t None) paper) breaks rules.NoPaper ∷ []) (named_of t maker paper)
 
 -- what the rules ask of that paper
 abbrev pub asked_of : Tables → Option ℕ → NamedPaper
@@ -70,7 +79,8 @@ user_named t name = user_among (lines_of t.accounts) name
 abbrev pub pair_at : Tables → ℕ → Option ℕ → Option ℕ → Result NamedPair Rule
 pair_at t maker paper user =
     judged
-    (not (has_paper (facts_of_tables t None) paper) breaks rules.NoPaper ∷ is_none (asked_at t maker paper user) breaks rules.NoUser ∷ [])
+    (not (has_paper (facts_of_tables t None) paper) breaks rules.NoPaper
+    ∷ is_none (asked_at t maker paper user) breaks rules.NoUser ∷ [])
     (record { named = named_of t maker paper; user = unwrap_or user 0; role = role_in t.accounts user })
 
 -- turning the conflict of this user on or off, assigning her, and taking her off the paper

@@ -15,8 +15,8 @@ abbrev pub HasFewAuthors : Command → Type 0
 HasFewAuthors (Submit title abstract authors) = length authors ≤ 19
 HasFewAuthors _ = Unit {0}
 
--- there is a caller, where the query is about herself, and it is no search and no report, which aren't answered here: that nobody may
--- ask for what is told of a paper is no concern of the tables, which answer it for anybody
+-- there is a caller, where the query is about herself, and it is no search and no report, which aren't answered here:
+-- that nobody may ask for what is told of a paper is no concern of the tables, which answer it for anybody
 abbrev pub HasAsker : Option ℕ → Query → Type 0
 HasAsker caller queries.Me = IsSome caller
 HasAsker caller queries.Accounts = Unit {0}

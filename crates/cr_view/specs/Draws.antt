@@ -4,11 +4,13 @@ use Rattle.cr_base.specs.declared.entry.Entry.TheVariants.{Submitted, Coauthor}
 use Rattle.cr_base.specs.declared.reply.Receipt.TheVariants as receipts
 use Rattle.cr_base.specs.declared.reply.Rule.{Rule}
 use Rattle.cr_base.specs.Drawn.{Drawn, grouped, registration_drawn, phase_drawn, revision_drawn, upload_drawn}
-use Rattle.cr_base.specs.Drawn.{withdrawal_drawn, naming_drawn, mode_drawn, conflict_drawn, bid_drawn, assignment_drawn, unassignment_drawn}
+use Rattle.cr_base.specs.Drawn.{withdrawal_drawn, naming_drawn, mode_drawn, conflict_drawn}
+use Rattle.cr_base.specs.Drawn.{bid_drawn, assignment_drawn, unassignment_drawn}
 use Rattle.cr_base.specs.Drawn.{review_drawn, comment_drawn, tag_drawn, decision_drawn}
 use Rattle.cr_view.specs.declared.draw.Draw.{Draw}
 use Rattle.cr_view.specs.declared.draw.Draw.TheVariants.{Registration, Phase, Submission, Revision, Upload, Withdrawal}
-use Rattle.cr_view.specs.declared.draw.Draw.TheVariants.{Naming, Mode, Conflict, Bid, Assignment, Unassignment, Review, Comment, Tag, Decision}
+use Rattle.cr_view.specs.declared.draw.Draw.TheVariants.{Naming, Mode, Conflict, Bid, Assignment}
+use Rattle.cr_view.specs.declared.draw.Draw.TheVariants.{Unassignment, Review, Comment, Tag, Decision}
 
 -- the entries and the receipt of a draw; a submission's co-authors were found before, each once
 abbrev pub drawn_by : Draw → Drawn

@@ -34,9 +34,11 @@ some_label written (suc n) = some_label written n || written (suc n)
 abbrev pub reviews_told : Tables → Option ℕ → Standing → ℕ → List ReviewLine
 reviews_told t user by p =
     let there = has_paper (facts_of_tables t None) (Some p) in
-    reviews_answered (reply_or_rule (judged (reviews_checks by (of_there there)) (replies.Reviews (reviews_at t user by p))))
+    reviews_answered
+    (reply_or_rule (judged (reviews_checks by (of_there there)) (replies.Reviews (reviews_at t user by p))))
 
 abbrev pub comments_told : Tables → Standing → ℕ → List CommentLine
 comments_told t by p =
     let there = has_paper (facts_of_tables t None) (Some p) in
-    comments_answered (reply_or_rule (judged (comments_checks by (of_there there)) (replies.Comments (comments_at t None by p))))
+    comments_answered
+    (reply_or_rule (judged (comments_checks by (of_there there)) (replies.Comments (comments_at t None by p))))

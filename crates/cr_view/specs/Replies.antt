@@ -16,14 +16,16 @@ use Rattle.cr_base.specs.declared.reply.Rule.{Rule}
 use Rattle.cr_base.specs.declared.seat.Seat.{Seat}
 use Rattle.cr_base.specs.declared.standing.Standing.{Standing}
 use Rattle.cr_base.specs.Accounts.{lines_of}
-use Rattle.cr_base.specs.Answering.{query_checks, page_by, uploads_told, upload_of, content_by, content_asked, reply_or_rule, bidder_told, reviewer_told}
+use Rattle.cr_base.specs.Answering.{query_checks, page_by, uploads_told, upload_of, content_by}
+use Rattle.cr_base.specs.Answering.{content_asked, reply_or_rule, bidder_told, reviewer_told}
 use Rattle.cr_base.specs.Checks.{judged, of_there, content_checks}
 use Rattle.cr_base.specs.History.{Upload, BidTold, SeatTold}
 use Rattle.cr_base.specs.Lists.{listed, at_some}
 use Rattle.cr_base.specs.Page.{is_clear_chair, is_clear_member, shows_reviewer, where_told}
 use Rattle.cr_base.specs.Papers.{paper_count, uploads_at}
 use Rattle.cr_base.specs.Seats.{told_seat, ordinal_in}
-use Rattle.cr_base.specs.Sources.{Facts, Shown, is_accepted_in, own_forms_in, standing_at, facts_of_tables, shown_in_tables, has_paper, names_in, name_in}
+use Rattle.cr_base.specs.Sources.{Facts, Shown, is_accepted_in, own_forms_in, standing_at}
+use Rattle.cr_base.specs.Sources.{facts_of_tables, shown_in_tables, has_paper, names_in, name_in}
 use Rattle.cr_base.specs.Tables.{Tables}
 use Rattle.cr_base.specs.Ties.{BareTies, bid_in}
 use Rattle.cr_view.specs.declared.queries.AnswerError.{AnswerError}
@@ -33,8 +35,8 @@ use Rattle.cr_view.specs.declared.queries.AnswerError.TheVariants as errors
 abbrev pub IsNoRefusal : Reply → Type 0
 IsNoRefusal reply = (rule : Rule) → reply ≢ replies.Refused rule
 
--- A query to which this reply is due was answered so: by that reply, or by the rule that it tells; memory runs out only
--- where it tells none.
+-- A query to which this reply is due was answered so: by that reply, or by the rule that it tells; memory
+-- runs out only where it tells none.
 abbrev pub AnswersAsDue : Result Reply AnswerError → Reply → Type 0
 AnswersAsDue (Ok reply) due = (reply ≡ due) × IsNoRefusal due
 AnswersAsDue (Err (errors.Rule rule)) due = due ≡ replies.Refused rule
@@ -54,10 +56,12 @@ conference_at t = record { mode = t.stage.mode; papers = paper_count t.papers; p
 
 -- how a user stands to the paper of which she asks this, or the first broken rule
 abbrev pub reader_at : (Option ℕ → Query) → Tables → Option ℕ → Option ℕ → Result Standing Rule
-reader_at asked t user paper = judged (query_checks (facts_of_tables t user) (shown_in_tables t) (asked paper)) (standing_at t user paper)
+reader_at asked t user paper =
+    judged (query_checks (facts_of_tables t user) (shown_in_tables t) (asked paper)) (standing_at t user paper)
 
 -- what she is told of it is due to her, or the first broken rule
-abbrev pub due_at : {A : Type 0} → (Option ℕ → Query) → (Facts → Shown → ℕ → A) → Tables → Option ℕ → Option ℕ → Result A Rule
+abbrev pub due_at : {A : Type 0} → (Option ℕ → Query) → (Facts → Shown → ℕ → A) → Tables → Option ℕ
+    → Option ℕ → Result A Rule
 due_at asked told t user paper =
     let facts = facts_of_tables t user in
     judged (query_checks facts (shown_in_tables t) (asked paper)) (told facts (shown_in_tables t) (unwrap_or paper 0))
@@ -89,19 +93,24 @@ abbrev pub versions_at : Tables → Bool → ℕ → List ℕ
 versions_at t author p = map (λ (u : Upload). u.version) (uploads_told author (uploads_at t.papers p))
 
 abbrev pub content_at : Tables → Bool → ℕ → Option ℕ → Option (List ℕ)
-content_at t author p version = option_map (λ (u : Upload). u.content) (upload_of version (uploads_told author (uploads_at t.papers p)))
+content_at t author p version =
+    option_map (λ (u : Upload). u.content) (upload_of version (uploads_told author (uploads_at t.papers p)))
 
 -- how a user stands to the paper of which she may read some content, if there is any, or the first broken rule
 abbrev pub content_reader_at : Tables → Option ℕ → Option ℕ → Result Standing Rule
 content_reader_at t user paper =
     let by = standing_at t user paper in
-    judged (content_checks by (at_some (is_accepted_in t) paper) (of_there (has_paper (facts_of_tables t user) paper)) true) by
+    judged
+    (content_checks by (at_some (is_accepted_in t) paper) (of_there (has_paper (facts_of_tables t user) paper)) true)
+    by
 
 -- the content that is due to a user, or the first broken rule; and the reply that holds it
 abbrev pub content_due : Tables → Option ℕ → Option ℕ → Option ℕ → Result (List ℕ) Rule
 content_due t user paper version =
     let facts = facts_of_tables t user in
-    judged (content_asked facts (shown_in_tables t) paper version) (unwrap_or (content_by facts (shown_in_tables t) paper version) [])
+    judged
+    (content_asked facts (shown_in_tables t) paper version)
+    (unwrap_or (content_by facts (shown_in_tables t) paper version) [])
 
 abbrev pub content_reply_at : Tables → Option ℕ → Option ℕ → Option ℕ → Reply
 content_reply_at t user paper version =
@@ -128,9 +137,11 @@ seated seats = map told_seat (filter (λ (seat : Tie Seat). not seat.value.vacat
 abbrev pub reviewers_of : Tables → Standing → (ℕ → Bool) → List SeatTold → List Reviewer
 reviewers_of t by written seats = map (reviewer_told by (lines_of t.accounts) written) seats
 
--- the name of whoever has this seat, where it is shown and she has not left it; and a reviewer of this name, who has written or hasn't
+-- the name of whoever has this seat, where it is shown and she has not left it; and a reviewer of this
+-- name, who has written or hasn't
 abbrev pub holder_name : Tables → Standing → Tie Seat → Option (List ℕ)
-holder_name t by seat = where_told (not seat.value.vacated && shows_reviewer by) (name_in (lines_of t.accounts) seat.pair.user)
+holder_name t by seat =
+    where_told (not seat.value.vacated && shows_reviewer by) (name_in (lines_of t.accounts) seat.pair.user)
 
 abbrev pub reviewer_of : Standing → Tie Seat → Bool → Option (List ℕ) → Option Reviewer
 reviewer_of by seat written name = if seat.value.vacated then None else Some (record {

@@ -1,5 +1,6 @@
 -- What a caller is told of a paper's reviews, by the tables.
-use Rattle.std.specs.Prelude.{ℕ, Bool, not, ◌&&◌, ◌==◌, List, map, Option, Some, None, unwrap_or, Result, if◌then◌else◌}
+use Rattle.std.specs.Prelude.{ℕ, Bool, not, ◌&&◌, ◌==◌, List, map, Option}
+use Rattle.std.specs.Prelude.{Some, None, unwrap_or, Result, if◌then◌else◌}
 use Rattle.std.specs.List.{flat_map}
 use Rattle.std.specs.Option.{option_map, option_and_then}
 use Rattle.cr_base.specs.declared.command.Query.TheVariants as queries
@@ -39,14 +40,16 @@ review_line heading form = record {
 
 -- the form, where it stands under the label and was written in the phase or later; and those of these forms that do
 abbrev pub form_under : ℕ → Phase → Filed WrittenForm → Option WrittenForm
-form_under label phase filed = if filed.value.ordinal == label && is_from phase filed.value.phase then Some filed.value else None
+form_under label phase filed =
+    if filed.value.ordinal == label && is_from phase filed.value.phase then Some filed.value else None
 
 abbrev pub forms_under : ℕ → Phase → List (Filed WrittenForm) → List WrittenForm
 forms_under label phase forms = flat_map (λ (filed : Filed WrittenForm). listed (form_under label phase filed)) forms
 
 -- the name of whoever was assigned to the paper under the label, where it is told
 abbrev pub label_name : Tables → Bool → ℕ → ℕ → Option (List ℕ)
-label_name t named p o = where_told named (option_and_then (name_in (lines_of t.accounts)) (assigned_under o (seats_in t.seats p)))
+label_name t named p o =
+    where_told named (option_and_then (name_in (lines_of t.accounts)) (assigned_under o (seats_in t.seats p)))
 
 -- the label, for one who stands so to the paper
 abbrev pub heading_at : Tables → Standing → ℕ → ℕ → Heading
@@ -54,7 +57,9 @@ heading_at t by p o = record { to_author = by.author; label = o; user = label_na
 
 -- the forms under it that she is told
 abbrev pub forms_shown : Tables → Standing → ℕ → ℕ → List FormTold
-forms_shown t by p o = if by.author then listed (option_map written_told (last_form_in t.reviews p o)) else forms_discussed_in t.reviews p o
+forms_shown t by p o =
+    if by.author then listed (option_map written_told (last_form_in t.reviews p o))
+    else forms_discussed_in t.reviews p o
 
 abbrev pub label_reviews : Tables → Standing → ℕ → ℕ → List ReviewLine
 label_reviews t by p o = map (review_line (heading_at t by p o)) (forms_shown t by p o)
@@ -64,7 +69,8 @@ label_reviews t by p o = map (review_line (heading_at t by p o)) (forms_shown t 
 -- a reviewer's own forms, without her name
 abbrev pub own_reviews : Tables → Option ℕ → Standing → ℕ → List ReviewLine
 own_reviews t user by p =
-    map (review_line (record { to_author = by.author; label = unwrap_or (ordinal_in t.seats user p) 0; user = None })) (own_forms_in t user p)
+    map (review_line (record { to_author = by.author; label = unwrap_or (ordinal_in t.seats user p) 0; user = None }))
+    (own_forms_in t user p)
 
 -- the reviews that a user is told who stands so to the paper; and those that are due to her, or the first broken rule
 abbrev pub reviews_at : Tables → Option ℕ → Standing → ℕ → List ReviewLine

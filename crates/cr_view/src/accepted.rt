@@ -39,7 +39,8 @@ impl Live {
 
     /// Whether a paper is named, and everyone is served it: it is accepted, and the conference is closed.
     pub(crate) fn has_published(&self, paper: &Option<PaperNo>) -> bool
-        ensures { result ≡ is_published self.now.tables.stage.phase (at_some (is_accepted_in self.now.tables) paper.now) }
+        ensures { result ≡ is_published self.now.tables.stage.phase
+            (at_some (is_accepted_in self.now.tables) paper.now) }
     {
         self.stage.phase().publishes(self.has_accepted(paper))
     }
@@ -65,7 +66,8 @@ impl Live {
     /// does; of those that are accepted a binary search, and a look-up for each author. Shares the titles, and
     /// takes no memory but for the answer.
     pub fn accepted_papers(&self, alloc: Global) -> Result<AcceptedPapers, AllocError>
-        ensures { IfOk result (λ papers. papers ≡ accepted_by (facts_of_tables self.now.tables None) (shown_in_tables self.now.tables)) }
+        ensures { IfOk result (λ papers. papers
+            ≡ accepted_by (facts_of_tables self.now.tables None) (shown_in_tables self.now.tables)) }
     {
         let mut papers = Vec::new(alloc);
         for before in 0..self.papers.count() {
@@ -93,7 +95,8 @@ impl Live {
 
     /// What is told of the paper; an error only for lack of memory.
     fn accepted_paper(&self, alloc: Global, paper: PaperNo) -> Result<AcceptedPaper, AllocError>
-        ensures { IfOk result (λ told. told ≡ accepted_paper (facts_of_tables self.now.tables None) (shown_in_tables self.now.tables) paper) }
+        ensures { IfOk result (λ told. told
+            ≡ accepted_paper (facts_of_tables self.now.tables None) (shown_in_tables self.now.tables) paper) }
     {
         let authors = self.names(alloc, self.ties.authors(paper))?;
         let title = self.title_or_none(alloc, paper)?;

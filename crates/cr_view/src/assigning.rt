@@ -143,7 +143,8 @@ impl Live {
     /// does a walk over the paper's forms.
     fn has_written(&self, user: UserNo, paper: PaperNo, earlier: &[Stamped]) -> bool
         requires { AreEarlier self.now.tables earlier.now }
-        ensures { let t = tables_from self.now.tables earlier.now in result ≡ at_some (is_written_in t.reviews paper) (ordinal_in t.seats (Some user) paper) }
+        ensures { let t = tables_from self.now.tables earlier.now in
+            result ≡ at_some (is_written_in t.reviews paper) (ordinal_in t.seats (Some user) paper) }
     {
         match self.seats.ordinal_behind(user, paper, earlier) {
             Some(ordinal) => self.reviews.has_form(paper, ordinal),
@@ -228,7 +229,8 @@ impl Live {
     ) -> Result<Draw, Rule>
         requires { AreEarlier self.now.tables earlier.now }
         ensures drawn { drawn_or_rule result
-            ≡ judge_by_role (tables_from self.now.tables earlier.now) (Some maker) (commands.Assign paper.now name.now kind) }
+            ≡ judge_by_role (tables_from self.now.tables earlier.now) (Some maker)
+            (commands.Assign paper.now name.now kind) }
         ensures row { IfOk result IsOfRow }
     {
         let pair = self.named_pair(maker, paper, name, earlier)?;
@@ -259,7 +261,8 @@ impl Live {
     ) -> Result<Draw, Rule>
         requires { AreEarlier self.now.tables earlier.now }
         ensures drawn { drawn_or_rule result
-            ≡ judge_by_role (tables_from self.now.tables earlier.now) (Some maker) (commands.Unassign paper.now name.now) }
+            ≡ judge_by_role (tables_from self.now.tables earlier.now) (Some maker)
+            (commands.Unassign paper.now name.now) }
         ensures row { IfOk result IsOfRow }
     {
         let pair = self.named_pair(maker, paper, name, earlier)?;

@@ -170,7 +170,8 @@ impl Live {
         title: Text,
         abstract_: Text,
     ) -> Result<Draw, Rule>
-        ensures { drawn_or_rule result ≡ judge_by_role self.now.tables (Some maker) (commands.Revise paper.now title abstract_) }
+        ensures { drawn_or_rule result ≡ judge_by_role self.now.tables (Some maker)
+            (commands.Revise paper.now title abstract_) }
     {
         let Some(number) = paper else {
             return Err(Rule::NoPaper);
@@ -191,7 +192,8 @@ impl Live {
         paper: &Option<PaperNo>,
         content: Blob,
     ) -> Result<Draw, Rule>
-        ensures { drawn_or_rule result ≡ judge_by_role self.now.tables (Some maker) (commands.Upload paper.now content) }
+        ensures { drawn_or_rule result ≡ judge_by_role self.now.tables (Some maker)
+            (commands.Upload paper.now content) }
     {
         let Some(number) = paper else {
             return Err(Rule::NoPaper);

@@ -17,7 +17,8 @@ use cr_base::{
 };
 use std::alloc::{AllocError, Global};
 
-/// Whether one who stands so to a paper, which is there or isn't, may ask for the comments on it, or the first broken rule.
+/// Whether one who stands so to a paper, which is there or isn't, may ask for the comments
+/// on it, or the first broken rule.
 pub(crate) fn comments_rule(by: &Standing, there: bool) -> Result<(), Rule>
     ensures { result ≡ judged (comments_checks by.now (of_there there)) tt }
 {
@@ -98,7 +99,8 @@ impl Live {
         by: &Standing,
         comments: &[Filed<Comment>],
     ) -> Result<CommentLines, AllocError>
-        ensures { IfOk result (λ lines. lines ≡ lines_told self.now.tables by.now (map (λ filed. filed.value) comments.now)) }
+        ensures { IfOk result (λ lines. lines
+            ≡ lines_told self.now.tables by.now (map (λ filed. filed.value) comments.now)) }
     {
         let mut lines = Vec::with_capacity(alloc, comments.len())?;
         for filed in comments {
@@ -109,7 +111,8 @@ impl Live {
 
     /// A comment as one who stands so to its paper is told of it.
     fn comment_line(&self, by: &Standing, comment: &Comment) -> Result<CommentLine, AllocError>
-        ensures { IfOk result (λ line. line ≡ comment_line by.now (lines_of self.now.tables.accounts) (comment_as_told comment.now)) }
+        ensures { IfOk result (λ line. line
+            ≡ comment_line by.now (lines_of self.now.tables.accounts) (comment_as_told comment.now)) }
     {
         let text = comment.text.copy()?;
         Ok(CommentLine {

@@ -4,7 +4,8 @@ ghost use Rattle.std.specs.Option.{option_copied};
 ghost use Rattle.cr_base.specs.Answering.{content_asked};
 ghost use Rattle.cr_base.specs.Checks.{judged};
 ghost use Rattle.cr_base.specs.Sources.{facts_of_tables, shown_in_tables};
-ghost use Rattle.cr_view.specs.Replies.{AnswersAsDue, ShowsAsDue, content_at, content_due, content_reader_at, content_reply_at};
+ghost use Rattle.cr_view.specs.Replies.{AnswersAsDue, ShowsAsDue, content_at};
+ghost use Rattle.cr_view.specs.Replies.{content_due, content_reader_at, content_reply_at};
 
 use crate::live::Live;
 use crate::queries::AnswerError;
@@ -53,7 +54,8 @@ impl Live {
         paper: &Option<PaperNo>,
         version: Option<u64>,
     ) -> Result<(), Rule>
-        ensures { result ≡ judged (content_asked (facts_of_tables self.now.tables user.now) (shown_in_tables self.now.tables) paper.now version) tt }
+        ensures { result ≡ judged (content_asked (facts_of_tables self.now.tables user.now)
+            (shown_in_tables self.now.tables) paper.now version) tt }
     {
         match self.content_told(user, paper, version) {
             Ok(_) => Ok(()),
@@ -68,7 +70,8 @@ impl Live {
         paper: &Option<PaperNo>,
         version: Option<u64>,
     ) -> Result<&Blob, Rule>
-        ensures content { IfOk result (λ content. content_due self.now.tables user.now paper.now version ≡ Ok content.now) }
+        ensures content { IfOk result (λ content. content_due self.now.tables user.now paper.now version
+            ≡ Ok content.now) }
         ensures rule { IfErr result (λ rule. content_due self.now.tables user.now paper.now version ≡ Err rule) }
     {
         let by = match self.content_reader(user, paper) {

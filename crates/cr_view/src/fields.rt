@@ -1,10 +1,11 @@
-//! Single fields of what a caller is told of a paper, each read alone, for whoever asks for no more: what it costs is told
-//! at each, and none takes memory. `by` says how she stands to the paper, and `accepted` whether it is accepted.
+//! Single fields of what a caller is told of a paper, each read alone, for whoever asks for no more: what it costs is
+//! told at each, and none takes memory. `by` says how she stands to the paper, and `accepted` whether it is accepted.
 ghost use Rattle.std.specs.Prelude.{◌≡◌, ◌≤◌, [], Some, not, if◌then◌else◌};
 ghost use Rattle.std.specs.Option.{option_copied};
 ghost use Rattle.cr_base.specs.Decisions.{decision_in};
 ghost use Rattle.cr_base.specs.Lists.{is_nothing};
-ghost use Rattle.cr_base.specs.Page.{gets_title, gets_abstract, gets_decision, gets_tags, gets_versions, gets_withdrawn, shows_reviewer, where_told};
+ghost use Rattle.cr_base.specs.Page.{gets_title, gets_abstract, gets_decision, gets_tags};
+ghost use Rattle.cr_base.specs.Page.{gets_versions, gets_withdrawn, shows_reviewer, where_told};
 ghost use Rattle.cr_base.specs.Papers.{paper_count, title_at, abstract_at, is_withdrawn_at};
 ghost use Rattle.cr_base.specs.Pairs.{ties_of};
 ghost use Rattle.cr_base.specs.Reviews.{is_written_in};
@@ -43,7 +44,8 @@ impl Live {
 impl Live {
     /// The title, where it is told. One read by number.
     pub fn title_told(&self, by: &Standing, accepted: bool, paper: PaperNo) -> Option<&Text>
-        ensures { option_copied result ≡ where_told (gets_title by.now accepted) (title_at self.now.tables.papers paper) }
+        ensures { option_copied result ≡ where_told (gets_title by.now accepted)
+            (title_at self.now.tables.papers paper) }
     {
         if !gets_title(by, accepted) {
             return None;
@@ -53,7 +55,8 @@ impl Live {
 
     /// The abstract, where it is told. One read by number.
     pub fn abstract_told(&self, by: &Standing, accepted: bool, paper: PaperNo) -> Option<&Text>
-        ensures { option_copied result ≡ where_told (gets_abstract by.now accepted) (abstract_at self.now.tables.papers paper) }
+        ensures { option_copied result ≡ where_told (gets_abstract by.now accepted)
+            (abstract_at self.now.tables.papers paper) }
     {
         if !gets_abstract(by, accepted) {
             return None;
@@ -63,7 +66,8 @@ impl Live {
 
     /// Whether a version is told of, as there is where there is a content. One look-up.
     pub fn tells_version(&self, by: &Standing, accepted: bool, paper: PaperNo) -> bool
-        ensures { result ≡ tells_some (where_told (gets_versions by.now accepted) (Some (versions_at self.now.tables by.now.author paper))) }
+        ensures { result ≡ tells_some (where_told (gets_versions by.now accepted)
+            (Some (versions_at self.now.tables by.now.author paper))) }
     {
         gets_versions(by, accepted) && self.papers.last_version(paper).is_some()
     }
@@ -120,7 +124,8 @@ impl Live {
 
     /// Whether the user is told that the tag is on. Two binary searches, and a walk over the paper's tags up to it.
     pub fn tells_tag(&self, user: UserNo, by: &Standing, paper: PaperNo, tag: &Tag) -> bool
-        ensures { result ≡ has_tag tag.now (where_told (gets_tags by.now) (Some (tags_in self.now.tables.tags (Some user) (is_chair by.now.role) paper))) }
+        ensures { result ≡ has_tag tag.now (where_told (gets_tags by.now)
+            (Some (tags_in self.now.tables.tags (Some user) (is_chair by.now.role) paper))) }
     {
         gets_tags(by) && self.tags.has_for(user, paper, by.role.is_chair(), tag)
     }
@@ -128,8 +133,8 @@ impl Live {
 
 /// Whether its reviews and its comments tell anything.
 impl Live {
-    /// Whether the user is answered a review, where she asks for them: no rule is in the way, and there is one for her. Two
-    /// binary searches, and a walk over the paper's forms.
+    /// Whether the user is answered a review, where she asks for them: no rule is in the way, and there is one for
+    /// her. Two binary searches, and a walk over the paper's forms.
     pub fn tells_review(&self, user: &Option<UserNo>, by: &Standing, paper: PaperNo) -> bool
         ensures { result ≡ not (is_nothing (reviews_told self.now.tables user.now by.now paper)) }
     {

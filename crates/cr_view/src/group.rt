@@ -1,5 +1,6 @@
 //! The entries of one command.
-ghost use Rattle.std.specs.Prelude.{◌≡◌, ◌≤◌, ◌-◌, ℕ, List, [], ◌∷◌, ◌++◌, OnOk, IfOk, false, map, vec_len, vec_capacity};
+ghost use Rattle.std.specs.Prelude.{◌≡◌, ◌≤◌, ◌-◌, ℕ, List, [], ◌∷◌, ◌++◌, OnOk};
+ghost use Rattle.std.specs.Prelude.{IfOk, false, map, vec_len, vec_capacity};
 ghost use Rattle.cr_base.specs.declared.entry.Entry.{Entry};
 ghost use Rattle.cr_base.specs.declared.entry.Entry.TheVariants.{Submitted, Coauthor};
 ghost use Rattle.cr_base.specs.Drawn.{grouped, registration};
@@ -10,7 +11,8 @@ use std::alloc::{AllocError, Global};
 /// Marks the last entry as one that another of the same command follows.
 fn mark_last(group: &mut Vec<Stamped>)
     ensures marked { (maker : ℕ) (entries : List Entry) (next : Entry) → group.old.items ≡ grouped maker entries
-        → group.new.items ++ record { maker = maker; more = false; entry = next } ∷ [] ≡ grouped maker (entries ++ next ∷ []) }
+        → group.new.items ++ record { maker = maker; more = false; entry = next } ∷ []
+        ≡ grouped maker (entries ++ next ∷ []) }
     ensures room { vec_capacity group.old - vec_len group.old ≤ vec_capacity group.new - vec_len group.new }
 {
     let count = group.len();
@@ -22,7 +24,8 @@ fn mark_last(group: &mut Vec<Stamped>)
 
 /// Adds one more entry of the same command; an error only for lack of memory.
 fn push_entry(group: &mut Vec<Stamped>, maker: UserNo, entry: Entry) -> Result<(), AllocError>
-    ensures { (entries : List Entry) → group.old.items ≡ grouped maker entries → OnOk result (group.new.items ≡ grouped maker (entries ++ entry ∷ [])) }
+    ensures { (entries : List Entry) → group.old.items ≡ grouped maker entries
+        → OnOk result (group.new.items ≡ grouped maker (entries ++ entry ∷ [])) }
 {
     group.reserve(1)?;
     mark_last(group);

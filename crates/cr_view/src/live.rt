@@ -74,11 +74,14 @@ impl Model for Live {
         tags = t.tags.tags;
         decisions = t.decisions.decisions;
       };
-      room = min t.accounts.room (min t.papers.room (min t.ties.room (min t.seats.room (min t.reviews.room (min t.talk.room (min t.tags.room t.decisions.room))))));
+      room = min t.accounts.room (min t.papers.room
+          (min t.ties.room
+          (min t.seats.room (min t.reviews.room (min t.talk.room (min t.tags.room t.decisions.room))))));
     } };
 
     // The papers that have ties are there, and so are those that have seats.
-    ghost invariant = { λ t. AreWithin (paper_count t.papers.papers) t.ties.ties × IsTrue (are_within (paper_count t.papers.papers) t.seats.seats) };
+    ghost invariant = { λ t. AreWithin (paper_count t.papers.papers) t.ties.ties
+        × IsTrue (are_within (paper_count t.papers.papers) t.seats.seats) };
 }
 
 /// The tables and their entries.

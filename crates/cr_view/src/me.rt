@@ -47,7 +47,8 @@ impl Live {
     /// The papers of these ties, without those whose author the user is.
     fn others(&self, alloc: Global, user: UserNo, ties: &[Tie<()>]) -> Result<PaperNos, AllocError>
         ensures { IfOk result (λ papers. papers
-            ≡ filter (λ paper. not (is_author_in self.now.tables.ties (Some user) paper)) (map (λ tie. tie.pair.paper) ties.now)) }
+            ≡ filter (λ paper. not (is_author_in self.now.tables.ties (Some user) paper))
+            (map (λ tie. tie.pair.paper) ties.now)) }
     {
         let mut papers = Vec::with_capacity(alloc, ties.len())?;
         for tie in ties {

@@ -2,8 +2,10 @@
 ghost use Rattle.std.specs.Prelude.{◌≡◌, IfOk, Some};
 ghost use Rattle.std.specs.Option.{option_copied};
 ghost use Rattle.cr_base.specs.Lists.{listed};
-ghost use Rattle.cr_base.specs.Page.{gets_title, gets_abstract, gets_conflict, gets_conflicts, gets_declared, gets_versions, gets_withdrawn};
-ghost use Rattle.cr_base.specs.Page.{is_clear_chair, is_clear_member, gets_bid, gets_bids, gets_label, gets_reviewers, gets_tags, gets_decision, where_told};
+ghost use Rattle.cr_base.specs.Page.{gets_title, gets_abstract, gets_conflict, gets_conflicts};
+ghost use Rattle.cr_base.specs.Page.{gets_declared, gets_versions, gets_withdrawn};
+ghost use Rattle.cr_base.specs.Page.{is_clear_chair, is_clear_member, gets_bid, gets_bids, gets_label};
+ghost use Rattle.cr_base.specs.Page.{gets_reviewers, gets_tags, gets_decision, where_told};
 
 use cr_anonymity::shows_reviewer;
 use cr_base::{Kind, Phase, Standing, Text, Versions};

@@ -9,7 +9,8 @@ ghost use Rattle.cr_base.specs.Tags.{tags_in};
 ghost use Rattle.cr_base.specs.Words.{is_chair, is_member};
 ghost use Rattle.cr_base.specs.declared.command.Query.TheVariants as queries;
 ghost use Rattle.cr_view.specs.Callers.{HasAsker};
-ghost use Rattle.cr_view.specs.Replies.{AnswersAsDue, ShowsAsDue, conference_at, names_of, page_at, page_due, reader_at, versions_at};
+ghost use Rattle.cr_view.specs.Replies.{AnswersAsDue, ShowsAsDue, conference_at, names_of};
+ghost use Rattle.cr_view.specs.Replies.{page_at, page_due, reader_at, versions_at};
 
 use crate::commands::maker;
 use crate::lists::push_some;
@@ -28,11 +29,13 @@ use std::alloc::{AllocError, Global};
 impl Live {
     /// Whether a user, or nobody, may ask this, or the first broken rule of its kind: of a page
     /// `NoPaper` where there is no such paper, else `NotMember` where she is neither a member of the
-    /// committee nor an author of the paper, and it isn't accepted; of a content, of reviews and of comments as `content_for`,
-    /// `reviews_for` and `comments_for` tell it; of a report as it is told at `Report`: `NotMember` or `NotChair`, of a letter `NoPaper`
-    /// and then `NotAuthor`, and last `WrongPhase`. Takes no memory; a few reads by number, of a content one look-up besides.
+    /// committee nor an author of the paper, and it isn't accepted; of a content, of reviews and of comments as
+    /// `content_for`, `reviews_for` and `comments_for` tell it; of a report as it is told at `Report`: `NotMember` or
+    /// `NotChair`, of a letter `NoPaper` and then `NotAuthor`, and last `WrongPhase`. Takes no memory; a few reads by
+    /// number, of a content one look-up besides.
     pub fn may(&self, user: &Option<UserNo>, query: &Query) -> Result<(), Rule>
-        ensures { result ≡ judged (query_checks (facts_of_tables self.now.tables user.now) (shown_in_tables self.now.tables) query.now) tt }
+        ensures { result ≡ judged (query_checks (facts_of_tables self.now.tables user.now)
+            (shown_in_tables self.now.tables) query.now) tt }
     {
         match query {
             Query::Me | Query::Accounts | Query::Phase | Query::AcceptedPapers => Ok(()),
@@ -95,8 +98,8 @@ impl From<AllocError> for AnswerError {
 impl Live {
     /// What the caller's query is answered, or the first broken rule of its kind; an error for want of
     /// memory only where no rule is broken, and never where the state of the conference is asked for.
-    /// There is a caller where the query is about herself. A search isn't answered here, see `cr_search_eval`, nor is a report, see
-    /// `cr_reports`. All accounts cost a walk over them; a page a few
+    /// There is a caller where the query is about herself. A search isn't answered here, see `cr_search_eval`, nor is
+    /// a report, see `cr_reports`. All accounts cost a walk over them; a page a few
     /// look-ups and one more for each name that is told, whatever the length of the texts, a step for each
     /// version and each tag that is told, and, where reviewers are told, one for each who was ever assigned, at
     /// most 26, and a walk over the paper's forms; what she is told of herself a walk over her own papers, over
@@ -222,7 +225,8 @@ impl Live {
         accepted: bool,
         paper: PaperNo,
     ) -> Result<Option<Versions>, AllocError>
-        ensures { IfOk result (λ versions. versions ≡ where_told (gets_versions by.now accepted) (Some (versions_at self.now.tables by.now.author paper))) }
+        ensures { IfOk result (λ versions. versions
+            ≡ where_told (gets_versions by.now accepted) (Some (versions_at self.now.tables by.now.author paper))) }
     {
         if !gets_versions(by, accepted) {
             return Ok(None);
@@ -242,7 +246,8 @@ impl Live {
         paper: PaperNo,
     ) -> Result<Option<TagList>, AllocError>
         requires { IsTrue (is_member by.now.role) → IsSome user.now }
-        ensures { IfOk result (λ tags. tags ≡ where_told (gets_tags by.now) (Some (tags_in self.now.tables.tags user.now (is_chair by.now.role) paper))) }
+        ensures { IfOk result (λ tags. tags ≡ where_told (gets_tags by.now)
+            (Some (tags_in self.now.tables.tags user.now (is_chair by.now.role) paper))) }
     {
         if !gets_tags(by) {
             return Ok(None);

@@ -5,7 +5,8 @@ ghost use Rattle.cr_base.specs.Checks.{judged};
 ghost use Rattle.cr_base.specs.Lists.{listed, total};
 ghost use Rattle.cr_base.specs.Pairs.{ties_of};
 ghost use Rattle.cr_base.specs.Papers.{is_withdrawn_at};
-ghost use Rattle.cr_base.specs.Reports.{chairs_report, last_scores, letter_checks, members_report, report_checks, title_by};
+ghost use Rattle.cr_base.specs.Reports.{chairs_report, last_scores, letter_checks};
+ghost use Rattle.cr_base.specs.Reports.{members_report, report_checks, title_by};
 ghost use Rattle.cr_base.specs.Reviews.{is_written_in, last_form_in, written_told};
 ghost use Rattle.cr_base.specs.Sources.{decision_by, facts_of_tables, shown_in_tables, standing_at};
 ghost use Rattle.cr_base.specs.declared.pairs.Order.TheVariants.{ByPaper};
@@ -105,7 +106,8 @@ impl Live {
         self.ties.is_conflicted(user, paper, &[])
     }
 
-    /// What was decided of it last: to accept it, where it is accepted. Three binary searches at most, and a read by number.
+    /// What was decided of it last: to accept it, where it is accepted. Three binary searches
+    /// at most, and a read by number.
     pub fn decision(&self, paper: PaperNo) -> Option<Decision>
         ensures { result ≡ decision_by (facts_of_tables self.now.tables None) (shown_in_tables self.now.tables) paper }
     {
@@ -118,7 +120,8 @@ impl Live {
 
 /// Who reviews it, and whether she has written.
 impl Live {
-    /// The seats of all who were ever assigned to it, at most 26, those that somebody has left among them. Two binary searches.
+    /// The seats of all who were ever assigned to it, at most 26, those that somebody has left
+    /// among them. Two binary searches.
     pub fn seats(&self, paper: PaperNo) -> &[Tie<Seat>]
         ensures ties { result.now ≡ ties_of ByPaper paper self.now.tables.seats }
         ensures few { length result.now ≤ 26 }
@@ -126,7 +129,8 @@ impl Live {
         self.seats.seats(paper)
     }
 
-    /// Whether there is a form under its label of this ordinal. Two binary searches, and a walk over its forms up to the first.
+    /// Whether there is a form under its label of this ordinal. Two binary searches, and a walk
+    /// over its forms up to the first.
     pub fn is_written(&self, paper: PaperNo, label: Ordinal) -> bool
         ensures { result ≡ is_written_in self.now.tables.reviews paper label }
     {
@@ -171,8 +175,8 @@ impl ScoreSum {
 
 /// Its scores.
 impl Live {
-    /// The scores of the last forms under its labels that the committee discusses, counted and summed. Two binary searches and a
-    /// walk over its forms, and for each label under which there is one the same twice.
+    /// The scores of the last forms under its labels that the committee discusses, counted and summed. Two binary
+    /// searches and a walk over its forms, and for each label under which there is one the same twice.
     pub fn scores(&self, paper: PaperNo) -> ScoreSum
         ensures value { result ≡ score_sum (last_scores (shown_in_tables self.now.tables) paper) }
         ensures count { result.count ≤ 26 }

@@ -39,7 +39,8 @@ impl Live {
         by: &Standing,
         paper: PaperNo,
     ) -> Option<Bid>
-        ensures { result ≡ where_told (gets_bid by.now) (Some (unwrap_or (bid_in self.now.tables.ties user.now paper) no_bid)) }
+        ensures { result ≡ where_told (gets_bid by.now)
+            (Some (unwrap_or (bid_in self.now.tables.ties user.now paper) no_bid)) }
     {
         if !gets_bid(by) {
             return None;
@@ -78,7 +79,8 @@ impl Live {
         by: &Standing,
         paper: PaperNo,
     ) -> Result<Option<Bids>, AllocError>
-        ensures { IfOk result (λ bids. bids ≡ where_told (gets_bids by.now) (Some (bidders_of self.now.tables (bids_in self.now.tables.ties paper)))) }
+        ensures { IfOk result (λ bids. bids
+            ≡ where_told (gets_bids by.now) (Some (bidders_of self.now.tables (bids_in self.now.tables.ties paper)))) }
     {
         if !gets_bids(by) {
             return Ok(None);
@@ -122,7 +124,8 @@ impl Live {
     ) -> Result<Option<Reviewers>, AllocError>
         ensures { IfOk result (λ reviewers. reviewers
             ≡ where_told (gets_reviewers by.now)
-            (Some (reviewers_of self.now.tables by.now (is_written_in self.now.tables.reviews paper) (reviewers_in self.now.tables.seats paper)))) }
+            (Some (reviewers_of self.now.tables by.now (is_written_in self.now.tables.reviews paper)
+            (reviewers_in self.now.tables.seats paper)))) }
     {
         if !gets_reviewers(by) {
             return Ok(None);
@@ -139,7 +142,8 @@ impl Live {
         seats: &[Tie<Seat>],
         written: &Labels,
     ) -> Result<Reviewers, AllocError>
-        ensures { IfOk result (λ reviewers. reviewers ≡ reviewers_of self.now.tables by.now (has_label written.now) (seated seats.now)) }
+        ensures { IfOk result (λ reviewers. reviewers
+            ≡ reviewers_of self.now.tables by.now (has_label written.now) (seated seats.now)) }
     {
         let mut reviewers = Vec::with_capacity(alloc, seats.len())?;
         for seat in seats {

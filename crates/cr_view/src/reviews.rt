@@ -9,7 +9,8 @@ ghost use Rattle.cr_base.specs.Lists.{listed};
 ghost use Rattle.cr_base.specs.Page.{shows_reviewer};
 ghost use Rattle.cr_base.specs.Reviews.{written_told};
 ghost use Rattle.cr_view.specs.Replies.{AnswersAsDue, ShowsAsDue, reader_at};
-ghost use Rattle.cr_view.specs.Reviews.{review_line, forms_under, form_under, label_name, label_reviews, own_reviews, reviews_at, reviews_due};
+ghost use Rattle.cr_view.specs.Reviews.{review_line, forms_under, form_under, label_name};
+ghost use Rattle.cr_view.specs.Reviews.{label_reviews, own_reviews, reviews_at, reviews_due};
 
 use crate::live::Live;
 use crate::page::shared_where;
@@ -96,7 +97,8 @@ fn push_forms(
     phase: Phase,
 ) -> Result<(), AllocError>
     ensures { OnOk result (lines.new.items
-        ≡ lines.old.items ++ map (review_line heading.now) (map written_told (forms_under heading.now.label phase forms.now))) }
+        ≡ lines.old.items ++ map (review_line heading.now)
+        (map written_told (forms_under heading.now.label phase forms.now))) }
 {
     for filed in forms {
         push_form(lines, heading, form_under(filed, heading.label, phase))?;
@@ -264,8 +266,8 @@ impl Live {
         )
     }
 
-    /// The name of whoever was assigned under the label, where it is told. Two binary searches, a walk over the paper's seats and one
-    /// read by number, where it is.
+    /// The name of whoever was assigned under the label, where it is told. Two binary searches, a walk over the
+    /// paper's seats and one read by number, where it is.
     pub fn label_name(&self, by: &Standing, paper: PaperNo, label: Ordinal) -> Option<Short>
         ensures { result ≡ label_name self.now.tables (shows_reviewer by.now) paper label }
     {

@@ -47,9 +47,12 @@ impl Live {
     ) -> Result<Entry, Rule>
         requires row { IsRowCommand command }
         requires earlier { AreEarlier self.now.tables earlier.now }
-        ensures judged { row_group caller result ≡ group_or_rule (row_judged_at (tables_from self.now.tables earlier.now) caller command) }
-        ensures fits { IfOk result (λ entry. FitInTurn (tables_from self.now.tables earlier.now) (grouped caller (entry ∷ []))) }
-        ensures next { IfOk result (λ entry. (more : Bool) → AreEarlier self.now.tables (earlier.now ++ record { maker = caller; more = more; entry = entry } ∷ [])) }
+        ensures judged { row_group caller result
+            ≡ group_or_rule (row_judged_at (tables_from self.now.tables earlier.now) caller command) }
+        ensures fits { IfOk result
+            (λ entry. FitInTurn (tables_from self.now.tables earlier.now) (grouped caller (entry ∷ []))) }
+        ensures next { IfOk result (λ entry. (more : Bool)
+            → AreEarlier self.now.tables (earlier.now ++ record { maker = caller; more = more; entry = entry } ∷ [])) }
     {
         self.law_within();
         match self.row_draw(caller, command, earlier) {

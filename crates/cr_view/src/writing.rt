@@ -81,7 +81,8 @@ impl Live {
         earlier: &[Stamped],
     ) -> Result<Draw, Rule>
         requires { AreEarlier self.now.tables earlier.now }
-        ensures drawn { drawn_or_rule result ≡ judge_by_role (tables_from self.now.tables earlier.now) (Some maker) (commands.Tag paper.now tag on) }
+        ensures drawn { drawn_or_rule result
+            ≡ judge_by_role (tables_from self.now.tables earlier.now) (Some maker) (commands.Tag paper.now tag on) }
         ensures row { IfOk result IsOfRow }
     {
         let named = match self.named_behind(maker, paper, earlier) {
@@ -105,7 +106,8 @@ impl Live {
         paper: &Option<PaperNo>,
         decision: Decision,
     ) -> Result<Draw, Rule>
-        ensures { drawn_or_rule result ≡ judge_by_role self.now.tables (Some maker) (commands.Decide paper.now decision) }
+        ensures { drawn_or_rule result ≡ judge_by_role self.now.tables (Some maker)
+            (commands.Decide paper.now decision) }
     {
         let named = self.named(maker, paper)?;
         let kept = self

@@ -1,5 +1,6 @@
 -- What a request wishes, by its method, its target and its body: of its query string only searches are told.
-use Rattle.std.specs.Prelude.{ℕ, List, Bool, true, false, IsTrue, ◌==◌, ◌||◌, Option, Some, None, option_and_then, option_map, if◌then◌else◌}
+use Rattle.std.specs.Prelude.{ℕ, List, Bool, true, false, IsTrue, ◌==◌, ◌||◌, Option}
+use Rattle.std.specs.Prelude.{Some, None, option_and_then, option_map, if◌then◌else◌}
 use Rattle.std.specs.Option.{option_map_or}
 use Rattle.std.specs.List.{before_first}
 use Rattle.std.specs.Str.{is_utf8}
@@ -19,7 +20,8 @@ use Rattle.cr_wire.specs.Caller.{ask_of}
 use Rattle.cr_wire.specs.Paper.{paper_of, tag_of, user_of, version_of}
 use Rattle.cr_wire.specs.Query.{query_of, search_in}
 use Rattle.cr_wire.specs.declared.what.What.{What}
-use Rattle.cr_wire.specs.declared.what.What.TheVariants.{NoRoute, WrongMethod, BadBody, Command as Commands, Query as Queries, Bulk}
+use Rattle.cr_wire.specs.declared.what.What.TheVariants.{NoRoute, WrongMethod, BadBody}
+use Rattle.cr_wire.specs.declared.what.What.TheVariants.{Command as Commands, Query as Queries, Bulk}
 
 -- the target up to the first question mark
 abbrev pub path_of : List ℕ → List ℕ
@@ -89,12 +91,14 @@ with_ask found (Some ask) query body = asked ask found query body
 
 abbrev pub with_found : Option FoundPath → List ℕ → List ℕ → List ℕ → What
 with_found None method query body = NoRoute
-with_found (Some found) method query body = with_ask found (option_and_then (ask_at found.resource) (method_of method)) query body
+with_found (Some found) method query body =
+    with_ask found (option_and_then (ask_at found.resource) (method_of method)) query body
 
 abbrev pub what_of : List ℕ → List ℕ → List ℕ → What
 what_of method target body = with_found (find_at (path_of target)) method (query_of target) body
 
--- whether what is asked for is told by a body: all commands are but tags and those by which something is taken away, and so is a bulk
+-- whether what is asked for is told by a body: all commands are but tags and those by which something
+-- is taken away, and so is a bulk
 abbrev pub ask_has_body : Ask → Bool
 ask_has_body asks.Register = true
 ask_has_body asks.Accounts = false
@@ -135,6 +139,7 @@ abbrev pub ask_has_query : Ask → Bool
 ask_has_query asks.Search = true
 ask_has_query ask = false
 
--- what stands behind the path was looked at, a body or a query string, which alone takes memory: this goes by what is asked for
+-- what stands behind the path was looked at, a body or a query string, which alone takes memory:
+-- this goes by what is asked for
 abbrev pub LooksBehindPath : What → Type 0
 LooksBehindPath what = IsTrue (option_map_or (λ ask. ask_has_body ask || ask_has_query ask) (ask_of what) false)

@@ -9,7 +9,8 @@ use Rattle.cr_base.specs.HistoryFacts.{caller_of}
 use Rattle.cr_base.specs.Logins.{ask_reads_credentials, ask_wants_login, command_ask, query_ask}
 use Rattle.cr_bodies.specs.declared.credentials.Credentials.{Credentials}
 use Rattle.cr_wire.specs.declared.what.What.{What}
-use Rattle.cr_wire.specs.declared.what.What.TheVariants.{NoRoute, WrongMethod, BadBody, BadQuery, Command as Commands, Query as Queries, Bulk}
+use Rattle.cr_wire.specs.declared.what.What.TheVariants.{NoRoute, WrongMethod, BadBody, BadQuery}
+use Rattle.cr_wire.specs.declared.what.What.TheVariants.{Command as Commands, Query as Queries, Bulk}
 use Rattle.cr_wire.specs.declared.what.Wish.{Wish}
 
 -- what a wish's request asks for; None where it is no request of the server's
@@ -22,8 +23,8 @@ ask_of (Commands command) = Some (command_ask command)
 ask_of (Queries query) = Some (query_ask query)
 ask_of (Bulk rows) = Some asks.Bulk
 
--- whether a login is wanted, also where the body or the query string is a bad one, by what is asked for alone; what is no request of
--- the server's is refused alike to everybody
+-- whether a login is wanted, also where the body or the query string is a bad one, by what is asked for alone; what is
+-- no request of the server's is refused alike to everybody
 abbrev pub wants_login : What → Bool
 wants_login what = option_map_or ask_wants_login (ask_of what) false
 
@@ -31,7 +32,8 @@ wants_login what = option_map_or ask_wants_login (ask_of what) false
 abbrev pub reads_credentials : What → Bool
 reads_credentials what = option_map_or ask_reads_credentials (ask_of what) false
 
--- who has the name that is told, and registered with the digest of the secret that is told; nobody where there is no such user
+-- who has the name that is told, and registered with the digest of the secret that is told;
+-- nobody where there is no such user
 abbrev pub user_told : Option Credentials → History → Option ℕ
 user_told None H = None
 user_told (Some c) H = caller_of c.name c.digest H

@@ -1,5 +1,6 @@
 -- The paper, the version, the user and the tag that a path's parameters name.
-use Rattle.std.specs.Prelude.{ℕ, ◌^◌, List, length, Bool, ◌&&◌, ◌==◌, not, nat_le, nat_lt, Option, Some, None, option_and_then, if◌then◌else◌, slice_index}
+use Rattle.std.specs.Prelude.{ℕ, ◌^◌, List, length, Bool, ◌&&◌, ◌==◌, not, nat_le, nat_lt}
+use Rattle.std.specs.Prelude.{Option, Some, None, option_and_then, if◌then◌else◌, slice_index}
 use Rattle.std.specs.Char.{is_ascii_digit}
 use Rattle.std.specs.List.{list_all}
 use Rattle.std.specs.Option.{option_map_or}

@@ -1,4 +1,5 @@
--- What a query string asks a search: its pairs of a name and a value, as web forms write them (the URL Standard, section 5).
+-- What a query string asks a search: its pairs of a name and a value, as web forms write them
+-- (the URL Standard, section 5).
 use Rattle.std.specs.Prelude.{ℕ, List, Bool, ◌&&◌, ◌==◌, Option, Some, None, Result, Ok, Err, codes, find}
 use Rattle.std.specs.List.{after_first, list_any}
 use Rattle.std.specs.Option.{option_map}

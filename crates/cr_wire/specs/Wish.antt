@@ -1,6 +1,7 @@
 -- The wish of a request: what is asked for, by whom (RFC 9110, section 11.6.2), and in which form the answer comes;
 -- whether the connection closes behind it (RFC 9112, section 9.3).
-use Rattle.std.specs.Prelude.{ℕ, List, [], ◌∷◌, Bool, true, false, ◌||◌, Option, Some, None, option_and_then, codes, if◌then◌else◌}
+use Rattle.std.specs.Prelude.{ℕ, List, [], ◌∷◌, Bool, true, false, ◌||◌, Option}
+use Rattle.std.specs.Prelude.{Some, None, option_and_then, codes, if◌then◌else◌}
 use Rattle.std.specs.List.{list_any}
 use Rattle.cr_http.specs.Head.{HeadText, values_of, is_head_method}
 use Rattle.cr_http.specs.Requests.{RequestText}

@@ -106,7 +106,8 @@ fn asked(
 ) -> Result<What, AllocError>
     ensures told { Gives result (spec.asked ask (seen found.entry) (query_of target.now) body.now) }
     ensures bounded { IfOk result IsBoundedWhat }
-    ensures sure { OnErr result (spec.LooksBehindPath (spec.asked ask (seen found.entry) (query_of target.now) body.now)) }
+    ensures sure { OnErr result
+        (spec.LooksBehindPath (spec.asked ask (seen found.entry) (query_of target.now) body.now)) }
 {
     let paper = paper_of(found);
     match ask {
@@ -149,8 +150,8 @@ fn asked(
     }
 }
 
-/// What a request of this method, this target and this body wishes. Fails only for lack of memory, which the reading of
-/// a JSON body, of the rows of a bulk or of a search and the keeping of an upload alone take.
+/// What a request of this method, this target and this body wishes. Fails only for lack of memory, which the reading
+/// of a JSON body, of the rows of a bulk or of a search and the keeping of an upload alone take.
 pub(crate) fn what_of(
     alloc: Global,
     routes: &Routes,

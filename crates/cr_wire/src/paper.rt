@@ -27,16 +27,17 @@ fn parse_version(text: &str) -> u64
     }
 }
 
-/// The paper that a path is about: Some exactly where its first parameter is a number from 1 to 9,999 in decimal, without
-/// a sign and without a zero in front. Looks at four bytes at most and costs no allocation.
+/// The paper that a path is about: Some exactly where its first parameter is a number from 1 to 9,999 in decimal,
+/// without a sign and without a zero in front. Looks at four bytes at most and costs no allocation.
 pub(crate) fn paper_of(found: Matched<'_>) -> Option<PaperNo>
     ensures { result ≡ spec.paper_of (seen found.entry) }
 {
     parse_paper(found.first?.as_bytes())
 }
 
-/// The version that a path is about: its second parameter, where that is a number below 2 ^ 64 in decimal, without a sign and
-/// without a zero in front. Else 0, which no version has. Looks at each of its bytes at most twice and costs no allocation.
+/// The version that a path is about: its second parameter, where that is a number below 2 ^ 64 in decimal,
+/// without a sign and without a zero in front. Else 0, which no version has. Looks at each of its bytes at most
+/// twice and costs no allocation.
 pub(crate) fn version_of(found: Matched<'_>) -> u64
     ensures { result ≡ spec.version_of (seen found.entry) }
 {
@@ -46,8 +47,8 @@ pub(crate) fn version_of(found: Matched<'_>) -> u64
     }
 }
 
-/// The user that a path is about: its second parameter, where that is a name, 1 to 32 of `a-z0-9-`. Looks at each of at most
-/// 32 bytes once and costs no allocation.
+/// The user that a path is about: its second parameter, where that is a name, 1 to 32 of `a-z0-9-`. Looks at each of
+/// at most 32 bytes once and costs no allocation.
 pub(crate) fn user_of(found: Matched<'_>) -> Option<Short>
     ensures { result ≡ spec.user_of (seen found.entry) }
 {
@@ -62,8 +63,8 @@ fn parse_tag(text: &[u8]) -> Option<Tag>
     Tag::read(text)
 }
 
-/// The tag that a path is about: its second parameter, where that is a tag, 1 to 32 of `a-z0-9-` behind at most two `~`. Looks
-/// at each of at most 34 bytes once and costs no allocation.
+/// The tag that a path is about: its second parameter, where that is a tag, 1 to 32 of `a-z0-9-` behind at most two
+/// `~`. Looks at each of at most 34 bytes once and costs no allocation.
 pub(crate) fn tag_of(found: Matched<'_>) -> Option<Tag>
     ensures value { result ≡ spec.tag_of (seen found.entry) }
     ensures valid { IfSome result (λ tag. IsTrue (is_tag tag)) }

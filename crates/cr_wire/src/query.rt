@@ -81,8 +81,8 @@ fn searched(alloc: Global, only_count: bool, text: &[u8]) -> Result<What, AllocE
     }
 }
 
-/// What is wished by what follows the first question mark of a target. Reads each pair twice at most, and copies a name or a
-/// value only where it has something to decode. Fails only for lack of memory.
+/// What is wished by what follows the first question mark of a target. Reads each pair twice at most, and copies a
+/// name or a value only where it has something to decode. Fails only for lack of memory.
 pub(crate) fn search_in(alloc: Global, target: &[u8]) -> Result<What, AllocError>
     ensures told { Gives result (spec.search_in (spec.query_of target.now)) }
     ensures bounded { IfOk result IsBoundedWhat }

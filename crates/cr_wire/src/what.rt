@@ -16,8 +16,8 @@ pub enum What {
     BadBody(Ask),
     /// The query string tells no search: answered `bad_query`.
     BadQuery {
-        /// The last offset in the search's text, in bytes from 0 to 1,024, up to which that can be the beginning of a search; 0 where
-        /// there is no text.
+        /// The last offset in the search's text, in bytes from 0 to 1,024, up to which that can be the beginning of a
+        /// search; 0 where there is no text.
         offset: usize,
     },
     /// To change something.
@@ -31,8 +31,8 @@ pub enum What {
 /// What a whole request wishes, who tells so, and in which form the answer comes.
 #[derive(Drop, Debug)]
 pub struct Wish {
-    /// What the field Authorization tells a request that reads it; None where another comes with it, and where there is no
-    /// such field, more than one, or one that tells none.
+    /// What the field Authorization tells a request that reads it; None where another comes with it, and where there
+    /// is no such field, more than one, or one that tells none.
     pub credentials: Option<Credentials>,
     /// The answer comes without its content: the method is HEAD.
     pub is_head: bool,
@@ -59,20 +59,21 @@ impl What {
         }
     }
 
-    /// Whether a login is wanted, so that nobody is answered `unauthorized`: by each command but a registration and by a bulk, also
-    /// where its body is a bad one, by a paper's page, content, reviews and comments, by searches, also by bad ones, by reports, and
-    /// by what the caller is told of herself. Registration, the list of accounts, the state of the conference and the accepted
-    /// papers want none, and what is no request of these is refused alike to everybody. That a published paper's page and
-    /// content are served to nobody too isn't looked at here: the request doesn't tell which papers are.
+    /// Whether a login is wanted, so that nobody is answered `unauthorized`: by each command but a registration and by
+    /// a bulk, also where its body is a bad one, by a paper's page, content, reviews and comments, by searches, also
+    /// by bad ones, by reports, and by what the caller is told of herself. Registration, the list of accounts, the
+    /// state of the conference and the accepted papers want none, and what is no request of these is refused alike to
+    /// everybody. That a published paper's page and content are served to nobody too isn't looked at here: the request
+    /// doesn't tell which papers are.
     pub fn wants_login(&self) -> bool
         ensures { result ≡ wants_login self.now }
     {
         self.ask().is_some_and(Ask::wants_login)
     }
 
-    /// Whether its request reads the field Authorization. POST of `/register`, GET and HEAD of `/accounts`, of `/phase` and
-    /// of `/accepted` don't: their caller is nobody. Nor does what is no request of the server's, which is refused alike to
-    /// everybody.
+    /// Whether its request reads the field Authorization. POST of `/register`, GET and HEAD of `/accounts`, of
+    /// `/phase` and of `/accepted` don't: their caller is nobody. Nor does what is no request of the server's, which
+    /// is refused alike to everybody.
     pub fn reads_credentials(&self) -> bool
         ensures { result ≡ reads_credentials self.now }
     {

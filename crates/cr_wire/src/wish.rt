@@ -6,7 +6,8 @@ ghost use Rattle.cr_wire.specs.Asked.{LooksBehindPath, what_of as what_text};
 ghost use Rattle.cr_wire.specs.Bounds.{IsBoundedWhat};
 ghost use Rattle.cr_wire.specs.Connection.{has_close as has_close_element};
 ghost use Rattle.cr_wire.specs.Outcome.{Gives};
-ghost use Rattle.cr_wire.specs.Wish.{asks_close as asks_close_text, credentials_for as credentials_for_text, credentials_in as credentials_text, wish_text};
+ghost use Rattle.cr_wire.specs.Wish.{asks_close as asks_close_text, credentials_for as credentials_for_text};
+ghost use Rattle.cr_wire.specs.Wish.{credentials_in as credentials_text, wish_text};
 
 use crate::asked::what_of;
 use crate::connection::has_close;
@@ -57,10 +58,11 @@ fn asks_close(head: &Head<'_>) -> bool
     head.version() == Version::Http10 || field_asks_close(head)
 }
 
-/// The wish of a request, by its head and its body. Fails only for lack of memory, which the reading of a JSON body, of the rows
-/// of a bulk or of a search and the keeping of an upload alone take. Reads the target's path, the fields' names and the field Connection once,
-/// the body and the query string only where the method and the path want them, and the field Authorization only where
-/// `reads_credentials` says so. A command that is wished is within the bounds on commands, and a bulk has at most 512 rows.
+/// The wish of a request, by its head and its body. Fails only for lack of memory, which the reading of a JSON body,
+/// of the rows of a bulk or of a search and the keeping of an upload alone take. Reads the target's path, the fields'
+/// names and the field Connection once, the body and the query string only where the method and the path want them,
+/// and the field Authorization only where `reads_credentials` says so. A command that is wished is within the bounds
+/// on commands, and a bulk has at most 512 rows.
 pub fn wish_of(
     alloc: Global,
     routes: &Routes,

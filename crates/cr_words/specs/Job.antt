@@ -38,7 +38,8 @@ abbrev pub IsNamed : Option NamedJob → Type 0
 IsNamed named = (job : NamedJob) × (named ≡ Some job) × IsInRange job
 
 abbrev pub with_all : Option Text → Option ℕ → Option ℕ → Option Text → Option NamedJob
-with_all (Some listen) (Some workers) (Some connections) (Some store) = Some (serve_job listen workers connections store)
+with_all (Some listen) (Some workers) (Some connections) (Some store) =
+    Some (serve_job listen workers connections store)
 with_all _ _ _ _ = None
 
 abbrev pub number_at : Text → List Row → Option ℕ

@@ -36,16 +36,21 @@ pipe = with_rule (new_app (codes "pipe")) (text_option (codes "store") false)
 
 -- many connections to an address
 unfoldable pub serve : App
-serve = with_rules (new_app (codes "serve")) (text_option (codes "listen") true ∷ number_option (codes "workers") 1 most_workers
+serve =
+    with_rules (new_app (codes "serve"))
+    (text_option (codes "listen") true ∷ number_option (codes "workers") 1 most_workers
     ∷ number_option (codes "connections") 1 most_connections ∷ text_option (codes "store") true ∷ [])
 
 -- what one user may see of a store
 unfoldable pub view : App
-view = with_rule (with_rule (new_app (codes "view")) (text_option (codes "store") true)) (text_option (codes "user") true)
+view =
+    with_rule (with_rule (new_app (codes "view")) (text_option (codes "store") true)) (text_option (codes "user") true)
 
 -- commands that are made up from a number
 unfoldable pub drill : App
-drill = with_rules (new_app (codes "drill")) (number_option (codes "seed") 0 greatest_seed ∷ number_option (codes "steps") 1 most_steps ∷ [])
+drill =
+    with_rules (new_app (codes "drill"))
+    (number_option (codes "seed") 0 greatest_seed ∷ number_option (codes "steps") 1 most_steps ∷ [])
 
 -- one of the subcommands has to be named, and clap's own `help` is none of them
 abbrev pub required : App → App
@@ -53,7 +58,9 @@ required a = record a { top = record a.top { subcommand_required = true; disable
 
 -- the program: one line for each subcommand
 unfoldable pub confd_words : App
-confd_words = with_subcommand (with_subcommand (with_subcommand (with_subcommand (required (new_app (codes "confd"))) pipe.top) serve.top) view.top)
+confd_words =
+    with_subcommand (with_subcommand (with_subcommand (with_subcommand (required (new_app (codes "confd"))) pipe.top)
+    serve.top) view.top)
     drill.top
 
 -- ---- options among the words
@@ -85,7 +92,8 @@ user_word user = codes "--user=" ++ user
 -- the four options of `serve`, a word each
 abbrev pub serve_word : Text → Text → Text → Text → List Text
 serve_word listen workers connections file =
-    (codes "--listen=" ++ listen) ∷ (codes "--workers=" ++ workers) ∷ (codes "--connections=" ++ connections) ∷ store_word file ∷ []
+    (codes "--listen=" ++ listen) ∷ (codes "--workers=" ++ workers)
+    ∷ (codes "--connections=" ++ connections) ∷ store_word file ∷ []
 
 -- the two options of `drill`, four words
 abbrev pub drill_words : Text → Text → List Text

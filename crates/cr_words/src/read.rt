@@ -4,7 +4,8 @@ ghost use Rattle.std.specs.Option.{option_and_then};
 ghost use Rattle.clap.specs.Words.{takes, fault_of, first_of, found_of, rows_of, subcommand_rows_of};
 ghost use Rattle.cr_words.specs.Words.{confd_words};
 ghost use Rattle.cr_words.specs.Numbers.{number_of};
-ghost use Rattle.cr_words.specs.Job.{IsInRange, drill_named, job_named, job_of, job_seen, number_at, serve_named, view_named};
+ghost use Rattle.cr_words.specs.Job.{IsInRange, drill_named, job_named, job_of};
+ghost use Rattle.cr_words.specs.Job.{job_seen, number_at, serve_named, view_named};
 
 use crate::build::confd_command;
 use clap::ArgMatches;

@@ -10,8 +10,8 @@ use Rattle.cr_session.specs.declared.serve.Ending.{Ending}
 use Rattle.cr_session.specs.Passing.{KnownPass}
 use Rattle.cr_session.specs.Serving.{World, world_of, ConnectionInHistory, WholeInHistory}
 
--- what sources and sinks of these types tell: the bytes that are left, what reads give, the bytes that were taken, and the
--- counts of faults
+-- what sources and sinks of these types tell: the bytes that are left, what reads give, the bytes that were
+-- taken, and the counts of faults
 pub record Streams (I O : Type 0) : Type 1 where
   pub left : I → Option (List ℕ)
   pub gives : I → I → List ℕ → Type 0
@@ -24,8 +24,8 @@ abbrev pub streams_of : {I O : Type 0} → (I → Option (List ℕ)) → (I → 
 streams_of left gives read_faults taken write_faults =
     record { left = left; gives = gives; read_faults = read_faults; taken = taken; write_faults = write_faults }
 
--- A connection that was served: how it ended, what its worker's pass knew ahead of it and behind it, the turns that it took,
--- and its source and sink as they were given and as they came back.
+-- A connection that was served: how it ended, what its worker's pass knew ahead of it and behind it, the turns that it
+-- took, and its source and sink as they were given and as they came back.
 pub record ServedConnection (I O : Type 0) : Type 0 where
   pub ending : Ending
   pub before : KnownPass
@@ -36,33 +36,37 @@ pub record ServedConnection (I O : Type 0) : Type 0 where
 module _ {I O : Type 0} (streams : Streams I O) where
   -- what it worked on, as it was given
   abbrev pub world_before : ServedConnection I O → World KnownPass I
-  world_before c = world_of streams.read_faults streams.taken streams.write_faults c.before c.ends.given.0 c.ends.given.1
+  world_before c =
+      world_of streams.read_faults streams.taken streams.write_faults c.before c.ends.given.0 c.ends.given.1
 
   -- and as it came back
   abbrev pub world_after : ServedConnection I O → World KnownPass I
   world_after c = world_of streams.read_faults streams.taken streams.write_faults c.after c.ends.back.0 c.ends.back.1
 
-  -- Its bytes are the answers to its wishes, each at its turn's place of the history, which goes on from what had been seen.
-  -- Its turns are those that its pass has more, each with its group at its place.
+  -- Its bytes are the answers to its wishes, each at its turn's place of the history, which goes on from what had been
+  -- seen. Its turns are those that its pass has more, each with its group at its place.
   pub record IsServed (c : ServedConnection I O) : Type 0 where
     pub connection : ConnectionInHistory streams.left streams.gives c.ending 0 [] (world_before c) (world_after c)
-    pub whole : (b : List ℕ) → streams.left c.ends.given.0 ≡ Some b → WholeInHistory streams.left c.ending b (world_before c) (world_after c)
+    pub whole : (b : List ℕ) → streams.left c.ends.given.0 ≡ Some b
+        → WholeInHistory streams.left c.ending b (world_before c) (world_after c)
     pub seen : IsPrefix c.before.seen c.after.seen
     pub mine : c.after.mine ≡ c.before.mine ++ c.turns
     pub places : Every (StandsIn c.after.seen) c.turns
 
-  -- A connection between two moments of one history: it had seen all of the first, and what it saw, the second begins with.
+  -- A connection between two moments of one history: it had seen all of the first, and what
+  -- it saw, the second begins with.
   pub record IsServedWithin (first last : List Stamped) (c : ServedConnection I O) : Type 0 where
     pub served : IsServed c
     pub begins : IsPrefix first c.before.seen
     pub ends : IsPrefix c.after.seen last
 
-  -- What workers did together who began with one pass and ended with one: they served these connections. The pass has their
-  -- turns more: each entry stands in as many groups more as they added it in, as many turns more are marked, and in them the
-  -- keeper's count of faults rose by what it rose in theirs.
+  -- What workers did together who began with one pass and ended with one: they served these connections. The pass has
+  -- their turns more: each entry stands in as many groups more as they added it in, as many turns more are marked, and
+  -- in them the keeper's count of faults rose by what it rose in theirs.
   pub record ServeAll (connections : List (ServedConnection I O)) (p p' : KnownPass) : Type 0 where
     pub each : Every (IsServedWithin p.seen p'.seen) connections
     pub seen : IsPrefix p.seen p'.seen
-    pub groups : (k : ℕ) → groups_with k p'.mine ≡ groups_with k p.mine + total (λ (c : ServedConnection I O). groups_with k c.turns) connections
+    pub groups : (k : ℕ) → groups_with k p'.mine
+        ≡ groups_with k p.mine + total (λ (c : ServedConnection I O). groups_with k c.turns) connections
     pub marked : marks p'.mine ≡ marks p.mine + total (λ (c : ServedConnection I O). marks c.turns) connections
     pub rose : rises p'.mine ≡ rises p.mine + total (λ (c : ServedConnection I O). rises c.turns) connections

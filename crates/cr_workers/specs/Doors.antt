@@ -1,5 +1,6 @@
 -- What workers did with their doors.
-use Rattle.std.specs.Prelude.{◌≡◌, ◌≤◌, ◌⊎◌, ℕ, ◌+◌, ◌*◌, ◌^◌, List, [], ◌∷◌, ◌++◌, length, map, flat_map, Bool, true, false}
+use Rattle.std.specs.Prelude.{◌≡◌, ◌≤◌, ◌⊎◌, ℕ, ◌+◌, ◌*◌, ◌^◌, List, [], ◌∷◌}
+use Rattle.std.specs.Prelude.{◌++◌, length, map, flat_map, Bool, true, false}
 use Rattle.std.specs.Prelude.{Option, Some, None, Result, Ok, Err}
 use Rattle.cr_lock.specs.Counts.{Every, total}
 use Rattle.cr_ports.specs.Count.{Rises}
@@ -42,14 +43,16 @@ pub record SeenDoor (I O : Type 0) : Type 0 where
   pub log : Option (DoorLog I O)
 
 abbrev pub door_of : {D I O : Type 0} → (D → ℕ) → (D → Bool) → (D → ℕ) → (D → Option (DoorLog I O)) → D → SeenDoor I O
-door_of left is_out faults log door = record { left = left door; is_out = is_out door; faults = faults door; log = log door }
+door_of left is_out faults log door =
+    record { left = left door; is_out = is_out door; faults = faults door; log = log door }
 
 -- the sources and sinks of connections, as they were given and came back
 abbrev pub ends_of : {I O : Type 0} → List (ServedConnection I O) → List (Served I O)
 ends_of {I} {O} connections = map (λ (c : ServedConnection I O). c.ends) connections
 
 -- where the door tells them, the connections that it took back are more by these
-abbrev pub TellsMore : {I O : Type 0} → List (ServedConnection I O) → Option (DoorLog I O) → Option (DoorLog I O) → Type 0
+abbrev pub TellsMore : {I O : Type 0} → List (ServedConnection I O) → Option (DoorLog I O)
+    → Option (DoorLog I O) → Type 0
 TellsMore connections None None = Unit {0}
 TellsMore connections None (Some log') = ⊥
 TellsMore connections (Some log) None = ⊥
@@ -108,7 +111,8 @@ pub record DoorWork (I O : Type 0) : Type 0 where
 abbrev pub IsWorkedOn : {I O : Type 0} → Worked → DoorWork I O → Type 0
 IsWorkedOn worked.Done w = Works lasts.Done w.connections w.before w.after × NoneLacked w.connections
 IsWorkedOn worked.DoorFailed w =
-    (Works lasts.Done w.connections w.before w.after ⊎ Works lasts.Failed w.connections w.before w.after) × NoneLacked w.connections
+    (Works lasts.Done w.connections w.before w.after ⊎ Works lasts.Failed w.connections w.before w.after)
+    × NoneLacked w.connections
 IsWorkedOn worked.OutOfMemory w =
     Works lasts.Done w.connections w.before w.after ⊎ Works lasts.Failed w.connections w.before w.after
     ⊎ ((w.connections ≡ []) × (w.after ≡ w.before))
@@ -129,7 +133,8 @@ abbrev pub connections_of : {I O : Type 0} → List (DoorWork I O) → List (Ser
 connections_of {I} {O} works = flat_map (λ (w : DoorWork I O). w.connections) works
 
 -- What workers did with these doors, who began with one pass and ended with one.
-pub record ServesDoors {I O : Type 0} (streams : Streams I O) (ended : Worked) (doors doors' : List (SeenDoor I O)) (p p' : KnownPass) : Type 0 where
+pub record ServesDoors {I O : Type 0} (streams : Streams I O) (ended : Worked) (doors doors' : List (SeenDoor I O))
+    (p p' : KnownPass) : Type 0 where
   pub works : List (DoorWork I O)
   pub before : map (λ (w : DoorWork I O). w.before) works ≡ doors
   pub after : map (λ (w : DoorWork I O). w.after) works ≡ doors'
@@ -138,22 +143,25 @@ pub record ServesDoors {I O : Type 0} (streams : Streams I O) (ended : Worked) (
   pub served : ServeAll streams (connections_of works) p p'
 
 -- the same of doors of which this is seen
-abbrev pub ServesSeen : {D I O : Type 0} → (D → SeenDoor I O) → Streams I O → Worked → List D → List D → KnownPass → KnownPass → Type 0
+abbrev pub ServesSeen : {D I O : Type 0} → (D → SeenDoor I O) → Streams I O → Worked → List D → List D
+    → KnownPass → KnownPass → Type 0
 ServesSeen seen streams ended doors doors' p p' = ServesDoors streams ended (map seen doors) (map seen doors') p p'
 
 -- so many connections take at most so many turns
 abbrev pub turns_for : ℕ → ℕ
 turns_for connections = 1048576 * connections
 
--- Doors that may be served behind so many turns: none has a connection out, and the turns of all that they give stay within
--- the lock's.
+-- Doors that may be served behind so many turns: none has a connection out, and the turns of all that
+-- they give stay within the lock's.
 abbrev pub AreReady : {D : Type 0} → (D → ℕ) → (D → Bool) → List D → ℕ → Type 0
-AreReady left is_out doors turns = (turns + turns_for (total left doors) ≤ 2 ^ 40) × Every (λ door. is_out door ≡ false) doors
+AreReady left is_out doors turns =
+    (turns + turns_for (total left doors) ≤ 2 ^ 40) × Every (λ door. is_out door ≡ false) doors
 
 -- ---- one worker's steps
 
 -- the next connection of a door was served and given back, or there was none
-abbrev pub ServesNext : {I O : Type 0} → Streams I O → Result Ending Last → SeenDoor I O → SeenDoor I O → KnownPass → KnownPass → Type 0
+abbrev pub ServesNext : {I O : Type 0} → Streams I O → Result Ending Last → SeenDoor I O → SeenDoor I O
+    → KnownPass → KnownPass → Type 0
 ServesNext {I} {O} streams (Ok ending) d d' p p' = (c : ServedConnection I O)
     × IsServed streams c × (c.ending ≡ ending) × (c.before ≡ p) × (c.after ≡ p') × Visits (c ∷ []) d d'
 ServesNext streams (Err last) d d' p p' = (p' ≡ p) × Stops last d d'

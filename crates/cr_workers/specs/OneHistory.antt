@@ -1,5 +1,5 @@
--- Many connections on one history: what all workers did, from the history and the keeper's count that they began with to
--- those that they ended with.
+-- Many connections on one history: what all workers did, from the history and the keeper's count that they began with
+-- to those that they ended with.
 use Rattle.std.specs.Prelude.{◌≡◌, ◌≤◌, ◌⊎◌, ℕ, ◌+◌, List, length, map}
 use mathlib.Core.List.{IsPrefix}
 use Rattle.cr_lock.specs.Counts.{Every, total, within, last_count}
@@ -9,9 +9,11 @@ use Rattle.cr_workers.specs.Connections.{Streams, ServedConnection, IsServedWith
 use Rattle.cr_workers.specs.Doors.{SeenDoor, DoorWork, IsWorkedOn, HasFailedDoor, connections_of}
 use Rattle.cr_workers.specs.declared.worked.Worked.{Worked}
 
--- However the turns of the connections interleave: there is one history, which begins with the first one, and each connection
--- was served on beginnings of it. Each entry behind the first history stands in one group of one turn of one connection.
-pub record ServesHistory {I O : Type 0} (streams : Streams I O) (ended : Worked) (doors doors' : List (SeenDoor I O)) (b b' : Ledger) : Type 0 where
+-- However the turns of the connections interleave: there is one history, which begins with the first one,
+-- and each connection was served on beginnings of it. Each entry behind the first history stands in one
+-- group of one turn of one connection.
+pub record ServesHistory {I O : Type 0} (streams : Streams I O) (ended : Worked) (doors doors' : List (SeenDoor I O))
+    (b b' : Ledger) : Type 0 where
   -- the doors, each with the connections that were served by it
   pub works : List (DoorWork I O)
   pub before : map (λ (w : DoorWork I O). w.before) works ≡ doors
@@ -20,7 +22,9 @@ pub record ServesHistory {I O : Type 0} (streams : Streams I O) (ended : Worked)
   pub cause : HasFailedDoor ended works
   pub served : Every (IsServedWithin streams b.history b'.history) (connections_of works)
   pub begins : IsPrefix b.history b'.history
-  pub once : (k : ℕ) → total (λ (c : ServedConnection I O). groups_with k c.turns) (connections_of works) ≡ within (length b.history) (length b'.history) k
+  pub once : (k : ℕ) → total (λ (c : ServedConnection I O). groups_with k c.turns) (connections_of works)
+      ≡ within (length b.history) (length b'.history) k
   -- the keeper's count rose by what it rose in their turns, so by at least as many as are marked, its last value aside
   pub counted : b'.faults ≡ b.faults + total (λ (c : ServedConnection I O). rises c.turns) (connections_of works)
-  pub marked : (b.faults + total (λ (c : ServedConnection I O). marks c.turns) (connections_of works) ≤ b'.faults) ⊎ (last_count ≤ b'.faults)
+  pub marked : (b.faults + total (λ (c : ServedConnection I O). marks c.turns) (connections_of works) ≤ b'.faults)
+      ⊎ (last_count ≤ b'.faults)

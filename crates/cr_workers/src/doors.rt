@@ -27,7 +27,8 @@ fn serve_last<R: Wait, K: Keeper, D: Door + Drop>(
     requires own { pass.lock ≡ lock.now.lock }
     requires last { length doors.items ≤ 1 }
     requires ready { AreReady D.left D.is_out doors.items pass.turns }
-    ensures serves { ServesSeen (door_of D.left D.is_out D.faults D.log) (streams_of D.In.left D.In.read_gives D.In.faults D.Out.taken D.Out.faults)
+    ensures serves { ServesSeen (door_of D.left D.is_out D.faults D.log)
+        (streams_of D.In.left D.In.read_gives D.In.faults D.Out.taken D.Out.faults)
         result.2 doors.items result.1.items pass result.0 }
     ensures pass { StaysPass (turns_for (total D.left doors.items)) pass result.0 }
     ensures len { length result.1.items ≡ length doors.items }
@@ -52,7 +53,8 @@ fn halve<D: Door>(doors: Vec<D>) -> Result<(Vec<D>, Vec<D>), Vec<D>>
     ensures whole { IfOk result (λ halves. doors.items ≡ halves.0.items ++ halves.1.items) }
     ensures larger { IfOk result (λ halves. length halves.0.items ≡ length doors.items - length doors.items / 2) }
     ensures smaller { IfOk result (λ halves. length halves.1.items ≡ length doors.items / 2) }
-    ensures lefts { IfOk result (λ halves. total D.left halves.0.items + total D.left halves.1.items ≡ total D.left doors.items) }
+    ensures lefts { IfOk result (λ halves. total D.left halves.0.items + total D.left halves.1.items
+        ≡ total D.left doors.items) }
     ensures first { IfOk result (λ halves. Every (λ door. D.is_out door ≡ false) halves.0.items) }
     ensures second { IfOk result (λ halves. Every (λ door. D.is_out door ≡ false) halves.1.items) }
     ensures room { IfOk result (λ halves. vec_capacity halves.0 ≡ vec_capacity doors) }
@@ -81,11 +83,12 @@ fn rejoin<D: Drop>(front: Vec<D>, back: Vec<D>) -> Vec<D>
     doors
 }
 
-/// Serves the connections of all doors, each door by a worker of its own, in a thread of its own where one can be made; the
-/// doors come back in their order. The pass and the doors are split in halves, the larger first, and joined again.
+/// Serves the connections of all doors, each door by a worker of its own, in a thread of its own where
+/// one can be made; the doors come back in their order. The pass and the doors are split in halves, the
+/// larger first, and joined again.
 ///
-/// `DoorFailed` comes only where a door failed. Where a list of doors can't be split for lack of memory, these doors are not
-/// asked, and the answer is `OutOfMemory`.
+/// `DoorFailed` comes only where a door failed. Where a list of doors can't be split for lack of memory, these doors
+/// are not asked, and the answer is `OutOfMemory`.
 #[cycle(halves)]
 pub(crate) fn serve_doors<R: Threads + Wait + Sync, K: Keeper + Send, D: Door + Drop + Send>(
     rt: &R,
@@ -97,7 +100,8 @@ pub(crate) fn serve_doors<R: Threads + Wait + Sync, K: Keeper + Send, D: Door + 
     requires own { pass.lock ≡ lock.now.lock }
     requires share { length doors.items ≤ pass.share }
     requires ready { AreReady D.left D.is_out doors.items pass.turns }
-    ensures serves { ServesSeen (door_of D.left D.is_out D.faults D.log) (streams_of D.In.left D.In.read_gives D.In.faults D.Out.taken D.Out.faults)
+    ensures serves { ServesSeen (door_of D.left D.is_out D.faults D.log)
+        (streams_of D.In.left D.In.read_gives D.In.faults D.Out.taken D.Out.faults)
         result.2 doors.items result.1.items pass result.0 }
     ensures pass { StaysPass (turns_for (total D.left doors.items)) pass result.0 }
     ensures len { length result.1.items ≡ length doors.items }
@@ -116,7 +120,8 @@ pub(crate) fn serve_doors<R: Threads + Wait + Sync, K: Keeper + Send, D: Door + 
     let first_half = move || -> (Pass<Book<K>>, Vec<D>, Worked)
         requires { IsSync R.row × (larger.lock ≡ lock.now.lock) × (length front.items ≤ larger.share)
             × AreReady D.left D.is_out front.items larger.turns }
-        ensures serves { ServesSeen (door_of D.left D.is_out D.faults D.log) (streams_of D.In.left D.In.read_gives D.In.faults D.Out.taken D.Out.faults)
+        ensures serves { ServesSeen (door_of D.left D.is_out D.faults D.log)
+            (streams_of D.In.left D.In.read_gives D.In.faults D.Out.taken D.Out.faults)
             result.2 front.items result.1.items larger result.0 }
         ensures pass { StaysPass (turns_for (total D.left front.items)) larger result.0 }
         ensures len { length result.1.items ≡ length front.items }
@@ -125,7 +130,8 @@ pub(crate) fn serve_doors<R: Threads + Wait + Sync, K: Keeper + Send, D: Door + 
     let second_half = move || -> (Pass<Book<K>>, Vec<D>, Worked)
         requires { IsSync R.row × (smaller.lock ≡ lock.now.lock) × (length back.items ≤ smaller.share)
             × AreReady D.left D.is_out back.items smaller.turns }
-        ensures serves { ServesSeen (door_of D.left D.is_out D.faults D.log) (streams_of D.In.left D.In.read_gives D.In.faults D.Out.taken D.Out.faults)
+        ensures serves { ServesSeen (door_of D.left D.is_out D.faults D.log)
+            (streams_of D.In.left D.In.read_gives D.In.faults D.Out.taken D.Out.faults)
             result.2 back.items result.1.items smaller result.0 }
         ensures pass { StaysPass (turns_for (total D.left back.items)) smaller result.0 }
         ensures len { length result.1.items ≡ length back.items }

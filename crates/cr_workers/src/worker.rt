@@ -33,7 +33,8 @@ fn serve_next_connection<R: Wait, K: Keeper, D: Door>(
     requires few { pass.old.turns + turns_for (D.left door.old) ≤ 2 ^ 40 }
     requires back { IsFalse (D.is_out door.old) }
     ensures serves { let seen = door_of D.left D.is_out D.faults D.log in
-        ServesNext (streams_of D.In.left D.In.read_gives D.In.faults D.Out.taken D.Out.faults) result (seen door.old) (seen door.new) pass.old pass.new }
+        ServesNext (streams_of D.In.left D.In.read_gives D.In.faults D.Out.taken D.Out.faults) result (seen door.old)
+        (seen door.new) pass.old pass.new }
     ensures pass { StaysPass (turns_for 1) pass.old pass.new }
 {
     match door.next() {
@@ -58,7 +59,8 @@ fn has_lacked(lacked: bool, ending: Ending) -> bool
     }
 }
 
-/// How a worker ended whose door answered so at last, and of whose connections one ended for lack of memory or none did.
+/// How a worker ended whose door answered so at last, and of whose connections one ended
+/// for lack of memory or none did.
 fn ended_by(lacked: bool, last: Last) -> Worked
     ensures { result ≡ ended_by lacked last }
 {
@@ -69,8 +71,8 @@ fn ended_by(lacked: bool, last: Last) -> Worked
     }
 }
 
-/// Serves the door's connections, each to its end before the next is asked for. A connection's fault ends that connection
-/// alone.
+/// Serves the door's connections, each to its end before the next is asked for. A connection's
+/// fault ends that connection alone.
 pub(crate) fn serve_door<R: Wait, K: Keeper, D: Door>(
     rt: &R,
     alloc: Global,
@@ -81,7 +83,8 @@ pub(crate) fn serve_door<R: Wait, K: Keeper, D: Door>(
     requires own { pass.old.lock ≡ lock.now.lock }
     requires few { pass.old.turns + turns_for (D.left door.old) ≤ 2 ^ 40 }
     requires back { IsFalse (D.is_out door.old) }
-    ensures serves { ServesSeen (door_of D.left D.is_out D.faults D.log) (streams_of D.In.left D.In.read_gives D.In.faults D.Out.taken D.Out.faults)
+    ensures serves { ServesSeen (door_of D.left D.is_out D.faults D.log)
+        (streams_of D.In.left D.In.read_gives D.In.faults D.Out.taken D.Out.faults)
         result (door.old ∷ []) (door.new ∷ []) pass.old pass.new }
     ensures pass { StaysPass (turns_for (D.left door.old)) pass.old pass.new }
 {

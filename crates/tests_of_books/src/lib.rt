@@ -1,5 +1,6 @@
-//! Each call of books, connections and workers that may run out of memory and that no case of `conformance` shows, once with
-//! ample memory; and what no clause says: two workers at once, the statuses by their numbers, and the answer to a lack of memory.
+//! Each call of books, connections and workers that may run out of memory and that no case of `conformance`
+//! shows, once with ample memory; and what no clause says: two workers at once, the statuses by their numbers,
+//! and the answer to a lack of memory.
 #![tactic(auto)]
 
 #[cfg(test)]

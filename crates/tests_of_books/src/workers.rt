@@ -191,8 +191,8 @@ fn answer(
     })
 }
 
-/// A door whose connection asks for the phase. Its source waits for the flag inside the request where `waits`; else its
-/// sink sets the flag.
+/// A door whose connection asks for the phase. Its source waits for the flag inside the request where
+/// `waits`; else its sink sets the flag.
 fn asks_phase(
     alloc: Global,
     flag: &Arc<AtomicBool, Global>,

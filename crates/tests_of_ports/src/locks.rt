@@ -1,5 +1,6 @@
 //! A lock's passes: splits down to the last share, and 64 threads.
-ghost use Rattle.std.specs.Prelude.{◌≡◌, ℕ, List, [], ◌∷◌, ◌++◌, ◌+◌, ◌<◌, ◌≤◌, ◌^◌, length, vec_len, All, OnOk, IfOk, IfSome, MatchResult};
+ghost use Rattle.std.specs.Prelude.{◌≡◌, ℕ, List, [], ◌∷◌, ◌++◌, ◌+◌, ◌<◌, ◌≤◌, ◌^◌};
+ghost use Rattle.std.specs.Prelude.{length, vec_len, All, OnOk, IfOk, IfSome, MatchResult};
 ghost use Rattle.std.specs.Thread.{IsSync};
 ghost use Rattle.cr_lock.specs.Turns.{groups_of};
 
@@ -39,7 +40,8 @@ impl Stands for Acts {
 
 impl Acts {
     fn record(&mut self, act: Act) -> Result<(), AllocError>
-        ensures { MatchResult result (λ _. self.new.log.items ≡ self.old.log.items ++ act ∷ []) (λ _. self.new.log.items ≡ self.old.log.items) }
+        ensures { MatchResult result (λ _. self.new.log.items ≡ self.old.log.items ++ act ∷ [])
+            (λ _. self.new.log.items ≡ self.old.log.items) }
     {
         self.log.push(act)?;
         Ok(())

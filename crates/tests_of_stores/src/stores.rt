@@ -10,8 +10,8 @@ use sqlite_disk::{Disk, Memory};
 use std::alloc::{AllocError, Global};
 use std::test::Fail;
 
-// Each step is a function over any disk that gives plain values back, and the tests alone name the disk: a proof that carries
-// the clauses of several calls, and the ways in which what is open is dropped, takes many minutes.
+// Each step is a function over any disk that gives plain values back, and the tests alone name the disk: a proof that
+// carries the clauses of several calls, and the ways in which what is open is dropped, takes many minutes.
 
 fn must_send<T: Send>(_: &T) {}
 
