@@ -23,10 +23,10 @@ alike_trans (s ∷ ss) (t ∷ ts) (u ∷ us) h k = (k.0 ∙ h.0, k.1 ∙ h.1, k.
 length_more : (s : Slot) (ss : List Slot) → length (s ∷ ss) ≡ suc (length ss)
 length_more s ss = refl
 
-shape_first : (papers members : ℕ) (s : Slot) (ss : List Slot) → InShape papers members (s ∷ ss) → (s.paper < papers) × (s.member < members)
+pub shape_first : (papers members : ℕ) (s : Slot) (ss : List Slot) → InShape papers members (s ∷ ss) → (s.paper < papers) × (s.member < members)
 shape_first papers members s ss h = h 0 s (let z : 0 < length (s ∷ ss) = omega (arith, length_more s ss) in z)
 
-shape_rest : (papers members : ℕ) (s : Slot) (ss : List Slot) → InShape papers members (s ∷ ss) → InShape papers members ss
+pub shape_rest : (papers members : ℕ) (s : Slot) (ss : List Slot) → InShape papers members (s ∷ ss) → InShape papers members ss
 shape_rest papers members s ss h k d lt = h (suc k) d (let z : suc k < length (s ∷ ss) = omega (arith, length_more s ss, lt) in z)
 
 pub alike_shape : (papers members : ℕ) (ss ts : List Slot) → Alike ss ts → InShape papers members ss → InShape papers members ts

@@ -36,12 +36,12 @@ bare_some [] q h z = absurd (let e : length {A = ℕ} [] ≡ 0 = refl in omega (
 bare_some (l ∷ ls) zero h z = ap (λ n. cond (n == 0) 1 0) z
 bare_some (l ∷ ls) (suc q) h z = bare_some ls q (omega (arith, h, length_more l ls)) z
 
-bare_inside : (ls : List ℕ) (q : ℕ) → 0 < get_or (bare ls) q 0 → q < length ls
+pub bare_inside : (ls : List ℕ) (q : ℕ) → 0 < get_or (bare ls) q 0 → q < length ls
 bare_inside [] q h = absurd (let e : get_or {A = ℕ} [] q 0 ≡ 0 = refl in omega (arith, h, e))
 bare_inside (l ∷ ls) zero h = omega (arith, length_more l ls)
 bare_inside (l ∷ ls) (suc q) h = omega (arith, bare_inside ls q h, length_more l ls)
 
-bare_none : (ls : List ℕ) (q : ℕ) → 0 < get_or ls q 0 → get_or (bare ls) q 0 ≡ 0
+pub bare_none : (ls : List ℕ) (q : ℕ) → 0 < get_or ls q 0 → get_or (bare ls) q 0 ≡ 0
 bare_none [] q h = refl
 bare_none (l ∷ ls) zero h = grind (arith, nat_tests)
 bare_none (l ∷ ls) (suc q) h = bare_none ls q h

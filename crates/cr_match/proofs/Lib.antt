@@ -15,3 +15,9 @@ pub mod Refuted
 pub mod Tells
 pub mod Conclude
 pub mod Order
+pub mod Inside
+pub mod Costs
+pub mod Field
+pub mod Sooner
+pub mod Dictionary
+pub mod Wide

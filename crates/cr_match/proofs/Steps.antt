@@ -196,6 +196,20 @@ last_member load a b lp lm np nm ss old p some fit same x is one =
           omega (arith, choose_member ss (get_or np p 0) p u.member u.value r u.inside u.is, same r) in n),
     )
 
+pub last_end : (load : ℕ) (a b lp lm np nm : List ℕ) (ss old : List Slot) (p : ℕ) → 0 < get_or lp p 0 →
+    LabelsFit load a b lp lm np nm (get_or lp p 0) ss → ((r : ℕ) → count_by (has_member r) ss ≡ count_by (has_member r) old) →
+    (x : Slot) → x ≡ get_or ss (get_or np p 0) zero_slot → get_or lm x.member 0 ≡ 1 →
+    (m : ℕ) × (get_or lm m 0 ≡ 1) × ((r : ℕ) → count_by (has_member r) (set ss (get_or np p 0) (slot x.paper x.member x.value true)) ≡ count_by (has_member r) old + cond (m == r) 1 0)
+last_end load a b lp lm np nm ss old p some fit same x is one =
+    let u : Leads a b lp lm ss p (get_or np p 0) = fit.papers p some (omega arith) in
+    let e : x ≡ slot p u.member u.value false = is ∙ u.is zero_slot in (
+      u.member,
+      ap (λ (s : Slot). get_or lm s.member 0) (sym e) ∙ one,
+      λ r. ap (count_by (has_member r)) (read_choose ss (get_or np p 0) p u.member u.value x e)
+          ∙ (let n : count_by (has_member r) (flipped ss (get_or np p 0) p u.member u.value true) ≡ count_by (has_member r) old + cond (u.member == r) 1 0 =
+          omega (arith, choose_member ss (get_or np p 0) p u.member u.value r u.inside u.is, same r) in n),
+    )
+
 abbrev pub Walking : ℕ → List ℕ → List ℕ → List ℕ → List ℕ → List ℕ → List ℕ → List Slot → ℕ → List Slot → ℕ → Type 0
 Walking load a b lp lm np nm old from ss p =
     (0 < get_or lp p 0)

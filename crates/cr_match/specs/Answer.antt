@@ -81,3 +81,23 @@ pub record IsChosen (problem : Problem) (a b : List ℕ) (ss : List Slot) : Type
   pub papers : length a ≡ problem.papers
   pub members : length b ≡ problem.members
   pub small : UpTo (2 ^ 62) a
+  pub small_members : UpTo (2 ^ 62) b
+
+-- two lists of pairs in dictionary order, each pair by paper, then member
+abbrev pub IsBefore : List Pair → List Pair → Type 0
+IsBefore [] [] = ⊥
+IsBefore [] (f ∷ fs) = Unit {0}
+IsBefore (e ∷ es) [] = ⊥
+IsBefore (e ∷ es) (f ∷ fs) =
+    ComesAfter e f ⊎ ((e.paper ≡ f.paper) × (e.member ≡ f.member) × IsBefore es fs)
+
+-- every other plan that weighs as much comes after this one
+abbrev pub IsFirst : Problem → List Pair → Type 0
+IsFirst problem pairs = (other : List Pair) → IsPlanOf problem other → total_weight other ≡ total_weight pairs
+    → (other ≡ pairs) ⊎ IsBefore pairs other
+
+-- the first in order of the plans of the greatest sum, or what shows that there is none
+abbrev pub IsFirstSolved : Problem → Solved → Type 0
+IsFirstSolved problem (Best pairs sum prices) = IsGreatest problem pairs.items sum prices × IsFirst problem pairs.items
+IsFirstSolved problem (NoPlan papers) = HasNoPlan problem papers.items
+IsFirstSolved problem OutOfMemory = Unit {0}

@@ -4,3 +4,4 @@ pub mod Labels
 pub mod Search
 pub mod Copies
 pub mod Answer
+pub mod Earlier

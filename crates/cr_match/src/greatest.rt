@@ -1,7 +1,7 @@
 //! A plan of the greatest sum.
 
 ghost use Rattle.std.specs.Prelude.{◌≡◌, ℕ, true, false, length, replicate, IfOk};
-ghost use Rattle.cr_match.specs.Answer.{IsChosen, IsProblem, IsSolved};
+ghost use Rattle.cr_match.specs.Answer.{IsChosen, IsFirstSolved, IsProblem, IsSolved};
 ghost use Rattle.cr_match.specs.Copies.{AreBy, IsFlat, IsFor, NoneChosen};
 ghost use Rattle.cr_match.specs.Labels.{zeros};
 ghost use Rattle.cr_match.specs.Plan.{IsTooMuch};
@@ -9,6 +9,7 @@ ghost use Rattle.cr_match.specs.Plan.{IsTooMuch};
 use crate::fill::{fill, fit_all};
 use crate::problem::{Prices, Problem, Solved};
 use crate::search::Slot;
+use crate::settle::order_if;
 use crate::tell::{
     LIFT, chosen_pairs, flat_slots_of, lower, slots_of, unlabelled_places, weight_of,
 };
@@ -72,10 +73,11 @@ pub fn choose(
     true
 }
 
-/// Searches as [`choose`] does, and tells what it found.
+/// Searches as [`choose`] does, and tells what it found; the first in order, if `first`.
 pub fn answer(
     alloc: Global,
     problem: &Problem,
+    first: bool,
     flat: &mut [Slot],
     slots: &mut [Slot],
     flat_prices: &[u64],
@@ -93,7 +95,8 @@ pub fn answer(
         × (a.old ≡ replicate problem.now.papers 4294967316) × (b.old ≡ replicate problem.now.members 0) }
     requires lengths { (length labels.old ≡ problem.now.papers) × (length member_labels.old ≡ problem.now.members)
         × (length next.old ≡ problem.now.papers) × (length member_next.old ≡ problem.now.members) }
-    ensures { IfOk result (λ solved. IsSolved problem.now solved) }
+    ensures { IfOk result
+        (λ solved. IsSolved problem.now solved × (first ≡ true → IsFirstSolved problem.now solved)) }
 {
     let found = choose(
         problem,
@@ -111,6 +114,7 @@ pub fn answer(
         let papers = unlabelled_places(alloc, labels)?;
         return Ok(Solved::NoPlan { papers });
     }
+    order_if(alloc, problem, first, slots, a, b)?;
     let pairs = chosen_pairs(alloc, &problem.pairs, slots)?;
     let sum = weight_of(&pairs);
     let papers = lower(alloc, a)?;
@@ -123,9 +127,10 @@ pub fn answer(
 }
 
 /// Makes the slots, and tells what there is.
-fn solve_in(alloc: Global, problem: &Problem) -> Result<Solved, AllocError>
+fn solve_in(alloc: Global, problem: &Problem, first: bool) -> Result<Solved, AllocError>
     requires { IsProblem problem.now }
-    ensures { IfOk result (λ solved. IsSolved problem.now solved) }
+    ensures { IfOk result
+        (λ solved. IsSolved problem.now solved × (first ≡ true → IsFirstSolved problem.now solved)) }
 {
     let papers = problem.papers as usize;
     let members = problem.members as usize;
@@ -141,6 +146,7 @@ fn solve_in(alloc: Global, problem: &Problem) -> Result<Solved, AllocError>
     answer(
         alloc,
         problem,
+        first,
         &mut flat,
         &mut slots,
         &flat_prices,
@@ -162,7 +168,22 @@ pub fn solve(problem: &Problem) -> Solved
     requires { IsProblem problem.now }
     ensures { IsSolved problem.now result }
 {
-    match solve_in(*problem.pairs.allocator(), problem) {
+    match solve_in(*problem.pairs.allocator(), problem, false) {
+        Ok(solved) => solved,
+        Err(_) => Solved::OutOfMemory,
+    }
+}
+
+/// The first in order of the plans of the greatest sum, or the papers that show that there is no plan: every other
+/// plan of that sum comes after it, as lists of pairs in dictionary order, each by paper, then member.
+///
+/// After what [`solve`] does, a few passes over the pairs for each that could come in, which are seldom more than
+/// twice the places: together about twice the time.
+pub fn first_best(problem: &Problem) -> Solved
+    requires { IsProblem problem.now }
+    ensures { IsFirstSolved problem.now result }
+{
+    match solve_in(*problem.pairs.allocator(), problem, true) {
         Ok(solved) => solved,
         Err(_) => Solved::OutOfMemory,
     }

@@ -1,4 +1,4 @@
-//! Plans of who reviews what: of the greatest sum, and proved so.
+//! Plans of who reviews what: of the greatest sum, and the first in order of these; proved so.
 #![tactic(auto)]
 
 mod asked;
@@ -6,10 +6,11 @@ mod fill;
 mod greatest;
 mod problem;
 mod search;
+mod settle;
 mod start;
 mod tell;
 
-pub use greatest::solve;
+pub use greatest::{first_best, solve};
 pub use problem::{Pair, Prices, Problem, Solved};
 
 #[cfg(test)]

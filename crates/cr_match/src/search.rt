@@ -48,6 +48,9 @@ pub fn walk(
     ensures member { (m : ℕ) × (count_by (has_member m) slots.old < load)
         × ((r : ℕ)
         → count_by (has_member r) slots.new ≡ count_by (has_member r) slots.old + (if m == r then 1 else 0)) }
+    ensures ends { (m : ℕ) × (slice_index member_labels.now m ≡ 1)
+        × ((r : ℕ)
+        → count_by (has_member r) slots.new ≡ count_by (has_member r) slots.old + (if m == r then 1 else 0)) }
     ensures bound { (x y : List ℕ) → excess_value x y slots.new ≡ excess_value x y slots.old }
     ensures alike { Alike slots.old slots.new }
 {
@@ -99,6 +102,8 @@ pub fn touch(
     ensures fit { AllFit load a.now b.now labels.new member_labels.new next.new member_next.new slots.now }
     ensures up { UpTo (round + 1) labels.new × UpTo (round + 1) member_labels.new }
     ensures kept { (k : ℕ) → 0 < slice_index member_labels.old k → 0 < slice_index member_labels.new k }
+    ensures ones { 0 < round
+        → (k : ℕ) → slice_index member_labels.new k ≡ 1 → slice_index member_labels.old k ≡ 1 }
     ensures same { result ≡ false → (labels.new ≡ labels.old) × (member_labels.new ≡ member_labels.old) }
     ensures closed { result ≡ false → UpTo round labels.old → UpTo round member_labels.old
         → ClosedAt a.now b.now labels.old member_labels.old slots.now i }

@@ -1,7 +1,7 @@
 ghost use Rattle.std.specs.Prelude.{IfOk};
 ghost use Rattle.cr_match.specs.Answer.{IsProblem};
 
-use super::{Pair, Problem, Solved, solve};
+use super::{Pair, Problem, Solved, first_best, solve};
 use std::alloc::Global;
 use std::process::Abort;
 use std::test::Fail;
@@ -50,5 +50,18 @@ fn six_places_for_five_members(rt: HostRuntime) -> Result<(), Fail> {
         panic!(&rt; "no plan");
     };
     assert_eq!(rt; papers.as_slice(), [0, 1].as_slice());
+    Ok(())
+}
+
+#[test]
+fn first_of_all(rt: HostRuntime) -> Result<(), Fail> {
+    let problem = bids(rt.alloc(), 1, [0, 0, 0, 0], &rt)?;
+    let Solved::Best { pairs, sum, .. } = first_best(&problem) else {
+        panic!(&rt; "a plan");
+    };
+    assert_eq!(rt; sum, 0);
+    assert_eq!(rt; pairs.len(), 2);
+    assert_eq!(rt; (pairs[0].paper, pairs[0].member), (0, 0));
+    assert_eq!(rt; (pairs[1].paper, pairs[1].member), (1, 1));
     Ok(())
 }

@@ -163,4 +163,5 @@ returns-clause-chosen c h =
       papers = l0 ∙ la;
       members = l1 ∙ lb;
       small = c.fill.ensures.search.top;
+      small_members = λ k. omega (arith, c.fill.ensures.search.high k);
     }

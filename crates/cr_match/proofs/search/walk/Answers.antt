@@ -1,5 +1,5 @@
 use Rattle.std.proofs.Common.{refl}
-use Rattle.cr_match.proofs.Steps.{last_suits, last_member, last_excess, last_alike, walking_step}
+use Rattle.cr_match.proofs.Steps.{last_suits, last_member, last_end, last_excess, last_alike, walking_step}
 use Rattle.cr_match.proofs.Alike.{alike_refl}
 use Rattle.cr_match.proofs.search.walk.Goals as goal
 
@@ -13,6 +13,12 @@ pub returns-then-member_labels-slot-eq1-clause-member :
     goal.returns-then-member_labels-slot-eq1-clause-member
 returns-then-member_labels-slot-eq1-clause-member c =
     last_member c.args.load c.args.a.now c.args.b.now c.args.labels.now c.args.member_labels.now c.args.next.now c.args.member_next.now c.steps.slots c.args.slots.now c.steps.p
+    c.steps.invariant.0 c.steps.invariant.2 c.steps.invariant.4 _ refl c.if-member_labels-slot-eq1.true
+
+pub returns-then-member_labels-slot-eq1-clause-ends :
+    goal.returns-then-member_labels-slot-eq1-clause-ends
+returns-then-member_labels-slot-eq1-clause-ends c =
+    last_end c.args.load c.args.a.now c.args.b.now c.args.labels.now c.args.member_labels.now c.args.next.now c.args.member_next.now c.steps.slots c.args.slots.now c.steps.p
     c.steps.invariant.0 c.steps.invariant.2 c.steps.invariant.4 _ refl c.if-member_labels-slot-eq1.true
 
 pub steps-preserved : goal.steps-preserved
