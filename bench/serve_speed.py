@@ -1,7 +1,8 @@
 #!/usr/bin/env python3
 """How fast `confd serve` answers, beside others in the same run.
 
-    python3 bench/serve_speed.py [--turns N] [--seconds S] [--requests R] [--before OTHER] [PROGRAM] [FOLDER]
+    python3 bench/serve_speed.py [--turns N] [--seconds S] [--connections C,..] [--requests R]
+                                 [--before OTHER] [PROGRAM] [FOLDER]
 
 PROGRAM is `confd` as `rt run` builds it (crates/confd/out/confd where none is named), OTHER an earlier one to be
 measured in the same run, FOLDER where the stores are made (the system's folder for such where none is named; it decides
@@ -10,8 +11,9 @@ one worker, which gives the same bytes from memory; a small Flask application ov
 under gunicorn with two processes of four threads; and, for what is kept, SQLite's own commits with the setting that
 confd uses. All loads keep their connections alive; all talk on loopback.
 
-Every load is tried N times (5) for S seconds (2) on each server in turn, and its figure is the median. At the end R
-requests (a million) are made on 64 connections, and the slowest of them is told; 0 leaves that out.
+Every load, on each number C of connections (1,4,16,64), is tried N times (5) for S seconds (2) on each server in turn,
+and its figure is the median. At the end R requests (a million) are made on 64 connections, and the slowest of them is
+told; 0 leaves that out.
 """
 
 import argparse
@@ -162,7 +164,7 @@ def confd(program, store, port, workers):
 
 def wrk(port, path, connections, seconds, who=None):
     """What wrk prints of a load; the failures that it counted end the run."""
-    words = ["wrk", f"-t{1 if connections == 1 else 2}", f"-c{connections}", f"-d{seconds}s"]
+    words = ["wrk", f"-t{1 if connections == 1 else 2}", f"-c{connections}", f"-d{seconds}s", "--timeout", "30s"]
     if who is not None:
         words += ["-H", f"Authorization: Bearer {who}.{secret_of(who)}"]
     out = subprocess.run(words + [f"http://127.0.0.1:{port}{path}"], capture_output=True, text=True, check=True).stdout
@@ -246,10 +248,10 @@ def compared(title, figures):
     print(f"{title}: {told} a second; {beside}", flush=True)
 
 
-def reads(servers, turns, seconds):
+def reads(servers, counts, turns, seconds):
     """Each load on each server in turn, as often as there are turns."""
     for path, who in (("/phase", None), ("/papers/1", "erin")):
-        for connections in CONNECTIONS:
+        for connections in counts:
             found = {name: [] for name in servers}
             for _ in range(turns):
                 for name, (port, _) in servers.items():
@@ -282,6 +284,7 @@ def words():
     found = argparse.ArgumentParser()
     found.add_argument("--turns", type=int, default=5)
     found.add_argument("--seconds", type=int, default=2)
+    found.add_argument("--connections", type=lambda text: [int(word) for word in text.split(",")], default=CONNECTIONS)
     found.add_argument("--requests", type=int, default=1_000_000)
     found.add_argument("--before")
     found.add_argument("program", nargs="?", default=os.path.join(HERE, "../crates/confd/out/confd"))
@@ -336,7 +339,7 @@ def main():
     with tempfile.TemporaryDirectory(dir=asked.folder) as folder:
         with beside_each_other(asked, folder) as (servers, page):
             print(f"the page has {page} bytes; medians of {asked.turns} turns of {asked.seconds} seconds", flush=True)
-            reads(servers, asked.turns, asked.seconds)
+            reads(servers, asked.connections, asked.turns, asked.seconds)
             for name in (OURS, BEFORE, NGINX_NAME):
                 if asked.requests and name in servers:
                     slowest(name, *servers[name], asked.requests)
