@@ -1,9 +1,9 @@
 -- Slots that differ in what is chosen alone.
-use Rattle.std.proofs.Common.{Bool, ◌≡◌, ℕ, zero, suc, ◌+◌, ◌-◌, ◌<◌, ◌==◌, cond, ◌&&◌, List, [], ◌∷◌, length, count_by, get_or, refl, arith, ap, sym, ◌∙◌}
+use Rattle.std.proofs.Common.{Bool, ◌≡◌, ℕ, zero, suc, ◌+◌, ◌-◌, ◌<◌, cond, List, [], ◌∷◌, length, get_or, refl, arith, ap, sym, ◌∙◌}
 use Rattle.std.proofs.lemmas.List.Sums.{sum_by-cons}
 use Rattle.cr_match.specs.declared.search.Slot.{Slot}
 use Rattle.cr_match.specs.Slack.{price, excess_value, dual}
-use Rattle.cr_match.specs.Labels.{Alike, AllTight, InShape, cut_slot}
+use Rattle.cr_match.specs.Labels.{Alike, AllTight, InShape}
 
 abbrev pub bit : Bool → ℕ
 bit b = cond b 1 0

@@ -1,13 +1,13 @@
 -- What another choice of the same slots costs: where no search can bring a slot in, none that is worth as much has it.
-use Rattle.std.proofs.Common.{◌≡◌, ℕ, zero, suc, ◌+◌, ◌-◌, ◌*◌, ◌<◌, ◌≤◌, Bool, true, false, cond, ◌&&◌, ◌==◌, List, [], ◌∷◌, ◌++◌, length, count_by, get_or, replicate, ltb, sum, refl, arith, ap, sym, ◌∙◌, subst}
+use Rattle.std.proofs.Common.{◌≡◌, ℕ, zero, suc, ◌+◌, ◌-◌, ◌<◌, ◌≤◌, Bool, true, false, cond, ◌&&◌, ◌==◌, List, [], ◌∷◌, ◌++◌, length, count_by, get_or, replicate, ltb, refl, arith, ap, sym, ◌∙◌}
 use Rattle.std.proofs.lemmas.Bool.Decides.{nat_tests}
 use Rattle.std.proofs.lemmas.List.{get_or-replicate}
 use Rattle.std.proofs.lemmas.List.Sums.{sum_by-cons, sum_by-append}
 use Rattle.cr_match.specs.declared.search.Slot.{Slot}
-use Rattle.cr_match.specs.Slack.{price, Suits, AllSuit, has_paper, has_member, chosen_value, PricedAreFull, Closed}
+use Rattle.cr_match.specs.Slack.{price, AllSuit, has_paper, has_member, chosen_value, Closed}
 use Rattle.cr_match.specs.Labels.{Alike, Filled}
 use Rattle.cr_match.specs.Earlier.{AllInside, Kept}
-use Rattle.cr_match.proofs.Duality.{owed_n, owed_n_same, owed_n_light}
+use Rattle.cr_match.proofs.Duality.{owed_n_same, owed_n_light}
 use Rattle.cr_match.proofs.Strong.{pays, pays_is_owed, owed_n_whole}
 use Rattle.cr_match.proofs.Alike.{bit}
 

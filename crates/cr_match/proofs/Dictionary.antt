@@ -1,20 +1,20 @@
 -- From choices of slots to lists of pairs in dictionary order.
-use Rattle.std.proofs.Common.{◌≡◌, ◌⊎◌, inl, inr, ℕ, zero, suc, ◌+◌, ◌*◌, ◌<◌, ◌≤◌, Bool, true, false, cond, List, [], ◌∷◌, length, count_by, take, pos, ◌+ℤ◌, refl, arith, ap, sym, ◌∙◌, subst}
+use Rattle.std.proofs.Common.{◌≡◌, ◌⊎◌, inl, inr, ℕ, zero, suc, ◌+◌, ◌*◌, ◌≤◌, Bool, true, false, List, [], ◌∷◌, length, count_by, take, pos, ◌+ℤ◌, refl, arith, ap, sym, ◌∙◌, subst}
 use Rattle.std.proofs.lemmas.Int.{ints}
 use Rattle.std.proofs.lemmas.List.Sums.{sum_by-cons}
 use Rattle.cr_match.specs.declared.problem.Pair.{Pair}
 use Rattle.cr_match.specs.declared.problem.Problem.{Problem}
 use Rattle.cr_match.specs.declared.search.Slot.{Slot}
 use Rattle.cr_match.specs.Plan.{kept, of_paper, of_member, IsPlan, total_weight}
-use Rattle.cr_match.specs.Slack.{has_paper, has_member, chosen_value}
-use Rattle.cr_match.specs.Labels.{slot, Alike, Filled, InShape}
-use Rattle.cr_match.specs.Copies.{AreBy, IsFor, marks, AllWorth}
+use Rattle.cr_match.specs.Slack.{chosen_value}
+use Rattle.cr_match.specs.Labels.{slot, Alike, Filled}
+use Rattle.cr_match.specs.Copies.{AreBy, IsFor, marks}
 use Rattle.cr_match.specs.Earlier.{AllInside, IsNoLater, NoneBefore}
-use Rattle.cr_match.specs.Answer.{ComesAfter, Ascends, IsAscending, IsBefore, IsProblem, IsPlanOf, IsChosen, IsFirst}
+use Rattle.cr_match.specs.Answer.{ComesAfter, Ascends, IsAscending, IsBefore, IsProblem, IsChosen, IsFirst}
 use Rattle.cr_match.proofs.Alike.{bit}
 use Rattle.cr_match.proofs.Starts.{are_shape, are_worth, are_length, for_alike}
 use Rattle.cr_match.proofs.Surface.{kept_papers, kept_members, kept_weight, chosen_count, chosen_count_is}
-use Rattle.cr_match.proofs.Inside.{shape_inside, inside_alike, no_paper, marks_length}
+use Rattle.cr_match.proofs.Inside.{shape_inside, no_paper, marks_length}
 
 comes_trans : (e f g : Pair) → ComesAfter e f → ComesAfter f g → ComesAfter e g
 comes_trans e f g h k = elim h [

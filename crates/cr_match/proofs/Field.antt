@@ -2,12 +2,12 @@
 use Rattle.std.proofs.Common.{◌≡◌, ℕ, zero, suc, ◌+◌, ◌<◌, ◌≤◌, Bool, true, false, cond, ◌&&◌, ◌==◌, List, [], ◌∷◌, ◌++◌, length, count_by, take, drop, get_or, ltb, refl, arith, ap, sym, ◌∙◌, subst}
 use Rattle.std.proofs.lemmas.Bool.Decides.{nat_tests}
 use Rattle.cr_match.specs.declared.search.Slot.{Slot}
-use Rattle.cr_match.specs.Slack.{price, Suits, AllSuit, has_paper, has_member, chosen_value, PricedAreFull, Closed}
-use Rattle.cr_match.specs.Labels.{slot, Alike, Filled, InShape, ClosedAt, bare}
+use Rattle.cr_match.specs.Slack.{price, Suits, AllSuit, has_paper, has_member, Closed}
+use Rattle.cr_match.specs.Labels.{slot, Alike, bare}
 use Rattle.cr_match.specs.Earlier.{AllInside, Kept, spare, laid}
 use Rattle.cr_match.proofs.Alike.{bit}
-use Rattle.cr_match.proofs.Fall.{bare_one, bare_some, bare_none, bare_inside, closed_of_at}
-use Rattle.cr_match.proofs.Inside.{inside_shape, inside_append, inside_front, inside_back, inside_alike, inside_wider, suits_append, suits_front, suits_back, off_bit, no_paper, no_member, count_cons, count_append, alike_parts}
+use Rattle.cr_match.proofs.Fall.{bare_some, bare_none, bare_inside}
+use Rattle.cr_match.proofs.Inside.{inside_append, inside_front, inside_back, inside_alike, inside_wider, suits_append, suits_front, suits_back, off_bit, no_paper, no_member, count_cons, count_append, alike_parts}
 use Rattle.cr_match.proofs.Costs.{Reached}
 
 less_more : (u : ℕ) (us : List ℕ) → length (u ∷ us) ≡ suc (length us)

@@ -1,9 +1,9 @@
 -- A new label fits, and the others still do.
-use Rattle.std.proofs.Common.{◌≡◌, ◌≢◌, ◌⊎◌, inl, inr, ℕ, zero, suc, ◌+◌, ◌<◌, ◌≤◌, Bool, true, false, ◌==◌, List, [], ◌∷◌, length, get_or, set, get_or-set_other, get_or-set_same, refl, arith, ap, sym, ◌∙◌, subst}
+use Rattle.std.proofs.Common.{◌≡◌, ◌≢◌, ◌⊎◌, inl, inr, ℕ, zero, suc, ◌+◌, ◌<◌, Bool, true, false, ◌==◌, List, [], ◌∷◌, length, get_or, set, get_or-set_other, get_or-set_same, refl, arith, ap, sym, ◌∙◌, subst}
 use Rattle.std.proofs.lemmas.Bool.Decides.{nat_tests}
 use Rattle.cr_match.specs.declared.search.Slot.{Slot}
 use Rattle.cr_match.specs.Slack.{price}
-use Rattle.cr_match.specs.Labels.{slot, Leads, LeadsBack, AllFit, UpTo}
+use Rattle.cr_match.specs.Labels.{slot, Leads, LeadsBack, AllFit}
 
 same_or_not : (k i : ℕ) (b : Bool) → (k == i) ≡ b → (k ≡ i) ⊎ (k ≢ i)
 same_or_not k i true e = inl (grind (arith, nat_tests))

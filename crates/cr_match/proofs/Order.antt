@@ -1,6 +1,5 @@
 -- Pairs in order, and pairs inside, one by one.
-use Rattle.std.proofs.Common.{ℕ, ◌+◌, ◌<◌, ◌≤◌, List, [], ◌∷◌, length, get_or, drop, pos, negsuc, ◌≤ℤ◌, refl, sym, subst}
-use Rattle.std.proofs.Math.ListN.{drop_of_length-le}
+use Rattle.std.proofs.Common.{ℕ, ◌+◌, ◌<◌, List, [], ◌∷◌, length, get_or, drop, pos, negsuc, ◌≤ℤ◌, refl, sym, subst}
 use Rattle.cr_match.specs.declared.problem.Pair.{Pair}
 use Rattle.cr_match.specs.Answer.{AreInside, ComesAfter, Ascends, IsAscending}
 use Rattle.cr_match.proofs.Tells.{zero_pair, drop_at}

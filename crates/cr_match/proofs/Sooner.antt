@@ -1,5 +1,5 @@
 -- Slots settled one more: none of the choices that are worth as much comes before.
-use Rattle.std.proofs.Common.{◌≡◌, ℕ, ◌≢◌, zero, suc, ◌+◌, ◌-◌, ◌<◌, ◌≤◌, Bool, true, false, cond, ◌&&◌, ◌==◌, List, [], ◌∷◌, ◌++◌, length, count_by, take, drop, get_or, set, append_assoc, refl, arith, ap, sym, ◌∙◌, subst}
+use Rattle.std.proofs.Common.{◌≡◌, ℕ, ◌≢◌, zero, suc, ◌+◌, ◌-◌, ◌<◌, ◌≤◌, Bool, true, false, cond, ◌==◌, List, [], ◌∷◌, ◌++◌, length, count_by, take, drop, get_or, set, append_assoc, refl, arith, ap, sym, ◌∙◌, subst}
 use Rattle.std.proofs.lemmas.List.{take_more, take-append-drop, length-take-le, length-take, length-drop, length-append, drop_all, append-nil, get_or_at, set_at}
 use borrow.Rule.Slice.PartMut.{put_mid}
 use Rattle.std.proofs.lemmas.List.Sums.{count_by-le-length}
@@ -12,8 +12,8 @@ use Rattle.cr_match.proofs.Alike.{bit, alike_trans, alike_refl}
 use Rattle.cr_match.proofs.Label.{zero_slot}
 use Rattle.cr_match.proofs.Tells.{drop_at}
 use Rattle.cr_match.proofs.Fall.{bare_one, closed_of_at}
-use Rattle.cr_match.proofs.Inside.{inside_shape, inside_append, inside_front, inside_alike, alike_append, alike_symm, count_append, count_cons, no_member, alike_length, alike_parts, same_marks, marks_take, marks_length, mark_after, marks_before}
-use Rattle.cr_match.proofs.Costs.{Reached, below_price, not_reached, paper_full, member_full, worth_most}
+use Rattle.cr_match.proofs.Inside.{inside_shape, inside_alike, alike_append, alike_symm, count_append, count_cons, no_member, alike_length, alike_parts, same_marks, marks_take, marks_length, mark_after, marks_before}
+use Rattle.cr_match.proofs.Costs.{below_price, not_reached, paper_full, member_full, worth_most}
 use Rattle.cr_match.proofs.Field.{closed_front, field_turn, field_reached, found, laid_inside, laid_suits, spare_inside, taken_in}
 
 later_end : (b c : Bool) → (c ≡ true → b ≡ true) → IsNoLater (b ∷ []) (c ∷ [])

@@ -1,13 +1,10 @@
 -- Loops that read slots and labels one by one.
-use Rattle.std.proofs.Common.{◌≡◌, ℕ, suc, ◌+◌, ◌<◌, ◌≤◌, ◌≢◌, Bool, true, false, cond, ◌==◌, List, [], ◌∷◌, ◌++◌, length, get_or, drop, take, pos, ◌+ℤ◌, ◌-ℤ◌, refl, arith, ap, sym, ◌∙◌, append_assoc, drop-cons, subst}
-use Rattle.std.proofs.lemmas.Bool.Decides.{nat_tests}
-use Rattle.std.proofs.lemmas.List.{take_more, map-append}
-use Rattle.std.proofs.Math.ListN.{drop_of_length-le}
+use Rattle.std.proofs.Common.{◌≡◌, ℕ, suc, ◌+◌, ◌<◌, ◌≤◌, Bool, true, false, List, [], ◌∷◌, ◌++◌, length, get_or, drop, take, pos, ◌+ℤ◌, refl, arith, ap, sym, ◌∙◌, append_assoc, drop-cons, subst}
+use Rattle.std.proofs.lemmas.List.{take_more}
 use Rattle.cr_match.specs.declared.problem.Pair.{Pair}
 use Rattle.cr_match.specs.declared.search.Slot.{Slot}
 use Rattle.cr_match.specs.Plan.{kept, total_weight}
-use Rattle.cr_match.specs.Labels.{zeros}
-use Rattle.cr_match.specs.Copies.{AreBy, marks, lowered}
+use Rattle.cr_match.specs.Copies.{AreBy, marks}
 use Rattle.cr_match.proofs.Starts.{are_push}
 
 abbrev pub zero_pair : Pair

@@ -1,9 +1,9 @@
 -- Prices with two more papers and one more member, all free.
-use Rattle.std.proofs.Common.{◌≡◌, ℕ, zero, suc, ◌+◌, ◌<◌, ◌≤◌, ◌^◌, List, [], ◌∷◌, ◌++◌, length, count_by, get_or, replicate, refl, arith, ap, sym, ◌∙◌, subst}
+use Rattle.std.proofs.Common.{◌≡◌, ℕ, zero, suc, ◌+◌, ◌<◌, ◌≤◌, ◌^◌, List, [], ◌∷◌, ◌++◌, length, get_or, replicate, refl, arith, ap, sym, ◌∙◌, subst}
 use Rattle.std.proofs.lemmas.List.{length-append, length-replicate}
 use Rattle.cr_match.specs.declared.problem.Problem.{Problem}
 use Rattle.cr_match.specs.declared.search.Slot.{Slot}
-use Rattle.cr_match.specs.Slack.{price, Suits, AllSuit, has_member}
+use Rattle.cr_match.specs.Slack.{price, AllSuit}
 use Rattle.cr_match.specs.Labels.{UpTo, Alike}
 use Rattle.cr_match.specs.Copies.{IsFor}
 use Rattle.cr_match.specs.Earlier.{AllInside, AreWide, Kept}

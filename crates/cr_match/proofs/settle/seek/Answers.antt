@@ -1,5 +1,5 @@
-use Rattle.std.proofs.Common.{rules, ◌≡◌, ℕ, ◌+◌, ◌<◌, ◌≤◌, ◌==◌, cond, get_or, length, count_by, refl, arith, sym, ap, ◌∙◌, subst}
-use Rattle.cr_match.specs.Slack.{AllSuit, has_paper, has_member}
+use Rattle.std.proofs.Common.{◌+◌, ◌==◌, cond, count_by, refl, arith, ap, ◌∙◌, subst}
+use Rattle.cr_match.specs.Slack.{has_member}
 use Rattle.cr_match.specs.Labels.{Alike}
 use Rattle.cr_match.proofs.Fall.{unlabelled_le}
 use Rattle.cr_match.proofs.Alike.{alike_refl}

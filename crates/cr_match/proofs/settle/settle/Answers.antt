@@ -1,4 +1,4 @@
-use Rattle.std.proofs.Common.{◌≡◌, ℕ, ◌<◌, ◌+◌, length, get_or, drop, refl, arith}
+use Rattle.std.proofs.Common.{◌<◌, ◌+◌, length, get_or, drop, refl, arith}
 use Rattle.cr_match.specs.Earlier.{AllInside}
 use Rattle.cr_match.proofs.Label.{zero_slot}
 use Rattle.cr_match.proofs.Sooner.{slot_inside, step_in, step_below, step_paper, step_member}

@@ -1,7 +1,6 @@
-use Rattle.std.proofs.Common.{rules, ◌≡◌, ℕ, ◌<◌, ◌≤◌, ◌+◌, ◌^◌, length, count_by, take, get_or, drop, refl, arith, ap, sym, ◌∙◌, subst}
+use Rattle.std.proofs.Common.{rules, ◌≡◌, ◌<◌, ◌+◌, length, get_or, drop, refl, arith, sym, ◌∙◌, subst}
 use Rattle.cr_match.specs.Slack.{has_paper, has_member}
-use Rattle.cr_match.specs.Labels.{Alike}
-use Rattle.cr_match.specs.Earlier.{AllInside, AreWide, IsStep, Kept, NoneBefore}
+use Rattle.cr_match.specs.Earlier.{AllInside, IsStep, Kept}
 use Rattle.cr_match.proofs.Alike.{alike_refl, alike_trans}
 use Rattle.cr_match.proofs.Inside.{alike_length}
 use Rattle.cr_match.proofs.Label.{zero_slot}
