@@ -6,8 +6,8 @@ ghost use Rattle.cr_base.specs.Accounts.{accounts_after, account_at, role_at, ro
 ghost use Rattle.cr_base.specs.Accounts.{number_at, caller_at, lines_of, AccountsFit};
 
 use cr_base::{
-    Account, AccountLine, AccountLines, Digest, Entry, LAST_NUMBER, Phase, Role, Rule, Short,
-    Stamped, Standing, UserNo,
+    Account, AccountLine, AccountLines, Digest, Entry, LAST_NUMBER, Role, Rule, Short, Stamped,
+    Standing, UserNo,
 };
 use indexmap::IndexMap;
 use std::alloc::{AllocError, Global};
@@ -45,7 +45,7 @@ fn may_name(by: &Standing, now: Role, role: Role) -> Result<(), Rule>
     if !by.role.is_chair() {
         return Err(Rule::NotChair);
     }
-    if by.phase.is_from(Phase::Notification) {
+    if by.phase.roles_are_final() {
         return Err(Rule::WrongPhase);
     }
     if role.number() <= now.number() {

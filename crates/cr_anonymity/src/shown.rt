@@ -2,7 +2,7 @@
 ghost use Rattle.std.specs.Prelude.{◌≡◌};
 ghost use Rattle.cr_base.specs.Page.{shows_author, shows_reviewer, shows_writer};
 
-use cr_base::{Phase, Standing};
+use cr_base::Standing;
 
 /// Whether a caller is told who wrote a paper: to authors always; from bidding on to chairs who
 /// aren't in conflict with it, and to such members unless the mode is anonymous; to everyone where
@@ -11,8 +11,8 @@ pub fn shows_author(by: &Standing, accepted: bool) -> bool
     ensures { result ≡ shows_author by.now accepted }
 {
     by.author
-        || (by.is_clear_chair() && by.phase.is_from(Phase::Bidding))
-        || (by.is_clear_member() && !by.mode.is_anonymous() && by.phase.is_from(Phase::Bidding))
+        || (by.is_clear_chair() && by.phase.committee_sees_authors())
+        || (by.is_clear_member() && !by.mode.is_anonymous() && by.phase.committee_sees_authors())
         || accepted
 }
 
@@ -22,9 +22,9 @@ pub fn shows_author(by: &Standing, accepted: bool) -> bool
 pub fn shows_reviewer(by: &Standing) -> bool
     ensures { result ≡ shows_reviewer by.now }
 {
-    (by.is_clear_chair() && by.phase.is_from(Phase::Bidding))
-        || (by.is_clear_member() && !by.mode.is_anonymous() && by.phase.is_from(Phase::Discussion))
-        || (by.author && by.mode.is_overt() && by.phase.is_from(Phase::Notification))
+    (by.is_clear_chair() && by.phase.chairs_see_reviewers())
+        || (by.is_clear_member() && !by.mode.is_anonymous() && by.phase.members_see_reviewers())
+        || (by.author && by.mode.is_overt() && by.phase.authors_see_reviewers())
 }
 
 /// Whether a caller is told who wrote a comment on a paper: from discussion to chairs who aren't in
@@ -35,5 +35,5 @@ pub fn shows_writer(by: &Standing) -> bool
 {
     by.is_clear_member()
         && (by.role.is_chair() || !by.mode.is_anonymous())
-        && by.phase.is_from(Phase::Discussion)
+        && by.phase.members_read_comments()
 }

@@ -70,8 +70,8 @@ users-within accounts names = users-each (HasAccount accounts) (lines_of account
 
 -- ---- entries by one maker, each in its turn
 
-pub grouped-fits : (t : Tables) (maker : ℕ) (e : Entry) (es : List Entry) → Fits t (record { maker = maker; more = false; entry = e })
-    → FitInTurn (tables_after t (record { maker = maker; more = false; entry = e })) (grouped maker es) → FitInTurn t (grouped maker (e ∷ es))
+pub grouped-fits : (t : Tables) (maker : ℕ) (e : Entry) (es : List Entry) → Fits t (record { stamp = record { maker = maker }; more = false; entry = e })
+    → FitInTurn (tables_after t (record { stamp = record { maker = maker }; more = false; entry = e })) (grouped maker es) → FitInTurn t (grouped maker (e ∷ es))
 grouped-fits t maker e [] fit rest = (fit, tt)
 grouped-fits t maker e (next ∷ es) fit rest = (record { accounts = fit.accounts; papers = fit.papers; ties = fit.ties; seats = fit.seats; reviews = fit.reviews; talk = fit.talk }, rest)
 
@@ -108,7 +108,7 @@ coauthors-fit t maker paper these (user ∷ users) low last up are within =
     (all-push _ t.ties.authors (bare_tie paper user) up (at_most paper)) (authors-push t.ties.authors paper user these are) within.1)
   where
     after : Tables
-    after = tables_after t (record { maker = maker; more = false; entry = Coauthor paper user })
+    after = tables_after t (record { stamp = record { maker = maker }; more = false; entry = Coauthor paper user })
 
     added : List ℕ → List Entry
     added us = map (λ (u : ℕ). Coauthor paper u) us
@@ -156,7 +156,7 @@ submission-fits t maker paper title abstract users fits before within =
     let n = length-append t.papers.papers (new_paper title abstract ∷ []) in
     grouped-fits t maker (Submitted paper title abstract) (map (λ (user : ℕ). Coauthor paper user) (besides (maker ∷ []) users))
     (record { accounts = tt; papers = fits; ties = before; seats = tt; reviews = tt; talk = tt })
-    (coauthors-fit (tables_after t (record { maker = maker; more = false; entry = Submitted paper title abstract })) maker paper (maker ∷ []) users (omega (arith, next)) (omega (arith, n, next))
+    (coauthors-fit (tables_after t (record { stamp = record { maker = maker }; more = false; entry = Submitted paper title abstract })) maker paper (maker ∷ []) users (omega (arith, next)) (omega (arith, n, next))
     (all-push _ t.ties.authors (bare_tie paper maker) (up-to paper t.ties.authors before) (at_most paper))
     (authors-push t.ties.authors paper maker [] (λ v. none-before paper v t.ties.authors before)) within)
   where

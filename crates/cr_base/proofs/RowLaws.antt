@@ -5,11 +5,13 @@ use Rattle.std.proofs.lemmas.List.{drop-replicate}
 use Rattle.std.proofs.lemmas.Slice.{drop-append-drop}
 use Rattle.cr_base.specs.Words.{phase_number, phase_numbered, mode_number, mode_numbered, role_number, role_numbered, review_kind_number, review_kind_numbered, decision_number, decision_numbered}
 use Rattle.cr_base.specs.Shapes.{FitsShape, HasText, InRange, IsAtMost, unused, some_ordinal_range}
-use Rattle.cr_base.specs.Rows.{kind_number, label_number, label_numbered, shape_of, kind_of, row_of, built, stamped, IsBoundedEntry}
+use Rattle.cr_base.specs.Rows.{kind_number, label_number, label_numbered, shape_of, kind_of, row_of, built, stamp_in, stamped}
+use Rattle.cr_base.specs.Rows.{IsBoundedEntry}
 use Rattle.cr_base.specs.declared.entry.EntryKind.{EntryKind}
 use Rattle.cr_base.specs.declared.entry.EntryKind.TheVariants as kind
 use Rattle.cr_base.specs.declared.entry.Entry.{Entry}
 use Rattle.cr_base.specs.declared.entry.Entry.TheVariants.{Named, PhaseSet, ModeSet, Conflict, Assigned, Commented, Tagged, Decided}
+use Rattle.cr_base.specs.declared.entry.Stamp.{Stamp}
 use Rattle.cr_base.specs.declared.entry.Stamped.{Stamped}
 use Rattle.cr_base.specs.declared.words.Decision.{Decision}
 use Rattle.cr_base.specs.declared.words.Decision.TheVariants.{Accept, Reject}
@@ -169,8 +171,8 @@ row_of-stamped k r hk f =
     let s : Shape = shape_of k in
     same_row r k _ _ _ _ _ _ _ hk f (plain-is s.n4 r.n4 f.n4) (plain-is s.n5 r.n5 f.n5) (plain-is s.n1 r.n1 f.n1) (plain-is s.n2 r.n2 f.n2) (plain-is s.n3 r.n3 f.n3) (plain_text-is s.b1 r.b1 f.b1) (plain_text-is s.b2 r.b2 f.b2)
 
-built-row_of : (e : Entry) (m : ℕ) (o : Bool) → IsBoundedEntry (record { maker = m; more = o; entry = e })
-    → built (kind_of e) (row_of (record { maker = m; more = o; entry = e })) ≡ e
+built-row_of : (e : Entry) (m : ℕ) (o : Bool) → IsBoundedEntry (record { stamp = record { maker = m }; more = o; entry = e })
+    → built (kind_of e) (row_of (record { stamp = record { maker = m }; more = o; entry = e })) ≡ e
 built-row_of (Named user role) m o h = ap (λ x. Named user x) (role_numbered-number role h.n2.0)
 built-row_of (PhaseSet phase) m o h = ap (λ x. PhaseSet x) (phase_numbered-number phase)
 built-row_of (ModeSet mode) m o h = ap (λ x. ModeSet x) (mode_numbered-number mode)
@@ -181,12 +183,12 @@ built-row_of (Tagged paper tag on) m o h = ap (λ x. Tagged paper tag x) (bit-ba
 built-row_of (Decided paper decision) m o h = ap (λ x. Decided paper x) (decision_numbered-number decision)
 built-row_of e m o h = refl
 
-restamp : (s : Stamped) (p : Bool) (f : Entry) → p ≡ s.more → f ≡ s.entry → ◌≡◌ {A = Stamped} (record { maker = s.maker; more = p; entry = f }) s
-restamp s p f hp hf = let e : ◌≡◌ {A = Stamped} (record { maker = s.maker; more = p; entry = f }) (record { maker = s.maker; more = s.more; entry = s.entry }) = cc in e
+restamp : (s : Stamped) (p : Bool) (f : Entry) → p ≡ s.more → f ≡ s.entry → ◌≡◌ {A = Stamped} (record { stamp = s.stamp; more = p; entry = f }) s
+restamp s p f hp hf = let e : ◌≡◌ {A = Stamped} (record { stamp = s.stamp; more = p; entry = f }) (record { stamp = s.stamp; more = s.more; entry = s.entry }) = cc in e
 
 -- an entry within its bounds is what its row spells
 pub stamped-row_of : (s : Stamped) → IsBoundedEntry s → stamped (kind_of s.entry) (row_of s) ≡ s
-stamped-row_of s h = restamp s _ _ (bit-back s.more) (built-row_of s.entry s.maker s.more h)
+stamped-row_of s h = restamp s _ _ (bit-back s.more) (built-row_of s.entry s.stamp.maker s.more h)
 
 -- ---- the kind of a row
 
@@ -227,9 +229,9 @@ same_entry s s' b b' e =
     sym (only_one (kind_of s'.entry) (row_of s') s only b e) ∙ only_one (kind_of s'.entry) (row_of s') s' only b' refl
 
 -- the entry that a row spells, from its parts
-pub stamped-parts : (k : EntryKind) (r : Row) (m : ℕ) (e : Entry) → m ≡ r.maker → e ≡ built k r
-    → ◌≡◌ {A = Stamped} (stamped k r) (record { maker = m; more = r.more == 1; entry = e })
-stamped-parts k r m e hm he = cc
+pub stamped-parts : (k : EntryKind) (r : Row) (stamp : Stamp) (e : Entry) → stamp ≡ stamp_in r → e ≡ built k r
+    → ◌≡◌ {A = Stamped} (stamped k r) (record { stamp = stamp; more = r.more == 1; entry = e })
+stamped-parts k r stamp e hm he = cc
 
 -- ---- short texts
 

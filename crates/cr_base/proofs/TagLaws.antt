@@ -145,8 +145,8 @@ owned-told u p maker e = All-nil (λ (t : TagTold). IsOwned u t.tag)
 pub owned-turned : (u : Option ℕ) (p : ℕ) (H : History) → All (λ (t : TagTold). IsOwned u t.tag) (all_told_by (tag_told p) H)
 owned-turned u p [] = All-nil (λ (t : TagTold). IsOwned u t.tag)
 owned-turned u p (e ∷ H) =
-    All-append (λ (t : TagTold). IsOwned u t.tag) (tag_told p e.maker e.entry) (all_told_by (tag_told p) H)
-    (owned-told u p e.maker e.entry) (owned-turned u p H)
+    All-append (λ (t : TagTold). IsOwned u t.tag) (tag_told p e.stamp.maker e.entry) (all_told_by (tag_told p) H)
+    (owned-told u p e.stamp.maker e.entry) (owned-turned u p H)
 
 module _ (u : Option ℕ) (chair : Bool) where
   -- a tag in which the place of the owner is taken by this answer

@@ -20,7 +20,6 @@ use Rattle.cr_base.specs.declared.reply.Rule.{Rule}
 use Rattle.cr_base.specs.declared.review.ReviewLine.{ReviewLine}
 use Rattle.cr_base.specs.declared.search.Step.{Step}
 use Rattle.cr_base.specs.declared.standing.Standing.{Standing}
-use Rattle.cr_base.specs.declared.words.Phase.TheVariants.{Discussion}
 use Rattle.cr_base.specs.Checks.{Check, judged, of_there, page_checks, content_checks, reviews_checks, comments_checks}
 use Rattle.cr_base.specs.History.{Upload, BidTold, SeatTold, FormTold, CommentTold}
 use Rattle.cr_base.specs.Decisions.{is_published}
@@ -28,7 +27,7 @@ use Rattle.cr_base.specs.Labels.{by_labels, most_labels}
 use Rattle.cr_base.specs.Lists.{listed, last, at_some}
 use Rattle.cr_base.specs.Logins.{query_wants_login}
 use Rattle.cr_base.specs.Page.{is_clear_member, is_clear_chair, shows_reviewer, shows_writer, where_told, page_of}
-use Rattle.cr_base.specs.Phases.{is_from}
+use Rattle.cr_base.specs.Phases.{members_read_reviews}
 use Rattle.cr_base.specs.Reports.{report_checks, report_told}
 use Rattle.cr_base.specs.Searching.{PaperTold, is_found, found_paper}
 use Rattle.cr_base.specs.Sources.{Facts, Shown, decision_by, names_in, name_in}
@@ -146,7 +145,7 @@ reviews_by facts shown p =
     let told = λ (named : Bool) (o : ℕ) (forms : List FormTold).
     map (review_told by facts.accounts named (shown.assigned p o) o) forms in
     if by.author then by_labels (λ (o : ℕ). told (shows_reviewer by) o (listed (shown.last_form p o))) most_labels
-    else (if is_from Discussion by.phase
+    else (if members_read_reviews by.phase
     then by_labels (λ (o : ℕ). told (shows_reviewer by) o (shown.forms_discussed p o)) most_labels
     else told false (unwrap_or (facts.own_ordinal p) 0) (facts.own_forms p))
 

@@ -17,13 +17,14 @@ use Rattle.cr_base.specs.declared.reply.Rule.TheVariants as rules
 use Rattle.cr_base.specs.declared.standing.Standing.{Standing}
 use Rattle.cr_base.specs.declared.words.Kind.{Kind}
 use Rattle.cr_base.specs.declared.words.Kind.TheVariants.{Primary, Secondary, Pc}
-use Rattle.cr_base.specs.Checks.{Check, ◌breaks◌, judged, is_in_committee}
+use Rattle.cr_base.specs.Checks.{Check, ◌breaks◌, judged}
 use Rattle.cr_base.specs.Drawn.{Drawn, grouped}
 use Rattle.cr_base.specs.History.{History}
 use Rattle.cr_base.specs.Judging.{judge_by}
 use Rattle.cr_base.specs.Lists.{is_number}
 use Rattle.cr_base.specs.Sources.{Facts, Shown, user_among, facts_of_tables, shown_in_tables}
 use Rattle.cr_base.specs.Parse.{parse_paper, parse_name}
+use Rattle.cr_base.specs.Phases.{committee_works}
 use Rattle.cr_base.specs.Tables.{Tables, tables_from}
 use Rattle.cr_base.specs.TagTexts.{is_tag}
 use Rattle.cr_base.specs.Words.{is_chair}
@@ -139,7 +140,7 @@ rows_judged basis user s n (row ∷ rows) =
 abbrev pub bulk_checks : Standing → List Check
 bulk_checks by =
     not (is_chair by.role) breaks rules.NotChair
-    ∷ not (is_in_committee by.phase) breaks rules.WrongPhase
+    ∷ not (committee_works by.phase) breaks rules.WrongPhase
     ∷ []
 
 -- the group of a bulk's entries, one for each of so many rows

@@ -8,12 +8,14 @@ use Rattle.cr_base.specs.declared.reply.Rule.TheVariants as rules
 use Rattle.cr_base.specs.declared.standing.Standing.{Standing}
 use Rattle.cr_base.specs.declared.target.Target.{Target}
 use Rattle.cr_base.specs.declared.words.Phase.{Phase}
-use Rattle.cr_base.specs.declared.words.Phase.TheVariants.{Setup, Submission, Bidding}
-use Rattle.cr_base.specs.declared.words.Phase.TheVariants.{Reviewing, Discussion, Notification}
 use Rattle.cr_base.specs.declared.words.Role.{Role}
 use Rattle.cr_base.specs.declared.words.Role.TheVariants.{Account}
 use Rattle.cr_base.specs.Decisions.{is_published}
-use Rattle.cr_base.specs.Phases.{is_from, is_phase, is_next}
+use Rattle.cr_base.specs.Phases.{is_next, mode_may_be_set, accepts_submissions, papers_may_change}
+use Rattle.cr_base.specs.Phases.{authors_have_declared, conflicts_are_final, roles_are_final, committee_works}
+use Rattle.cr_base.specs.Phases.{bids_are_taken, reviews_are_written, comments_are_written, decisions_are_made}
+use Rattle.cr_base.specs.Phases.{members_see_papers, reviewers_read_own, members_read_reviews, members_read_comments}
+use Rattle.cr_base.specs.Phases.{authors_read_reviews}
 use Rattle.cr_base.specs.Words.{role_number, is_member, is_chair}
 
 -- a rule, and whether it is broken
@@ -78,7 +80,7 @@ phase_checks by now to =
 abbrev pub submit_checks : Bool → Standing → ℕ → ℕ → List Check
 submit_checks missing by count own =
     missing breaks rules.NoUser
-    ∷ not (is_phase by.phase Submission) breaks rules.WrongPhase
+    ∷ not (accepts_submissions by.phase) breaks rules.WrongPhase
     ∷ nat_le 9999 count breaks rules.FullPapers
     ∷ nat_le 20 own breaks rules.QuotaPapers
     ∷ []
@@ -95,7 +97,7 @@ abbrev pub revise_checks : Standing → NamedPaper → List Check
 revise_checks by paper =
     not paper.there breaks rules.NoPaper
     ∷ not by.author breaks rules.NotAuthor
-    ∷ not (is_phase by.phase Submission) breaks rules.WrongPhase
+    ∷ not (papers_may_change by.phase) breaks rules.WrongPhase
     ∷ paper.withdrawn breaks rules.Withdrawn
     ∷ []
 
@@ -115,7 +117,7 @@ content_checks by accepted paper found =
     not paper.there breaks rules.NoPaper
     ∷ not (free || is_member by.role) breaks rules.NotMember
     ∷ (not free && by.conflicted) breaks rules.Conflict
-    ∷ not (free || is_from Bidding by.phase) breaks rules.WrongPhase
+    ∷ not (free || members_see_papers by.phase) breaks rules.WrongPhase
     ∷ not found breaks rules.NoContent
     ∷ []
 
@@ -124,7 +126,7 @@ abbrev pub name_checks : Standing → Option Target → Role → List Check
 name_checks by target role =
     is_none target breaks rules.NoUser
     ∷ not (is_chair by.role) breaks rules.NotChair
-    ∷ is_from Notification by.phase breaks rules.WrongPhase
+    ∷ roles_are_final by.phase breaks rules.WrongPhase
     ∷ nat_le (role_number role) (role_number (target_role target)) breaks rules.AlreadyNamed
     ∷ []
 
@@ -132,16 +134,12 @@ name_checks by target role =
 abbrev pub mode_checks : Standing → Phase → List Check
 mode_checks by now =
     not (is_chair by.role) breaks rules.NotChair
-    ∷ not (is_phase now Setup) breaks rules.WrongPhase
+    ∷ not (mode_may_be_set now) breaks rules.WrongPhase
     ∷ []
 
 -- ---- conflict: each list is of a paper that is there, and reads whether it is withdrawn
 
--- it is bidding or later, and no later than the discussion
-abbrev pub is_in_committee : Phase → Bool
-is_in_committee phase = is_from Bidding phase && not (is_from Notification phase)
-
--- on, in setup or submission: authors declare members
+-- on, before the bidding: authors declare members
 abbrev pub declare_checks : Standing → Bool → Target → List Check
 declare_checks by withdrawn target =
     not by.author breaks rules.NotAuthor
@@ -176,7 +174,7 @@ abbrev pub chair_checks : Standing → Bool → List Check
 chair_checks by withdrawn =
     not (is_chair by.role) breaks rules.NotChair
     ∷ by.conflicted breaks rules.Conflict
-    ∷ not (is_in_committee by.phase) breaks rules.WrongPhase
+    ∷ not (committee_works by.phase) breaks rules.WrongPhase
     ∷ withdrawn breaks rules.Withdrawn
     ∷ []
 
@@ -188,10 +186,10 @@ off_checks by withdrawn target =
     ∷ target.author breaks rules.AuthorConflict
     ∷ []
 
--- which of the five lists it is: on or off, bidding or later, and after the discussion
+-- which of the five lists it is: on or off, whether the authors have declared, and whether conflicts are final
 abbrev pub conflict_case : Bool → Bool → Bool → Standing → Bool → Target → List Check
-conflict_case false bidding late by withdrawn target = off_checks by withdrawn target
-conflict_case true false late by withdrawn target = declare_checks by withdrawn target
+conflict_case false declared final by withdrawn target = off_checks by withdrawn target
+conflict_case true false final by withdrawn target = declare_checks by withdrawn target
 conflict_case true true true by withdrawn target = late_checks
 conflict_case true true false by withdrawn target =
     if target.herself then own_checks by withdrawn else other_checks by withdrawn target
@@ -199,7 +197,7 @@ conflict_case true true false by withdrawn target =
 -- on: by the phase
 abbrev pub on_checks : Standing → Bool → Target → List Check
 on_checks by withdrawn target =
-    conflict_case true (is_from Bidding by.phase) (is_from Notification by.phase) by withdrawn target
+    conflict_case true (authors_have_declared by.phase) (conflicts_are_final by.phase) by withdrawn target
 
 -- conflict: the caller's standing at the paper, the paper, the user named, if there is
 -- one, and whether it is turned on
@@ -207,8 +205,8 @@ abbrev pub conflict_checks : Standing → NamedPaper → Option Target → Bool 
 conflict_checks by paper target on =
     not paper.there breaks rules.NoPaper
     ∷ is_none target breaks rules.NoUser
-    ∷ about target (λ (user : Target). conflict_case on (is_from Bidding by.phase)
-    (is_from Notification by.phase) by paper.withdrawn user)
+    ∷ about target (λ (user : Target). conflict_case on (authors_have_declared by.phase)
+    (conflicts_are_final by.phase) by paper.withdrawn user)
 
 -- ---- bids and assignments
 
@@ -224,7 +222,7 @@ member_checks by paper =
 abbrev pub bid_checks : Standing → NamedPaper → List Check
 bid_checks by paper =
     member_checks by paper
-    ++ not (is_phase by.phase Bidding) breaks rules.WrongPhase
+    ++ not (bids_are_taken by.phase) breaks rules.WrongPhase
     ∷ paper.withdrawn breaks rules.Withdrawn
     ∷ []
 
@@ -260,7 +258,7 @@ abbrev pub review_checks : Standing → NamedPaper → List Check
 review_checks by paper =
     member_checks by paper
     ++ not by.reviewer breaks rules.NotReviewer
-    ∷ not (is_phase by.phase Reviewing || is_phase by.phase Discussion) breaks rules.WrongPhase
+    ∷ not (reviews_are_written by.phase) breaks rules.WrongPhase
     ∷ paper.withdrawn breaks rules.Withdrawn
     ∷ []
 
@@ -268,7 +266,7 @@ review_checks by paper =
 abbrev pub comment_checks : Standing → NamedPaper → ℕ → List Check
 comment_checks by paper own =
     member_checks by paper
-    ++ not (is_phase by.phase Discussion) breaks rules.WrongPhase
+    ++ not (comments_are_written by.phase) breaks rules.WrongPhase
     ∷ paper.withdrawn breaks rules.Withdrawn
     ∷ nat_le 1000 own breaks rules.QuotaComments
     ∷ []
@@ -280,7 +278,7 @@ tag_checks by paper for_chairs =
     ∷ (for_chairs && not (is_chair by.role)) breaks rules.NotChair
     ∷ not (is_member by.role) breaks rules.NotMember
     ∷ by.conflicted breaks rules.Conflict
-    ∷ not (is_in_committee by.phase) breaks rules.WrongPhase
+    ∷ not (committee_works by.phase) breaks rules.WrongPhase
     ∷ paper.withdrawn breaks rules.Withdrawn
     ∷ []
 
@@ -290,7 +288,7 @@ decide_checks by paper =
     not paper.there breaks rules.NoPaper
     ∷ not (is_chair by.role) breaks rules.NotChair
     ∷ by.conflicted breaks rules.Conflict
-    ∷ not (is_phase by.phase Discussion) breaks rules.WrongPhase
+    ∷ not (decisions_are_made by.phase) breaks rules.WrongPhase
     ∷ paper.withdrawn breaks rules.Withdrawn
     ∷ []
 
@@ -299,13 +297,13 @@ decide_checks by paper =
 abbrev pub reviews_checks : Standing → NamedPaper → List Check
 reviews_checks by paper =
     not paper.there breaks rules.NoPaper
-    ∷ (by.author && not (is_from Notification by.phase)) breaks rules.WrongPhase
+    ∷ (by.author && not (authors_read_reviews by.phase)) breaks rules.WrongPhase
     ∷ not (by.author || is_member by.role) breaks rules.NotMember
     ∷ (not by.author && by.conflicted) breaks rules.Conflict
-    ∷ not (by.author || is_from Discussion by.phase || (by.reviewer && is_phase by.phase Reviewing))
+    ∷ not (by.author || members_read_reviews by.phase || (by.reviewer && reviewers_read_own by.phase))
     breaks rules.WrongPhase
     ∷ []
 
 -- the comments on a paper
 abbrev pub comments_checks : Standing → NamedPaper → List Check
-comments_checks by paper = member_checks by paper ++ not (is_from Discussion by.phase) breaks rules.WrongPhase ∷ []
+comments_checks by paper = member_checks by paper ++ not (members_read_comments by.phase) breaks rules.WrongPhase ∷ []

@@ -6,21 +6,20 @@ use Rattle.cr_base.specs.declared.entry.Entry.TheVariants.{Decided}
 use Rattle.cr_base.specs.declared.filed.Filed.{Filed}
 use Rattle.cr_base.specs.declared.words.Decision.{Decision}
 use Rattle.cr_base.specs.declared.words.Phase.{Phase}
-use Rattle.cr_base.specs.declared.words.Phase.TheVariants.{Notification, Closed}
 use Rattle.cr_base.specs.Filed.{filed, with_filed, filed_of}
 use Rattle.cr_base.specs.Lists.{last}
-use Rattle.cr_base.specs.Phases.{is_from}
+use Rattle.cr_base.specs.Phases.{papers_may_be_accepted, papers_are_published}
 use Rattle.cr_base.specs.Words.{is_accept}
 
 -- ---- accepted papers
 
--- a paper is accepted: the last decision on it is to accept it, it isn't withdrawn, and its authors are told by now
+-- a paper is accepted: the last decision on it is to accept it, it isn't withdrawn, and decisions count by now
 abbrev pub is_accepted_when : Phase → Bool → Option Decision → Bool
-is_accepted_when now withdrawn decision = is_accept decision && not withdrawn && is_from Notification now
+is_accepted_when now withdrawn decision = is_accept decision && not withdrawn && papers_may_be_accepted now
 
 -- it is published: it is accepted, and the conference is closed
 abbrev pub is_published : Phase → Bool → Bool
-is_published now accepted = accepted && is_from Closed now
+is_published now accepted = accepted && papers_are_published now
 
 -- ---- the state
 

@@ -25,8 +25,8 @@ pub record Drawn : Type 0 where
 -- the entries of one command by their maker; all but the last have the mark that another follows
 abbrev pub grouped : ℕ → List Entry → History
 grouped maker [] = []
-grouped maker (e ∷ []) = record { maker = maker; more = false; entry = e } ∷ []
-grouped maker (e ∷ next ∷ es) = record { maker = maker; more = true; entry = e } ∷ grouped maker (next ∷ es)
+grouped maker (e ∷ []) = record { stamp = record { maker = maker }; more = false; entry = e } ∷ []
+grouped maker (e ∷ next ∷ es) = record { stamp = record { maker = maker }; more = true; entry = e } ∷ grouped maker (next ∷ es)
 
 -- a registration; the first account is a chair
 abbrev pub registration : ℕ → List ℕ → List ℕ → List Entry

@@ -74,7 +74,7 @@ all_told told H = flat_map (λ (e : Stamped). told e.entry) H
 
 -- the same, where it counts who made the entry
 abbrev pub all_told_by : {A : Type 0} → (ℕ → Entry → List A) → History → List A
-all_told_by told H = flat_map (λ (e : Stamped). told e.maker e.entry) H
+all_told_by told H = flat_map (λ (e : Stamped). told e.stamp.maker e.entry) H
 
 -- the phase, the mode that it sets
 abbrev pub phase_told : Entry → List Phase

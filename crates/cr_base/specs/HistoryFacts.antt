@@ -77,7 +77,7 @@ is_conflicted u p H = is_author u p H || is_conflict_on u p H
 
 -- whom the paper's authors named in conflict with it
 abbrev pub declared_by_authors : ℕ → History → List ℕ
-declared_by_authors p H = flat_map (λ (e : Stamped). declared_told (is_author (Some e.maker) p H) p e.entry) H
+declared_by_authors p H = flat_map (λ (e : Stamped). declared_told (is_author (Some e.stamp.maker) p H) p e.entry) H
 
 -- the ordinal under which the user reviews the paper: none where the last entry on the two takes her
 -- off it, or none puts her on it

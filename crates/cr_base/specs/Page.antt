@@ -7,9 +7,11 @@ use Rattle.cr_base.specs.declared.page.Page.{Page}
 use Rattle.cr_base.specs.declared.page.Reviewer.{Reviewer}
 use Rattle.cr_base.specs.declared.standing.Standing.{Standing}
 use Rattle.cr_base.specs.declared.words.Decision.{Decision}
-use Rattle.cr_base.specs.declared.words.Phase.TheVariants.{Bidding, Discussion, Notification}
 use Rattle.cr_base.specs.Decisions.{is_published}
-use Rattle.cr_base.specs.Phases.{is_from}
+use Rattle.cr_base.specs.Phases.{members_see_papers, committee_sees_authors, chairs_see_conflicts}
+use Rattle.cr_base.specs.Phases.{members_see_own_bids, chairs_see_bids, committee_sees_tags}
+use Rattle.cr_base.specs.Phases.{chairs_see_reviewers, members_see_reviewers, authors_see_reviewers}
+use Rattle.cr_base.specs.Phases.{members_read_comments, members_read_decisions, authors_read_decisions}
 use Rattle.cr_base.specs.Words.{is_anonymous, is_overt, is_member, is_chair, no_bid}
 
 -- ---- who is told
@@ -23,20 +25,20 @@ is_clear_chair by = is_chair by.role && not by.conflicted
 
 -- the title: authors; members from bidding; everyone, where the paper is accepted
 abbrev pub gets_title : Standing → Bool → Bool
-gets_title by accepted = by.author || (is_member by.role && is_from Bidding by.phase) || accepted
+gets_title by accepted = by.author || (is_member by.role && members_see_papers by.phase) || accepted
 
 -- the abstract: authors; clear members from bidding; everyone, where the paper is published
 abbrev pub gets_abstract : Standing → Bool → Bool
 gets_abstract by accepted =
-    by.author || (is_clear_member by && is_from Bidding by.phase) || is_published by.phase accepted
+    by.author || (is_clear_member by && members_see_papers by.phase) || is_published by.phase accepted
 
 -- who wrote it, to its authors; from bidding on to chairs in no conflict, and unless the mode is anonymous to such
 -- members; and to everyone, where the paper is accepted
 abbrev pub shows_author : Standing → Bool → Bool
 shows_author by accepted =
     by.author
-    || (is_clear_chair by && is_from Bidding by.phase)
-    || (is_clear_member by && not (is_anonymous by.mode) && is_from Bidding by.phase)
+    || (is_clear_chair by && committee_sees_authors by.phase)
+    || (is_clear_member by && not (is_anonymous by.mode) && committee_sees_authors by.phase)
     || accepted
 
 -- whether she is in conflict: members and authors
@@ -45,7 +47,7 @@ gets_conflict by = is_member by.role || by.author
 
 -- who is declared in conflict: clear chairs from bidding
 abbrev pub gets_conflicts : Standing → Bool
-gets_conflicts by = is_clear_chair by && is_from Bidding by.phase
+gets_conflicts by = is_clear_chair by && chairs_see_conflicts by.phase
 
 -- whom the authors declared: authors
 abbrev pub gets_declared : Standing → Bool
@@ -55,19 +57,19 @@ gets_declared by = by.author
 -- everyone, where the paper is published
 abbrev pub gets_versions : Standing → Bool → Bool
 gets_versions by accepted =
-    by.author || (is_clear_member by && is_from Bidding by.phase) || is_published by.phase accepted
+    by.author || (is_clear_member by && members_see_papers by.phase) || is_published by.phase accepted
 
 -- whether it is withdrawn: authors; members from bidding
 abbrev pub gets_withdrawn : Standing → Bool
-gets_withdrawn by = by.author || (is_member by.role && is_from Bidding by.phase)
+gets_withdrawn by = by.author || (is_member by.role && members_see_papers by.phase)
 
 -- her own bid: clear members from bidding
 abbrev pub gets_bid : Standing → Bool
-gets_bid by = is_clear_member by && is_from Bidding by.phase
+gets_bid by = is_clear_member by && members_see_own_bids by.phase
 
 -- all bids: clear chairs from bidding
 abbrev pub gets_bids : Standing → Bool
-gets_bids by = is_clear_chair by && is_from Bidding by.phase
+gets_bids by = is_clear_chair by && chairs_see_bids by.phase
 
 -- her own label: clear members who review the paper
 abbrev pub gets_label : Standing → Bool
@@ -77,27 +79,30 @@ gets_label by = is_clear_member by && by.reviewer
 -- from notification in the open mode
 abbrev pub shows_reviewer : Standing → Bool
 shows_reviewer by =
-    (is_clear_chair by && is_from Bidding by.phase)
-    || (is_clear_member by && not (is_anonymous by.mode) && is_from Discussion by.phase)
-    || (by.author && is_overt by.mode && is_from Notification by.phase)
+    (is_clear_chair by && chairs_see_reviewers by.phase)
+    || (is_clear_member by && not (is_anonymous by.mode) && members_see_reviewers by.phase)
+    || (by.author && is_overt by.mode && authors_see_reviewers by.phase)
 
 -- the reviewers, each by her label at least: the same, and clear members from discussion
 abbrev pub gets_reviewers : Standing → Bool
-gets_reviewers by = shows_reviewer by || (is_clear_member by && is_from Discussion by.phase)
+gets_reviewers by = shows_reviewer by || (is_clear_member by && members_see_reviewers by.phase)
 
 -- who wrote a comment, by name: from discussion clear chairs, and clear members unless anonymous
 abbrev pub shows_writer : Standing → Bool
-shows_writer by = is_clear_member by && (is_chair by.role || not (is_anonymous by.mode)) && is_from Discussion by.phase
+shows_writer by =
+    is_clear_member by && (is_chair by.role || not (is_anonymous by.mode)) && members_read_comments by.phase
 
 -- the tags that are on: clear members from bidding
 abbrev pub gets_tags : Standing → Bool
-gets_tags by = is_clear_member by && is_from Bidding by.phase
+gets_tags by = is_clear_member by && committee_sees_tags by.phase
 
 -- the decision, to members in no conflict from discussion on, to its authors from notification on, and to
 -- everyone where the paper is accepted
 abbrev pub gets_decision : Standing → Bool → Bool
 gets_decision by accepted =
-    (is_clear_member by && is_from Discussion by.phase) || (by.author && is_from Notification by.phase) || accepted
+    (is_clear_member by && members_read_decisions by.phase)
+    || (by.author && authors_read_decisions by.phase)
+    || accepted
 
 -- ---- the page
 

@@ -1,8 +1,11 @@
--- The order of phases (CoCon, CAV 2014: a conference moves forward only).
-use Rattle.std.specs.Prelude.{ℕ, Bool, ◌==◌, ◌+◌, nat_le}
+-- The order of phases, and what each opens and ends: a name for each, which everything else goes by (CoCon's phases:
+-- a conference moves forward only; the HotCRP manual for what is done and seen in them).
+use Rattle.std.specs.Prelude.{ℕ, Bool, not, ◌&&◌, ◌||◌, ◌==◌, ◌+◌, nat_le}
 use Rattle.cr_base.specs.declared.words.Phase.{Phase}
 use Rattle.cr_base.specs.declared.words.Phase.TheVariants.{Setup, Submission, Bidding, Reviewing}
 use Rattle.cr_base.specs.declared.words.Phase.TheVariants.{Discussion, Notification, Closed}
+
+-- ---- the order
 
 -- the rank of a phase in the order
 abbrev pub phase_rank : Phase → ℕ
@@ -25,3 +28,126 @@ is_phase phase other = phase_rank phase == phase_rank other
 -- the second phase follows the first
 abbrev pub is_next : Phase → Phase → Bool
 is_next phase next = phase_rank next == phase_rank phase + 1
+
+-- ---- what is done
+
+-- chairs choose who sees whose names, before the first paper comes
+abbrev pub mode_may_be_set : Phase → Bool
+mode_may_be_set phase = is_phase phase Setup
+
+-- papers are submitted
+abbrev pub accepts_submissions : Phase → Bool
+accepts_submissions phase = is_phase phase Submission
+
+-- authors revise their papers, upload to them and withdraw them
+abbrev pub papers_may_change : Phase → Bool
+papers_may_change phase = is_phase phase Submission
+
+-- authors declare conflicts no more: the committee does
+abbrev pub authors_have_declared : Phase → Bool
+authors_have_declared phase = is_from Bidding phase
+
+-- nobody turns a conflict on or off any more
+abbrev pub conflicts_are_final : Phase → Bool
+conflicts_are_final phase = is_from Notification phase
+
+-- nobody is named a member or a chair any more
+abbrev pub roles_are_final : Phase → Bool
+roles_are_final phase = is_from Notification phase
+
+-- the committee works on the papers: chairs take conflicts back, assign and unassign reviewers and send bulks, and
+-- members tag
+abbrev pub committee_works : Phase → Bool
+committee_works phase = is_from Bidding phase && not (is_from Notification phase)
+
+-- members bid for papers
+abbrev pub bids_are_taken : Phase → Bool
+bids_are_taken phase = is_phase phase Bidding
+
+-- reviewers write their forms
+abbrev pub reviews_are_written : Phase → Bool
+reviews_are_written phase = is_phase phase Reviewing || is_phase phase Discussion
+
+-- members comment on papers
+abbrev pub comments_are_written : Phase → Bool
+comments_are_written phase = is_phase phase Discussion
+
+-- chairs decide what becomes of papers
+abbrev pub decisions_are_made : Phase → Bool
+decisions_are_made phase = is_phase phase Discussion
+
+-- ---- what the committee sees
+
+-- members see the papers: titles and what is withdrawn, and without a conflict abstracts and contents
+abbrev pub members_see_papers : Phase → Bool
+members_see_papers phase = is_from Bidding phase
+
+-- chairs, and members where the mode lets them, see who wrote a paper
+abbrev pub committee_sees_authors : Phase → Bool
+committee_sees_authors phase = is_from Bidding phase
+
+-- chairs see who is in conflict with a paper
+abbrev pub chairs_see_conflicts : Phase → Bool
+chairs_see_conflicts phase = is_from Bidding phase
+
+-- a member sees what she bid
+abbrev pub members_see_own_bids : Phase → Bool
+members_see_own_bids phase = is_from Bidding phase
+
+-- chairs see what everyone bid
+abbrev pub chairs_see_bids : Phase → Bool
+chairs_see_bids phase = is_from Bidding phase
+
+-- members see tags, and chairs those for chairs
+abbrev pub committee_sees_tags : Phase → Bool
+committee_sees_tags phase = is_from Bidding phase
+
+-- chairs see who reviews a paper, and how much each member has to review
+abbrev pub chairs_see_reviewers : Phase → Bool
+chairs_see_reviewers phase = is_from Bidding phase
+
+-- members see who else reviews a paper, by their names where the mode lets them
+abbrev pub members_see_reviewers : Phase → Bool
+members_see_reviewers phase = is_from Discussion phase
+
+-- a reviewer reads her own forms, and nobody else's yet
+abbrev pub reviewers_read_own : Phase → Bool
+reviewers_read_own phase = is_phase phase Reviewing
+
+-- members read each other's reviews
+abbrev pub members_read_reviews : Phase → Bool
+members_read_reviews phase = is_from Discussion phase
+
+-- members read comments
+abbrev pub members_read_comments : Phase → Bool
+members_read_comments phase = is_from Discussion phase
+
+-- members read what was decided
+abbrev pub members_read_decisions : Phase → Bool
+members_read_decisions phase = is_from Discussion phase
+
+-- ---- what authors and everyone are told
+
+-- authors read the reviews of their papers
+abbrev pub authors_read_reviews : Phase → Bool
+authors_read_reviews phase = is_from Notification phase
+
+-- authors see who reviewed their papers, where the mode lets them
+abbrev pub authors_see_reviewers : Phase → Bool
+authors_see_reviewers phase = is_from Notification phase
+
+-- authors read what was decided of their papers
+abbrev pub authors_read_decisions : Phase → Bool
+authors_read_decisions phase = is_from Notification phase
+
+-- the letters to the authors may be had
+abbrev pub letters_are_sent : Phase → Bool
+letters_are_sent phase = is_from Notification phase
+
+-- a decision to accept counts before everyone
+abbrev pub papers_may_be_accepted : Phase → Bool
+papers_may_be_accepted phase = is_from Notification phase
+
+-- everyone is served what is accepted
+abbrev pub papers_are_published : Phase → Bool
+papers_are_published phase = is_from Closed phase

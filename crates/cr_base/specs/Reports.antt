@@ -13,45 +13,48 @@ use Rattle.cr_base.specs.declared.words.Decision.{Decision}
 use Rattle.cr_base.specs.declared.words.Decision.TheVariants.{Accept, Reject}
 use Rattle.cr_base.specs.declared.words.Kind.{Kind}
 use Rattle.cr_base.specs.declared.words.Kind.TheVariants.{Primary, Secondary, Pc}
-use Rattle.cr_base.specs.declared.words.Phase.{Phase}
-use Rattle.cr_base.specs.declared.words.Phase.TheVariants.{Bidding, Discussion, Notification}
 use Rattle.cr_base.specs.Checks.{Check, ◌breaks◌}
 use Rattle.cr_base.specs.History.{SeatTold, FormTold}
 use Rattle.cr_base.specs.Labels.{by_labels, most_labels}
 use Rattle.cr_base.specs.Lists.{listed, last, is_number, total}
 use Rattle.cr_base.specs.Page.{shows_reviewer}
-use Rattle.cr_base.specs.Phases.{is_from}
+use Rattle.cr_base.specs.Phases.{members_see_papers, chairs_see_reviewers, members_read_reviews}
+use Rattle.cr_base.specs.Phases.{members_read_decisions, letters_are_sent}
 use Rattle.cr_base.specs.Sources.{Facts, Shown, decision_by, name_in, has_paper}
 use Rattle.cr_base.specs.Words.{is_member, is_chair, decision_name, review_kind_number}
 
 -- ---- who may have which
 
--- members from a phase on, and chairs
-abbrev pub members_report : Standing → Phase → List Check
-members_report by first =
+-- members, once they see what it tells, and chairs
+abbrev pub members_report : Standing → Bool → List Check
+members_report by seen =
     not (is_member by.role) breaks rules.NotMember
-    ∷ not (is_from first by.phase) breaks rules.WrongPhase
+    ∷ not seen breaks rules.WrongPhase
     ∷ []
 
-abbrev pub chairs_report : Standing → Phase → List Check
-chairs_report by first =
+abbrev pub chairs_report : Standing → Bool → List Check
+chairs_report by seen =
     not (is_chair by.role) breaks rules.NotChair
-    ∷ not (is_from first by.phase) breaks rules.WrongPhase
+    ∷ not seen breaks rules.WrongPhase
     ∷ []
 
--- the letter: a paper's authors, from the notification on
+-- the letter: a paper's authors, once letters are sent
 abbrev pub letter_checks : Standing → Bool → List Check
 letter_checks by there =
     not there breaks rules.NoPaper
     ∷ not by.author breaks rules.NotAuthor
-    ∷ not (is_from Notification by.phase) breaks rules.WrongPhase
+    ∷ not (letters_are_sent by.phase) breaks rules.WrongPhase
     ∷ []
 
 abbrev pub report_checks : Facts → Report → List Check
-report_checks facts reports.Papers = members_report (facts.standing None) Bidding
-report_checks facts reports.Scores = members_report (facts.standing None) Discussion
-report_checks facts reports.Load = chairs_report (facts.standing None) Bidding
-report_checks facts reports.Decisions = members_report (facts.standing None) Discussion
+report_checks facts reports.Papers =
+    let by = facts.standing None in members_report by (members_see_papers by.phase)
+report_checks facts reports.Scores =
+    let by = facts.standing None in members_report by (members_read_reviews by.phase)
+report_checks facts reports.Load =
+    let by = facts.standing None in chairs_report by (chairs_see_reviewers by.phase)
+report_checks facts reports.Decisions =
+    let by = facts.standing None in members_report by (members_read_decisions by.phase)
 report_checks facts (reports.Letter paper) = letter_checks (facts.standing paper) (has_paper facts paper)
 
 -- ---- columns

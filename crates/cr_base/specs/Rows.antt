@@ -8,6 +8,7 @@ use Rattle.cr_base.specs.declared.entry.Entry.TheVariants.{Registered, Named, Ph
 use Rattle.cr_base.specs.declared.entry.Entry.TheVariants.{Coauthor, Revised, Uploaded, Withdrawn, Conflict}
 use Rattle.cr_base.specs.declared.entry.Entry.TheVariants.{Bid, Assigned, Unassigned, Reviewed}
 use Rattle.cr_base.specs.declared.entry.Entry.TheVariants.{Commented, Tagged, Decided}
+use Rattle.cr_base.specs.declared.entry.Stamp.{Stamp}
 use Rattle.cr_base.specs.declared.entry.Stamped.{Stamped}
 use Rattle.cr_base.specs.declared.row.Row.{Row}
 use Rattle.cr_base.specs.Words.{phase_number, phase_numbered, mode_number, mode_numbered, role_number, role_numbered}
@@ -158,7 +159,7 @@ row_of s =
     let f = fields_of s.entry in
     record {
       kind = kind_number (kind_of s.entry);
-      maker = s.maker;
+      maker = s.stamp.maker;
       more = bit_number s.more;
       n1 = f.n1;
       n2 = f.n2;
@@ -198,5 +199,9 @@ built kind.Commented r = Commented r.n1 r.n2 (label_numbered r.n3) r.b1
 built kind.Tagged r = Tagged r.n1 r.b1 (r.n2 == 1)
 built kind.Decided r = Decided r.n1 (decision_numbered r.n2)
 
+-- the stamp that a row's fields spell, and the entry with it
+abbrev pub stamp_in : Row → Stamp
+stamp_in r = record { maker = r.maker }
+
 abbrev pub stamped : EntryKind → Row → Stamped
-stamped k r = record { maker = r.maker; more = r.more == 1; entry = built k r }
+stamped k r = record { stamp = stamp_in r; more = r.more == 1; entry = built k r }

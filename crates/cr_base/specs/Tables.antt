@@ -45,12 +45,12 @@ abbrev pub tables_after : Tables → Stamped → Tables
 tables_after t s = record {
   stage = stage_after t.stage s.entry;
   accounts = accounts_after t.accounts s.entry;
-  papers = papers_after t.papers s.maker s.entry;
-  ties = ties_after t.ties s.maker s.entry;
+  papers = papers_after t.papers s.stamp.maker s.entry;
+  ties = ties_after t.ties s.stamp.maker s.entry;
   seats = seats_after t.seats s.entry;
   reviews = reviews_after t.reviews s.entry;
-  talk = talk_after t.talk s.maker s.entry;
-  tags = tags_after t.tags s.maker s.entry;
+  talk = talk_after t.talk s.stamp.maker s.entry;
+  tags = tags_after t.tags s.stamp.maker s.entry;
   decisions = decisions_after t.decisions s.entry;
 }
 
@@ -65,11 +65,11 @@ tables_of H = tables_from no_tables H
 -- an entry may come next
 pub record Fits (t : Tables) (s : Stamped) : Type 0 where
   pub accounts : AccountsFit t.accounts s.entry
-  pub papers : PapersFit t.papers s.maker s.entry
+  pub papers : PapersFit t.papers s.stamp.maker s.entry
   pub ties : TiesFit t.ties s.entry
   pub seats : SeatsFit t.seats s.entry
   pub reviews : ReviewsFit t.reviews s.entry
-  pub talk : TalkFit t.talk s.maker s.entry
+  pub talk : TalkFit t.talk s.stamp.maker s.entry
 
 -- each of these entries may come next in its turn
 abbrev pub FitInTurn : Tables → History → Type 0

@@ -71,7 +71,7 @@ ties_after ties maker _ = ties
 
 -- the ties after these entries
 abbrev pub ties_from : TiesState → History → TiesState
-ties_from ties entries = fold (λ (t : TiesState) (e : Stamped). ties_after t e.maker e.entry) ties entries
+ties_from ties entries = fold (λ (t : TiesState) (e : Stamped). ties_after t e.stamp.maker e.entry) ties entries
 
 -- ---- what is read
 

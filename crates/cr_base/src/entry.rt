@@ -198,11 +198,18 @@ pub enum EntryKind {
     Decided,
 }
 
-/// An entry with its maker, and whether another entry of the same command follows.
-#[derive(Drop, Debug)]
-pub struct Stamped {
+/// What a command's entries have alike, beside what each says: who gave it.
+#[derive(Clone, Copy, Debug, PartialEq, Eq)]
+pub struct Stamp {
     /// Who gave the command; of a registration the new user.
     pub maker: UserNo,
+}
+
+/// An entry with the stamp of its command, and whether another entry of the same command follows.
+#[derive(Drop, Debug)]
+pub struct Stamped {
+    /// The stamp of its command.
+    pub stamp: Stamp,
     /// Whether another entry of the same command follows.
     pub more: bool,
     /// The entry.
@@ -377,7 +384,7 @@ impl Stamped {
         ensures { IfOk result (λ stamped. stamped ≡ self.now) }
     {
         Ok(Stamped {
-            maker: self.maker,
+            stamp: self.stamp,
             more: self.more,
             entry: self.entry.copy()?,
         })

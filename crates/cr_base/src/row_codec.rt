@@ -1,14 +1,14 @@
 //! The row of an entry, and the entry of a row, kind by kind.
 ghost use Rattle.std.specs.Prelude.{◌≡◌, ◌≢◌, ◌≤◌, [], length, IfOk, IfSome, IfNone, Some, IsTrue};
 ghost use Rattle.cr_base.specs.TagTexts.{is_tag};
-ghost use Rattle.cr_base.specs.Shapes.{FitsShape};
+ghost use Rattle.cr_base.specs.Shapes.{FitsShape, InRange, user_range};
 ghost use Rattle.cr_base.specs.Rows.{kind_name, kind_number, shape_of, row_of, fields_of};
-ghost use Rattle.cr_base.specs.Rows.{label_number, label_numbered, built, IsBoundedEntry};
+ghost use Rattle.cr_base.specs.Rows.{label_number, label_numbered, built, stamp_in, IsBoundedEntry};
 ghost use Rattle.cr_base.specs.declared.entry.EntryKind.{EntryKind};
 ghost use Rattle.cr_base.specs.declared.entry.Stamped.{Stamped};
 
 use crate::bid::Bid;
-use crate::entry::{Digest, Entry, EntryKind, Stamped};
+use crate::entry::{Digest, Entry, EntryKind, Stamp, Stamped};
 use crate::form::Form;
 use crate::numbers::{Grade, Ordinal, PaperNo, UserNo};
 use crate::row::Row;
@@ -150,17 +150,17 @@ impl EntryKind {
 }
 
 impl Entry {
-    /// The row of an entry by this maker, where `more` says whether another entry of the same
+    /// The row of an entry with this stamp, where `more` says whether another entry of the same
     /// command follows; an error only for lack of memory.
-    pub fn to_row(&self, alloc: Global, maker: UserNo, more: bool) -> Result<Row, AllocError>
-        ensures { IfOk result (λ made. made ≡ row_of (record { maker = maker; more = more; entry = self.now })) }
+    pub fn to_row(&self, alloc: Global, stamp: Stamp, more: bool) -> Result<Row, AllocError>
+        ensures { IfOk result (λ made. made ≡ row_of (record { stamp = stamp; more = more; entry = self.now })) }
     {
         let kind = self.kind().number();
         let numbers = self.row_numbers();
         let bytes = self.row_bytes(alloc)?;
         Ok(Row {
             kind,
-            maker: maker.number(),
+            maker: stamp.maker.number(),
             more: u64::from(more),
             n1: numbers.n1,
             n2: numbers.n2,
@@ -508,8 +508,20 @@ fn entry_from(kind: EntryKind, row: &Row) -> Result<Entry, AllocError>
     }
 }
 
+impl Stamp {
+    /// The stamp that the fields of a row spell.
+    fn of_row(row: &Row) -> Stamp
+        requires { InRange user_range row.now.maker }
+        ensures { result ≡ stamp_in row.now }
+    {
+        Stamp {
+            maker: UserNo::new(row.maker),
+        }
+    }
+}
+
 impl Stamped {
-    /// The entry of a row, with its maker and its mark, and none exactly where the row is no
+    /// The entry of a row, with its stamp and its mark, and none exactly where the row is no
     /// entry's: no known kind, a number beyond what its kind allows, bytes out of their grammar, or an unused
     /// field that isn't empty. An error only for lack of memory.
     pub fn from_row(row: &Row) -> Result<Option<Stamped>, AllocError>
@@ -524,7 +536,7 @@ impl Stamped {
         }
         let entry = entry_from(kind, row)?;
         Ok(Some(Stamped {
-            maker: UserNo::new(row.maker),
+            stamp: Stamp::of_row(row),
             more: row.more == 1,
             entry,
         }))

@@ -65,7 +65,7 @@ impl Standing {
         if self.conflicted {
             return Err(Rule::Conflict);
         }
-        if !self.phase.is_from(Phase::Bidding) || self.phase.is_from(Phase::Notification) {
+        if !self.phase.committee_works() {
             return Err(Rule::WrongPhase);
         }
         if withdrawn {

@@ -1,12 +1,10 @@
 //! Phases, modes, roles, kinds of assignment and decisions, and the words by which requests and answers name them.
 ghost use Rattle.std.specs.Prelude.{◌≡◌, ◌≤◌, length};
-ghost use Rattle.cr_base.specs.Decisions.{is_published};
 ghost use Rattle.cr_base.specs.Words.{phase_name, phase_named, phase_number, phase_numbered};
 ghost use Rattle.cr_base.specs.Words.{mode_name, mode_named, mode_number, mode_numbered, is_anonymous, is_overt};
 ghost use Rattle.cr_base.specs.Words.{review_kind_name, review_kind_named, review_kind_number, review_kind_numbered};
 ghost use Rattle.cr_base.specs.Words.{decision_name, decision_named, decision_number, decision_numbered};
 ghost use Rattle.cr_base.specs.Words.{role_name, role_named, role_number, role_numbered, is_member, is_chair};
-ghost use Rattle.cr_base.specs.Phases.{phase_rank, is_from, is_phase, is_next};
 
 /// A phase of the conference (CoCon's phases). A conference starts in setup, and moves on to the next
 /// phase only.
@@ -132,50 +130,6 @@ impl Phase {
             5 => Phase::Notification,
             _ => Phase::Closed,
         }
-    }
-
-    /// Its rank in the order of phases, from 0.
-    fn rank(self) -> u64
-        ensures value { result ≡ phase_rank self }
-        ensures low { result ≤ 6 }
-    {
-        match self {
-            Phase::Setup => 0,
-            Phase::Submission => 1,
-            Phase::Bidding => 2,
-            Phase::Reviewing => 3,
-            Phase::Discussion => 4,
-            Phase::Notification => 5,
-            Phase::Closed => 6,
-        }
-    }
-
-    /// Whether this is the phase told.
-    pub fn is(self, phase: Phase) -> bool
-        ensures { result ≡ is_phase self phase }
-    {
-        self.rank() == phase.rank()
-    }
-
-    /// Whether this is the first phase told, or a later one.
-    pub fn is_from(self, first: Phase) -> bool
-        ensures { result ≡ is_from first self }
-    {
-        first.rank() <= self.rank()
-    }
-
-    /// Whether everyone is served a paper, which is accepted or isn't: where it is, once the conference is closed.
-    pub fn publishes(self, accepted: bool) -> bool
-        ensures { result ≡ is_published self accepted }
-    {
-        accepted && self.is_from(Phase::Closed)
-    }
-
-    /// Whether the phase told follows this one.
-    pub fn is_before(self, next: Phase) -> bool
-        ensures { result ≡ is_next self next }
-    {
-        next.rank() == self.rank() + 1
     }
 }
 

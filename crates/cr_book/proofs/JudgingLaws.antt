@@ -77,7 +77,7 @@ from-append t (x ∷ before) s = from-append (tables_after t x) before s
 -- a row more that is accepted
 pub so-far-more : (t : Tables) (user n : ℕ) (rows rest : List BulkRow) (row : BulkRow) (items new : History) (entry : Entry) (more : Bool)
     → SoFar t user rows n (row ∷ rest) items → row_group user (Ok entry) ≡ group_or_rule (row_judged_behind t items user row)
-    → new ≡ items ++ record { maker = user; more = more; entry = entry } ∷ [] → AreEarlier t (items ++ record { maker = user; more = more; entry = entry } ∷ [])
+    → new ≡ items ++ record { stamp = record { maker = user }; more = more; entry = entry } ∷ [] → AreEarlier t (items ++ record { stamp = record { maker = user }; more = more; entry = entry } ∷ [])
     → (rest ≡ [] → more ≡ false) → ((r : BulkRow) (rs : List BulkRow) → rest ≡ r ∷ rs → more ≡ true)
     → SoFar t user rows (n + 1) rest new
 so-far-more t user n rows rest row items new entry more so judged pushed earlier last others =
@@ -89,7 +89,7 @@ so-far-more t user n rows rest row items new entry more so judged pushed earlier
     })
   where
     next : Stamped
-    next = record { maker = user; more = more; entry = entry }
+    next = record { stamp = record { maker = user }; more = more; entry = entry }
 
     behind : History → Result (List Entry) Broken
     behind h = rows_judged (tables_basis user) user (tables_from t h) (n + 1) rest
@@ -105,10 +105,10 @@ so-far-more t user n rows rest row items new entry more so judged pushed earlier
     marked : (rest : List BulkRow) → (rest ≡ [] → more ≡ false) → ((r : BulkRow) (rs : List BulkRow) → rest ≡ r ∷ rs → more ≡ true)
         → map (unfinished user) so.entries ++ next ∷ [] ≡ grouped_before user rest (so.entries ++ entry ∷ [])
     marked [] last others =
-        ap (λ (m : Bool). let s : Stamped = record { maker = user; more = m; entry = entry } in map (unfinished user) so.entries ++ s ∷ []) (last refl)
+        ap (λ (m : Bool). let s : Stamped = record { stamp = record { maker = user }; more = m; entry = entry } in map (unfinished user) so.entries ++ s ∷ []) (last refl)
         ∙ whole-group user so.entries entry
     marked (r ∷ rs) last others =
-        ap (λ (m : Bool). let s : Stamped = record { maker = user; more = m; entry = entry } in map (unfinished user) so.entries ++ s ∷ []) (others r rs refl)
+        ap (λ (m : Bool). let s : Stamped = record { stamp = record { maker = user }; more = m; entry = entry } in map (unfinished user) so.entries ++ s ∷ []) (others r rs refl)
         ∙ map-more user so.entries entry
 
 -- a row that breaks a rule
@@ -142,8 +142,8 @@ at-index t user i rows row items within here so =
 
 pub index-more : (t : Tables) (user i : ℕ) (rows : List BulkRow) (row : BulkRow) (items new : History) (entry : Entry) → i < length rows → get_or rows i row ≡ row
     → SoFar t user rows (i + 1) (drop i rows) items → row_group user (Ok entry) ≡ group_or_rule (row_judged_behind t items user row)
-    → new ≡ items ++ record { maker = user; more = nat_lt (i + 1) (length rows); entry = entry } ∷ []
-    → AreEarlier t (items ++ record { maker = user; more = nat_lt (i + 1) (length rows); entry = entry } ∷ [])
+    → new ≡ items ++ record { stamp = record { maker = user }; more = nat_lt (i + 1) (length rows); entry = entry } ∷ []
+    → AreEarlier t (items ++ record { stamp = record { maker = user }; more = nat_lt (i + 1) (length rows); entry = entry } ∷ [])
     → SoFar t user rows ((i + 1) + 1) (drop (i + 1) rows) new
 index-more t user i rows row items new entry within here so judged pushed earlier =
     so-far-more t user (i + 1) rows (drop (i + 1) rows) row items new entry (nat_lt (i + 1) (length rows)) (at-index t user i rows row items within here so) judged pushed earlier
@@ -195,6 +195,6 @@ bulk-accepted t user rows group done may accepted =
 
 -- the entries before the next row
 pub next-earlier : (t : Tables) (user : ℕ) (entry : Entry) (now items : History) → now ≡ items
-    → ((more : Bool) → AreEarlier t (now ++ record { maker = user; more = more; entry = entry } ∷ [])) → (more : Bool)
-    → AreEarlier t (items ++ record { maker = user; more = more; entry = entry } ∷ [])
-next-earlier t user entry now items same next more = subst (λ (h : History). AreEarlier t (h ++ record { maker = user; more = more; entry = entry } ∷ [])) same (next more)
+    → ((more : Bool) → AreEarlier t (now ++ record { stamp = record { maker = user }; more = more; entry = entry } ∷ [])) → (more : Bool)
+    → AreEarlier t (items ++ record { stamp = record { maker = user }; more = more; entry = entry } ∷ [])
+next-earlier t user entry now items same next more = subst (λ (h : History). AreEarlier t (h ++ record { stamp = record { maker = user }; more = more; entry = entry } ∷ [])) same (next more)

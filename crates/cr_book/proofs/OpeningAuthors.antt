@@ -135,7 +135,7 @@ coauthors paper users = map (λ (user : ℕ). Coauthor paper user) users
 
 -- the first entry of a group
 abbrev first_of : ℕ → Entry → List Entry → Stamped
-first_of maker e es = record { maker = maker; more = not (is_nothing es); entry = e }
+first_of maker e es = record { stamp = record { maker = maker }; more = not (is_nothing es); entry = e }
 
 pub grouped-cons : (maker : ℕ) (e : Entry) (es : List Entry) → grouped maker (e ∷ es) ≡ first_of maker e es ∷ grouped maker es
 grouped-cons maker e [] = refl
@@ -208,7 +208,7 @@ module _ (maker paper : ℕ) where
   same-begin e users r [] rest more begins is alike =
       let split = begin-first e (coauthors paper users) r [] begins in
       begin-both e (coauthors paper more) r []
-      (ap (λ b. row_of (record { maker = maker; more = not b; entry = e })) (nothing-mapped more ∙ alike ∙ ap is_nothing (sym is) ∙ sym (nothing-mapped users)) ∙ split.0) refl
+      (ap (λ b. row_of (record { stamp = record { maker = maker }; more = not b; entry = e })) (nothing-mapped more ∙ alike ∙ ap is_nothing (sym is) ∙ sym (nothing-mapped users)) ∙ split.0) refl
   same-begin e [] r (b ∷ behind) rest more begins is alike = absurd (no_users b.n2 (numbers behind ++ rest) is)
     where
       no_users : (u : ℕ) (us : List ℕ) → [] ≡ u ∷ us → ⊥

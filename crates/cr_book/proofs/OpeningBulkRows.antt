@@ -81,12 +81,12 @@ first_is x y xs ys h = cc (h)
 
 -- a command's group begins no bulk of more than one row
 head-of : (maker : ℕ) (e : Entry) (es : List Entry) (first : Stamped) (rest : History) → is_of_row e ≡ false → grouped maker (e ∷ es) ≡ first ∷ rest → begins_bulk first ≡ false
-head-of maker e [] first rest other is = ap begins_bulk (sym (first_is (record { maker = maker; more = false; entry = e }) first [] rest is))
+head-of maker e [] first rest other is = ap begins_bulk (sym (first_is (record { stamp = record { maker = maker }; more = false; entry = e }) first [] rest is))
 head-of maker e (next ∷ es) first rest other is = ap begins_bulk (sym (first_is (unfinished maker e) first (grouped maker (next ∷ es)) rest is)) ∙ other
 
 call-first : (H g : History) (first : Stamped) (rest : History) → Adds H g → g ≡ first ∷ rest → begins_bulk first ≡ false
 call-first H g first rest (single maker e made marked ruled) is =
-    ap begins_bulk (sym (first_is (record { maker = maker; more = false; entry = e }) first [] rest is))
+    ap begins_bulk (sym (first_is (record { stamp = record { maker = maker }; more = false; entry = e }) first [] rest is))
 call-first H g first rest (submitted maker paper title abstract users made ruled registered) is = head-of maker (Submitted paper title abstract) _ first rest refl is
 call-first H g first rest (first_user user name digest is_first texts) is =
     ap begins_bulk (sym (first_is (unfinished user (Registered user name digest)) first _ rest is))
@@ -134,11 +134,11 @@ goes-on : (H group begun tail : History) (next : Stamped) → BulkOf H group →
 goes-on H group begun tail next of is =
     record {
       may = ap (λ (h : History). may_go_on t h next) w.begun_is
-          ∙ ap (λ (b : Bool). b && is_makers front next.maker && may_bulk t next.maker) (room-of of.user w.before w.after next.entry next.more few w.last)
-          ∙ ap (λ (b : Bool). b && may_bulk t next.maker) (makers-of of.user next.maker w.before w.maker)
+          ∙ ap (λ (b : Bool). b && is_makers front next.stamp.maker && may_bulk t next.stamp.maker) (room-of of.user w.before w.after next.entry next.more few w.last)
+          ∙ ap (λ (b : Bool). b && may_bulk t next.stamp.maker) (makers-of of.user next.stamp.maker w.before w.maker)
           ∙ ap (may_bulk t) w.maker
           ∙ of.may;
-      drawn = subst (λ (h : History). IsDrawn (tables_from t h) next.maker next.entry) (sym w.begun_is)
+      drawn = subst (λ (h : History). IsDrawn (tables_from t h) next.stamp.maker next.entry) (sym w.begun_is)
           (subst (λ (u : ℕ). IsDrawn (tables_from t front) u next.entry) (sym w.maker)
           (drawn-middle t of.user w.before w.after next.entry (subst (λ (es : List Entry). AreDrawn t of.user es) w.entries_are of.drawn)).1);
     }
@@ -185,7 +185,7 @@ no-row [] next h = refl
 no-row (row ∷ rows) next h = absurd (true≢false (sym h))
 
 pub begun-of : (t : Tables) (pending : List Row) (begun : History) (next : Stamped) → IsBulkRead t pending begun → is_of_bulk pending begun next ≡ true
-    → is_makers begun next.maker ≡ true → Begun t pending begun next.maker
+    → is_makers begun next.stamp.maker ≡ true → Begun t pending begun next.stamp.maker
 begun-of t pending [] next read of makers = record { entries = []; begun_is = refl; rows_are = no-row pending next of; bounded = tt; drawn = tt; few = omega arith }
 begun-of t pending (s ∷ begun) next read of makers =
     let same = user-is read.entries read.begun_is in
@@ -198,10 +198,10 @@ begun-of t pending (s ∷ begun) next read of makers =
       few = read.few;
     }
   where
-    user-is : (entries : List Entry) → s ∷ begun ≡ map (unfinished read.user) entries → read.user ≡ next.maker
+    user-is : (entries : List Entry) → s ∷ begun ≡ map (unfinished read.user) entries → read.user ≡ next.stamp.maker
     user-is [] is = cc (is)
     user-is (e ∷ entries) is =
-        ap (λ (x : Stamped). x.maker) (sym (first_is s (unfinished read.user e) begun (map (unfinished read.user) entries) is)) ∙ eqb-true s.maker next.maker makers
+        ap (λ (x : Stamped). x.stamp.maker) (sym (first_is s (unfinished read.user e) begun (map (unfinished read.user) entries) is)) ∙ eqb-true s.stamp.maker next.stamp.maker makers
 
 -- ---- a row that doesn't go on
 
@@ -303,8 +303,8 @@ grouped-some user [] e = refl
 grouped-some user (x ∷ entries) e = grouped-group user x (entries ++ e ∷ [])
 
 -- the next of which another is to follow, and the next that is the last
-marked-next : (next : Stamped) (m : Bool) → next.more ≡ m → next ≡ record { maker = next.maker; more = m; entry = next.entry }
-marked-next next m is = ap (λ (b : Bool). let s : Stamped = record { maker = next.maker; more = b; entry = next.entry } in s) is
+marked-next : (next : Stamped) (m : Bool) → next.more ≡ m → next ≡ record { stamp = next.stamp; more = m; entry = next.entry }
+marked-next next m is = ap (λ (b : Bool). let s : Stamped = record { stamp = next.stamp; more = b; entry = next.entry } in s) is
 
 module _ (log : History) (pending : List Row) (begun : History) (row : Row) (next : Stamped) (reading : IsReading log (tables_of log) pending begun)
     (of : is_of_bulk pending begun next ≡ true) (bounded : IsBoundedEntry next) (is : row_of next ≡ row) (on : GoesOn (tables_of log) begun next) where
@@ -312,7 +312,7 @@ module _ (log : History) (pending : List Row) (begun : History) (row : Row) (nex
   t = tables_of log
 
   abbrev user : ℕ
-  user = next.maker
+  user = next.stamp.maker
 
   may_front : ((has_room begun next.more && is_makers begun user) ≡ true) × (may_bulk t user ≡ true)
   may_front = and_parts (has_room begun next.more && is_makers begun user) (may_bulk t user) on.may
@@ -418,7 +418,7 @@ module _ (log : History) (pending : List Row) (begun : History) (row : Row) (nex
       }
     where
       last : Stamped
-      last = record { maker = user; more = false; entry = tagged }
+      last = record { stamp = record { maker = user }; more = false; entry = tagged }
 
   more-reading : AreEarlier t (begun ++ next ∷ []) → next.more ≡ true → IsReading log t (pending ++ row ∷ []) (begun ++ next ∷ [])
   more-reading earlier more =

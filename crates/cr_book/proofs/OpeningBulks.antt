@@ -295,21 +295,21 @@ pub record Within (user : ℕ) (entries : List Entry) (begun : History) (next : 
   pub after : List Entry
   pub begun_is : begun ≡ map (unfinished user) before
   pub entries_are : entries ≡ before ++ next.entry ∷ after
-  pub maker : next.maker ≡ user
+  pub maker : next.stamp.maker ≡ user
   pub last : next.more ≡ true → 1 ≤ length after
 
 pub within : (user : ℕ) (entries : List Entry) (begun : History) (next : Stamped) (tail : History) → grouped user entries ≡ begun ++ next ∷ tail
     → Within user entries begun next
 within user [] begun next tail e = absurd (nothing-more begun tail next e)
 within user (x ∷ []) [] next tail e =
-    let first : Stamped = record { maker = user; more = false; entry = x } in
+    let first : Stamped = record { stamp = record { maker = user }; more = false; entry = x } in
     let same = (stamps first next [] tail e).0 in
     record {
       before = [];
       after = [];
       begun_is = refl;
       entries_are = ap (λ (s : Stamped). s.entry ∷ []) same;
-      maker = ap (λ (s : Stamped). s.maker) (sym same);
+      maker = ap (λ (s : Stamped). s.stamp.maker) (sym same);
       last = λ more. absurd (true≢false (sym more ∙ ap (λ (s : Stamped). s.more) (sym same)));
     }
 within user (x ∷ y ∷ entries) [] next tail e =
@@ -319,11 +319,11 @@ within user (x ∷ y ∷ entries) [] next tail e =
       after = y ∷ entries;
       begun_is = refl;
       entries_are = ap (λ (s : Stamped). s.entry ∷ y ∷ entries) same;
-      maker = ap (λ (s : Stamped). s.maker) (sym same);
+      maker = ap (λ (s : Stamped). s.stamp.maker) (sym same);
       last = λ more. omega arith;
     }
 within user (x ∷ []) (b ∷ begun) next tail e =
-    absurd (nothing-more begun tail next (stamps (record { maker = user; more = false; entry = x }) b [] (begun ++ next ∷ tail) e).1)
+    absurd (nothing-more begun tail next (stamps (record { stamp = record { maker = user }; more = false; entry = x }) b [] (begun ++ next ∷ tail) e).1)
 within user (x ∷ y ∷ entries) (b ∷ begun) next tail e =
     let both = stamps (unfinished user x) b (grouped user (y ∷ entries)) (begun ++ next ∷ tail) e in
     let rest = within user (y ∷ entries) begun next tail both.1 in
@@ -337,7 +337,7 @@ within user (x ∷ y ∷ entries) (b ∷ begun) next tail e =
     }
 
 -- entries of which another follows, and a last one, are a group
-pub whole-group : (user : ℕ) (entries : List Entry) (e : Entry) → map (unfinished user) entries ++ record { maker = user; more = false; entry = e } ∷ []
+pub whole-group : (user : ℕ) (entries : List Entry) (e : Entry) → map (unfinished user) entries ++ record { stamp = record { maker = user }; more = false; entry = e } ∷ []
     ≡ grouped user (entries ++ e ∷ [])
 whole-group user [] e = refl
 whole-group user (x ∷ []) e = refl
@@ -348,8 +348,8 @@ map-more user [] e = refl
 map-more user (x ∷ entries) e = ap (λ (h : History). unfinished user x ∷ h) (map-more user entries e)
 
 -- the marks make no difference to the bounds
-pub marked : (user : ℕ) (m n : Bool) (e : Entry) → IsBoundedEntry (record { maker = user; more = m; entry = e }) → IsBoundedEntry (record { maker = user; more = n; entry = e })
-marked user m n e b = record { maker = b.maker; more = by n; n1 = b.n1; n2 = b.n2; n3 = b.n3; n4 = b.n4; n5 = b.n5; b1 = b.b1; b2 = b.b2 }
+pub marked : (user : ℕ) (m n : Bool) (e : Entry) → IsBoundedEntry (record { stamp = record { maker = user }; more = m; entry = e }) → IsBoundedEntry (record { stamp = record { maker = user }; more = n; entry = e })
+marked user m n e b = record { stamp = record { maker = b.maker }; more = by n; n1 = b.n1; n2 = b.n2; n3 = b.n3; n4 = b.n4; n5 = b.n5; b1 = b.b1; b2 = b.b2 }
   where
     by : (n : Bool) → bit_number n ≤ 1
     by true = omega arith

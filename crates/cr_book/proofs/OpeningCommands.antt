@@ -111,7 +111,7 @@ pub record ToldByRows (t : Tables) (rows : List Row) (drawn : Drawn) : Type 0 wh
 
 -- where the call of an entry is known, what is drawn is what its judgement draws
 pub told-judged : (t : Tables) (authors : List (Option (List ℕ))) (first : Stamped) (caller : Option ℕ) (command : Command) (judged : Result Drawn Rule)
-    → giver_told first.maker first.entry ≡ caller → is_known t caller ≡ true → command_told t authors first.entry ≡ Some command
+    → giver_told first.stamp.maker first.entry ≡ caller → is_known t caller ≡ true → command_told t authors first.entry ≡ Some command
     → judge_by_role t caller command ≡ judged → drawn_told t authors first ≡ result_ok judged
 told-judged t authors first caller command judged given known told is =
     let drawn : Option ℕ → Option Command → Option Drawn = λ by o. option_and_then (λ c. result_ok (judge_by_role t by c)) o in
@@ -166,7 +166,7 @@ module _ (t : Tables) (once : AreNamedOnce t.accounts) (user : ℕ) (known : is_
       users = besides (user ∷ []) (flat_map listed (users_among (lines_of t.accounts) authors))
 
       first : Stamped
-      first = record { maker = user; more = not (is_nothing (coauthors next_paper users)); entry = e }
+      first = record { stamp = record { maker = user }; more = not (is_nothing (coauthors next_paper users)); entry = e }
 
       group : drawn.group ≡ grouped user (e ∷ coauthors next_paper users)
       group = sym (ap (λ (d : Drawn). d.group) (judged-Ok (submit_checks (list_any is_none (users_among (lines_of t.accounts) authors)) (facts.standing None) (length facts.papers) facts.own_papers)
@@ -227,7 +227,7 @@ module _ (t : Tables) (rows : List Row) (drawn : Drawn) (begins : take (length r
       ≡ Some user → is_known t (Some user) ≡ true
       → command_told t (authors_told t user rows) e ≡ Some command → judge_by_role t (Some user) command ≡ Ok drawn → ToldByRows t rows drawn
   told-single user e command given group is caller known told accepted =
-      let first : Stamped = record { maker = user; more = false; entry = e } in
+      let first : Stamped = record { stamp = record { maker = user }; more = false; entry = e } in
       record {
         first = first;
         rest = [];
@@ -244,9 +244,9 @@ module _ (t : Tables) (rows : List Row) (drawn : Drawn) (begins : take (length r
       by (eqb (n + 1) 1) (n + 1) (sym (ap (λ (d : Drawn). d.group) k.1))
     where
       begun : (user : ℕ) (more : Bool) (rest : History)
-          → drawn.group ≡ record { maker = user; more = more; entry = Registered user name digest } ∷ rest → ToldByRows t rows drawn
+          → drawn.group ≡ record { stamp = record { maker = user }; more = more; entry = Registered user name digest } ∷ rest → ToldByRows t rows drawn
       begun user more rest is =
-          let first : Stamped = record { maker = user; more = more; entry = Registered user name digest } in
+          let first : Stamped = record { stamp = record { maker = user }; more = more; entry = Registered user name digest } in
           record {
             first = first;
             rest = rest;
@@ -258,7 +258,7 @@ module _ (t : Tables) (rows : List Row) (drawn : Drawn) (begins : take (length r
 
       by : (b : Bool) (user : ℕ) → drawn.group
           ≡ grouped user (cond b (Registered user name digest ∷ Named user roles.Chair ∷ []) (Registered user name digest ∷ [])) → ToldByRows t rows drawn
-      by true user is = begun user true (record { maker = user; more = false; entry = Named user roles.Chair } ∷ []) is
+      by true user is = begun user true (record { stamp = record { maker = user }; more = false; entry = Named user roles.Chair } ∷ []) is
       by false user is = begun user false [] is
 
   module _ (user : ℕ) (known : is_known t (Some user) ≡ true) where
@@ -413,17 +413,17 @@ accepted-told H call drawn r behind legal allowed accepted begins bounded = by c
 
 -- what the call of an entry draws, it draws as a command of its caller
 record Judges (t : Tables) (authors : List (Option (List ℕ))) (first : Stamped) (drawn : Drawn) : Type 0 where
-  known : is_known t (giver_told first.maker first.entry) ≡ true
+  known : is_known t (giver_told first.stamp.maker first.entry) ≡ true
   command : Command
   told : command_told t authors first.entry ≡ Some command
-  judged : judge_by_role t (giver_told first.maker first.entry) command ≡ Ok drawn
+  judged : judge_by_role t (giver_told first.stamp.maker first.entry) command ≡ Ok drawn
 
 told-judges : (t : Tables) (authors : List (Option (List ℕ))) (first : Stamped) (drawn : Drawn) → drawn_told t authors first ≡ Some drawn
     → Judges t authors first drawn
-told-judges t authors first drawn told = by (is_known t (giver_told first.maker first.entry)) (command_told t authors first.entry) refl refl told
+told-judges t authors first drawn told = by (is_known t (giver_told first.stamp.maker first.entry)) (command_told t authors first.entry) refl refl told
   where
     caller : Option ℕ
-    caller = giver_told first.maker first.entry
+    caller = giver_told first.stamp.maker first.entry
 
     of_command : (known : is_known t caller ≡ true) (command : Command) → command_told t authors first.entry ≡ Some command → (r : Result Drawn Rule)
         → judge_by_role t caller command ≡ r → result_ok r ≡ Some drawn → Judges t authors first drawn
@@ -480,7 +480,7 @@ module _ (H : History) (legal : Legal H) where
 
   -- a user's is allowed, where the entry is within its bounds
   user-allowed : (authors : List (Option (List ℕ))) (maker : ℕ) (more : Bool) (e : Entry) (command : Command)
-      → IsBoundedEntry (record { maker = maker; more = more; entry = e }) → IsRegistered H maker → user_command_told t authors e ≡ Some command
+      → IsBoundedEntry (record { stamp = record { maker = maker }; more = more; entry = e }) → IsRegistered H maker → user_command_told t authors e ≡ Some command
       → IsAllowed H (record { caller = Some maker; command = command })
   user-allowed authors maker more (PhaseSet to) command bounded made told =
       same-allowed (Some maker) (SetPhase to) command told (record { caller = made; bounded = tt })
@@ -517,7 +517,7 @@ module _ (H : History) (legal : Legal H) where
 
   -- and so is any
   told-allowed : (authors : List (Option (List ℕ))) (maker : ℕ) (more : Bool) (e : Entry) (command : Command)
-      → IsBoundedEntry (record { maker = maker; more = more; entry = e }) → is_known t (giver_told maker e) ≡ true → command_told t authors e ≡ Some command
+      → IsBoundedEntry (record { stamp = record { maker = maker }; more = more; entry = e }) → is_known t (giver_told maker e) ≡ true → command_told t authors e ≡ Some command
       → IsAllowed H (record { caller = giver_told maker e; command = command })
   told-allowed authors maker more (Registered user name digest) command bounded known told =
       same-allowed None (Register name digest) command told (record { caller = refl; bounded = (bounded.b1, bounded.b2) })
@@ -528,20 +528,20 @@ module _ (H : History) (legal : Legal H) where
       → MayAdd H drawn.group
   told-adds authors first drawn bounded told =
       let j = told-judges t authors first drawn told in
-      let caller = giver_told first.maker first.entry in
+      let caller = giver_told first.stamp.maker first.entry in
       record {
         call = record { caller = caller; command = j.command };
-        allowed = told-allowed authors first.maker first.more first.entry j.command bounded j.known j.told;
+        allowed = told-allowed authors first.stamp.maker first.more first.entry j.command bounded j.known j.told;
         drawn = drawn;
         accepted = Legal-judge caller H j.command legal ∙ j.judged;
         group_is = refl;
       }
 
   -- and what one row of a bulk adds, its command does
-  pub drawn-adds : (user : ℕ) (e : Entry) → IsBoundedEntry (record { maker = user; more = false; entry = e }) → is_known t (Some user) ≡ true → IsDrawn t user e
+  pub drawn-adds : (user : ℕ) (e : Entry) → IsBoundedEntry (record { stamp = record { maker = user }; more = false; entry = e }) → is_known t (Some user) ≡ true → IsDrawn t user e
       → MayAdd H (grouped user (e ∷ []))
   drawn-adds user e bounded known d =
-      let first : Stamped = record { maker = user; more = false; entry = e } in
+      let first : Stamped = record { stamp = record { maker = user }; more = false; entry = e } in
       let of_row = told-of_row t e d.command d.told in
       let told : paper_command_told t e ≡ Some d.command = ap (λ (b : Bool). cond b (paper_command_told t e) None) (sym of_row) ∙ d.told in
       let judges = (row-judges t user d.command d.drawn d.accepted).1 in

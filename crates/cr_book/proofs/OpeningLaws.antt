@@ -53,7 +53,7 @@ may_add-legal log group legal add = subst (λ (g : History). Legal (log ++ g)) (
 pub begun-going : (log : History) (t : Tables) (pending rows : List Row) (group : History) → IsReading log t pending [] → IsBegun t rows group → IsGoing log t rows group
 begun-going log t pending rows group reading begun =
     let told : drawn_by_rows (tables_of log) rows begun.first ≡ _ = ap (λ (x : Tables). drawn_by_rows x rows begun.first) (sym reading.same) ∙ begun.told in
-    let authors = authors_told (tables_of log) begun.first.maker rows in
+    let authors = authors_told (tables_of log) begun.first.stamp.maker rows in
     let add : MayAdd log group = subst (λ (g : History). MayAdd log g) (sym begun.group_is) (told-adds log reading.legal authors begun.first begun.drawn begun.bounded told) in
     record {
       legal = reading.legal;

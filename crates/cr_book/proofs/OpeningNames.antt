@@ -126,7 +126,7 @@ names-push accounts a one names v name told = by (eqb v (length accounts + 1)) (
     by true h = ap is_name (sym (some_is a.name name h)) ∙ one
     by false h = names v name h
 
-names-after : (accounts : List Account) (maker : ℕ) (more : Bool) (e : Entry) → IsBoundedEntry (record { maker = maker; more = more; entry = e }) → AreNames accounts
+names-after : (accounts : List Account) (maker : ℕ) (more : Bool) (e : Entry) → IsBoundedEntry (record { stamp = record { maker = maker }; more = more; entry = e }) → AreNames accounts
     → AreNames (accounts_after accounts e)
 names-after accounts maker more (Registered user name digest) bounded names = names-push accounts _ (name-tested name bounded.b1) names
 names-after accounts maker more (Named user role) bounded names = λ v name told. names v name (sym (name_at-with_role accounts user role v bounded.n1.0) ∙ told)
@@ -134,7 +134,7 @@ names-after accounts maker more e bounded names = names
 
 names-from : (t : Tables) (H : History) → AllByRecursion IsBoundedEntry H → AreNames t.accounts → AreNames (tables_from t H).accounts
 names-from t [] bounded names = names
-names-from t (s ∷ H) bounded names = names-from (tables_after t s) H bounded.1 (names-after t.accounts s.maker s.more s.entry bounded.0 names)
+names-from t (s ∷ H) bounded names = names-from (tables_after t s) H bounded.1 (names-after t.accounts s.stamp.maker s.more s.entry bounded.0 names)
 
 none-names : AreNames []
 none-names zero name told = absurd (none_some name told)

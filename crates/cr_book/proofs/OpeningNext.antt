@@ -14,18 +14,17 @@ use Rattle.cr_base.specs.declared.reply.Rule.{Rule}
 use Rattle.cr_base.specs.declared.standing.Standing.{Standing}
 use Rattle.cr_base.specs.declared.target.Target.{Target}
 use Rattle.cr_base.specs.declared.words.Kind.{Kind}
-use Rattle.cr_base.specs.declared.words.Phase.TheVariants.{Bidding, Notification}
 use Rattle.cr_base.specs.declared.words.Role.{Role}
 use Rattle.cr_base.specs.declared.words.Role.TheVariants as roles
 use Rattle.cr_base.specs.Accounts.{lines_of, role_in}
 use Rattle.cr_base.specs.Bulk.{bulk_checks, turns_own_conflict, entries_of}
-use Rattle.cr_base.specs.Checks.{NamedPaper, is_in_committee, about, conflict_case, own_checks, other_checks, conflict_checks, assign_checks, unassign_checks, tag_checks}
+use Rattle.cr_base.specs.Checks.{NamedPaper, about, conflict_case, own_checks, other_checks, conflict_checks, assign_checks, unassign_checks, tag_checks}
 use Rattle.cr_base.specs.Drawn.{Drawn, conflict_drawn, assignment_drawn, unassignment_drawn, tag_drawn}
 use Rattle.cr_base.specs.Judging.{judge_by_role}
 use Rattle.cr_base.specs.Lists.{is_number, at_some}
 use Rattle.cr_base.specs.Pairs.{has_pair, same_pair, users_tied_to}
 use Rattle.cr_base.specs.Papers.{paper_numbers, is_withdrawn_at}
-use Rattle.cr_base.specs.Phases.{is_from}
+use Rattle.cr_base.specs.Phases.{committee_works, authors_have_declared, conflicts_are_final}
 use Rattle.cr_base.specs.Reviews.{is_written_in}
 use Rattle.cr_base.specs.Rows.{IsBoundedEntry}
 use Rattle.cr_base.specs.Seats.{labels_in, ordinal_in}
@@ -52,7 +51,7 @@ pub record IsClear (t : Tables) (user p : ℕ) : Type 0 where
 -- she is a chair, and the phase is the committee's
 record IsAtWork (t : Tables) (user : ℕ) : Type 0 where
   chair : not (is_chair (role_in t.accounts (Some user))) ≡ false
-  phase : not (is_in_committee t.stage.phase) ≡ false
+  phase : not (committee_works t.stage.phase) ≡ false
 
 -- whoever may give a bulk is known, and breaks no rule
 pub may-parts : (t : Tables) (user : ℕ) → may_bulk t user ≡ true
@@ -122,15 +121,15 @@ module _ (t : Tables) (user : ℕ) (work : IsAtWork t user) where
           let declared : Bool = list_any (is_number target) (users_tied_to p t.ties.conflicts) in
           record { role = role; herself = is_number target user; author = wrote; conflicted = wrote || declared; reviewer = is_some (ordinal_in t.seats target p) }
 
-      phases : (is_from Bidding t.stage.phase ≡ true) × (is_from Notification t.stage.phase ≡ false)
-      phases = committee (is_from Bidding t.stage.phase) (is_from Notification t.stage.phase) work.phase
+      phases : (authors_have_declared t.stage.phase ≡ true) × (conflicts_are_final t.stage.phase ≡ false)
+      phases = committee (authors_have_declared t.stage.phase) (conflicts_are_final t.stage.phase) work.phase
 
       by : (role : Option Role) → is_none (option_map asked role) ≡ false
-          → NoneBroken (about (option_map asked role) (λ (user : Target). conflict_case on (is_from Bidding t.stage.phase) (is_from Notification t.stage.phase) (stands (Some p)) (is_withdrawn_at t.papers p) user))
+          → NoneBroken (about (option_map asked role) (λ (user : Target). conflict_case on (authors_have_declared t.stage.phase) (conflicts_are_final t.stage.phase) (stands (Some p)) (is_withdrawn_at t.papers p) user))
           → (is_conflicted_in t.ties (Some user) p ≡ false) × (is_withdrawn_at t.papers p ≡ false)
       by None there none = absurd (true≢false there)
       by (Some role) there none =
-          case-clear on (is_from Bidding t.stage.phase) (is_from Notification t.stage.phase) (stands (Some p)) (is_withdrawn_at t.papers p) (asked role) phases.0 phases.1 other none
+          case-clear on (authors_have_declared t.stage.phase) (conflicts_are_final t.stage.phase) (stands (Some p)) (is_withdrawn_at t.papers p) (asked role) phases.0 phases.1 other none
 
   assign-clear : (p : ℕ) (name : List ℕ) (kind : Kind) (drawn : Drawn) → judge_by_role t (Some user) (Assign (Some p) (Some name) kind) ≡ Ok drawn → IsClear t user p
   assign-clear p name kind drawn accepted =

@@ -40,7 +40,7 @@ row_command_told t e = if is_of_row e then paper_command_told t e else None
 
 -- an entry of a bulk, where another of it follows
 abbrev pub unfinished : ℕ → Entry → Stamped
-unfinished user e = record { maker = user; more = true; entry = e }
+unfinished user e = record { stamp = record { maker = user }; more = true; entry = e }
 
 -- the row that the entry tells, given by this user on these tables, adds the entry
 pub record IsDrawn (t : Tables) (user : ℕ) (e : Entry) : Type 0 where
@@ -87,11 +87,11 @@ has_room begun more = not more || nat_lt (length begun) 511
 -- those before it are the same user's
 abbrev pub is_makers : History → ℕ → Bool
 is_makers [] user = true
-is_makers (s ∷ begun) user = s.maker == user
+is_makers (s ∷ begun) user = s.stamp.maker == user
 
 -- the entry's maker may give a bulk of so many rows, the first of which are hers
 abbrev pub may_go_on : Tables → History → Stamped → Bool
-may_go_on t begun next = has_room begun next.more && is_makers begun next.maker && may_bulk t next.maker
+may_go_on t begun next = has_room begun next.more && is_makers begun next.stamp.maker && may_bulk t next.stamp.maker
 
 -- what is tried as the next of a bulk: an entry within its bounds and its row, behind
 -- entries that may stand before a row
@@ -103,7 +103,7 @@ pub record IsTried (t : Tables) (begun : History) (next : Stamped) (row : Row) :
 -- the entry comes next in a bulk, behind those that are begun: its row adds it
 pub record GoesOn (t : Tables) (begun : History) (next : Stamped) : Type 0 where
   pub may : may_go_on t begun next ≡ true
-  pub drawn : IsDrawn (tables_from t begun) next.maker next.entry
+  pub drawn : IsDrawn (tables_from t begun) next.stamp.maker next.entry
 
 -- ---- rows of a bulk, and others
 

@@ -113,13 +113,13 @@ is_known t (Some user) = is_some (name_told t user)
 -- what it draws, where its caller is known and no rule is broken
 abbrev pub drawn_told : Tables → List (Option (List ℕ)) → Stamped → Option Drawn
 drawn_told t authors first =
-    let caller = giver_told first.maker first.entry in
+    let caller = giver_told first.stamp.maker first.entry in
     if is_known t caller then option_and_then (λ command. result_ok (judge_by_role t caller command))
     (command_told t authors first.entry) else None
 
 -- the same of the first entry that these rows spell, with the co-authors that they tell
 abbrev pub drawn_by_rows : Tables → List Row → Stamped → Option Drawn
-drawn_by_rows t rows first = drawn_told t (authors_told t first.maker rows) first
+drawn_by_rows t rows first = drawn_told t (authors_told t first.stamp.maker rows) first
 
 -- ---- rows that begin a group
 

@@ -9,7 +9,7 @@ ghost use Rattle.cr_book.specs.BulkRebuilding.{is_of_bulk, is_of_row, may_bulk, 
 ghost use Rattle.cr_book.specs.BulkRebuilding.{row_command_told, GoesOn, IsDrawn, IsTried};
 
 use crate::rebuilding::{is_known, paper_command_of};
-use cr_base::{Command, Entry, MOST_ROWS, Row, Stamped, UserNo};
+use cr_base::{Command, Entry, MOST_ROWS, Row, Stamp, Stamped, UserNo};
 use cr_view::Live;
 use std::alloc::{AllocError, Global};
 
@@ -52,7 +52,7 @@ fn is_makers(begun: &[Stamped], user: UserNo) -> bool
     ensures { result ≡ is_makers begun.now user }
 {
     match begun.first() {
-        Some(first) => first.maker.number() == user.number(),
+        Some(first) => first.stamp.maker.number() == user.number(),
         None => true,
     }
 }
@@ -68,7 +68,9 @@ fn may_bulk(live: &Live, user: UserNo) -> bool
 fn may_go_on(live: &Live, begun: &[Stamped], next: &Stamped) -> bool
     ensures { result ≡ may_go_on live.now.tables begun.now next.now }
 {
-    has_room(begun, next.more) && is_makers(begun, next.maker) && may_bulk(live, next.maker)
+    has_room(begun, next.more)
+        && is_makers(begun, next.stamp.maker)
+        && may_bulk(live, next.stamp.maker)
 }
 
 /// The command of the row that added the entry; none where no row did, or where it names a user who isn't there.
@@ -86,14 +88,14 @@ fn row_command_of(live: &Live, entry: Entry) -> Option<Command>
 fn spells(
     alloc: Global,
     entry: Entry,
-    maker: UserNo,
+    stamp: Stamp,
     more: bool,
     row: &Row,
 ) -> Result<bool, AllocError>
     ensures { IfOk result (λ same. IsTrue same
-        ↔ (row_of (record { maker = maker; more = more; entry = entry }) ≡ row.now)) }
+        ↔ (row_of (record { stamp = stamp; more = more; entry = entry }) ≡ row.now)) }
 {
-    let spelled = entry.to_row(alloc, maker, more)?;
+    let spelled = entry.to_row(alloc, stamp, more)?;
     Ok(spelled.is_same(row))
 }
 
@@ -108,15 +110,15 @@ fn is_drawn(
 ) -> Result<bool, AllocError>
     requires { IsTried live.now.tables begun.now next.now row.now }
     ensures drawn { IfOk result (λ drawn. IsTrue drawn
-        ↔ IsDrawn (tables_from live.now.tables begun.now) next.now.maker next.now.entry) }
+        ↔ IsDrawn (tables_from live.now.tables begun.now) next.now.stamp.maker next.now.entry) }
     ensures earlier { IfOk result (λ drawn. IsTrue drawn → AreEarlier live.now.tables (begun.now ++ next.now ∷ [])) }
 {
     let entry = next.entry.copy()?;
     let Some(command) = row_command_of(live, entry) else {
         return Ok(false);
     };
-    match live.judge_row(next.maker, command, begun) {
-        Ok(drawn) => spells(alloc, drawn, next.maker, next.more, row),
+    match live.judge_row(next.stamp.maker, command, begun) {
+        Ok(drawn) => spells(alloc, drawn, next.stamp, next.more, row),
         Err(_) => Ok(false),
     }
 }

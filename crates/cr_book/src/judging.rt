@@ -8,7 +8,7 @@ ghost use Rattle.cr_base.specs.Bulk.{IsRowCommand};
 ghost use Rattle.cr_view.specs.Rows.{AreEarlier, group_or_rule, row_group};
 ghost use Rattle.cr_book.specs.BulkRebuilding.{row_judged_behind};
 
-use cr_base::{Broken, BulkRow, BulkRows, Command, Entry, Rule, Stamped, UserNo};
+use cr_base::{Broken, BulkRow, BulkRows, Command, Entry, Rule, Stamp, Stamped, UserNo};
 use cr_view::Live;
 
 /// The command that a row tells, or why it tells none.
@@ -25,7 +25,7 @@ fn judge_row(live: &Live, caller: UserNo, row: &BulkRow, earlier: &[Stamped]) ->
     ensures judged { row_group caller result
         ≡ group_or_rule (row_judged_behind live.now.tables earlier.now caller row.now) }
     ensures next { IfOk result (λ entry. (more : Bool)
-        → AreEarlier live.now.tables (earlier.now ++ record { maker = caller; more = more; entry = entry } ∷ [])) }
+        → AreEarlier live.now.tables (earlier.now ++ record { stamp = record { maker = caller }; more = more; entry = entry } ∷ [])) }
 {
     match command_of(row) {
         Ok(command) => live.judge_row(caller, command, earlier),
@@ -67,7 +67,7 @@ fn judge_rows(
             Err(rule) => return Err(row_broken(i, rule)),
         };
         entries.push_reserved(Stamped {
-            maker: caller,
+            stamp: Stamp { maker: caller },
             more: i + 1 < rows.len(),
             entry,
         });

@@ -18,11 +18,11 @@ use std::alloc::{AllocError, Global};
 
 /// Who gave the command of a group with this first entry.
 fn caller_of(first: &Stamped) -> Option<UserNo>
-    ensures { result ≡ giver_told first.now.maker first.now.entry }
+    ensures { result ≡ giver_told first.now.stamp.maker first.now.entry }
 {
     match first.entry {
         Entry::Registered { .. } => None,
-        _ => Some(first.maker),
+        _ => Some(first.stamp.maker),
     }
 }
 
@@ -215,7 +215,7 @@ pub(crate) fn begun(
     let Some(first) = Stamped::from_row(&rows[0])? else {
         return Ok(None);
     };
-    let authors = authors_told(alloc, live, first.maker, rows)?;
+    let authors = authors_told(alloc, live, first.stamp.maker, rows)?;
     let Some(draw) = draw_of(live, first, authors) else {
         return Ok(None);
     };

@@ -11,7 +11,7 @@ pub(crate) fn rows_of(alloc: Global, group: &[Stamped]) -> Result<Vec<Row>, Allo
 {
     let mut rows = Vec::with_capacity(alloc, group.len())?;
     for stamped in group {
-        rows.push(stamped.entry.to_row(alloc, stamped.maker, stamped.more)?)?;
+        rows.push(stamped.entry.to_row(alloc, stamped.stamp, stamped.more)?)?;
     }
     Ok(rows)
 }

@@ -10,7 +10,7 @@ use Rattle.cr_base.proofs.TieLaws.{authors_in-after, is_conflict_on_in-after}
 
 -- one of the entries makes the user an author
 abbrev pub one_gives : Option ℕ → ℕ → History → Bool
-one_gives u p entries = list_any (λ (e : Stamped). list_any (is_number u) (author_told p e.maker e.entry)) entries
+one_gives u p entries = list_any (λ (e : Stamped). list_any (is_number u) (author_told p e.stamp.maker e.entry)) entries
 
 -- an author is who was one, or whom one of the entries makes one
 pub is_author_in-from : (u : Option ℕ) (p : ℕ) (ties : TiesState) (entries : History)
@@ -21,10 +21,10 @@ is_author_in-from u p ties [] = nothing (is_author_in ties u p)
     nothing true = refl
     nothing false = refl
 is_author_in-from u p ties (e ∷ entries) =
-    is_author_in-from u p (ties_after ties e.maker e.entry) entries
-    ∙ ap (λ (us : List ℕ). list_any (is_number u) us || one_gives u p entries) (authors_in-after p ties e.maker e.entry)
-    ∙ ap (λ b. b || one_gives u p entries) (list_any-append (is_number u) (authors_in ties p) (author_told p e.maker e.entry))
-    ∙ grouped (is_author_in ties u p) (list_any (is_number u) (author_told p e.maker e.entry)) (one_gives u p entries)
+    is_author_in-from u p (ties_after ties e.stamp.maker e.entry) entries
+    ∙ ap (λ (us : List ℕ). list_any (is_number u) us || one_gives u p entries) (authors_in-after p ties e.stamp.maker e.entry)
+    ∙ ap (λ b. b || one_gives u p entries) (list_any-append (is_number u) (authors_in ties p) (author_told p e.stamp.maker e.entry))
+    ∙ grouped (is_author_in ties u p) (list_any (is_number u) (author_told p e.stamp.maker e.entry)) (one_gives u p entries)
   where
     grouped : (a b c : Bool) → ((a || b) || c) ≡ (a || (b || c))
     grouped true b c = refl
@@ -47,6 +47,6 @@ pub is_conflict_on_in-from : (u : Option ℕ) (p : ℕ) (ties : TiesState) (entr
     ≡ fold (λ (b : Bool) (e : Stamped). last_or b (conflict_told u p e.entry)) (is_conflict_on_in ties u p) entries
 is_conflict_on_in-from u p ties [] = refl
 is_conflict_on_in-from u p ties (e ∷ entries) =
-    is_conflict_on_in-from u p (ties_after ties e.maker e.entry) entries
+    is_conflict_on_in-from u p (ties_after ties e.stamp.maker e.entry) entries
     ∙ ap (λ (on : Bool). fold (λ (b : Bool) (s : Stamped). last_or b (conflict_told u p s.entry)) on entries)
-    (is_conflict_on_in-after u p ties e.maker e.entry)
+    (is_conflict_on_in-after u p ties e.stamp.maker e.entry)

@@ -8,11 +8,11 @@ use cr_base::{Entry, PaperNo, Stamped, UserNo};
 
 /// Whether the entry makes the user an author of the paper.
 fn gives_author(stamped: &Stamped, user: UserNo, paper: PaperNo) -> bool
-    ensures { result ≡ list_any (is_number (Some user)) (author_told paper stamped.now.maker stamped.now.entry) }
+    ensures { result ≡ list_any (is_number (Some user)) (author_told paper stamped.now.stamp.maker stamped.now.entry) }
 {
     match &stamped.entry {
         Entry::Submitted { paper: made, .. } => {
-            made.number() == paper.number() && stamped.maker.number() == user.number()
+            made.number() == paper.number() && stamped.stamp.maker.number() == user.number()
         }
         Entry::Coauthor {
             paper: of,
@@ -25,7 +25,7 @@ fn gives_author(stamped: &Stamped, user: UserNo, paper: PaperNo) -> bool
 /// Whether one of the entries makes the user an author of the paper. A walk over them.
 pub(crate) fn give_author(earlier: &[Stamped], user: UserNo, paper: PaperNo) -> bool
     ensures { result
-        ≡ list_any (λ e. list_any (is_number (Some user)) (author_told paper e.maker e.entry)) earlier.now }
+        ≡ list_any (λ e. list_any (is_number (Some user)) (author_told paper e.stamp.maker e.entry)) earlier.now }
 {
     earlier
         .iter()

@@ -3,7 +3,7 @@ ghost use Rattle.std.specs.Prelude.{◌≡◌, true};
 ghost use Rattle.cr_base.specs.Checks.{judged, bid_checks, declare_checks, own_checks};
 ghost use Rattle.cr_base.specs.Checks.{other_checks, on_checks, off_checks};
 
-use cr_base::{Phase, Rule, Standing, Target};
+use cr_base::{Rule, Standing, Target};
 
 /// A clear member bids on a paper that is there, in the bidding.
 pub(crate) fn bid(by: &Standing, withdrawn: bool) -> Result<(), Rule>
@@ -13,7 +13,7 @@ pub(crate) fn bid(by: &Standing, withdrawn: bool) -> Result<(), Rule>
         Ok(()) => {}
         Err(rule) => return Err(rule),
     }
-    if !by.phase.is(Phase::Bidding) {
+    if !by.phase.bids_are_taken() {
         return Err(Rule::WrongPhase);
     }
     if withdrawn {
@@ -74,10 +74,10 @@ fn other(by: &Standing, withdrawn: bool, target: &Target) -> Result<(), Rule>
 pub(crate) fn on(by: &Standing, withdrawn: bool, target: &Target) -> Result<(), Rule>
     ensures { result ≡ judged (on_checks by.now withdrawn target.now) tt }
 {
-    if !by.phase.is_from(Phase::Bidding) {
+    if !by.phase.authors_have_declared() {
         return declared(by, withdrawn, target);
     }
-    if by.phase.is_from(Phase::Notification) {
+    if by.phase.conflicts_are_final() {
         return Err(Rule::WrongPhase);
     }
     if target.herself {

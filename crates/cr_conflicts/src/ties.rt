@@ -316,18 +316,18 @@ impl Ties {
     pub fn apply(&mut self, stamped: &Stamped)
         requires room { 0 < self.old.room }
         requires fits { TiesFit self.old.ties stamped.now.entry }
-        ensures after { self.new.ties ≡ ties_after self.old.ties stamped.now.maker stamped.now.entry }
+        ensures after { self.new.ties ≡ ties_after self.old.ties stamped.now.stamp.maker stamped.now.entry }
         ensures room { self.old.room ≤ self.new.room + 1 }
     {
         match &stamped.entry {
-            Entry::Submitted { paper, .. } => self.add_author(*paper, stamped.maker),
+            Entry::Submitted { paper, .. } => self.add_author(*paper, stamped.stamp.maker),
             Entry::Coauthor { paper, user } => self.add_author(*paper, *user),
             Entry::Conflict { paper, user, on } => {
-                let wrote = self.is_author(stamped.maker, *paper);
+                let wrote = self.is_author(stamped.stamp.maker, *paper);
                 insert_where(&mut self.declared, wrote, bare(*paper, *user));
                 switch(&mut self.conflicts, *paper, *user, *on);
             }
-            Entry::Bid { paper, value } => self.bids.insert(bid_by(*paper, stamped.maker, *value)),
+            Entry::Bid { paper, value } => self.bids.insert(bid_by(*paper, stamped.stamp.maker, *value)),
             _ => {}
         }
     }

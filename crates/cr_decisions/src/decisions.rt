@@ -3,7 +3,7 @@ ghost use Rattle.std.specs.Prelude.{◌≡◌, ◌≤◌, ◌<◌, ◌+◌, OnOk
 ghost use Rattle.cr_base.specs.Checks.{judged, decide_checks};
 ghost use Rattle.cr_base.specs.Decisions.{no_decisions, decisions_after, decision_in};
 
-use cr_base::{Decision, Entry, PaperNo, Phase, Rule, Stamped, Standing};
+use cr_base::{Decision, Entry, PaperNo, Rule, Stamped, Standing};
 use cr_kept::Files;
 use std::alloc::{AllocError, Global};
 use std::marker::Model;
@@ -70,7 +70,7 @@ impl Decisions {
         if by.conflicted {
             return Err(Rule::Conflict);
         }
-        if !by.phase.is(Phase::Discussion) {
+        if !by.phase.decisions_are_made() {
             return Err(Rule::WrongPhase);
         }
         if withdrawn {

@@ -36,7 +36,7 @@ nobody-entry p maker e = refl
 
 -- a user's last bid on a paper is the one that the table has
 pub bid_of-tables : (u : Option ℕ) (p : ℕ) (H : History) → bid_of u p H ≡ bid_in (tables_of H).ties u p
-bid_of-tables None p H = ap (last_from None) (each-silent (λ (s : Stamped). bid_told None p s.maker s.entry) (λ s. nobody-entry p s.maker s.entry) H)
+bid_of-tables None p H = ap (last_from None) (each-silent (λ (s : Stamped). bid_told None p s.stamp.maker s.entry) (λ s. nobody-entry p s.stamp.maker s.entry) H)
 bid_of-tables (Some v) p H =
-    told-always last_from (λ _. refl) (λ (t : Tables). bid_in t.ties (Some v) p) (λ (s : Stamped). bid_told (Some v) p s.maker s.entry)
-    (λ t s. bid-entry p v t.ties s.maker s.entry) no_tables H
+    told-always last_from (λ _. refl) (λ (t : Tables). bid_in t.ties (Some v) p) (λ (s : Stamped). bid_told (Some v) p s.stamp.maker s.entry)
+    (λ t s. bid-entry p v t.ties s.stamp.maker s.entry) no_tables H

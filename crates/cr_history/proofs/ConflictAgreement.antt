@@ -59,7 +59,7 @@ nobody-entry p e = refl
 -- a user's declared conflicts are those of the table
 pub is_conflict_on-tables : (u : Option ℕ) (p : ℕ) (H : History) → is_conflict_on u p H ≡ is_conflict_on_in (tables_of H).ties u p
 is_conflict_on-tables None p H = ap (last_or false) (each-silent (λ (s : Stamped). conflict_told None p s.entry) (λ s. nobody-entry p s.entry) H)
-is_conflict_on-tables (Some v) p H = told-always last_or (λ _. refl) (λ (t : Tables). has_pair (pair_of p v) t.ties.conflicts) (λ (s : Stamped). conflict_told (Some v) p s.entry) (λ t s. conflict-entry p v t.ties s.maker s.entry) no_tables H
+is_conflict_on-tables (Some v) p H = told-always last_or (λ _. refl) (λ (t : Tables). has_pair (pair_of p v) t.ties.conflicts) (λ (s : Stamped). conflict_told (Some v) p s.entry) (λ t s. conflict-entry p v t.ties s.stamp.maker s.entry) no_tables H
 
 pub is_conflicted-tables : (u : Option ℕ) (p : ℕ) (H : History) → is_conflicted u p H ≡ is_conflicted_in (tables_of H).ties u p
 is_conflicted-tables u p H =
@@ -104,7 +104,7 @@ author-from : (p : ℕ) (before : History) (t : Tables) (H : History) → FitInT
     → p ≤ paper_count t.papers → authors_in (tables_from t H).ties p ≡ authors_in t.ties p
 author-from p before t [] fits first there h = refl
 author-from p before t (s ∷ H) fits first there h =
-    let one = author-entry p before t.papers t.ties s.maker s.entry fits.0.papers first.0 there h in
+    let one = author-entry p before t.papers t.ties s.stamp.maker s.entry fits.0.papers first.0 there h in
     author-from p (before ++ s ∷ []) (tables_after t s) H fits.1 first.1 (has_conflict-append p before (s ∷ []) there) one.1 ∙ one.0
 
 -- a conflict is with a paper that is there, and leaves its authors
@@ -121,7 +121,7 @@ author-stays : (u : Option ℕ) (p : ℕ) (before : History) (t : Tables) (s : S
     → is_conflict_with p s.entry ≡ true
     → is_author_in (tables_from t (s ∷ H)).ties u p ≡ is_author_in t.ties u p
 author-stays u p before t s H fits first here =
-    let one = conflict-keeps p t.papers t.ties s.maker s.entry fits.0.papers here in
+    let one = conflict-keeps p t.papers t.ties s.stamp.maker s.entry fits.0.papers here in
     ap (list_any (is_number u)) (author-from p (before ++ s ∷ []) (tables_after t s) H fits.1 first.1 there one.1 ∙ one.0)
   where
     last : (b c : Bool) → c ≡ true → (b || (c || false)) ≡ true
@@ -139,7 +139,7 @@ is_among v users = list_any (λ w. eqb w v) users
 
 -- whom the entries name in a conflict with the paper, where such makers are authors
 abbrev named_by : (ℕ → Bool) → ℕ → History → List ℕ
-named_by wrote p H = flat_map (λ (e : Stamped). declared_told (wrote e.maker) p e.entry) H
+named_by wrote p H = flat_map (λ (e : Stamped). declared_told (wrote e.stamp.maker) p e.entry) H
 
 among-given : (b : Bool) (w v : ℕ) (rest : List ℕ) → is_among v (given b w ++ rest) ≡ ((b && eqb w v) || is_among v rest)
 among-given true w v rest = refl
@@ -193,7 +193,7 @@ declared-from p v before t [] fits first = or_false (has_pair (pair_of p v) t.ti
     or_false false = refl
 declared-from p v before t (s ∷ H) fits first =
     let later : List ℕ = named_by (λ maker. is_author_in (tables_from (tables_after t s) H).ties (Some maker) p) p H in
-    declared-entry p v t.ties s.maker s.entry (is_author_in (tables_from t (s ∷ H)).ties (Some s.maker) p) later (author-stays (Some s.maker) p before t s H fits first)
+    declared-entry p v t.ties s.stamp.maker s.entry (is_author_in (tables_from t (s ∷ H)).ties (Some s.stamp.maker) p) later (author-stays (Some s.stamp.maker) p before t s H fits first)
     ∙ declared-from p v (before ++ s ∷ []) (tables_after t s) H fits.1 first.1
 
 -- whom a paper's authors named in conflict with it are those whom the table has so

@@ -77,13 +77,13 @@ plus_nothing n = omega arith
 module _ (size : List ℕ → ℕ) (nil : size [] ≡ 0) (append : (xs ys : List ℕ) → size (xs ++ ys) ≡ size xs + size ys)
     (sums : Tables → List ℕ) (first : sums no_tables ≡ []) (u : Option ℕ) (told : ℕ → Entry → List ℕ) where
   pub sum-tables : ((t : Tables) (s : Stamped) (n : ℕ)
-      → sum_at (sums t) u + (size (told s.maker s.entry) + n) ≡ sum_at (sums (tables_after t s)) u + n)
+      → sum_at (sums t) u + (size (told s.stamp.maker s.entry) + n) ≡ sum_at (sums (tables_after t s)) u + n)
       → (H : History) → size (all_told_by told H) ≡ sum_at (sums (tables_of H)) u
   sum-tables one H =
       none u (size (all_told_by told H)) ∙ ap (λ (ns : List ℕ). sum_at ns u + size (all_told_by told H)) (sym first)
       ∙ told-always (λ n xs. n + size xs) (λ n. ap (λ m. n + m) nil
-      ∙ plus_nothing n) (λ (t : Tables). sum_at (sums t) u) (λ (s : Stamped). told s.maker s.entry)
-      (λ t s rest. ap (λ n. sum_at (sums t) u + n) (append (told s.maker s.entry) rest) ∙ one t s (size rest)) no_tables H
+      ∙ plus_nothing n) (λ (t : Tables). sum_at (sums t) u) (λ (s : Stamped). told s.stamp.maker s.entry)
+      (λ t s rest. ap (λ n. sum_at (sums t) u + n) (append (told s.stamp.maker s.entry) rest) ∙ one t s (size rest)) no_tables H
     where
       none : (u : Option ℕ) (n : ℕ) → n ≡ sum_at [] u + n
       none None n = omega arith

@@ -221,11 +221,11 @@ module _ (H : History) (fits : FitInTurn no_tables H) (u : Option ℕ) (p : ℕ)
 
   own_forms_of-tables : ReviewersStay H → own_forms_of u p H ≡ own_forms_in (tables_of H) u p
   own_forms_of-tables stay =
-      let Held : Stamped → Type 0 = λ s. IsHeld H s.maker s.entry in
-      let own : Stamped → List FormTold = λ s. own_form_told u p s.maker s.entry in
+      let Held : Stamped → Type 0 = λ s. IsHeld H s.stamp.maker s.entry in
+      let own : Stamped → List FormTold = λ s. own_form_told u p s.stamp.maker s.entry in
       let theirs : Stamped → List FormTold = λ s. told_under (ordinal_of u p H) s.entry in
       all-alike own theirs H
-      (AllByRecursion-map Held (λ (s : Stamped). own s ≡ theirs s) (λ s held. own-under (ordinal_of u p H) refl s.maker s.entry held) H
+      (AllByRecursion-map Held (λ (s : Stamped). own s ≡ theirs s) (λ s held. own-under (ordinal_of u p H) refl s.stamp.maker s.entry held) H
       (recursion_from_All Held H stay))
       ∙ by (ordinal_of u p H)
       ∙ (λ i. flat_map (λ (o : ℕ). forms_of-tables p o H i) (listed (ordinal_of-tables u p H fits i)))

@@ -21,14 +21,14 @@ use Rattle.cr_history.proofs.SubmissionLaws.{IsSubmitting, submission-in_turn}
 -- ---- the first registration
 
 -- every entry has a registration before it, or is one; so where there is none, there is nothing
-no_entry : (e : Entry) (maker : ℕ) (more : Bool) (after : History) → IsInOrder [] (record { maker = maker; more = more; entry = e })
-    → length (accounts_of (record { maker = maker; more = more; entry = e } ∷ after)) ≡ 0 → ⊥
+no_entry : (e : Entry) (maker : ℕ) (more : Bool) (after : History) → IsInOrder [] (record { stamp = record { maker = maker }; more = more; entry = e })
+    → length (accounts_of (record { stamp = record { maker = maker }; more = more; entry = e } ∷ after)) ≡ 0 → ⊥
 no_entry (Registered user name digest) maker more after h none = omega (arith, none)
 no_entry e maker more after h none = false≢true h.maker
 
 nothing_before : (H : History) → InTurn IsInOrder [] H → length (accounts_of H) ≡ 0 → H ≡ []
 nothing_before [] h none = refl
-nothing_before (e ∷ after) h none = absurd (no_entry e.entry e.maker e.more after h.0 none)
+nothing_before (e ∷ after) h none = absurd (no_entry e.entry e.stamp.maker e.more after h.0 none)
 
 -- it stands at the beginning
 abbrev first_group : ℕ → List ℕ → List ℕ → History

@@ -33,7 +33,7 @@ EntryAllowed H maker (Conflict paper user on) = IsByRight H maker (Conflict pape
 EntryAllowed H maker e = Unit {0}
 
 abbrev Allowed : History → Stamped → Type 0
-Allowed H e = EntryAllowed H e.maker e.entry
+Allowed H e = EntryAllowed H e.stamp.maker e.entry
 
 ruled-allowed : (H : History) (maker : ℕ) (e : Entry) → IsRuled H maker e → EntryAllowed H maker e
 ruled-allowed H maker (Submitted paper title abstract) ruled = ruled.phase
@@ -78,7 +78,7 @@ grown-moves H g (goes_on maker e made goes ruled) = ruled-moves H maker true e r
 
 pub author-append : (u : Option ℕ) (p : ℕ) (H g : History) → is_author u p (H ++ g) ≡ (is_author u p H || is_author u p g)
 author-append u p H g =
-    ap (list_any (is_number u)) (flat_map-append (λ (e : Stamped). author_told p e.maker e.entry) H g)
+    ap (list_any (is_number u)) (flat_map-append (λ (e : Stamped). author_told p e.stamp.maker e.entry) H g)
     ∙ list_any-append (is_number u) (authors_of p H) (authors_of p g)
 
 -- who made an early entry stays an author
@@ -126,8 +126,8 @@ no_author-entry H begun p maker e h = refl
 
 no_authors : (H : History) → is_from Bidding (phase_of H) ≡ true → (p : ℕ) (g : History) → AllByRecursion (Allowed H) g → authors_of p g ≡ []
 no_authors H begun p g h =
-    all-silent (λ (e : Stamped). author_told p e.maker e.entry) g
-    (AllByRecursion-map (Allowed H) (λ (e : Stamped). author_told p e.maker e.entry ≡ []) (λ e k. no_author-entry H begun p e.maker e.entry k) g h)
+    all-silent (λ (e : Stamped). author_told p e.stamp.maker e.entry) g
+    (AllByRecursion-map (Allowed H) (λ (e : Stamped). author_told p e.stamp.maker e.entry ≡ []) (λ e k. no_author-entry H begun p e.stamp.maker e.entry k) g h)
 
 -- ---- the phase after a group
 
@@ -219,13 +219,13 @@ in_time-append H g grows kept = by (list_any is_opening H) refl
     by : (b : Bool) → list_any is_opening H ≡ b → DeclaresInTime (H ++ g)
     by true h =
         let begun : is_from Bidding (phase_of H) ≡ true = sym kept.begun ∙ h in
-        let more : (e : Stamped) → Late H e → Late (H ++ g) e = λ (e : Stamped) k. late-more H g (λ p. no_authors H begun p g entries) e.maker e.entry k in
+        let more : (e : Stamped) → Late H e → Late (H ++ g) e = λ (e : Stamped) k. late-more H g (λ p. no_authors H begun p g entries) e.stamp.maker e.entry k in
         record {
-          early = subst (AllByRecursion (Early (H ++ g))) (sym (until-before is_opening H g h)) (AllByRecursion-map (Early H) (Early (H ++ g)) (λ e k. early-more H g e.maker e.entry k) (until is_opening H) kept.early);
+          early = subst (AllByRecursion (Early (H ++ g))) (sym (until-before is_opening H g h)) (AllByRecursion-map (Early H) (Early (H ++ g)) (λ e k. early-more H g e.stamp.maker e.entry k) (until is_opening H) kept.early);
           late = subst (AllByRecursion (Late (H ++ g))) (sym (since-before is_opening H g h))
               (AllByRecursion-append (Late (H ++ g)) (since is_opening H) g
               (AllByRecursion-map (Late H) (Late (H ++ g)) more (since is_opening H) kept.late)
-              (AllByRecursion-map (Allowed H) (Late (H ++ g)) (λ e k. more e (late-new H begun e.maker e.entry k)) g entries));
+              (AllByRecursion-map (Allowed H) (Late (H ++ g)) (λ e k. more e (late-new H begun e.stamp.maker e.entry k)) g entries));
           begun = in_time-after Bidding H g moves kept.begun;
         }
     by false h =
@@ -233,9 +233,9 @@ in_time-append H g grows kept = by (list_any is_opening H) refl
         record {
           early = subst (AllByRecursion (Early (H ++ g))) (sym (until-append is_opening H g h))
               (AllByRecursion-append (Early (H ++ g)) H (until is_opening g)
-              (AllByRecursion-map (Early H) (Early (H ++ g)) (λ e k. early-more H g e.maker e.entry k) H (subst (AllByRecursion (Early H)) (until-none is_opening H h) kept.early))
+              (AllByRecursion-map (Early H) (Early (H ++ g)) (λ e k. early-more H g e.stamp.maker e.entry k) H (subst (AllByRecursion (Early H)) (until-none is_opening H h) kept.early))
               (AllByRecursion-until (Early (H ++ g)) is_opening g
-              (AllByRecursion-map (Allowed H) (Early (H ++ g)) (λ e k. early-more H g e.maker e.entry (early-new H soon e.maker e.entry k)) g entries)));
+              (AllByRecursion-map (Allowed H) (Early (H ++ g)) (λ e k. early-more H g e.stamp.maker e.entry (early-new H soon e.stamp.maker e.entry k)) g entries)));
           late = subst (AllByRecursion (Late (H ++ g))) (sym (since-append is_opening H g h ∙ group_since Bidding H g moves)) tt;
           begun = in_time-after Bidding H g moves kept.begun;
         }

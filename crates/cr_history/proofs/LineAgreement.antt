@@ -21,7 +21,7 @@ use Rattle.cr_base.proofs.LastLaws.{last_or-cons}
 
 -- an entry with its maker and its mark
 abbrev pub stamp : ℕ → Bool → Entry → Stamped
-stamp maker more entry = record { maker = maker; more = more; entry = entry }
+stamp maker more entry = record { stamp = record { maker = maker }; more = more; entry = entry }
 
 -- ---- accounts as they stand after more entries
 
@@ -136,7 +136,7 @@ lines-tables t (s ∷ H) fits =
     let grown = length-after t.accounts s.entry in
     let later = later_users (length t.accounts) (tables_after t s) H fits.1 (omega (arith, grown)) in
     lines-tables (tables_after t s) H fits.1
-    ∙ lines-entry t.accounts s.maker s.more s.entry H (all_told registration_told H) fits.0.accounts later
+    ∙ lines-entry t.accounts s.stamp.maker s.more s.entry H (all_told registration_told H) fits.0.accounts later
 
 -- the accounts that a history tells are those of its tables
 pub accounts_of-tables : (H : History) → FitInTurn no_tables H → accounts_of H ≡ lines_of (tables_of H).accounts

@@ -83,7 +83,7 @@ order-entry accounts ties maker e fits order = order-stays accounts ties e order
 
 order-from : (t : Tables) (H : History) → FitInTurn t H → HasOrder t.accounts t.ties → HasOrder (tables_from t H).accounts (tables_from t H).ties
 order-from t [] fits order = order
-order-from t (s ∷ H) fits order = order-from (tables_after t s) H fits.1 (order-entry t.accounts t.ties s.maker s.entry fits.0.accounts order)
+order-from t (s ∷ H) fits order = order-from (tables_after t s) H fits.1 (order-entry t.accounts t.ties s.stamp.maker s.entry fits.0.accounts order)
 
 pub has_order-tables : (H : History) → FitInTurn no_tables H → HasOrder (tables_of H).accounts (tables_of H).ties
 has_order-tables H fits = order-from no_tables H fits (record { conflicts = none; declared = none })

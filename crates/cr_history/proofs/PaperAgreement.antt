@@ -35,7 +35,7 @@ numbers-entry state maker e fits rest = refl
 
 -- the papers of a history are numbered from 1
 pub papers_of-tables : (H : History) → FitInTurn no_tables H → papers_of H ≡ paper_numbers (tables_of H).papers
-papers_of-tables H fits = told-fitting ◌++◌ append-nil (λ (t : Tables). paper_numbers t.papers) (λ (s : Stamped). paper_told s.entry) (λ t s fit. numbers-entry t.papers s.maker s.entry fit.papers) no_tables H fits
+papers_of-tables H fits = told-fitting ◌++◌ append-nil (λ (t : Tables). paper_numbers t.papers) (λ (s : Stamped). paper_told s.entry) (λ t s fit. numbers-entry t.papers s.stamp.maker s.entry fit.papers) no_tables H fits
 
 -- ---- how many papers are the user's own
 
@@ -47,7 +47,7 @@ own-entry u state maker e n = omega arith
 -- a user's own papers are those that she submitted
 pub own_papers_of-tables : (u : Option ℕ) (H : History) → own_papers_of u H ≡ own_count (tables_of H).papers u
 own_papers_of-tables u H =
-    sum-tables length refl length-append (λ (t : Tables). t.papers.submitted) refl u (own_paper_told u) (λ t s n. own-entry u t.papers s.maker s.entry n) H
+    sum-tables length refl length-append (λ (t : Tables). t.papers.submitted) refl u (own_paper_told u) (λ t s n. own-entry u t.papers s.stamp.maker s.entry n) H
     ∙ read u (tables_of H).papers
   where
     read : (u : Option ℕ) (state : PapersState) → sum_at state.submitted u ≡ own_count state u
@@ -73,7 +73,7 @@ bytes-entry u state maker e n = omega arith
 -- a user's bytes are those of all that she uploaded
 pub own_bytes_of-tables : (u : Option ℕ) (H : History) → own_bytes_of u H ≡ own_bytes (tables_of H).papers u
 own_bytes_of-tables u H =
-    sum-tables total refl total-append (λ (t : Tables). t.papers.uploaded) refl u (own_bytes_told u) (λ t s n. bytes-entry u t.papers s.maker s.entry n) H
+    sum-tables total refl total-append (λ (t : Tables). t.papers.uploaded) refl u (own_bytes_told u) (λ t s n. bytes-entry u t.papers s.stamp.maker s.entry n) H
     ∙ read u (tables_of H).papers
   where
     read : (u : Option ℕ) (state : PapersState) → sum_at state.uploaded u ≡ own_bytes state u
@@ -129,7 +129,7 @@ module _ (part : Paper → List ℕ) (anew : (title abstract : List ℕ) (y : Pa
   text-tables told same H fits =
       ap (λ (told : Entry → List (List ℕ)). last (all_told told H)) (λ i e. same e i)
       ∙ ap (λ (o : Option Paper). last_from (option_map part o) (all_told (text_told part p) H)) (sym (numbered-nil p))
-      ∙ told-fitting last_from (λ _. refl) (λ (t : Tables). text_at part t.papers p) (λ (s : Stamped). text_told part p s.entry) (λ t s fit. text-entry t.papers s.maker s.entry fit.papers) no_tables H fits
+      ∙ told-fitting last_from (λ _. refl) (λ (t : Tables). text_at part t.papers p) (λ (s : Stamped). text_told part p s.entry) (λ t s fit. text-entry t.papers s.stamp.maker s.entry fit.papers) no_tables H fits
 
 pub title_of-tables : (p : ℕ) (H : History) → FitInTurn no_tables H → title_of p H ≡ title_at (tables_of H).papers p
 title_of-tables p H fits = text-tables (λ (paper : Paper). paper.title) (λ title abstract y. refl) (λ y. refl) p (title_told p) (title-text p) H fits
@@ -167,7 +167,7 @@ withdrawn-entry p state maker e fits rest = refl
 pub is_withdrawn-tables : (p : ℕ) (H : History) → FitInTurn no_tables H → is_withdrawn p H ≡ is_withdrawn_at (tables_of H).papers p
 is_withdrawn-tables p H fits =
     ap (λ (o : Option Paper). last_or (is_withdrawn_in o) (all_told (withdrawal_told p) H)) (sym (numbered-nil p))
-    ∙ told-fitting last_or (λ _. refl) (λ (t : Tables). is_withdrawn_at t.papers p) (λ (s : Stamped). withdrawal_told p s.entry) (λ t s fit. withdrawn-entry p t.papers s.maker s.entry fit.papers) no_tables H fits
+    ∙ told-fitting last_or (λ _. refl) (λ (t : Tables). is_withdrawn_at t.papers p) (λ (s : Stamped). withdrawal_told p s.entry) (λ t s fit. withdrawn-entry p t.papers s.stamp.maker s.entry fit.papers) no_tables H fits
 
 -- ---- what was uploaded to a paper
 
@@ -184,7 +184,7 @@ pub uploads_of-tables : (p : ℕ) (H : History) → uploads_of p H ≡ uploads_a
 uploads_of-tables p H =
     told-always ◌++◌ append-nil (λ (t : Tables). uploads_at t.papers p) (λ (s : Stamped). upload_told p s.entry)
     (λ t s rest. sym (append_assoc (uploads_at t.papers p) (upload_told p s.entry) rest)
-    ∙ ap (λ us. us ++ rest) (uploads-entry p t.papers s.maker s.entry)) no_tables H
+    ∙ ap (λ us. us ++ rest) (uploads-entry p t.papers s.stamp.maker s.entry)) no_tables H
 
 -- ---- the authors of a paper
 
@@ -198,9 +198,9 @@ authors-entry p ties maker e = append-nil (authors_in ties p)
 
 pub authors_of-tables : (p : ℕ) (H : History) → authors_of p H ≡ authors_in (tables_of H).ties p
 authors_of-tables p H =
-    told-always ◌++◌ append-nil (λ (t : Tables). authors_in t.ties p) (λ (s : Stamped). author_told p s.maker s.entry)
-    (λ t s rest. sym (append_assoc (authors_in t.ties p) (author_told p s.maker s.entry) rest)
-    ∙ ap (λ xs. xs ++ rest) (authors-entry p t.ties s.maker s.entry)) no_tables H
+    told-always ◌++◌ append-nil (λ (t : Tables). authors_in t.ties p) (λ (s : Stamped). author_told p s.stamp.maker s.entry)
+    (λ t s rest. sym (append_assoc (authors_in t.ties p) (author_told p s.stamp.maker s.entry) rest)
+    ∙ ap (λ xs. xs ++ rest) (authors-entry p t.ties s.stamp.maker s.entry)) no_tables H
 
 pub is_author-tables : (u : Option ℕ) (p : ℕ) (H : History) → is_author u p H ≡ is_author_in (tables_of H).ties u p
 is_author-tables u p H = ap (list_any (is_number u)) (authors_of-tables p H)

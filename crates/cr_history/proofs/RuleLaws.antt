@@ -27,13 +27,13 @@ use Rattle.cr_base.specs.History.{History, Registration, all_told, registration_
 use Rattle.cr_base.specs.HistoryFacts.{phase_of, role_of, accounts_of, papers_of, own_papers_of, own_bytes_of}
 use Rattle.cr_base.specs.HistoryFacts.{is_author, is_conflicted, bid_of, ordinal_of, seats_of, is_written, own_forms_of, own_comments_of, is_accepted, standing_of}
 use Rattle.cr_base.specs.Page.{gets_conflicts}
-use Rattle.cr_base.specs.Phases.{is_from, is_phase, is_next}
+use Rattle.cr_base.specs.Phases.{is_from, is_phase, is_next, committee_works}
 use Rattle.cr_base.specs.Words.{role_number, is_member, is_chair}
 use Rattle.cr_base.specs.Bounds.{IsForm, IsBoundedCommand}
 use Rattle.cr_base.specs.TagTexts.{is_tag, is_for_chairs}
 use Rattle.cr_base.specs.Texts.{IsName, IsCommentText}
 use Rattle.cr_base.specs.Checks.{Check, of_role, target_role, register_checks, phase_checks, submit_checks, revise_checks, upload_checks, name_checks, mode_checks}
-use Rattle.cr_base.specs.Checks.{is_in_committee, chair_checks, conflict_case, conflict_checks, bid_checks, assign_checks, unassign_checks}
+use Rattle.cr_base.specs.Checks.{chair_checks, conflict_case, conflict_checks, bid_checks, assign_checks, unassign_checks}
 use Rattle.cr_base.specs.Checks.{review_checks, comment_checks, tag_checks, decide_checks}
 use Rattle.cr_base.specs.Drawn.{Drawn, grouped, registration_drawn, phase_drawn, submission_drawn, revision_drawn, upload_drawn}
 use Rattle.cr_base.specs.Drawn.{withdrawal_drawn, naming_drawn, mode_drawn, conflict_drawn, bid_drawn, assignment_drawn, unassignment_drawn}
@@ -307,7 +307,7 @@ module _ (H : History) (maker : ℕ) (shown : Shown) (registered : IsRegistered 
   chair-told p withdrawn none =
       let by = standing_of (Some maker) (Some p) H in
       all (is_chair by.role) by.conflicted (is_from Bidding by.phase) (is_from Notification by.phase)
-      (not-false (is_chair by.role) none.0) none.1.0 (not-false (is_in_committee by.phase) none.1.1.0)
+      (not-false (is_chair by.role) none.0) none.1.0 (not-false (committee_works by.phase) none.1.1.0)
     where
       all : (chair conflicted begun late : Bool) → chair ≡ true → conflicted ≡ false → (begun && not late) ≡ true → ((chair && not conflicted) && begun) ≡ true
       all chair conflicted begun late hc hf hb = grind arith
@@ -324,7 +324,7 @@ module _ (H : History) (maker : ℕ) (shown : Shown) (registered : IsRegistered 
       let of_target = of_chair.1.1.1.1 in
       let all = chair-told p (shown.withdrawn p) (of_chair.0, (of_chair.1.0, (of_chair.1.1.0, (of_chair.1.1.1.0, tt)))) in
       record {
-        phase = not-false (is_in_committee by.phase) of_chair.1.1.0;
+        phase = not-false (committee_works by.phase) of_chair.1.1.0;
         chair = not-false (is_chair by.role) of_chair.0;
         role = tt;
         member = ap is_member (sym k.held) ∙ not-false (is_member k.role) of_target.0;
@@ -349,7 +349,7 @@ module _ (H : History) (maker : ℕ) (shown : Shown) (registered : IsRegistered 
       let all = chair-told p (shown.withdrawn p) (of_chair.0, (of_chair.1.0, (of_chair.1.1.0, (of_chair.1.1.1.0, tt)))) in
       let taken = some-where (shown.ordinal (Some v) p) (not-false (is_some (shown.ordinal (Some v) p)) of_chair.1.1.1.1.0) in
       record {
-        phase = not-false (is_in_committee by.phase) of_chair.1.1.0;
+        phase = not-false (committee_works by.phase) of_chair.1.1.0;
         chair = not-false (is_chair by.role) of_chair.0;
         role = tt;
         member = tt;
@@ -403,7 +403,7 @@ module _ (H : History) (maker : ℕ) (shown : Shown) (registered : IsRegistered 
   tagged-ruled (Some p) tag on bounded none =
       let by = standing_of (Some maker) (Some p) H in
       record {
-        phase = not-false (is_in_committee by.phase) none.1.1.1.1.0;
+        phase = not-false (committee_works by.phase) none.1.1.1.1.0;
         chair = tt;
         role = tt;
         member = tt;

@@ -48,9 +48,9 @@ sized-from t [] fits sized = sized
 sized-from t (s ∷ H) fits sized =
     sized-from (tables_after t s) H fits.1 (record {
       accounts = accounts-few t.accounts s.entry fits.0.accounts sized.accounts;
-      papers = papers-few t.papers s.maker s.entry fits.0.papers sized.papers;
-      ties = within-after t.papers t.ties s.maker s.entry fits.0.papers sized.ties;
-      seats = seats-within t.papers t.seats s.maker s.entry fits.0.papers sized.seats;
+      papers = papers-few t.papers s.stamp.maker s.entry fits.0.papers sized.papers;
+      ties = within-after t.papers t.ties s.stamp.maker s.entry fits.0.papers sized.ties;
+      seats = seats-within t.papers t.seats s.stamp.maker s.entry fits.0.papers sized.seats;
     })
 
 pub sized-tables : (H : History) → FitInTurn no_tables H → IsSized (tables_of H)

@@ -34,7 +34,7 @@ has_form-more : (s : Stamped) (H : History) (e : Entry) → HasForm H e → HasF
 has_form-more s H (Reviewed paper ordinal version form) h = some-more (form_told paper ordinal s.entry) (forms_of paper ordinal H) h
 has_form-more s H e h = tt
 
-has_form-first : (maker : ℕ) (more : Bool) (e : Entry) (H : History) → HasForm (record { maker = maker; more = more; entry = e } ∷ H) e
+has_form-first : (maker : ℕ) (more : Bool) (e : Entry) (H : History) → HasForm (record { stamp = record { maker = maker }; more = more; entry = e } ∷ H) e
 has_form-first maker more (Reviewed paper ordinal version form) H =
     by (eqb paper paper) (eqb ordinal ordinal) (eq-eqb paper paper refl) (eq-eqb ordinal ordinal refl)
   where
@@ -48,7 +48,7 @@ has_form-first maker more e H = tt
 has_forms : (H : History) → AllByRecursion (λ (s : Stamped). HasForm H s.entry) H
 has_forms [] = tt
 has_forms (s ∷ H) = (
-  has_form-first s.maker s.more s.entry H,
+  has_form-first s.stamp.maker s.more s.entry H,
   AllByRecursion-map (λ (e : Stamped). HasForm H e.entry) (λ (e : Stamped). HasForm (s ∷ H) e.entry) (λ e h. has_form-more s H e.entry h) H (has_forms H),
 )
 
@@ -114,14 +114,14 @@ ruled-held H maker more (Reviewed paper ordinal version form) ruled =
     seat-stays (Some maker) paper H (stamp maker more (Reviewed paper ordinal version form) ∷ []) refl ∙ ruled.seat
 ruled-held H maker more e ruled = tt
 
-added-held : (H g : History) → Adds H g → AllByRecursion (λ (e : Stamped). IsHeld (H ++ g) e.maker e.entry) g
+added-held : (H g : History) → Adds H g → AllByRecursion (λ (e : Stamped). IsHeld (H ++ g) e.stamp.maker e.entry) g
 added-held H g (single maker e made alone ruled) = (ruled-held H maker false e ruled, tt)
 added-held H g (submitted maker p title abstract users made ruled registered) =
-    grouped-each maker (λ (e : Stamped). IsHeld (H ++ g) e.maker e.entry) (submission maker p title abstract users)
+    grouped-each maker (λ (e : Stamped). IsHeld (H ++ g) e.stamp.maker e.entry) (submission maker p title abstract users)
     (submission-each (λ (e : Entry). (more : Bool) → IsHeld (H ++ g) maker e) maker p title abstract users (λ more. tt) (λ user more. tt))
 added-held H g (first_user n name digest is texts) = (tt, (tt, tt))
 
-grown-held : (H g : History) → Grows H g → AllByRecursion (λ (e : Stamped). IsHeld (H ++ g) e.maker e.entry) g
+grown-held : (H g : History) → Grows H g → AllByRecursion (λ (e : Stamped). IsHeld (H ++ g) e.stamp.maker e.entry) g
 grown-held H g (adds same added) = added-held H g added
 grown-held H g (goes_on maker e made goes ruled) = (ruled-held H maker true e ruled, tt)
 
@@ -134,10 +134,10 @@ held-more H g leaves maker e written held = tt
 
 pub stay-append : (H g : History) → Grows H g → ReviewersStay H → ReviewersStay (H ++ g)
 stay-append H g grows kept =
-    let Held : History → Stamped → Type 0 = λ G e. IsHeld G e.maker e.entry in
+    let Held : History → Stamped → Type 0 = λ G e. IsHeld G e.stamp.maker e.entry in
     All-from_recursion (Held (H ++ g)) (H ++ g)
     (AllByRecursion-append (Held (H ++ g)) H g
     (AllByRecursion-map (λ (e : Stamped). HasForm H e.entry × Held H e) (Held (H ++ g))
-    (λ e h. held-more H g (grown-leaves H g grows) e.maker e.entry h.0 h.1) H
+    (λ e h. held-more H g (grown-leaves H g grows) e.stamp.maker e.entry h.0 h.1) H
     (AllByRecursion-both (λ (e : Stamped). HasForm H e.entry) (Held H) H (has_forms H) (recursion_from_All (Held H) H kept)))
     (grown-held H g grows))

@@ -36,7 +36,7 @@ count-after state maker e = omega arith
 count-from : (t : Tables) (H : History) → paper_count t.papers ≤ paper_count (tables_from t H).papers
 count-from t [] = omega arith
 count-from t (s ∷ H) =
-    let one = count-after t.papers s.maker s.entry in
+    let one = count-after t.papers s.stamp.maker s.entry in
     let rest = count-from (tables_after t s) H in
     omega (arith, one, rest)
 
@@ -49,7 +49,7 @@ no_conflict-from : (p : ℕ) (t : Tables) (H : History) → FitInTurn t H → pa
 no_conflict-from p t [] fits h = refl
 no_conflict-from p t (s ∷ H) fits h =
     let grown = count-from t (s ∷ H) in
-    ap (λ b. b || has_conflict p H) (no_conflict-entry p t.papers s.maker s.entry fits.0.papers (omega (arith, grown, h)))
+    ap (λ b. b || has_conflict p H) (no_conflict-entry p t.papers s.stamp.maker s.entry fits.0.papers (omega (arith, grown, h)))
     ∙ no_conflict-from p (tables_after t s) H fits.1 h
 
 -- ---- one entry behind another

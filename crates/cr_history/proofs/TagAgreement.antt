@@ -40,5 +40,5 @@ tag-entry p tags maker e rest = refl
 -- a paper's tags are those that the table has
 pub tags_of-tables : (p : ℕ) (H : History) → tags_of p H ≡ filed_of p (tables_of H).tags
 tags_of-tables p H =
-    told-always turned_on (λ _. refl) (λ (t : Tables). filed_of p t.tags) (λ (s : Stamped). tag_told p s.maker s.entry)
-    (λ t s. tag-entry p t.tags s.maker s.entry) no_tables H
+    told-always turned_on (λ _. refl) (λ (t : Tables). filed_of p t.tags) (λ (s : Stamped). tag_told p s.stamp.maker s.entry)
+    (λ t s. tag-entry p t.tags s.stamp.maker s.entry) no_tables H

@@ -40,10 +40,10 @@ comments-entry p talk maker e = append-nil (map comment_as_told (comments_in tal
 -- the comments on a paper are those that the table has
 pub comments_of-tables : (p : ℕ) (H : History) → comments_of p H ≡ map comment_as_told (comments_in (tables_of H).talk p)
 comments_of-tables p H =
-    told-always ◌++◌ append-nil (λ (t : Tables). map comment_as_told (comments_in t.talk p)) (λ (s : Stamped). comment_told p s.maker s.entry)
+    told-always ◌++◌ append-nil (λ (t : Tables). map comment_as_told (comments_in t.talk p)) (λ (s : Stamped). comment_told p s.stamp.maker s.entry)
     (λ t s rest.
-    sym (append_assoc (map comment_as_told (comments_in t.talk p)) (comment_told p s.maker s.entry) rest)
-    ∙ ap (λ (cs : List CommentTold). cs ++ rest) (comments-entry p t.talk s.maker s.entry)) no_tables H
+    sym (append_assoc (map comment_as_told (comments_in t.talk p)) (comment_told p s.stamp.maker s.entry) rest)
+    ∙ ap (λ (cs : List CommentTold). cs ++ rest) (comments-entry p t.talk s.stamp.maker s.entry)) no_tables H
 
 -- ---- how many comments the user has written
 
@@ -55,7 +55,7 @@ own-entry u talk maker e n = omega arith
 -- she has written as many as the table says
 pub own_comments_of-tables : (u : Option ℕ) (H : History) → own_comments_of u H ≡ own_comments_in (tables_of H).talk u
 own_comments_of-tables u H =
-    sum-tables length refl length-append (λ (t : Tables). t.talk.written) refl u (own_comment_told u) (λ t s n. own-entry u t.talk s.maker s.entry n) H
+    sum-tables length refl length-append (λ (t : Tables). t.talk.written) refl u (own_comment_told u) (λ t s n. own-entry u t.talk s.stamp.maker s.entry n) H
     ∙ read u (tables_of H).talk
   where
     read : (u : Option ℕ) (talk : TalkState) → sum_at talk.written u ≡ own_comments_in talk u

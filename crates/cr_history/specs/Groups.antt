@@ -60,4 +60,4 @@ pub data Adds (H : History) : History → Type 0 where
 pub data Grows (H : History) : History → Type 0 where
   adds : (g : History) → Adds H g → Grows H g
   goes_on : (maker : ℕ) (e : Entry) → IsMadeByUser H maker e → IsRowEntry e → IsRuled H maker e
-      → Grows H (record { maker = maker; more = true; entry = e } ∷ [])
+      → Grows H (record { stamp = record { maker = maker }; more = true; entry = e } ∷ [])

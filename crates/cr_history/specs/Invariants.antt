@@ -8,15 +8,15 @@ use Rattle.cr_base.specs.declared.entry.Entry.TheVariants.{Coauthor, Revised, Up
 use Rattle.cr_base.specs.declared.entry.Entry.TheVariants.{Bid, Assigned, Unassigned, Reviewed}
 use Rattle.cr_base.specs.declared.entry.Entry.TheVariants.{Commented, Tagged, Decided}
 use Rattle.cr_base.specs.declared.entry.Stamped.{Stamped}
-use Rattle.cr_base.specs.declared.words.Phase.TheVariants.{Setup, Submission, Bidding}
-use Rattle.cr_base.specs.declared.words.Phase.TheVariants.{Reviewing, Discussion, Notification}
-use Rattle.cr_base.specs.Checks.{is_in_committee}
+use Rattle.cr_base.specs.declared.words.Phase.TheVariants.{Bidding, Discussion}
 use Rattle.cr_base.specs.HistoryFacts.{phase_of, role_of, accounts_of, papers_of, uploads_of}
 use Rattle.cr_base.specs.HistoryFacts.{number_of, is_author, is_conflicted, ordinal_of, seats_of}
 use Rattle.cr_base.specs.HistoryFacts.{forms_of, is_written, comments_of}
 use Rattle.cr_base.specs.History.{History, Registration, all_told, registration_told, opens, opens_discussion}
 use Rattle.cr_base.specs.Lists.{until, since}
-use Rattle.cr_base.specs.Phases.{is_from, is_phase, is_next}
+use Rattle.cr_base.specs.Phases.{is_from, is_next, mode_may_be_set, accepts_submissions, papers_may_change}
+use Rattle.cr_base.specs.Phases.{authors_have_declared, conflicts_are_final, roles_are_final, committee_works}
+use Rattle.cr_base.specs.Phases.{bids_are_taken, reviews_are_written, comments_are_written, decisions_are_made}
 use Rattle.cr_base.specs.Rows.{kind_of, row_of, stamped, IsBoundedEntry}
 use Rattle.cr_base.specs.Tables.{no_tables, FitInTurn}
 use Rattle.cr_base.specs.TagTexts.{is_for_chairs}
@@ -104,23 +104,22 @@ IsAboutThose H _ = Unit {0}
 -- written in reviewing and in the discussion, and comments in the discussion, where the committee decides too
 abbrev pub IsInPhase : History → Entry → Type 0
 IsInPhase H (Registered user name digest) = Unit {0}
-IsInPhase H (Named user role) = IsFalse (is_from Notification (phase_of H))
+IsInPhase H (Named user role) = IsFalse (roles_are_final (phase_of H))
 IsInPhase H (PhaseSet phase) = IsTrue (is_next (phase_of H) phase)
-IsInPhase H (ModeSet mode) = IsTrue (is_phase (phase_of H) Setup)
-IsInPhase H (Submitted paper title abstract) = IsTrue (is_phase (phase_of H) Submission)
-IsInPhase H (Coauthor paper user) = IsTrue (is_phase (phase_of H) Submission)
-IsInPhase H (Revised paper title abstract) = IsTrue (is_phase (phase_of H) Submission)
-IsInPhase H (Uploaded paper version content) = IsTrue (is_phase (phase_of H) Submission)
-IsInPhase H (Withdrawn paper) = IsTrue (is_phase (phase_of H) Submission)
-IsInPhase H (Conflict paper user on) = IsFalse (is_from Notification (phase_of H))
-IsInPhase H (Bid paper value) = IsTrue (is_phase (phase_of H) Bidding)
-IsInPhase H (Assigned paper user kind ordinal) = IsTrue (is_in_committee (phase_of H))
-IsInPhase H (Unassigned paper user ordinal) = IsTrue (is_in_committee (phase_of H))
-IsInPhase H (Reviewed paper ordinal version form) =
-    IsTrue (is_phase (phase_of H) Reviewing || is_phase (phase_of H) Discussion)
-IsInPhase H (Commented paper n ordinal text) = IsTrue (is_phase (phase_of H) Discussion)
-IsInPhase H (Tagged paper tag on) = IsTrue (is_in_committee (phase_of H))
-IsInPhase H (Decided paper decision) = IsTrue (is_phase (phase_of H) Discussion)
+IsInPhase H (ModeSet mode) = IsTrue (mode_may_be_set (phase_of H))
+IsInPhase H (Submitted paper title abstract) = IsTrue (accepts_submissions (phase_of H))
+IsInPhase H (Coauthor paper user) = IsTrue (accepts_submissions (phase_of H))
+IsInPhase H (Revised paper title abstract) = IsTrue (papers_may_change (phase_of H))
+IsInPhase H (Uploaded paper version content) = IsTrue (papers_may_change (phase_of H))
+IsInPhase H (Withdrawn paper) = IsTrue (papers_may_change (phase_of H))
+IsInPhase H (Conflict paper user on) = IsFalse (conflicts_are_final (phase_of H))
+IsInPhase H (Bid paper value) = IsTrue (bids_are_taken (phase_of H))
+IsInPhase H (Assigned paper user kind ordinal) = IsTrue (committee_works (phase_of H))
+IsInPhase H (Unassigned paper user ordinal) = IsTrue (committee_works (phase_of H))
+IsInPhase H (Reviewed paper ordinal version form) = IsTrue (reviews_are_written (phase_of H))
+IsInPhase H (Commented paper n ordinal text) = IsTrue (comments_are_written (phase_of H))
+IsInPhase H (Tagged paper tag on) = IsTrue (committee_works (phase_of H))
+IsInPhase H (Decided paper decision) = IsTrue (decisions_are_made (phase_of H))
 
 -- chairs set the phase and the mode, name members and chairs, assign and unassign reviewers, and decide; the first
 -- user alone is named otherwise, as she registers, by the second entry of all
@@ -148,7 +147,7 @@ IsOfMember H _ = Unit {0}
 -- declares her own, and chairs in no conflict with the paper turn anybody's on and off
 abbrev pub may_turn : History → ℕ → ℕ → ℕ → Bool → Bool
 may_turn H maker paper user on =
-    if is_from Bidding (phase_of H)
+    if authors_have_declared (phase_of H)
     then (user == maker && on) || (is_chair (role_of (Some maker) H) && not (is_conflicted (Some maker) paper H))
     else is_author (Some maker) paper H && on
 
@@ -200,17 +199,17 @@ ComesFirst H _ = Unit {0}
 
 -- all of it
 pub record IsInOrder (H : History) (e : Stamped) : Type 0 where
-  pub maker : IsMadeByUser H e.maker e.entry
+  pub maker : IsMadeByUser H e.stamp.maker e.entry
   pub mark : IsMarked e.more e.entry
   pub number : HasNextNumber H e.entry
   pub name : HasNewName H e.entry
   pub about : IsAboutThose H e.entry
   pub phase : IsInPhase H e.entry
-  pub chair : IsByChair H e.maker e.entry
+  pub chair : IsByChair H e.stamp.maker e.entry
   pub role : RaisesRole H e.entry
   pub member : IsOfMember H e.entry
-  pub right : IsByRight H e.maker e.entry
-  pub seat : IsSeated H e.maker e.entry
+  pub right : IsByRight H e.stamp.maker e.entry
+  pub seat : IsSeated H e.stamp.maker e.entry
   pub first : ComesFirst H e.entry
 
 -- it is so of each entry, on what stands before it
@@ -224,7 +223,7 @@ InTurn P before (e ∷ after) = P before e × InTurn P (before ++ e ∷ []) afte
 abbrev pub IsWhole : History → Type 0
 IsWhole [] = Unit {0}
 IsWhole (e ∷ []) = IsFalse e.more
-IsWhole (e ∷ next ∷ after) = (IsTrue e.more → next.maker ≡ e.maker) × IsWhole (next ∷ after)
+IsWhole (e ∷ next ∷ after) = (IsTrue e.more → next.stamp.maker ≡ e.stamp.maker) × IsWhole (next ∷ after)
 
 -- whether the entry opens the bidding
 abbrev pub is_opening : Stamped → Bool
@@ -241,10 +240,10 @@ ByHerselfOrOther H maker (Conflict paper user on) = IsFalse (user == maker) → 
 ByHerselfOrOther H maker e = Unit {0}
 
 abbrev pub Early : History → Stamped → Type 0
-Early H e = ByAuthor H e.maker e.entry
+Early H e = ByAuthor H e.stamp.maker e.entry
 
 abbrev pub Late : History → Stamped → Type 0
-Late H e = ByHerselfOrOther H e.maker e.entry
+Late H e = ByHerselfOrOther H e.stamp.maker e.entry
 
 -- before the bidding each conflict entry is made by an author of its paper; from the bidding on, one whose maker isn't
 -- the user named is made by no author; and an entry opens the bidding exactly where it is that phase or a later one
@@ -264,7 +263,7 @@ IsHeld H maker e = Unit {0}
 
 -- whoever has written a form stays a reviewer of the paper, under the label under which she wrote it
 abbrev pub ReviewersStay : History → Type 0
-ReviewersStay H = All (λ (e : Stamped). IsHeld H e.maker e.entry) H
+ReviewersStay H = All (λ (e : Stamped). IsHeld H e.stamp.maker e.entry) H
 
 -- ---- all of them
 

@@ -12,8 +12,7 @@ ghost use Rattle.cr_papers.specs.Named.{named_in};
 
 use crate::uploads::Uploads;
 use cr_base::{
-    Blob, Entry, LAST_NUMBER, Paper, PaperNo, Phase, Rule, Stamped, Standing, Text, UserNo,
-    Versions,
+    Blob, Entry, LAST_NUMBER, Paper, PaperNo, Rule, Stamped, Standing, Text, UserNo, Versions,
 };
 use cr_kept::Sums;
 use std::alloc::{AllocError, Global};
@@ -198,7 +197,7 @@ impl Papers {
         if !users_found {
             return Err(Rule::NoUser);
         }
-        if !by.phase.is(Phase::Submission) {
+        if !by.phase.accepts_submissions() {
             return Err(Rule::WrongPhase);
         }
         if self.count() >= LAST_NUMBER {
@@ -269,7 +268,7 @@ impl Papers {
         if !by.author {
             return Err(Rule::NotAuthor);
         }
-        if !by.phase.is(Phase::Submission) {
+        if !by.phase.papers_may_change() {
             return Err(Rule::WrongPhase);
         }
         if self.is_withdrawn(paper) {
@@ -298,18 +297,18 @@ impl Papers {
     /// paper are kept; takes no memory.
     pub fn apply(&mut self, stamped: Stamped)
         requires room { 0 < self.old.room }
-        requires fits { PapersFit self.old.papers stamped.maker stamped.entry }
-        ensures after { self.new.papers ≡ papers_after self.old.papers stamped.maker stamped.entry }
+        requires fits { PapersFit self.old.papers stamped.stamp.maker stamped.entry }
+        ensures after { self.new.papers ≡ papers_after self.old.papers stamped.stamp.maker stamped.entry }
         ensures room { self.old.room ≤ self.new.room + 1 }
     {
-        let Stamped { maker, entry, .. } = stamped;
+        let Stamped { stamp, entry, .. } = stamped;
         match entry {
             Entry::Submitted {
                 title,
                 abstract_,
                 ..
             } => {
-                self.submitted.add(maker, 1);
+                self.submitted.add(stamp.maker, 1);
                 self.uploads.add_paper();
                 self.papers.push_reserved(Paper {
                     title,
@@ -331,7 +330,7 @@ impl Papers {
                 version,
                 content,
             } => {
-                self.uploaded.add(maker, content.as_slice().len() as u64);
+                self.uploaded.add(stamp.maker, content.as_slice().len() as u64);
                 self.uploads.add(paper, version, content);
             }
             Entry::Withdrawn { paper } => {

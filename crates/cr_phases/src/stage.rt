@@ -80,7 +80,7 @@ impl Stage {
         ensures { result ≡ judged (mode_checks by.now self.now.phase) tt }
     {
         chairs_only(by)?;
-        if !self.phase.is(Phase::Setup) {
+        if !self.phase.mode_may_be_set() {
             return Err(Rule::WrongPhase);
         }
         Ok(())

@@ -41,7 +41,7 @@ ascending-entry ties maker e ascending = ascending
 
 ascending-from : (t : Tables) (H : History) → IsAscending ByPaper t.ties.bids → IsAscending ByPaper (tables_from t H).ties.bids
 ascending-from t [] ascending = ascending
-ascending-from t (s ∷ H) ascending = ascending-from (tables_after t s) H (ascending-entry t.ties s.maker s.entry ascending)
+ascending-from t (s ∷ H) ascending = ascending-from (tables_after t s) H (ascending-entry t.ties s.stamp.maker s.entry ascending)
 
 -- ---- whoever bids has registered
 
@@ -60,11 +60,11 @@ no_bid before v p maker e made none = refl
 
 -- who hasn't has made no bid
 no_bids : (before H : History) (v p : ℕ) → InTurn IsInOrder before H → has_registered before v ≡ false → has_registered H v ≡ false
-    → flat_map (λ (e : Stamped). bid_told (Some v) p e.maker e.entry) H ≡ []
+    → flat_map (λ (e : Stamped). bid_told (Some v) p e.stamp.maker e.entry) H ≡ []
 no_bids before [] v p kept none later = refl
 no_bids before (e ∷ after) v p kept none later =
     let test : Registration → Bool = λ r. eqb r.user v in
-    let rest : List ℕ = flat_map (λ (e : Stamped). bid_told (Some v) p e.maker e.entry) after in
+    let rest : List ℕ = flat_map (λ (e : Stamped). bid_told (Some v) p e.stamp.maker e.entry) after in
     let parts = or_parts (list_any test (registration_told e.entry)) (has_registered after v)
     (sym (list_any-append test (registration_told e.entry) (all_told registration_told after)) ∙ later) in
     let still : has_registered (before ++ e ∷ []) v ≡ false =
@@ -72,7 +72,7 @@ no_bids before (e ∷ after) v p kept none later =
     ∙ list_any-append test (all_told registration_told before) (all_told registration_told (e ∷ []))
     ∙ neither (has_registered before v) (has_registered (e ∷ []) v) none
     (list_any-append test (registration_told e.entry) [] ∙ neither (list_any test (registration_told e.entry)) false parts.0 refl) in
-    ap (λ xs. xs ++ rest) (no_bid before v p e.maker e.entry kept.0.maker none)
+    ap (λ xs. xs ++ rest) (no_bid before v p e.stamp.maker e.entry kept.0.maker none)
     ∙ no_bids (before ++ e ∷ []) after v p kept.1 still parts.1
   where
     neither : (a b : Bool) → a ≡ false → b ≡ false → (a || b) ≡ false

@@ -301,7 +301,7 @@ module _ (u : Option ℕ) (H : History) where
 
 pub outsiders-shown : OutsidersShown
 outsiders-shown u p H out =
-    all-view u H (λ (s : Sighting). is_number s.paper p ≡ true → IsLeft u (outsider u p H) s.kind s) (λ (e : Stamped). IsWriters u H e.maker e.entry)
+    all-view u H (λ (s : Sighting). is_number s.paper p ≡ true → IsLeft u (outsider u p H) s.kind s) (λ (e : Stamped). IsWriters u H e.stamp.maker e.entry)
     (λ before later maker more e writes told.
     on-paper (shown_to u H before later maker e) (paper_for u H before later maker e) (left-one u H before later maker e writes told))
     (writers-all u H)

@@ -73,10 +73,10 @@ module _ {A : Type 0} (u : Option ℕ) (p : ℕ) (H : History) (gives : Entry �
     late before later maker e h = shows before later maker e ∙ ap (λ b. told_known (gives e) (is_number u maker) (not b && may) (value e)) h
 
     first-seen : (before : History) (e : Stamped) (G : History)
-        → all_seen before (e ∷ G) ≡ only (is_told u H before G e.maker e.entry) (seen (shown_to u H before G e.maker e.entry)) ++ all_seen (before ++ e ∷ []) G
+        → all_seen before (e ∷ G) ≡ only (is_told u H before G e.stamp.maker e.entry) (seen (shown_to u H before G e.stamp.maker e.entry)) ++ all_seen (before ++ e ∷ []) G
     first-seen before e G =
-        let told : Bool = is_told u H before G e.maker e.entry in
-        let one : Sighting = shown_to u H before G e.maker e.entry in
+        let told : Bool = is_told u H before G e.stamp.maker e.entry in
+        let one : Sighting = shown_to u H before G e.stamp.maker e.entry in
         flat_map-append seen (given told one) (each_told u H (shown_to u H) (before ++ e ∷ []) G)
         ∙ ap (λ xs. xs ++ all_seen (before ++ e ∷ []) G) (flat_map-given seen told one)
 
@@ -89,7 +89,7 @@ module _ {A : Type 0} (u : Option ℕ) (p : ℕ) (H : History) (gives : Entry �
         let parts = or_parts (gives e.entry) (is_late G) h in
         first-seen before e G
         ∙ ap (λ xs. xs ++ all_seen (before ++ e ∷ []) G)
-        (only-nothing (is_told u H before G e.maker e.entry) (seen (shown_to u H before G e.maker e.entry)) (other before G e.maker e.entry parts.0))
+        (only-nothing (is_told u H before G e.stamp.maker e.entry) (seen (shown_to u H before G e.stamp.maker e.entry)) (other before G e.stamp.maker e.entry parts.0))
         ∙ none-seen (before ++ e ∷ []) G parts.1
 
     only-few : (b : Bool) (xs : List A) → length xs ≤ 1 → length (only b xs) ≤ 1
@@ -99,13 +99,13 @@ module _ {A : Type 0} (u : Option ℕ) (p : ℕ) (H : History) (gives : Entry �
     one-seen : (before G : History) → length (all_seen before G) ≤ 1
     one-seen before [] = omega arith
     one-seen before (e ∷ G) =
-        let told : Bool = is_told u H before G e.maker e.entry in
-        let one : List A = seen (shown_to u H before G e.maker e.entry) in
+        let told : Bool = is_told u H before G e.stamp.maker e.entry in
+        let one : List A = seen (shown_to u H before G e.stamp.maker e.entry) in
         subst (λ (xs : List A). length xs ≤ 1) (sym (first-seen before e G))
         (by (only told one) (all_seen (before ++ e ∷ []) G) (is_late G)
         (none-seen (before ++ e ∷ []) G)
-        (only-few told one (few before G e.maker e.entry))
-        (λ more. only-nothing told one (late before G e.maker e.entry more))
+        (only-few told one (few before G e.stamp.maker e.entry))
+        (λ more. only-nothing told one (late before G e.stamp.maker e.entry more))
         (one-seen (before ++ e ∷ []) G))
       where
         by : (xs ys : List A) (more : Bool) → (more ≡ false → ys ≡ []) → length xs ≤ 1 → (more ≡ true → xs ≡ []) → length ys ≤ 1 → length (xs ++ ys) ≤ 1

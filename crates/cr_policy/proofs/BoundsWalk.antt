@@ -120,7 +120,7 @@ module _ (u : Option ℕ) (H : History) where
   writes-one before maker more (Submitted paper title abstract) after whole = λ own.
       ap (is_author u paper) (sym whole)
       ∙ ap (list_any (is_number u))
-      (flat_map-append (λ (e : Stamped). author_told paper e.maker e.entry) before (stamp maker more (Submitted paper title abstract) ∷ after))
+      (flat_map-append (λ (e : Stamped). author_told paper e.stamp.maker e.entry) before (stamp maker more (Submitted paper title abstract) ∷ after))
       ∙ list_any-append (is_number u) (authors_of paper before) (given (eqb paper paper) maker ++ authors_of paper after)
       ∙ ap (λ b. list_any (is_number u) (authors_of paper before) || list_any (is_number u) (given b maker ++ authors_of paper after)) (eq-eqb paper paper refl)
       ∙ ap (λ b. list_any (is_number u) (authors_of paper before) || (b || list_any (is_number u) (authors_of paper after))) own
@@ -132,12 +132,12 @@ module _ (u : Option ℕ) (H : History) where
   writes-one before maker more e after whole = tt
 
   abbrev pub Writes : Stamped → Type 0
-  Writes e = IsWriters u H e.maker e.entry
+  Writes e = IsWriters u H e.stamp.maker e.entry
 
   writes-all : (before after : History) → before ++ after ≡ H → AllByRecursion Writes after
   writes-all before [] whole = tt
   writes-all before (e ∷ after) whole =
-      (writes-one before e.maker e.more e.entry after whole, writes-all (before ++ e ∷ []) after (append_assoc before (e ∷ []) after ∙ whole))
+      (writes-one before e.stamp.maker e.more e.entry after whole, writes-all (before ++ e ∷ []) after (append_assoc before (e ∷ []) after ∙ whole))
 
   pub writers-all : AllByRecursion Writes H
   writers-all = writes-all [] H refl
@@ -145,8 +145,8 @@ module _ (u : Option ℕ) (H : History) where
   sights-told : (before after : History) → AllByRecursion Writes after → sights (reader u H) before after ≡ each_told u H (shown_to u H) before after
   sights-told before [] writes = refl
   sights-told before (e ∷ after) writes =
-      ap (λ xs. xs ++ sights (reader u H) (before ++ e ∷ []) after) (sight-one (record { before = before; after = after }) e.maker e.more e.entry writes.0)
-      ∙ ap (λ ys. given (is_told u H before after e.maker e.entry) (shown_to u H before after e.maker e.entry) ++ ys)
+      ap (λ xs. xs ++ sights (reader u H) (before ++ e ∷ []) after) (sight-one (record { before = before; after = after }) e.stamp.maker e.more e.entry writes.0)
+      ∙ ap (λ ys. given (is_told u H before after e.stamp.maker e.entry) (shown_to u H before after e.stamp.maker e.entry) ++ ys)
       (sights-told (before ++ e ∷ []) after writes.1)
 
   pub view-told : view u H ≡ each_told u H (shown_to u H) [] H
@@ -162,11 +162,11 @@ module _ (u : Option ℕ) (H : History) where
       ≡ each_told u H (λ before later maker e. f (shown_to u H before later maker e)) before G
   map-told f before [] = refl
   map-told f before (e ∷ G) =
-      let s : Sighting = shown_to u H before G e.maker e.entry in
+      let s : Sighting = shown_to u H before G e.stamp.maker e.entry in
       let rest : List Sighting = each_told u H (shown_to u H) (before ++ e ∷ []) G in
-      map-append f (given (is_told u H before G e.maker e.entry) s) rest
-      ∙ ap (λ xs. xs ++ map f rest) (map-given f (is_told u H before G e.maker e.entry) s)
-      ∙ ap (λ ys. given (is_told u H before G e.maker e.entry) (f s) ++ ys) (map-told f (before ++ e ∷ []) G)
+      map-append f (given (is_told u H before G e.stamp.maker e.entry) s) rest
+      ∙ ap (λ xs. xs ++ map f rest) (map-given f (is_told u H before G e.stamp.maker e.entry) s)
+      ∙ ap (λ ys. given (is_told u H before G e.stamp.maker e.entry) (f s) ++ ys) (map-told f (before ++ e ∷ []) G)
 
   map-view : {A : Type 0} (f : Sighting → A) → map f (view u H) ≡ each_told u H (λ before later maker e. f (shown_to u H before later maker e)) [] H
   map-view f = ap (map f) view-told ∙ map-told f [] H
@@ -182,12 +182,12 @@ module _
     all-told : (before G : History) → AllByRecursion Q G → All P (each_told u H (shown_to u H) before G)
     all-told before [] h = All-nil P
     all-told before (e ∷ G) h =
-        All-append P (given (is_told u H before G e.maker e.entry) (shown_to u H before G e.maker e.entry)) (each_told u H (shown_to u H) (before ++ e ∷ []) G)
-        (by (is_told u H before G e.maker e.entry) (each before G e.maker e.more e.entry h.0))
+        All-append P (given (is_told u H before G e.stamp.maker e.entry) (shown_to u H before G e.stamp.maker e.entry)) (each_told u H (shown_to u H) (before ++ e ∷ []) G)
+        (by (is_told u H before G e.stamp.maker e.entry) (each before G e.stamp.maker e.more e.entry h.0))
         (all-told (before ++ e ∷ []) G h.1)
       where
-        by : (told : Bool) → (told ≡ true → P (shown_to u H before G e.maker e.entry)) → All P (given told (shown_to u H before G e.maker e.entry))
-        by true one = All-cons P (shown_to u H before G e.maker e.entry) [] (one refl) (All-nil P)
+        by : (told : Bool) → (told ≡ true → P (shown_to u H before G e.stamp.maker e.entry)) → All P (given told (shown_to u H before G e.stamp.maker e.entry))
+        by true one = All-cons P (shown_to u H before G e.stamp.maker e.entry) [] (one refl) (All-nil P)
         by false one = All-nil P
 
     pub all-view : AllByRecursion Q H → All P (view u H)
@@ -200,7 +200,7 @@ module _
   where
     pub each-view : All P (view u H)
     each-view =
-        all-view u H P (λ (e : Stamped). IsWriters u H e.maker e.entry) (λ before later maker more e writes told. each before later maker e told)
+        all-view u H P (λ (e : Stamped). IsWriters u H e.stamp.maker e.entry) (λ before later maker more e writes told. each before later maker e told)
         (writers-all u H)
 
 -- ---- the laws

@@ -129,7 +129,7 @@ module _ (facts : Facts) (shown : Shown) (user : ℕ) where
 -- of the first entry of what a command adds: who makes it, and the rules on it
 abbrev IsRuledFirst : History → History → Type 0
 IsRuledFirst H [] = Unit {0}
-IsRuledFirst H (e ∷ g) = IsMadeByUser H e.maker e.entry × IsRuled H e.maker e.entry
+IsRuledFirst H (e ∷ g) = IsMadeByUser H e.stamp.maker e.entry × IsRuled H e.stamp.maker e.entry
 
 added-ruled : (H g : History) → Adds H g → IsRuledFirst H g
 added-ruled H g (single maker e made alone ruled) = (made, ruled)

@@ -143,7 +143,7 @@ module _ (user : ℕ) (more : Bool) (e : Entry) (row : IsOfRow user e) where
       let phases = behind-silent (λ (x : Stamped). phase_told x.entry) H s (no_phase user e row) in
       let modes = behind-silent (λ (x : Stamped). mode_told x.entry) H s (no_mode user e row) in
       let roles = behind-silent (λ (x : Stamped). role_told (Some user) x.entry) H s (no_role user e row) in
-      let authors = λ (p : ℕ). behind-silent (λ (x : Stamped). author_told p x.maker x.entry) H s (no_author user e row p) in
+      let authors = λ (p : ℕ). behind-silent (λ (x : Stamped). author_told p x.stamp.maker x.entry) H s (no_author user e row p) in
       let conflicts = λ (p : ℕ). behind-silent (λ (x : Stamped). conflict_told (Some user) p x.entry) H s (no_own_conflict user e row p) in
       let withdrawals = λ (p : ℕ). behind-silent (λ (x : Stamped). withdrawal_told p x.entry) H s (no_withdrawal user e row p) in
       let decisions = λ (p : ℕ). behind-silent (λ (x : Stamped). decision_told p x.entry) H s (no_decision user e row p) in
@@ -201,8 +201,8 @@ module _ (user : ℕ) (more : Bool) (e : Entry) (row : IsOfRow user e) where
   -- so all before it shows what it showed
   abbrev sight_at : Reader → Stamped → Position → List Sighting
   sight_at r x position =
-      let rs = rows r position x.maker x.entry ++ user_named r x.maker see whole ∷ [] in
-      given (applies_any rs) (sighting (shows rs) (user_named r x.maker) x)
+      let rs = rows r position x.stamp.maker x.entry ++ user_named r x.stamp.maker see whole ∷ [] in
+      given (applies_any rs) (sighting (shows rs) (user_named r x.stamp.maker) x)
 
   sights-behind : (r : Reader) → ((at : Around) → sight r at s ≡ sighting whole true s ∷ []) → (before H : History)
       → sights r before (H ++ s ∷ []) ≡ sights r before H ++ sighting whole true s ∷ []

@@ -81,8 +81,8 @@ module _ {B : Type 0} (m : CommentTold → B) (r : Reader) (at : Around) where
   comment_at p shown maker more e = silent r at maker more (λ (s : Sighting). map m (comment_seen p s)) e refl
 
 comment_tells : {B : Type 0} (m : CommentTold → B) (r : Reader) (p : ℕ) → ((at : Around) → ShowsComment m r at p)
-    → TellsAll r (λ (s : Sighting). map m (comment_seen p s)) (λ (e : Stamped). map m (comment_numbered p e.maker e.entry))
-comment_tells m r p shown at e = comment_at m r at p (shown at) e.maker e.more e.entry
+    → TellsAll r (λ (s : Sighting). map m (comment_seen p s)) (λ (e : Stamped). map m (comment_numbered p e.stamp.maker e.entry))
+comment_tells m r p shown at e = comment_at m r at p (shown at) e.stamp.maker e.more e.entry
 
 -- ---- labels within their bounds
 
@@ -96,11 +96,11 @@ numbered-label (Some o) few = by (eqb o 0) few
     by false few = refl
 
 -- so where each entry has a row, a comment with its label as a sighting can tell it is the comment
-numbered-told : (p : ℕ) (H : History) → All IsBoundedEntry H → flat_map (λ (e : Stamped). comment_numbered p e.maker e.entry) H ≡ comments_of p H
+numbered-told : (p : ℕ) (H : History) → All IsBoundedEntry H → flat_map (λ (e : Stamped). comment_numbered p e.stamp.maker e.entry) H ≡ comments_of p H
 numbered-told p [] bounded = refl
 numbered-told p (e ∷ H) bounded =
-    ap (λ xs. xs ++ flat_map (λ (e : Stamped). comment_numbered p e.maker e.entry) H) (one e.maker e.more e.entry (All-head IsBoundedEntry e H bounded))
-    ∙ ap (λ xs. comment_told p e.maker e.entry ++ xs) (numbered-told p H (All-tail IsBoundedEntry e H bounded))
+    ap (λ xs. xs ++ flat_map (λ (e : Stamped). comment_numbered p e.stamp.maker e.entry) H) (one e.stamp.maker e.more e.entry (All-head IsBoundedEntry e H bounded))
+    ∙ ap (λ xs. comment_told p e.stamp.maker e.entry ++ xs) (numbered-told p H (All-tail IsBoundedEntry e H bounded))
   where
     one : (maker : ℕ) (more : Bool) (e : Entry) → IsBoundedEntry (stamp maker more e) → comment_numbered p maker e ≡ comment_told p maker e
     one maker more (Commented paper n ordinal text) fits =
@@ -155,7 +155,7 @@ module _ (u : Option ℕ) (p : ℕ) (H : History) (accounts : List AccountLine) 
   pub comments-seen : All IsBoundedEntry H → map line (comments_in_view p (view u H)) ≡ map line (comments_of p H)
   comments-seen bounded =
       map-flat_map line (comment_seen p) (view u H)
-      ∙ sights-all (reader u H) (λ (s : Sighting). map line (comment_seen p s)) (λ (e : Stamped). map line (comment_numbered p e.maker e.entry))
+      ∙ sights-all (reader u H) (λ (s : Sighting). map line (comment_seen p s)) (λ (e : Stamped). map line (comment_numbered p e.stamp.maker e.entry))
       (comment_tells line (reader u H) p comment-shown) [] H
-      ∙ sym (map-flat_map line (λ (e : Stamped). comment_numbered p e.maker e.entry) H)
+      ∙ sym (map-flat_map line (λ (e : Stamped). comment_numbered p e.stamp.maker e.entry) H)
       ∙ ap (map line) (numbered-told p H bounded)

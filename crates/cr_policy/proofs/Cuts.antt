@@ -59,8 +59,8 @@ module _ (r : Reader) (first : Phase) where
 
   pub opening_cuts : CutsAt r (λ (e : Stamped). opens first e.entry) opening_seen
   opening_cuts = record {
-    one = λ at e h. opening-one at e.maker e.more e.entry h;
-    other = λ at e h. opening-other at e.maker e.more e.entry h;
+    one = λ at e h. opening-one at e.stamp.maker e.more e.entry h;
+    other = λ at e h. opening-other at e.stamp.maker e.more e.entry h;
   }
 
 module _ {A : Type 0} (r : Reader) (cut : Stamped → Bool) (cut_seen : Sighting → Bool) (cuts : CutsAt r cut cut_seen) (seen : Sighting → List A) (told : Stamped → List A) (passes : Around → Stamped → Bool) (tells : Tells r seen told passes) where

@@ -19,7 +19,7 @@ use Rattle.cr_base.specs.Words.{is_accept}
 use Rattle.cr_base.proofs.LastLaws.{last_from-map}
 use Rattle.cr_history.proofs.LineAgreement.{stamp}
 use Rattle.cr_policy.specs.Part as part
-use Rattle.cr_policy.specs.Triggers.{Reader, reader, Around, none_in, discusses, user_named}
+use Rattle.cr_policy.specs.Triggers.{Reader, reader, Around, none_in, reads_decisions, user_named}
 use Rattle.cr_policy.specs.View.{view, sight}
 use Rattle.cr_policy.specs.ViewFacts.{only, decision_seen, accepted_seen, decision_in_view, is_accepted_in_view}
 use Rattle.cr_policy.proofs.Tells.{passes, silent, told_where, paper_value, of_paper}
@@ -52,16 +52,16 @@ module _ (r : Reader) (at : Around) (maker : ℕ) (more : Bool) where
   accepted_at p e = silent r at maker more (accepted_seen p) e refl
 
 decision_tells : (r : Reader) (p : ℕ) → Tells r (decision_seen p) (λ (e : Stamped). decision_told p e.entry) (passes part.decision r)
-decision_tells r p at e = decision_at r at e.maker e.more p e.entry
+decision_tells r p at e = decision_at r at e.stamp.maker e.more p e.entry
 
 accepted_tells : (r : Reader) (p : ℕ) → Tells r (accepted_seen p) (λ (e : Stamped). map mark (decision_told p e.entry)) (passes part.accepted r)
-accepted_tells r p at e = accepted_at r at e.maker e.more p e.entry
+accepted_tells r p at e = accepted_at r at e.stamp.maker e.more p e.entry
 
 -- a decision on the paper is kept, where each that stands there passes; and isn't, where none does
 module _ (passing : Stamped → Bool) (p : ℕ) where
   kept_decision : ((maker : ℕ) (more : Bool) (decision : Decision) → passing (stamp maker more (Decided p decision)) ≡ true) → (e : Stamped)
       → only (passing e) (decision_told p e.entry) ≡ decision_told p e.entry
-  kept_decision shown e = by e.maker e.more e.entry
+  kept_decision shown e = by e.stamp.maker e.more e.entry
     where
       by : (maker : ℕ) (more : Bool) (e : Entry) → only (passing (stamp maker more e)) (decision_told p e) ≡ decision_told p e
       by maker more (Decided paper decision) =
@@ -70,7 +70,7 @@ module _ (passing : Stamped → Bool) (p : ℕ) where
 
   no_decision : ((maker : ℕ) (more : Bool) (decision : Decision) → passing (stamp maker more (Decided p decision)) ≡ false) → (e : Stamped)
       → only (passing e) (decision_told p e.entry) ≡ []
-  no_decision hidden e = by e.maker e.more e.entry
+  no_decision hidden e = by e.stamp.maker e.more e.entry
     where
       none : (c same : Bool) (x : Decision) → (same ≡ true → c ≡ false) → only c (given same x) ≡ []
       none c true x h = ap (λ b. only b (x ∷ [])) (h refl)
@@ -153,5 +153,5 @@ decision-seen u p H told =
     (λ at e last.
     kept_decision (passes part.decision r at) p
     (λ maker more decision.
-    decision_shown (discusses r p) (none_in (decision_told p) at.after) (is_author u p H) (is_from Notification (phase_of H)) (user_named r maker)
+    decision_shown (reads_decisions r p) (none_in (decision_told p) at.after) (is_author u p H) (is_from Notification (phase_of H)) (user_named r maker)
     last told) e) [] H

@@ -58,10 +58,10 @@ module _ (r : Reader) (at : Around) (maker : ℕ) (more : Bool) where
   own_or_other_at p e = silent r at maker more (own_or_other_seen r.number p) e refl
 
 user_tells : (r : Reader) (p : ℕ) → Tells r (conflict_user_seen p) (λ (e : Stamped). user_told p e.entry) (passes part.user r)
-user_tells r p at e = user_at r at e.maker e.more p e.entry
+user_tells r p at e = user_at r at e.stamp.maker e.more p e.entry
 
-own_or_other_tells : (r : Reader) (p : ℕ) → Tells r (own_or_other_seen r.number p) (λ (e : Stamped). own_or_other_told r.number p e.maker e.entry) (passes part.user r)
-own_or_other_tells r p at e = own_or_other_at r at e.maker e.more p e.entry
+own_or_other_tells : (r : Reader) (p : ℕ) → Tells r (own_or_other_seen r.number p) (λ (e : Stamped). own_or_other_told r.number p e.stamp.maker e.entry) (passes part.user r)
+own_or_other_tells r p at e = own_or_other_at r at e.stamp.maker e.more p e.entry
 
 -- ---- what an author is told is what an author made
 
@@ -104,7 +104,7 @@ module _ (u p : ℕ) (H : History) (author : is_author (Some u) p H ≡ true) wh
   r = reader (Some u) H
 
   abbrev made_told : Stamped → List ℕ
-  made_told e = declared_told (is_author (Some e.maker) p H) p e.entry
+  made_told e = declared_told (is_author (Some e.stamp.maker) p H) p e.entry
 
   early_at : (at : Around) (maker : ℕ) (more : Bool) (e : Entry) → ByAuthor H maker e → only (passes part.user r at (stamp maker more e)) (user_told p e) ≡ declared_told (is_author (Some maker) p H) p e
   early_at at maker more (Conflict paper user on) h =
@@ -136,13 +136,13 @@ module _ (u p : ℕ) (H : History) (author : is_author (Some u) p H ≡ true) wh
   declared-seen_by in_time =
       let first : flat_map (conflict_user_seen p) (until bidding_seen (view (Some u) H)) ≡ flat_map made_told (until is_opening H) =
       sights-until r is_opening bidding_seen (opening_cuts r Bidding) (conflict_user_seen p) (λ (e : Stamped). user_told p e.entry) (passes part.user r) (user_tells r p) [] H
-      ∙ kept_until-each is_opening (passes part.user r) (λ (e : Stamped). user_told p e.entry) made_told (Early H) (λ at e h. early_at at e.maker e.more e.entry h) [] H in_time.early in
+      ∙ kept_until-each is_opening (passes part.user r) (λ (e : Stamped). user_told p e.entry) made_told (Early H) (λ at e h. early_at at e.stamp.maker e.more e.entry h) [] H in_time.early in
       let second : flat_map (own_or_other_seen (Some u) p) (since bidding_seen (view (Some u) H)) ≡ flat_map made_told (since is_opening H) =
-      sights-since r is_opening bidding_seen (opening_cuts r Bidding) (own_or_other_seen (Some u) p) (λ (e : Stamped). own_or_other_told (Some u) p e.maker e.entry) (passes part.user r) (own_or_other_tells r p) [] H
-      ∙ kept_since-each is_opening (passes part.user r) (λ (e : Stamped). own_or_other_told (Some u) p e.maker e.entry) made_told (Late H) (λ at e h. late_at at e.maker e.more e.entry h) [] H in_time.late in
+      sights-since r is_opening bidding_seen (opening_cuts r Bidding) (own_or_other_seen (Some u) p) (λ (e : Stamped). own_or_other_told (Some u) p e.stamp.maker e.entry) (passes part.user r) (own_or_other_tells r p) [] H
+      ∙ kept_since-each is_opening (passes part.user r) (λ (e : Stamped). own_or_other_told (Some u) p e.stamp.maker e.entry) made_told (Late H) (λ at e h. late_at at e.stamp.maker e.more e.entry h) [] H in_time.late in
       ap (λ xs. xs ++ flat_map (own_or_other_seen (Some u) p) (since bidding_seen (view (Some u) H))) first
       ∙ ap (λ ys. flat_map made_told (until is_opening H) ++ ys) second
-      ∙ flat_map-cut is_opening made_told (λ e h. opening-silent (is_author (Some e.maker) p H) e.entry h) H
+      ∙ flat_map-cut is_opening made_told (λ e h. opening-silent (is_author (Some e.stamp.maker) p H) e.entry h) H
 
 -- DeclaredOf on an author's view gives whom the paper's authors declared
 pub declared-seen_by_author : (u : Option ℕ) (p : ℕ) (H : History) → DeclaresInTime H → is_author u p H ≡ true → declared_in_view u p (view u H) ≡ declared_by_authors p H

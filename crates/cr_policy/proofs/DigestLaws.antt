@@ -39,5 +39,5 @@ own_digests r before [] kept = tt
 own_digests r before (e ∷ after) kept =
     let at : Around = record { before = before; after = after } in
     AllByRecursion-append (IsOwnDigest r.number) (sight r at e) (sights r (before ++ e ∷ []) after)
-    (given-all (IsOwnDigest r.number) (is_seen r at e) (joined r at e) (own_digest r at e.maker e.more before e.entry kept.0.maker))
+    (given-all (IsOwnDigest r.number) (is_seen r at e) (joined r at e) (own_digest r at e.stamp.maker e.more before e.entry kept.0.maker))
     (own_digests r (before ++ e ∷ []) after kept.1)

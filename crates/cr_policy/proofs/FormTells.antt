@@ -99,11 +99,11 @@ module _ (r : Reader) (at : Around) (maker : ℕ) (more : Bool) where
       labelled false rest h = absurd (true≢false (sym h))
   done_at p o e = silent r at maker more (done_seen p o) e refl
 
-pub own_form_tells : (r : Reader) (p : ℕ) → TellsAll r (own_form_seen p) (λ (e : Stamped). own_form_told r.number p e.maker e.entry)
-own_form_tells r p at e = own_form_at r at e.maker e.more p e.entry
+pub own_form_tells : (r : Reader) (p : ℕ) → TellsAll r (own_form_seen p) (λ (e : Stamped). own_form_told r.number p e.stamp.maker e.entry)
+own_form_tells r p at e = own_form_at r at e.stamp.maker e.more p e.entry
 
 pub done_tells : (r : Reader) (p o : ℕ) → Tells r (done_seen p o) (λ (e : Stamped). map (λ _. true) (form_told p o e.entry)) (passes part.done r)
-done_tells r p o at e = done_at r at e.maker e.more p o e.entry
+done_tells r p o at e = done_at r at e.stamp.maker e.more p o e.entry
 
 module _ {B : Type 0} (m : FormTold → B) (r : Reader) (at : Around) where
   -- a form on the paper whose grades are shown is as good as all of it, for one who is told it so
@@ -127,13 +127,13 @@ module _ {B : Type 0} (m : FormTold → B) (r : Reader) (at : Around) where
 
 pub form_tells : {B : Type 0} (m : FormTold → B) (r : Reader) (p o : ℕ) → ((at : Around) → ShowsForm m r at p)
     → TellsAs m r (form_seen p o) (λ (e : Stamped). form_told p o e.entry) (passes part.score r)
-form_tells m r p o shown at e = form_at m r at p o (shown at) e.maker e.more e.entry
+form_tells m r p o shown at e = form_at m r at p o (shown at) e.stamp.maker e.more e.entry
 
 -- what is told of a form under the label is kept, where the part of it is shown
 pub form_kept : (q : Part) (r : Reader) (at : Around) (p o : ℕ)
     → ((maker : ℕ) (more : Bool) (version : ℕ) (form : Form) → passes q r at (stamp maker more (Reviewed p o version form)) ≡ true)
     → (e : Stamped) → only (passes q r at e) (form_told p o e.entry) ≡ form_told p o e.entry
-form_kept q r at p o shown e = by e.maker e.more e.entry
+form_kept q r at p o shown e = by e.stamp.maker e.more e.entry
   where
     by : (maker : ℕ) (more : Bool) (e : Entry) → only (passes q r at (stamp maker more e)) (form_told p o e) ≡ form_told p o e
     by maker more (Reviewed paper ordinal version form) =

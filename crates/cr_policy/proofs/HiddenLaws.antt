@@ -98,7 +98,7 @@ behind (row ∷ rows) = rows
 rows-plain : (r : Reader) (at : Position) (by : ℕ) (e : Stamped) → rows r at by e.entry ≡ rows r at by (plain r.number e)
 rows-plain r at by e = of e.entry
   where
-    of : (entry : Entry) → rows r at by entry ≡ rows r at by (plain r.number (record { maker = e.maker; more = e.more; entry = entry }))
+    of : (entry : Entry) → rows r at by entry ≡ rows r at by (plain r.number (record { stamp = e.stamp; more = e.more; entry = entry }))
     of (Conflict paper user on) = λ i. (sym (stands_in r.number user) i see whole) ∷ behind (rows r at by (Conflict paper user on))
     of (Assigned paper user review_kind ordinal) = λ i. (sym (stands_in r.number user) i see whole) ∷ behind (rows r at by (Assigned paper user review_kind ordinal))
     of (Unassigned paper user ordinal) = λ i. (sym (stands_in r.number user) i see whole) ∷ behind (rows r at by (Unassigned paper user ordinal))
@@ -118,7 +118,7 @@ same_rows r at by e other alike named =
 -- she, what sets the phase, the mode or a role, and whether a conflict of hers is on
 pub record SamePlace (u : Option ℕ) (e other : Stamped) : Type 0 where
   pub alike : outline e ≡ outline other
-  pub maker : is_number u e.maker ≡ is_number u other.maker
+  pub maker : is_number u e.stamp.maker ≡ is_number u other.stamp.maker
   pub named : names u e ≡ names u other
   pub phase : (all_of e).phase ≡ (all_of other).phase
   pub mode : (all_of e).mode ≡ (all_of other).mode
@@ -154,7 +154,7 @@ titles-outlined : (p : ℕ) → ByOutline (title_told p)
 titles-outlined p e = of e.entry
   where
     of : (entry : Entry) → is_nothing (title_told p entry)
-        ≡ is_nothing (title_told p (blank_entry (outline (record { maker = e.maker; more = e.more; entry = entry })) 0))
+        ≡ is_nothing (title_told p (blank_entry (outline (record { stamp = e.stamp; more = e.more; entry = entry })) 0))
     of (Submitted paper title abstract) = given-is_nothing (eqb paper p) title []
     of (Revised paper title abstract) = given-is_nothing (eqb paper p) title []
     of entry = refl
@@ -163,7 +163,7 @@ uploads-outlined : (p : ℕ) → ByOutline (upload_told p)
 uploads-outlined p e = of e.entry
   where
     of : (entry : Entry) → is_nothing (upload_told p entry)
-        ≡ is_nothing (upload_told p (blank_entry (outline (record { maker = e.maker; more = e.more; entry = entry })) 0))
+        ≡ is_nothing (upload_told p (blank_entry (outline (record { stamp = e.stamp; more = e.more; entry = entry })) 0))
     of (Uploaded paper version content) = given-is_nothing (eqb paper p) _ _
     of entry = refl
 
@@ -171,7 +171,7 @@ forms-outlined : (p o : ℕ) → ByOutline (form_told p o)
 forms-outlined p o e = of e.entry
   where
     of : (entry : Entry) → is_nothing (form_told p o entry)
-        ≡ is_nothing (form_told p o (blank_entry (outline (record { maker = e.maker; more = e.more; entry = entry })) 0))
+        ≡ is_nothing (form_told p o (blank_entry (outline (record { stamp = e.stamp; more = e.more; entry = entry })) 0))
     of (Reviewed paper ordinal version form) = given-is_nothing (eqb paper p && eqb ordinal o) _ _
     of entry = refl
 
@@ -179,7 +179,7 @@ decisions-outlined : (p : ℕ) → ByOutline (decision_told p)
 decisions-outlined p e = of e.entry
   where
     of : (entry : Entry) → is_nothing (decision_told p entry)
-        ≡ is_nothing (decision_told p (blank_entry (outline (record { maker = e.maker; more = e.more; entry = entry })) 0))
+        ≡ is_nothing (decision_told p (blank_entry (outline (record { stamp = e.stamp; more = e.more; entry = entry })) 0))
     of (Decided paper decision) = given-is_nothing (eqb paper p) decision Reject
     of entry = refl
 
@@ -210,7 +210,7 @@ none_alike-histories e u H H' same = refl
 none_alike-outlined : (e : Stamped) (H : History) → none_alike e.entry H ≡ none_alike (blank_entry (outline e) 0) H
 none_alike-outlined e H = of e.entry
   where
-    of : (entry : Entry) → none_alike entry H ≡ none_alike (blank_entry (outline (record { maker = e.maker; more = e.more; entry = entry })) 0) H
+    of : (entry : Entry) → none_alike entry H ≡ none_alike (blank_entry (outline (record { stamp = e.stamp; more = e.more; entry = entry })) 0) H
     of (Submitted paper title abstract) = refl
     of entry = refl
 
@@ -226,8 +226,8 @@ none_alike-same u e other alike H H' same =
 opens-phase : (e : Stamped) → opens_discussion e ≡ list_any (λ (phase : Phase). is_phase phase Discussion) (listed (all_of e).phase)
 opens-phase e = of e.entry
   where
-    of : (entry : Entry) → opens_discussion (record { maker = e.maker; more = e.more; entry = entry })
-        ≡ list_any (λ (phase : Phase). is_phase phase Discussion) (listed (all_of (record { maker = e.maker; more = e.more; entry = entry })).phase)
+    of : (entry : Entry) → opens_discussion (record { stamp = e.stamp; more = e.more; entry = entry })
+        ≡ list_any (λ (phase : Phase). is_phase phase Discussion) (listed (all_of (record { stamp = e.stamp; more = e.more; entry = entry })).phase)
     of (PhaseSet phase) = by (is_phase phase Discussion)
       where
         by : (b : Bool) → b ≡ (b || false)
@@ -283,14 +283,14 @@ position-same u at at' e other around alike = λ i. record {
 phase-part : (e : Stamped) → phase_told e.entry ≡ listed (all_of e).phase
 phase-part e = of e.entry
   where
-    of : (entry : Entry) → phase_told entry ≡ listed (all_of (record { maker = e.maker; more = e.more; entry = entry })).phase
+    of : (entry : Entry) → phase_told entry ≡ listed (all_of (record { stamp = e.stamp; more = e.more; entry = entry })).phase
     of (PhaseSet phase) = refl
     of entry = refl
 
 mode-part : (e : Stamped) → mode_told e.entry ≡ listed (all_of e).mode
 mode-part e = of e.entry
   where
-    of : (entry : Entry) → mode_told entry ≡ listed (all_of (record { maker = e.maker; more = e.more; entry = entry })).mode
+    of : (entry : Entry) → mode_told entry ≡ listed (all_of (record { stamp = e.stamp; more = e.more; entry = entry })).mode
     of (ModeSet mode) = refl
     of entry = refl
 
@@ -302,7 +302,7 @@ role-part : (u : Option ℕ) (e : Stamped) → role_told u e.entry ≡ only (nam
 role-part u e = of e.entry
   where
     of : (entry : Entry) → role_told u entry
-        ≡ only (names u (record { maker = e.maker; more = e.more; entry = entry })) (listed (all_of (record { maker = e.maker; more = e.more; entry = entry })).role)
+        ≡ only (names u (record { stamp = e.stamp; more = e.more; entry = entry })) (listed (all_of (record { stamp = e.stamp; more = e.more; entry = entry })).role)
     of (Named user role) = given-only (is_number u user) role
     of entry = refl
 
@@ -324,7 +324,7 @@ conflict-part u p e = of e.entry
     turned false false on = refl
 
     of : (entry : Entry) → conflict_told u p entry
-        ≡ conflict_with p (outline (record { maker = e.maker; more = e.more; entry = entry })) (names u (record { maker = e.maker; more = e.more; entry = entry })) (all_of (record { maker = e.maker; more = e.more; entry = entry })).on
+        ≡ conflict_with p (outline (record { stamp = e.stamp; more = e.more; entry = entry })) (names u (record { stamp = e.stamp; more = e.more; entry = entry })) (all_of (record { stamp = e.stamp; more = e.more; entry = entry })).on
     of (Conflict paper user on) = turned (eqb paper p) (is_number u user) on
     of entry = refl
 
@@ -365,17 +365,17 @@ conflict-same u p H H' same =
     turned false o on on' h = none _ _
 
 -- whether she is among the authors whom an entry gives a paper
-author-plain : (u : Option ℕ) (p : ℕ) (e : Stamped) → list_any (is_number u) (author_told p e.maker e.entry)
-    ≡ list_any (is_number u) (author_told p (stand_in u (is_number u e.maker)) (plain u e))
+author-plain : (u : Option ℕ) (p : ℕ) (e : Stamped) → list_any (is_number u) (author_told p e.stamp.maker e.entry)
+    ≡ list_any (is_number u) (author_told p (stand_in u (is_number u e.stamp.maker)) (plain u e))
 author-plain u p e = of e.entry
   where
     among : (b : Bool) (v w : ℕ) → is_number u v ≡ is_number u w → list_any (is_number u) (given b v) ≡ list_any (is_number u) (given b w)
     among true v w h = ap (λ is. is || false) h
     among false v w h = refl
 
-    of : (entry : Entry) → list_any (is_number u) (author_told p e.maker entry)
-        ≡ list_any (is_number u) (author_told p (stand_in u (is_number u e.maker)) (plain u (record { maker = e.maker; more = e.more; entry = entry })))
-    of (Submitted paper title abstract) = among (eqb paper p) e.maker (stand_in u (is_number u e.maker)) (sym (stands_in u e.maker))
+    of : (entry : Entry) → list_any (is_number u) (author_told p e.stamp.maker entry)
+        ≡ list_any (is_number u) (author_told p (stand_in u (is_number u e.stamp.maker)) (plain u (record { stamp = e.stamp; more = e.more; entry = entry })))
+    of (Submitted paper title abstract) = among (eqb paper p) e.stamp.maker (stand_in u (is_number u e.stamp.maker)) (sym (stands_in u e.stamp.maker))
     of (Coauthor paper user) = among (eqb paper p) user (stand_in u (is_number u user)) (sym (stands_in u user))
     of entry = refl
 
@@ -384,11 +384,11 @@ author-same u p [] [] same = refl
 author-same u p [] (other ∷ H') same = absurd same
 author-same u p (e ∷ H) [] same = absurd same
 author-same u p (e ∷ H) (other ∷ H') same =
-    list_any-append (is_number u) (author_told p e.maker e.entry) (authors_of p H)
+    list_any-append (is_number u) (author_told p e.stamp.maker e.entry) (authors_of p H)
     ∙ (λ i. here i || author-same u p H H' same.1 i)
-    ∙ sym (list_any-append (is_number u) (author_told p other.maker other.entry) (authors_of p H'))
+    ∙ sym (list_any-append (is_number u) (author_told p other.stamp.maker other.entry) (authors_of p H'))
   where
-    here : list_any (is_number u) (author_told p e.maker e.entry) ≡ list_any (is_number u) (author_told p other.maker other.entry)
+    here : list_any (is_number u) (author_told p e.stamp.maker e.entry) ≡ list_any (is_number u) (author_told p other.stamp.maker other.entry)
     here =
         author-plain u p e
         ∙ (λ i. list_any (is_number u) (author_told p (stand_in u (same.0.maker i)) (blank_entry (same.0.alike i) (stand_in u (same.0.named i)))))
@@ -468,14 +468,14 @@ on-shown r at by maker e h = refl
 
 -- a part that the rows show of the one entry, and so of the other, is the same
 module _ (r : Reader) (at : Around) (e other : Stamped) (alike : outline e ≡ outline other) (hidden : IsHiddenFrom r at e other) where
-  others-rows : rows_at r at e ≡ with_makers r e.maker (rows r (position_of at e.entry) e.maker other.entry)
-  others-rows = ap (with_makers r e.maker) (same_rows r (position_of at e.entry) e.maker e other alike hidden.user)
+  others-rows : rows_at r at e ≡ with_makers r e.stamp.maker (rows r (position_of at e.entry) e.stamp.maker other.entry)
+  others-rows = ap (with_makers r e.stamp.maker) (same_rows r (position_of at e.entry) e.stamp.maker e other alike hidden.user)
 
   part-same : {A : Type 0} (p : Part) (part_of : Sighting → Option A)
       → (part_of (masked (shows (rows_at r at e)) false (all_of e)) ≡ where_shown (shows (rows_at r at e) p) (part_of (all_of e)))
       → (part_of (masked (shows (rows_at r at e)) false (all_of other)) ≡ where_shown (shows (rows_at r at e) p) (part_of (all_of other)))
-      → IsShown p part_of r (position_of at e.entry) e.maker e.maker e.entry
-      → IsShown p part_of r (position_of at e.entry) e.maker other.maker other.entry
+      → IsShown p part_of r (position_of at e.entry) e.stamp.maker e.stamp.maker e.entry
+      → IsShown p part_of r (position_of at e.entry) e.stamp.maker other.stamp.maker other.entry
       → part_of (all_of e) ≡ part_of (all_of other)
   part-same p part_of one two first second =
       sym first
@@ -490,11 +490,11 @@ module _ (r : Reader) (at : Around) (e other : Stamped) (alike : outline e ≡ o
     alike = alike;
     maker = hidden.maker;
     named = hidden.user;
-    phase = part-same part.phase (λ s. s.phase) refl refl (phase-shown r pos e.maker e.maker e.entry) (phase-shown r pos e.maker other.maker other.entry);
-    mode = part-same part.mode (λ s. s.mode) refl refl (mode-shown r pos e.maker e.maker e.entry) (mode-shown r pos e.maker other.maker other.entry);
-    role = part-same part.role (λ s. s.role) refl refl (role-shown r pos e.maker e.maker e.entry) (role-shown r pos e.maker other.maker other.entry);
+    phase = part-same part.phase (λ s. s.phase) refl refl (phase-shown r pos e.stamp.maker e.stamp.maker e.entry) (phase-shown r pos e.stamp.maker other.stamp.maker other.entry);
+    mode = part-same part.mode (λ s. s.mode) refl refl (mode-shown r pos e.stamp.maker e.stamp.maker e.entry) (mode-shown r pos e.stamp.maker other.stamp.maker other.entry);
+    role = part-same part.role (λ s. s.role) refl refl (role-shown r pos e.stamp.maker e.stamp.maker e.entry) (role-shown r pos e.stamp.maker other.stamp.maker other.entry);
     on = λ named.
-        part-same part.on (λ s. s.on) refl refl (on-shown r pos e.maker e.maker e.entry named) (on-shown r pos e.maker other.maker other.entry (sym hidden.user ∙ named));
+        part-same part.on (λ s. s.on) refl refl (on-shown r pos e.stamp.maker e.stamp.maker e.entry named) (on-shown r pos e.stamp.maker other.stamp.maker other.entry (sym hidden.user ∙ named));
   }
     where
       pos : Position
@@ -502,19 +502,19 @@ module _ (r : Reader) (at : Around) (e other : Stamped) (alike : outline e ≡ o
 
   -- what is shown of both, where all that stands around them is alike, and the reader the same but for who else is an author of what
   pub sight-same : (r' : Reader) (at' : Around) → where_wrote r r'.wrote ≡ r' → r.number ≡ r'.number → SameAround r.number at at'
-      → MadeAlike r r'.wrote e.entry e.maker other.maker → sight r at e ≡ sight r' at' other
+      → MadeAlike r r'.wrote e.entry e.stamp.maker other.stamp.maker → sight r at e ≡ sight r' at' other
   sight-same r' at' is number around made =
-      (λ i. given (applies_any (rows_at r at e)) (record (hidden.parts i) { mine = user_named r e.maker }))
+      (λ i. given (applies_any (rows_at r at e)) (record (hidden.parts i) { mine = user_named r e.stamp.maker }))
       ∙ (λ i. seen_by (all_rows i) (mine i) other)
     where
-      mine : user_named r e.maker ≡ user_named r' other.maker
-      mine = hidden.maker ∙ (λ i. is_number (number i) other.maker)
+      mine : user_named r e.stamp.maker ≡ user_named r' other.stamp.maker
+      mine = hidden.maker ∙ (λ i. is_number (number i) other.stamp.maker)
 
       all_rows : rows_at r at e ≡ rows_at r' at' other
       all_rows =
-          (λ i. wrote-rows r r'.wrote (position_of at e.entry) e.maker other.maker e.entry made i ++ mine i see whole ∷ [])
-          ∙ (λ i. same_rows (where_wrote r r'.wrote) (position-same r.number at at' e other around alike i) other.maker e other alike hidden.user i ++ user_named r' other.maker see whole ∷ [])
-          ∙ (λ i. rows (is i) (position_of at' other.entry) other.maker other.entry ++ user_named r' other.maker see whole ∷ [])
+          (λ i. wrote-rows r r'.wrote (position_of at e.entry) e.stamp.maker other.stamp.maker e.entry made i ++ mine i see whole ∷ [])
+          ∙ (λ i. same_rows (where_wrote r r'.wrote) (position-same r.number at at' e other around alike i) other.stamp.maker e other alike hidden.user i ++ user_named r' other.stamp.maker see whole ∷ [])
+          ∙ (λ i. rows (is i) (position_of at' other.entry) other.stamp.maker other.entry ++ user_named r' other.stamp.maker see whole ∷ [])
 
 -- ---- all that is shown
 
@@ -546,7 +546,7 @@ hidden-sights : (u : Option ℕ) (G G' : History) → where_wrote (reader u G) (
     → (before before' H H' : History) → SamePlaces u before before'
     → PlaceByPlace (λ at e other. outline e ≡ outline other) before H H'
     → PlaceByPlace (IsHiddenFrom (reader u G)) before H H'
-    → PlaceByPlace (λ at e other. IsDeclaredAlike u G G' e.entry e.maker other.maker) before H H'
+    → PlaceByPlace (λ at e other. IsDeclaredAlike u G G' e.entry e.stamp.maker other.stamp.maker) before H H'
     → sights (reader u G) before H ≡ sights (reader u G') before' H'
 hidden-sights u G G' is before before' [] [] stood alike hidden made = refl
 hidden-sights u G G' is before before' [] (other ∷ H') stood alike hidden made = absurd alike
@@ -557,7 +557,7 @@ hidden-sights u G G' is before before' (e ∷ H) (other ∷ H') stood alike hidd
     let here : SamePlace u e other = same_place (reader u G) at e other alike.0 hidden.0 in
     let later : SamePlaces u H H' = same_places (reader u G) (before ++ e ∷ []) H H' alike.1 hidden.1 in
     let rest = hidden-sights u G G' is (before ++ e ∷ []) (before' ++ other ∷ []) H H' (same_places-snoc u e other before before' here stood) alike.1 hidden.1 made.1 in
-    let first = sight-same (reader u G) at e other alike.0 hidden.0 (reader u G') at' is refl (record { before = stood; after = later }) (made_alike u G G' e.entry e.maker other.maker made.0) in
+    let first = sight-same (reader u G) at e other alike.0 hidden.0 (reader u G') at' is refl (record { before = stood; after = later }) (made_alike u G G' e.entry e.stamp.maker other.stamp.maker made.0) in
     λ i. first i ++ rest i
 
 pub hidden_payload : HiddenPayload

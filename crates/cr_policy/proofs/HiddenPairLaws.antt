@@ -67,13 +67,13 @@ module _ (u : Option ℕ) (H H' : History) where
   record AlikeAt (at : Around) (e other : Stamped) : Type 0 where
     alike : outline e ≡ outline other
     hidden : IsHiddenFrom (reader u H) at e other
-    declared : IsDeclaredAlike u H H' e.entry e.maker other.maker
+    declared : IsDeclaredAlike u H H' e.entry e.stamp.maker other.stamp.maker
 
   alike-itself : AuthorsAlike u H H' → (at : Around) (e : Stamped) → AlikeAt at e e
   alike-itself authors at e = record { alike = refl; hidden = record { parts = refl; maker = refl; user = refl }; declared = of e.entry }
     where
-      of : (entry : Entry) → IsDeclaredAlike u H H' entry e.maker e.maker
-      of (Conflict paper user on) = λ hers. ap (list_any (is_number (Some e.maker))) (authors paper hers)
+      of : (entry : Entry) → IsDeclaredAlike u H H' entry e.stamp.maker e.stamp.maker
+      of (Conflict paper user on) = λ hers. ap (list_any (is_number (Some e.stamp.maker))) (authors paper hers)
       of entry = tt
 
   -- the face of an entry of the history G, in the place of `e` of the first history
@@ -81,9 +81,9 @@ module _ (u : Option ℕ) (H H' : History) where
   face at e other G = record {
     outline = outline other;
     shown = shown_of (reader u H) at e other;
-    mine = is_number u other.maker;
+    mine = is_number u other.stamp.maker;
     named = is_user u (all_of other).user;
-    declared = by_author e.entry other.maker G;
+    declared = by_author e.entry other.stamp.maker G;
   }
 
   -- two entries in one place have the same face
@@ -97,7 +97,7 @@ module _ (u : Option ℕ) (H H' : History) where
     declared = of e.entry (ap (λ (f : Face). f.declared) same);
   }
     where
-      of : (entry : Entry) → by_author entry e.maker H ≡ by_author entry other.maker H' → IsDeclaredAlike u H H' entry e.maker other.maker
+      of : (entry : Entry) → by_author entry e.stamp.maker H ≡ by_author entry other.stamp.maker H' → IsDeclaredAlike u H H' entry e.stamp.maker other.stamp.maker
       of (Conflict paper user on) is = λ hers. is
       of entry is = tt
 
@@ -143,7 +143,7 @@ differs u before these those after alike accepted authors =
       alike = places-so (AlikeAt u H H') (λ at e other. outline e ≡ outline other) (λ at e other here. here.alike) [] H H' all;
       hidden = places-so (AlikeAt u H H') (IsHiddenFrom (reader u H)) (λ at e other here. here.hidden) [] H H' all;
       accepted = accepted;
-      declared = places-so (AlikeAt u H H') (λ at e other. IsDeclaredAlike u H H' e.entry e.maker other.maker)
+      declared = places-so (AlikeAt u H H') (λ at e other. IsDeclaredAlike u H H' e.entry e.stamp.maker other.stamp.maker)
           (λ at e other here. here.declared) [] H H' all;
     }
 

@@ -17,13 +17,13 @@ use Rattle.cr_base.specs.declared.words.Phase.{Phase}
 use Rattle.cr_base.specs.declared.words.Phase.TheVariants.{Submission, Bidding, Reviewing, Discussion, Notification}
 use Rattle.cr_base.specs.declared.words.Role.{Role}
 use Rattle.cr_base.specs.declared.words.Role.TheVariants.{Account, Member, Chair}
-use Rattle.cr_base.specs.Checks.{Check, ◌breaks◌, judged, is_in_committee, declare_checks, own_checks, other_checks, off_checks, conflict_case, conflict_checks}
+use Rattle.cr_base.specs.Checks.{Check, ◌breaks◌, judged, declare_checks, own_checks, other_checks, off_checks, conflict_case, conflict_checks}
 use Rattle.cr_base.specs.Checks.{bid_checks, reviewer_checks, assign_checks, unassign_checks}
 use Rattle.cr_base.specs.Checks.{review_checks, comment_checks, tag_checks, decide_checks}
 use Rattle.cr_base.specs.Lists.{at_some, is_number}
 use Rattle.cr_base.specs.History.{History, Upload}
 use Rattle.cr_base.specs.Page.{is_clear_member, is_clear_chair, shows_author, gets_conflicts, gets_withdrawn}
-use Rattle.cr_base.specs.Phases.{phase_rank, is_from, is_phase}
+use Rattle.cr_base.specs.Phases.{phase_rank, is_from, is_phase, committee_works}
 use Rattle.cr_base.specs.Tables.{tables_of}
 use Rattle.cr_base.specs.TagTexts.{is_for_chairs}
 use Rattle.cr_base.specs.Words.{is_anonymous, is_member, is_chair}
@@ -82,7 +82,7 @@ module _ (by : Standing) (drawn : Drawn) where
       serves Member h = refl
       serves Chair h = refl
 
-  in_committee : not (is_in_committee by.phase) ≡ false → begun ≡ true
+  in_committee : not (committee_works by.phase) ≡ false → begun ≡ true
   in_committee h = (and_parts begun still (not-false (begun && still) h)).0
 
   -- Of each list it is asked only behind rules that have let through one whom the page tells it.
@@ -113,7 +113,7 @@ module _ (by : Standing) (drawn : Drawn) where
   off-withdrawn v w user same =
       asked-behind
       (not (is_chair by.role) breaks rules.NotChair ∷ by.conflicted breaks rules.Conflict
-      ∷ not (is_in_committee by.phase) breaks rules.WrongPhase ∷ [])
+      ∷ not (committee_works by.phase) breaks rules.WrongPhase ∷ [])
       v w rules.Withdrawn
       (not (is_member user.role) breaks rules.NotAMember ∷ user.author breaks rules.AuthorConflict ∷ []) drawn
       (λ none. same (told-chair none.0 (in_committee none.1.1.0)))
@@ -145,7 +145,7 @@ module _ (by : Standing) (drawn : Drawn) where
   off-author withdrawn herself role x y clash clash' reviews reviews' same =
       asked-behind
       (not (is_chair by.role) breaks rules.NotChair ∷ by.conflicted breaks rules.Conflict
-      ∷ not (is_in_committee by.phase) breaks rules.WrongPhase ∷ withdrawn breaks rules.Withdrawn
+      ∷ not (committee_works by.phase) breaks rules.WrongPhase ∷ withdrawn breaks rules.Withdrawn
       ∷ not (is_member role) breaks rules.NotAMember ∷ [])
       x y rules.AuthorConflict [] drawn
       (λ none. same (told-clear_chair none.0 none.1.0 (in_committee none.1.1.0)))
@@ -293,7 +293,7 @@ module _ (facts : Facts) (shown tabled : Shown) (same : Agree facts shown tabled
       withdrawn-same
       (not (has_paper facts (Some p)) breaks rules.NoPaper ∷ (for_chairs && not (is_chair by_member.role)) breaks rules.NotChair
       ∷ not (is_member by_member.role) breaks rules.NotMember ∷ by_member.conflicted breaks rules.Conflict
-      ∷ not (is_in_committee by_member.phase) breaks rules.WrongPhase ∷ []) drawn
+      ∷ not (committee_works by_member.phase) breaks rules.WrongPhase ∷ []) drawn
       (λ none. (none.1.1.0, in_committee by_member drawn none.1.1.1.1.0))
 
   -- and of a decision behind those that let through chairs in the discussion
@@ -361,7 +361,7 @@ module _ (facts : Facts) (shown tabled : Shown) (same : Agree facts shown tabled
         written = at_some (source.written p) (source.ordinal target p);
       }
 
-  asked-same : (drawn : Drawn) (role : Role) → not (is_chair chair.role) ≡ false → chair.conflicted ≡ false → not (is_in_committee chair.phase) ≡ false
+  asked-same : (drawn : Drawn) (role : Role) → not (is_chair chair.role) ≡ false → chair.conflicted ≡ false → not (committee_works chair.phase) ≡ false
       → asked_of shown role ≡ asked_of tabled role
   asked-same drawn role h clear in_time =
       let begun : is_from Bidding chair.phase ≡ true = in_committee chair drawn in_time in
@@ -392,7 +392,7 @@ module _ (facts : Facts) (shown tabled : Shown) (same : Agree facts shown tabled
   reviewer-same role more drawn =
       judged-behind
       (not (has_paper facts (Some p)) breaks rules.NoPaper ∷ false breaks rules.NoUser ∷ not (is_chair chair.role) breaks rules.NotChair
-      ∷ chair.conflicted breaks rules.Conflict ∷ not (is_in_committee chair.phase) breaks rules.WrongPhase ∷ [])
+      ∷ chair.conflicted breaks rules.Conflict ∷ not (committee_works chair.phase) breaks rules.WrongPhase ∷ [])
       (behind (asked_of shown role)) (behind (asked_of tabled role)) (drawn (asked_of shown role)) (drawn (asked_of tabled role))
       (λ none. ap (λ (asked : Asked). judged (behind asked) (drawn asked))
       (asked-same (drawn (asked_of shown role)) role none.1.1.0 none.1.1.1.0 none.1.1.1.1.0))

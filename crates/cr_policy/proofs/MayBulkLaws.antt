@@ -16,7 +16,7 @@ use Rattle.cr_base.specs.Parse.{parse_paper}
 use Rattle.cr_base.specs.Bulk.{assigns, unassigns, turns_conflict, turns_tag}
 use Rattle.cr_base.specs.Bulk.{Action, command_told_by, row_command, turns_own_conflict, row_told_judged, entries_of, and_rows, and_behind, rows_judged}
 use Rattle.cr_base.specs.Bulk.{bulk_checks, bulk_of_rows, bulk_behind}
-use Rattle.cr_base.specs.Checks.{judged, is_in_committee}
+use Rattle.cr_base.specs.Checks.{judged}
 use Rattle.cr_base.specs.Drawn.{Drawn}
 use Rattle.cr_base.specs.History.{History}
 use Rattle.cr_base.specs.HistoryFacts.{phase_of, role_of}
@@ -29,7 +29,7 @@ use Rattle.cr_policy.specs.Added.{added}
 use Rattle.cr_policy.specs.Judge.{judge, view_basis, own_sightings, judge_bulk}
 use Rattle.cr_policy.specs.Legal.{Legal}
 use Rattle.cr_policy.specs.MayBulk.{RowsAsSaid, a_row, is_of_herself, may_row, with_row, may_rows, may_bulk, BulksAsSaid}
-use Rattle.cr_policy.specs.Sentences.{committee_works, chairs, of_some, user_named}
+use Rattle.cr_policy.specs.Sentences.{committee_at_work, chairs, of_some, user_named}
 use Rattle.cr_policy.specs.View.{View, view}
 use Rattle.cr_policy.specs.ViewFacts.{facts_in_view, shown_in_view}
 use Rattle.cr_policy.proofs.AddedLaws.{adds_as_said, user-same}
@@ -174,9 +174,9 @@ module _ (user : ℕ) where
       behind (judged (bulk_checks ((seen_facts H).standing None)) tt)
       ∙ (λ i. (judged-none_broken (bulk_checks ((seen_facts H).standing None)) tt
       ∙ ap (λ (facts : Facts). none_broken (bulk_checks (facts.standing None))) (facts-seen H legal)
-      ∙ said (is_chair (role_of u H)) (chairs user H) (is_in_committee (phase_of H)) (committee_works H)
+      ∙ said (is_chair (role_of u H)) (chairs user H) (committee_works (phase_of H)) (committee_at_work H)
       (chair-same (role_of u H)) (in_committee-same (phase_of H))) i && rows-ok rows 1 H legal ready i)
-      ∙ together (chairs user H) (committee_works H) (may_rows user H rows)
+      ∙ together (chairs user H) (committee_at_work H) (may_rows user H rows)
     where
       of_rows : (r : Result (List Entry) Broken) → is_ok (bulk_of_rows user (length rows) r) ≡ is_ok r
       of_rows (Ok es) = refl

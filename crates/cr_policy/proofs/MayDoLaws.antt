@@ -17,7 +17,7 @@ use Rattle.cr_base.specs.declared.words.Phase.{Phase}
 use Rattle.cr_base.specs.declared.words.Phase.TheVariants.{Setup, Submission, Bidding, Reviewing, Discussion, Notification}
 use Rattle.cr_base.specs.declared.words.Role.{Role}
 use Rattle.cr_base.specs.declared.words.Role.TheVariants.{Account}
-use Rattle.cr_base.specs.Checks.{Check, ◌breaks◌, judged, NamedPaper, is_in_committee, phase_checks, mode_checks, submit_checks, revise_checks, upload_checks}
+use Rattle.cr_base.specs.Checks.{Check, ◌breaks◌, judged, NamedPaper, phase_checks, mode_checks, submit_checks, revise_checks, upload_checks}
 use Rattle.cr_base.specs.Checks.{of_role, register_checks, name_checks, own_checks, other_checks, conflict_case, conflict_checks, assign_checks, unassign_checks}
 use Rattle.cr_base.specs.Checks.{bid_checks, review_checks, comment_checks, tag_checks, decide_checks}
 use Rattle.cr_base.specs.Drawn.{Drawn, naming_drawn, conflict_drawn, assignment_drawn, unassignment_drawn}
@@ -26,7 +26,7 @@ use Rattle.cr_base.specs.Lists.{at_some, is_number}
 use Rattle.cr_base.specs.History.{History}
 use Rattle.cr_base.specs.HistoryFacts.{standing_of, phase_of, role_of, is_conflicted, is_withdrawn, is_author, is_reviewer, authors_of, papers_of, ordinal_of, seats_of}
 use Rattle.cr_base.specs.HistoryFacts.{accounts_of, number_of, is_written, own_comments_of, own_bytes_of, own_papers_of}
-use Rattle.cr_base.specs.Phases.{is_phase, is_from, is_next}
+use Rattle.cr_base.specs.Phases.{is_phase, is_from, is_next, committee_works}
 use Rattle.cr_base.specs.Sources.{maker_of, number_in, users_among, role_among, paper_named}
 use Rattle.cr_base.specs.Tables.{tables_of}
 use Rattle.cr_base.specs.TagTexts.{is_for_chairs}
@@ -39,7 +39,7 @@ use Rattle.cr_policy.specs.View.{view}
 use Rattle.cr_policy.proofs.LegalLaws.{Legal-told}
 use Rattle.cr_policy.specs.MayDo.{may_register, may_name, may_set_mode, may_open, may_submit, may_change, may_upload, may_declare, may_take_back, may_bid, may_assign}
 use Rattle.cr_policy.specs.MayDo.{has_written, may_unassign, may_review, may_comment, may_tag, may_decide, PermissionsAsSaid}
-use Rattle.cr_policy.specs.Sentences.{now, comes_behind, committee_works, is_over, is_members, is_chairs, is_above, is_paper, stands}
+use Rattle.cr_policy.specs.Sentences.{now, comes_behind, committee_at_work, is_over, is_members, is_chairs, is_above, is_paper, stands}
 use Rattle.cr_policy.specs.Sentences.{administers, of_some, user_named, is_somebody, is_for_chairs_alone}
 use Rattle.cr_policy.proofs.SentenceLaws.{none_broken, judged-none_broken, phase-same, next-same, member-same, chair-same, in_committee-same, above-same, over-same, early-same, none-same, at-same, fewer, up_to}
 use Rattle.cr_policy.proofs.SentenceLaws.{shown_of, accepted-as, accepted-checks, number-same, by_name, all_somebody}
@@ -207,7 +207,7 @@ module _ (w : ℕ) (H : History) (legal : Legal H) where
       accepted-checks u H legal (commands.Tag (Some p) tag on)
       (tag_checks (standing_of u (Some p) H) (paper_named (facts_of u H) (shown_of H) (Some p)) (is_for_chairs tag)) _ refl
       ∙ said (is_paper p H) (is_for_chairs tag) (is_for_chairs_alone tag) (is_chair (role_of u H)) (is_member (role_of u H)) (is_conflicted u p H)
-      (is_in_committee (phase_of H)) (is_withdrawn p H) (is_chairs (role_of u H)) (is_members (role_of u H)) (committee_works H)
+      (committee_works (phase_of H)) (is_withdrawn p H) (is_chairs (role_of u H)) (is_members (role_of u H)) (committee_at_work H)
       (chair-same (role_of u H)) (member-same (role_of u H)) (in_committee-same (phase_of H)) (for_chairs-same tag)
     where
       said : (t f f' k m c n w k' m' n' : Bool) → k ≡ k' → m ≡ m' → n ≡ n' → f ≡ f'
@@ -318,11 +318,11 @@ module _ (w : ℕ) (H : History) (legal : Legal H) where
 
   chair-checks : (p : ℕ) (rest : Bool)
       → (not (not (is_paper p H)) && (not (not (is_chair (role_of (Some w) H))) && (not (is_conflicted (Some w) p H)
-      && (not (not (is_in_committee (phase_of H))) && (not (is_withdrawn p H) && rest)))))
-      ≡ (stands p H && administers w p H && committee_works H && rest)
+      && (not (not (committee_works (phase_of H))) && (not (is_withdrawn p H) && rest)))))
+      ≡ (stands p H && administers w p H && committee_at_work H && rest)
   chair-checks p rest =
-      chair-said (is_paper p H) (is_chair (role_of (Some w) H)) (is_conflicted (Some w) p H) (is_in_committee (phase_of H)) (is_withdrawn p H)
-      (is_chairs (role_of (Some w) H)) (committee_works H) rest (chair-same (role_of (Some w) H)) (in_committee-same (phase_of H))
+      chair-said (is_paper p H) (is_chair (role_of (Some w) H)) (is_conflicted (Some w) p H) (committee_works (phase_of H)) (is_withdrawn p H)
+      (is_chairs (role_of (Some w) H)) (committee_at_work H) rest (chair-same (role_of (Some w) H)) (in_committee-same (phase_of H))
 
   taken_back : (paper : Option ℕ) (name : Option (List ℕ))
       → is_ok (judge (Some w) (view (Some w) H) (commands.SetConflict paper name false)) ≡ of_some paper (λ p. of_some (user_named name H) (may_take_back w H p))
@@ -341,7 +341,7 @@ module _ (w : ℕ) (H : History) (legal : Legal H) where
           ap (λ (o : Option Role). is_ok (judged (conflict_checks (by p) (named p) (option_map (user_at p v) o) false) (conflict_drawn w p v false))) is
           ∙ judged-none_broken (conflict_checks (by p) (named p) (Some (user_at p v (role_of (Some v) H))) false) (conflict_drawn w p v false)
           ∙ chair-checks p (not (not (is_member (role_of (Some v) H))) && (not (is_author (Some v) p H) && true))
-          ∙ said (stands p H && administers w p H && committee_works H) (is_member (role_of (Some v) H)) (is_members (role_of (Some v) H))
+          ∙ said (stands p H && administers w p H && committee_at_work H) (is_member (role_of (Some v) H)) (is_members (role_of (Some v) H))
           (is_author (Some v) p H) (member-same (role_of (Some v) H))
 
   assignments : (paper : Option ℕ) (name : Option (List ℕ)) (kind : Kind)
@@ -363,7 +363,7 @@ module _ (w : ℕ) (H : History) (legal : Legal H) where
           ∙ judged-none_broken (assign_checks (by p) (named p) (Some (user_at p v (role_of (Some v) H))) (length (seats_of p H))) (assignment_drawn w p v kind (length (seats_of p H) + 1))
           ∙ chair-checks p (not (not (is_member (role_of (Some v) H))) && (not ((user_at p v Account).conflicted)
           && (not (is_reviewer (Some v) p H) && (not (nat_le 26 (length (seats_of p H))) && true))))
-          ∙ said (stands p H && administers w p H && committee_works H) (is_member (role_of (Some v) H)) (is_members (role_of (Some v) H))
+          ∙ said (stands p H && administers w p H && committee_at_work H) (is_member (role_of (Some v) H)) (is_members (role_of (Some v) H))
           ((user_at p v Account).conflicted) (is_conflicted (Some v) p H) (is_reviewer (Some v) p H)
           (nat_le 26 (length (seats_of p H))) (nat_lt (length (seats_of p H)) 26)
           (member-same (role_of (Some v) H)) (clash-same p v) (fewer 26 (length (seats_of p H)))
@@ -387,7 +387,7 @@ module _ (w : ℕ) (H : History) (legal : Legal H) where
           ∙ judged-none_broken (unassign_checks (by p) (named p) (Some (user_at p v (role_of (Some v) H))) (at_some (λ o. is_written p o H) (ordinal_of (Some v) p H)))
           (unassignment_drawn w p v (unwrap_or (ordinal_of (Some v) p H) 0))
           ∙ chair-checks p (not (not (is_reviewer (Some v) p H)) && (not (at_some (λ o. is_written p o H) (ordinal_of (Some v) p H)) && true))
-          ∙ said (stands p H && administers w p H && committee_works H) (is_reviewer (Some v) p H)
+          ∙ said (stands p H && administers w p H && committee_at_work H) (is_reviewer (Some v) p H)
           (at_some (λ o. is_written p o H) (ordinal_of (Some v) p H)) (has_written v p H) (at-same (λ o. is_written p o H) (ordinal_of (Some v) p H))
 
 -- ---- the law

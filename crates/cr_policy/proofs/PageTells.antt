@@ -133,7 +133,7 @@ authors_shown a c m f n accepted rest told = grind arith
 pub authors-seen : (u : Option ℕ) (p : ℕ) (H : History) → shows_author (standing_of u (Some p) H) (is_accepted p H) ≡ true
     → authors_in_view p (view u H) ≡ authors_of p H
 authors-seen u p H told =
-    fold_all (reader u H) (author_seen p) (λ (e : Stamped). author_told p e.maker e.entry) (names_author (reader u H)) (author_tells (reader u H) p)
+    fold_all (reader u H) (author_seen p) (λ (e : Stamped). author_told p e.stamp.maker e.entry) (names_author (reader u H)) (author_tells (reader u H) p)
     (λ at e. author_value (reader u H) at p (record {
       submitted = λ maker more title abstract. shown false;
       coauthor = λ maker more user. shown (user_named (reader u H) maker || false);

@@ -96,7 +96,7 @@ module _ (u : Option ℕ) (before after : History) (gone : Stamped) where
     -- of a paper of hers all authors stay
     authors-without : (p : ℕ) → is_author u p with_it ≡ true → authors_of p with_it ≡ authors_of p without_it
     authors-without p h =
-        told-without (λ (e : Stamped). author_told p e.maker e.entry) before after gone
+        told-without (λ (e : Stamped). author_told p e.stamp.maker e.entry) before after gone
         (sym (author_value (reader u with_it) there p (record {
           submitted = λ maker more title abstract. first_of (is_author u p with_it) _ h;
           coauthor = λ maker more user. first_of (is_author u p with_it) _ h;
@@ -109,7 +109,7 @@ module _ (u : Option ℕ) (before after : History) (gone : Stamped) where
       where
         by : (b : Bool) → is_author u p with_it ≡ b → is_author u p with_it ≡ is_author u p without_it
         by true h = ap (list_any (is_number u)) (authors-without p h)
-        by false h = h ∙ sym (any-without (is_number u) (λ (e : Stamped). author_told p e.maker e.entry) before after gone h)
+        by false h = h ∙ sym (any-without (is_number u) (λ (e : Stamped). author_told p e.stamp.maker e.entry) before after gone h)
 
     reader-without : AcceptedAlike with_it without_it → where_wrote (reader u with_it) (reader u without_it).wrote ≡ reader u without_it
     reader-without accepted = λ i. record {
@@ -132,13 +132,13 @@ module _ (u : Option ℕ) (before after : History) (gone : Stamped) where
 module _ (r r' : Reader) (is : where_wrote r r'.wrote ≡ r') (number : r.number ≡ r'.number) (made : (e : Entry) (maker : ℕ) → MadeAlike r r'.wrote e maker maker) where
   -- an entry for which the rows are alike by its two places
   sight-moved : (at at' : Around) (e : Stamped)
-      → rows r (position_of at e.entry) e.maker e.entry ≡ rows r (position_of at' e.entry) e.maker e.entry → sight r at e ≡ sight r' at' e
-  sight-moved at at' e moved = λ i. seen_by (all_rows i) (is_number (number i) e.maker) e
+      → rows r (position_of at e.entry) e.stamp.maker e.entry ≡ rows r (position_of at' e.entry) e.stamp.maker e.entry → sight r at e ≡ sight r' at' e
+  sight-moved at at' e moved = λ i. seen_by (all_rows i) (is_number (number i) e.stamp.maker) e
     where
       all_rows : rows_at r at e ≡ rows_at r' at' e
       all_rows =
-          (λ i. (moved ∙ wrote-rows r r'.wrote (position_of at' e.entry) e.maker e.maker e.entry (made e.entry e.maker)) i ++ is_number (number i) e.maker see whole ∷ [])
-          ∙ (λ i. rows (is i) (position_of at' e.entry) e.maker e.entry ++ user_named r' e.maker see whole ∷ [])
+          (λ i. (moved ∙ wrote-rows r r'.wrote (position_of at' e.entry) e.stamp.maker e.stamp.maker e.entry (made e.entry e.stamp.maker)) i ++ is_number (number i) e.stamp.maker see whole ∷ [])
+          ∙ (λ i. rows (is i) (position_of at' e.entry) e.stamp.maker e.entry ++ user_named r' e.stamp.maker see whole ∷ [])
 
   -- those behind the entry that is taken out
   sights-behind : (front between post : History) (gone : Stamped) → is_seen r (record { before = front; after = between ++ post }) gone ≡ false
@@ -146,7 +146,7 @@ module _ (r r' : Reader) (is : where_wrote r r'.wrote ≡ r') (number : r.number
   sights-behind front between [] gone unseen = refl
   sights-behind front between (e ∷ post) gone unseen =
       let first = sight-moved (record { before = front ++ gone ∷ between; after = post }) (record { before = front ++ between; after = post }) e
-      (moved-rows r (record { before = front; after = between ++ e ∷ post }) gone unseen _ _ e.maker e.entry (moved-behind r front between post e gone unseen)) in
+      (moved-rows r (record { before = front; after = between ++ e ∷ post }) gone unseen _ _ e.stamp.maker e.entry (moved-behind r front between post e gone unseen)) in
       let later : is_seen r (record { before = front; after = (between ++ e ∷ []) ++ post }) gone ≡ false =
       subst (λ (rest : History). is_seen r (record { before = front; after = rest }) gone ≡ false) (sym (append_assoc between (e ∷ []) post)) unseen in
       let rest = sights-behind front (between ++ e ∷ []) post gone later in
@@ -165,7 +165,7 @@ module _ (r r' : Reader) (is : where_wrote r r'.wrote ≡ r') (number : r.number
       ∙ (λ i. sights r' (append-nil front i) post)
   sights-ahead front (e ∷ between) post gone unseen =
       let first = sight-moved (record { before = front; after = between ++ gone ∷ post }) (record { before = front; after = between ++ post }) e
-      (moved-rows r (record { before = front ++ e ∷ between; after = post }) gone unseen _ _ e.maker e.entry (moved-ahead r front between post e gone unseen)) in
+      (moved-rows r (record { before = front ++ e ∷ between; after = post }) gone unseen _ _ e.stamp.maker e.entry (moved-ahead r front between post e gone unseen)) in
       let later : is_seen r (record { before = (front ++ e ∷ []) ++ between; after = post }) gone ≡ false =
       subst (λ (b : History). is_seen r (record { before = b; after = post }) gone ≡ false) (sym (append_assoc front (e ∷ []) between)) unseen in
       let rest = sights-ahead (front ++ e ∷ []) between post gone later in

@@ -213,7 +213,7 @@ none_alike-alike e gone H h = absurd (true≢false h)
 no-opening : (e : Stamped) (gone : Stamped) → none_alike e.entry (gone ∷ []) ≡ false → opens_discussion e ≡ false
 no-opening e gone = of e.entry
   where
-    of : (entry : Entry) → none_alike entry (gone ∷ []) ≡ false → opens_discussion (stamp e.maker e.more entry) ≡ false
+    of : (entry : Entry) → none_alike entry (gone ∷ []) ≡ false → opens_discussion (stamp e.stamp.maker e.more entry) ≡ false
     of (PhaseSet phase) h = absurd (true≢false h)
     of entry h = refl
 
@@ -221,7 +221,7 @@ no-opening e gone = of e.entry
 unseen-opens : (r : Reader) (at : Around) (e : Stamped) → is_seen r at e ≡ false → opens_discussion e ≡ false
 unseen-opens r at e = of e.entry
   where
-    of : (entry : Entry) → is_seen r at (stamp e.maker e.more entry) ≡ false → opens_discussion (stamp e.maker e.more entry) ≡ false
+    of : (entry : Entry) → is_seen r at (stamp e.stamp.maker e.more entry) ≡ false → opens_discussion (stamp e.stamp.maker e.more entry) ≡ false
     of (PhaseSet phase) h = absurd (true≢false h)
     of entry h = refl
 
@@ -307,7 +307,7 @@ module _ (r : Reader) (at : Around) (gone : Stamped) (unseen : is_seen r at gone
   moved-texts : (p : ℕ) → Moved (none_in (title_told p) (gone ∷ [])) with without place → MovedTexts p
   moved-texts p moved =
       let apart : Bool = none_in (title_told p) (gone ∷ []) in
-      let silent = silent-texts r at gone.maker gone.more p gone.entry unseen in
+      let silent = silent-texts r at gone.stamp.maker gone.more p gone.entry unseen in
       record {
         title = stands-row_both apart with.last without.last place.last (members r) bidding moved.last (λ no. (silent no).title);
         abstract = stands-row_both apart with.last without.last place.last (is_clear_member (standing_to r p)) bidding moved.last (λ no. (silent no).abstract);
@@ -325,7 +325,7 @@ module _ (r : Reader) (at : Around) (gone : Stamped) (unseen : is_seen r at gone
       alike-rows _ _ refl (refl, (texts.title, (texts.abstract, (texts.accepted, (texts.published, tt)))))
   moved-rows by (Uploaded paper version content) moved =
       let apart : Bool = none_in (upload_told paper) (gone ∷ []) in
-      let silent = silent-upload r at gone.maker gone.more paper gone.entry unseen in
+      let silent = silent-upload r at gone.stamp.maker gone.more paper gone.entry unseen in
       alike-rows _ _ refl (
         refl,
         (
@@ -335,7 +335,7 @@ module _ (r : Reader) (at : Around) (gone : Stamped) (unseen : is_seen r at gone
       )
   moved-rows by (Reviewed paper ordinal version form) moved =
       let apart : Bool = none_in (form_told paper ordinal) (gone ∷ []) in
-      let silent = silent-form r at gone.maker gone.more paper ordinal gone.entry unseen in
+      let silent = silent-form r at gone.stamp.maker gone.more paper ordinal gone.entry unseen in
       alike-rows _ _ refl (
         stands-row apart with.first without.first place.first (is_clear_chair (standing_to r paper)) moved.first (λ no. (silent no).done),
         (
@@ -349,7 +349,7 @@ module _ (r : Reader) (at : Around) (gone : Stamped) (unseen : is_seen r at gone
       )
   moved-rows by (Decided paper decision) moved =
       let apart : Bool = none_in (decision_told paper) (gone ∷ []) in
-      let silent = silent-decision r at gone.maker gone.more paper gone.entry unseen in
+      let silent = silent-decision r at gone.stamp.maker gone.more paper gone.entry unseen in
       alike-rows _ _ refl (
         refl,
         (

@@ -31,7 +31,7 @@ use Rattle.cr_policy.proofs.Walk.{kept, kept-map, sights-all, sights-kept, is_no
 -- ---- the reader's own
 
 pub own_forms-seen : (u : Option ℕ) (p : ℕ) (H : History) → own_forms_in_view p (view u H) ≡ own_forms_of u p H
-own_forms-seen u p H = sights-all (reader u H) (own_form_seen p) (λ (e : Stamped). own_form_told u p e.maker e.entry) (own_form_tells (reader u H) p) [] H
+own_forms-seen u p H = sights-all (reader u H) (own_form_seen p) (λ (e : Stamped). own_form_told u p e.stamp.maker e.entry) (own_form_tells (reader u H) p) [] H
 
 -- ---- whether there is a form
 

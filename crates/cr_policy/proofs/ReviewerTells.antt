@@ -39,7 +39,7 @@ use Rattle.cr_policy.proofs.StandingLaws.{first_of, seat-seen_where}
 pub bid-seen : (u v : Option ℕ) (p : ℕ) (H : History) → gets_bids (standing_of u (Some p) H) ≡ true → bid_in_view v p (view u H) ≡ bid_of v p H
 bid-seen u v p H told =
     ap last
-    (fold_all (reader u H) (bid_seen v p) (λ (e : Stamped). bid_told v p e.maker e.entry) (passes_both part.by part.value (reader u H))
+    (fold_all (reader u H) (bid_seen v p) (λ (e : Stamped). bid_told v p e.stamp.maker e.entry) (passes_both part.by part.value (reader u H))
     (bid_tells (reader u H) v p) (λ at e. bid_value (reader u H) at v p (λ maker more value. both_true (clear _) (clear _)) e) [] H)
   where
     clear : (rest : Bool) → (gets_bids (standing_of u (Some p) H) || rest) ≡ true

@@ -56,17 +56,17 @@ module _ (r : Reader) (at : Around) (maker : ℕ) (more : Bool) where
       (paper_value (eqb paper p) _ ordinal)
   unassigned_at p e = silent r at maker more (unassigned_seen p) e refl
 
-pub bid_tells : (r : Reader) (u : Option ℕ) (p : ℕ) → Tells r (bid_seen u p) (λ (e : Stamped). bid_told u p e.maker e.entry) (passes_both part.by part.value r)
-bid_tells r u p at e = bid_at r at e.maker e.more u p e.entry
+pub bid_tells : (r : Reader) (u : Option ℕ) (p : ℕ) → Tells r (bid_seen u p) (λ (e : Stamped). bid_told u p e.stamp.maker e.entry) (passes_both part.by part.value r)
+bid_tells r u p at e = bid_at r at e.stamp.maker e.more u p e.entry
 
-pub own_bid_tells : (r : Reader) (p : ℕ) → TellsAll r (own_bid_seen p) (λ (e : Stamped). bid_told r.number p e.maker e.entry)
-own_bid_tells r p at e = own_bid_at r at e.maker e.more p e.entry
+pub own_bid_tells : (r : Reader) (p : ℕ) → TellsAll r (own_bid_seen p) (λ (e : Stamped). bid_told r.number p e.stamp.maker e.entry)
+own_bid_tells r p at e = own_bid_at r at e.stamp.maker e.more p e.entry
 
 pub seat_tells : (r : Reader) (u : Option ℕ) (p : ℕ) → Tells r (ordinal_seen u p) (λ (e : Stamped). ordinal_told u p e.entry) (passes_both part.user part.ordinal r)
-seat_tells r u p at e = ordinal_at r at e.maker e.more u p e.entry
+seat_tells r u p at e = ordinal_at r at e.stamp.maker e.more u p e.entry
 
 pub unassigned_tells : (r : Reader) (p : ℕ) → Tells r (unassigned_seen p) (λ (e : Stamped). unassigned_told p e.entry) (passes part.ordinal r)
-unassigned_tells r p at e = unassigned_at r at e.maker e.more p e.entry
+unassigned_tells r p at e = unassigned_at r at e.stamp.maker e.more p e.entry
 
 -- ---- who is shown them
 
@@ -116,14 +116,14 @@ module _ (r : Reader) (at : Around) (u : Option ℕ) (p : ℕ) where
       of_paper (λ n. passes part.ordinal r at (stamp maker more (Unassigned n user ordinal))) paper p ordinal (shown maker more user ordinal)
   unassigned_kept shown maker more e = refl
 
-  pub bid_value : ShowsBid r at p → (e : Stamped) → only (passes_both part.by part.value r at e) (bid_told u p e.maker e.entry) ≡ bid_told u p e.maker e.entry
-  bid_value shown e = bid_kept shown e.maker e.more e.entry
+  pub bid_value : ShowsBid r at p → (e : Stamped) → only (passes_both part.by part.value r at e) (bid_told u p e.stamp.maker e.entry) ≡ bid_told u p e.stamp.maker e.entry
+  bid_value shown e = bid_kept shown e.stamp.maker e.more e.entry
 
   pub seat_value : ShowsSeat r at u p → (e : Stamped) → only (passes_both part.user part.ordinal r at e) (ordinal_told u p e.entry) ≡ ordinal_told u p e.entry
-  seat_value shown e = seat_kept shown e.maker e.more e.entry
+  seat_value shown e = seat_kept shown e.stamp.maker e.more e.entry
 
   pub unassigned_value : ShowsUnassigned r at p → (e : Stamped) → only (passes part.ordinal r at e) (unassigned_told p e.entry) ≡ unassigned_told p e.entry
-  unassigned_value shown e = unassigned_kept shown e.maker e.more e.entry
+  unassigned_value shown e = unassigned_kept shown e.stamp.maker e.more e.entry
 
 -- ---- reviewers of a paper, as some are told them
 
@@ -165,4 +165,4 @@ module _ {B : Type 0} (m : SeatTold → B) (r : Reader) (at : Around) where
 
 pub assigned_tells : {B : Type 0} (m : SeatTold → B) (r : Reader) (p : ℕ) → ((at : Around) → ShowsAssigned m r at p)
     → TellsAll r (λ (s : Sighting). map m (assigned_seen p s)) (λ (e : Stamped). map m (assigned_told p e.entry))
-assigned_tells m r p shown at e = assigned_at m r at p (shown at) e.maker e.more e.entry
+assigned_tells m r p shown at e = assigned_at m r at p (shown at) e.stamp.maker e.more e.entry

@@ -17,14 +17,14 @@ use Rattle.cr_base.specs.declared.words.Phase.TheVariants.{Setup, Submission, Bi
 use Rattle.cr_base.specs.declared.words.Role.{Role}
 use Rattle.cr_base.specs.declared.words.Role.TheVariants.{Account, Member, Chair}
 use Rattle.cr_base.specs.Answering.{query_checks, reply_or_rule, told_by, answer_by}
-use Rattle.cr_base.specs.Checks.{Check, judged, is_in_committee}
+use Rattle.cr_base.specs.Checks.{Check, judged}
 use Rattle.cr_base.specs.Drawn.{Drawn}
 use Rattle.cr_base.specs.Judging.{judge_by}
 use Rattle.cr_base.specs.Lists.{at_some}
 use Rattle.cr_base.specs.History.{History, Registration, all_told, registration_told}
 use Rattle.cr_base.specs.HistoryFacts.{role_of, is_withdrawn, authors_of, uploads_of, ordinal_of, seats_of}
 use Rattle.cr_base.specs.HistoryFacts.{accounts_of, number_of, is_written}
-use Rattle.cr_base.specs.Phases.{is_phase, is_from, is_next}
+use Rattle.cr_base.specs.Phases.{is_phase, is_from, is_next, committee_works}
 use Rattle.cr_base.specs.Sources.{Shown, number_in, user_among, users_among, role_among, facts_of_tables, shown_in_tables}
 use Rattle.cr_base.specs.Tables.{tables_of}
 use Rattle.cr_base.specs.Words.{is_member, is_chair, role_number}
@@ -101,7 +101,7 @@ chair-same Account = refl
 chair-same Member = refl
 chair-same Chair = refl
 
-pub in_committee-same : (a : Phase) → is_in_committee a ≡ (is_it Bidding a || is_it Reviewing a || is_it Discussion a)
+pub in_committee-same : (a : Phase) → committee_works a ≡ (is_it Bidding a || is_it Reviewing a || is_it Discussion a)
 in_committee-same Setup = refl
 in_committee-same Submission = refl
 in_committee-same Bidding = refl

@@ -38,7 +38,7 @@ unmarked-alone user [] = refl
 unmarked-alone user (e ∷ es) = ap (λ (g : History). stamp user false e ∷ g) (unmarked-alone user es)
 
 abbrev unmark : Stamped → Stamped
-unmark e = record { maker = e.maker; more = false; entry = e.entry }
+unmark e = record { stamp = e.stamp; more = false; entry = e.entry }
 
 same-unmarked : (user : ℕ) (H : History) (es : List Entry) → unmarked (H ++ grouped user es) ≡ unmarked (H ++ alone user es)
 same-unmarked user H es =

@@ -61,14 +61,14 @@ accounts-seen u H =
 -- ---- the reader's own
 
 pub own_papers-seen : (u : Option ℕ) (H : History) → own_papers_in_view (view u H) ≡ own_papers_of u H
-own_papers-seen u H = ap length (sights-all (reader u H) own_paper_seen (λ (e : Stamped). own_paper_told u e.maker e.entry) (own_paper_tells (reader u H)) [] H)
+own_papers-seen u H = ap length (sights-all (reader u H) own_paper_seen (λ (e : Stamped). own_paper_told u e.stamp.maker e.entry) (own_paper_tells (reader u H)) [] H)
 
 pub own_bytes-seen : (u : Option ℕ) (H : History) → own_bytes_in_view (view u H) ≡ own_bytes_of u H
-own_bytes-seen u H = ap total (sights-all (reader u H) own_bytes_seen (λ (e : Stamped). own_bytes_told u e.maker e.entry) (own_bytes_tells (reader u H)) [] H)
+own_bytes-seen u H = ap total (sights-all (reader u H) own_bytes_seen (λ (e : Stamped). own_bytes_told u e.stamp.maker e.entry) (own_bytes_tells (reader u H)) [] H)
 
 pub own_comments-seen : (u : Option ℕ) (H : History) → own_comments_in_view (view u H) ≡ own_comments_of u H
 own_comments-seen u H =
-    ap length (sights-all (reader u H) own_comment_seen (λ (e : Stamped). own_comment_told u e.maker e.entry) (own_comment_tells (reader u H)) [] H)
+    ap length (sights-all (reader u H) own_comment_seen (λ (e : Stamped). own_comment_told u e.stamp.maker e.entry) (own_comment_tells (reader u H)) [] H)
 
 pub first_of : (a rest : Bool) → a ≡ true → (a || rest) ≡ true
 first_of a rest h = ap (λ b. b || rest) h
@@ -76,7 +76,7 @@ first_of a rest h = ap (λ b. b || rest) h
 -- an author sees all authors of her paper
 authors-seen_by_author : (u : Option ℕ) (p : ℕ) (H : History) → is_author u p H ≡ true → authors_in_view p (view u H) ≡ authors_of p H
 authors-seen_by_author u p H h =
-    fold_all (reader u H) (author_seen p) (λ (e : Stamped). author_told p e.maker e.entry) (names_author (reader u H)) (author_tells (reader u H) p)
+    fold_all (reader u H) (author_seen p) (λ (e : Stamped). author_told p e.stamp.maker e.entry) (names_author (reader u H)) (author_tells (reader u H) p)
     (λ at e. author_value (reader u H) at p (record {
       submitted = λ maker more title abstract. first_of (is_author u p H) _ h;
       coauthor = λ maker more user. first_of (is_author u p H) _ h;
@@ -89,8 +89,8 @@ author-seen u p H = by (is_author u p H) refl
     by : (b : Bool) → is_author u p H ≡ b → is_author_in_view u p (view u H) ≡ b
     by true h = ap (list_any (is_number u)) (authors-seen_by_author u p H h) ∙ h
     by false h =
-        ap (list_any (is_number u)) (sights-kept (reader u H) (author_seen p) (λ (e : Stamped). author_told p e.maker e.entry) (names_author (reader u H)) (author_tells (reader u H) p) [] H)
-        ∙ list_any-kept (is_number u) (names_author (reader u H)) (λ (e : Stamped). author_told p e.maker e.entry) [] H h
+        ap (list_any (is_number u)) (sights-kept (reader u H) (author_seen p) (λ (e : Stamped). author_told p e.stamp.maker e.entry) (names_author (reader u H)) (author_tells (reader u H) p) [] H)
+        ∙ list_any-kept (is_number u) (names_author (reader u H)) (λ (e : Stamped). author_told p e.stamp.maker e.entry) [] H h
 
 -- a user's conflicts are told the reader, where she is shown each entry on them
 pub declared-seen_where : (u v : Option ℕ) (p : ℕ) (H : History)
@@ -106,7 +106,7 @@ declared-seen u p H = declared-seen_where u u p H (λ at maker more user on hers
 -- ---- bids and seats
 
 pub own_bid-seen : (u : Option ℕ) (p : ℕ) (H : History) → own_bid_in_view p (view u H) ≡ bid_of u p H
-own_bid-seen u p H = ap last (sights-all (reader u H) (own_bid_seen p) (λ (e : Stamped). bid_told u p e.maker e.entry) (own_bid_tells (reader u H) p) [] H)
+own_bid-seen u p H = ap last (sights-all (reader u H) (own_bid_seen p) (λ (e : Stamped). bid_told u p e.stamp.maker e.entry) (own_bid_tells (reader u H) p) [] H)
 
 -- a user's seat is told the reader, where she is shown each entry on it
 pub seat-seen_where : (u v : Option ℕ) (p : ℕ) (H : History) → ((at : Around) → ShowsSeat (reader u H) at v p) → ordinal_in_view v p (view u H) ≡ ordinal_of v p H

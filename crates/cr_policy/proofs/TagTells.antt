@@ -169,8 +169,8 @@ module _ (r : Reader) (at : Around) (chair : Bool) where
 
 tag_tells : (r : Reader) (chair : Bool) (p : ℕ) → ((at : Around) → ShowsTags r at chair p)
     → TellsAll r (λ (s : Sighting). filter (is_for r.number chair) (tag_seen r.number p s))
-    (λ (e : Stamped). filter (is_for r.number chair) (tag_told p e.maker e.entry))
-tag_tells r chair p shown at e = tag_at r at chair p (shown at) e.maker e.more e.entry
+    (λ (e : Stamped). filter (is_for r.number chair) (tag_told p e.stamp.maker e.entry))
+tag_tells r chair p shown at e = tag_at r at chair p (shown at) e.stamp.maker e.more e.entry
 
 -- ---- what a view says of tags
 
@@ -215,10 +215,10 @@ tags-seen u p H told =
     ∙ ap tags_left
     (filter-flat_map (is_for u chair) (tag_seen u p) (view u H)
     ∙ sights-all (reader u H) (λ (s : Sighting). filter (is_for u chair) (tag_seen u p s))
-    (λ (e : Stamped). filter (is_for u chair) (tag_told p e.maker e.entry))
+    (λ (e : Stamped). filter (is_for u chair) (tag_told p e.stamp.maker e.entry))
     (tag_tells (reader u H) chair p shown) [] H
-    ∙ sym (filter-flat_map (is_for u chair) (λ (e : Stamped). tag_told p e.maker e.entry) H))
-    ∙ sym (tags_left-for u chair (flat_map (λ (e : Stamped). tag_told p e.maker e.entry) H) (owned-turned u p H)))
+    ∙ sym (filter-flat_map (is_for u chair) (λ (e : Stamped). tag_told p e.stamp.maker e.entry) H))
+    ∙ sym (tags_left-for u chair (flat_map (λ (e : Stamped). tag_told p e.stamp.maker e.entry) H) (owned-turned u p H)))
   where
     by : Standing
     by = standing_of u (Some p) H

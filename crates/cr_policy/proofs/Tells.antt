@@ -246,49 +246,49 @@ module _ (r : Reader) (at : Around) (maker : ℕ) (more : Bool) where
   conflict_at u p e = silent (conflict_seen u p) e refl
 
 pub phase_tells : (r : Reader) → TellsAll r phase_seen (λ (e : Stamped). phase_told e.entry)
-phase_tells r at e = phase_at r at e.maker e.more e.entry
+phase_tells r at e = phase_at r at e.stamp.maker e.more e.entry
 
 pub mode_tells : (r : Reader) → TellsAll r mode_seen (λ (e : Stamped). mode_told e.entry)
-mode_tells r at e = mode_at r at e.maker e.more e.entry
+mode_tells r at e = mode_at r at e.stamp.maker e.more e.entry
 
 pub paper_tells : (r : Reader) → TellsAll r paper_seen (λ (e : Stamped). paper_told e.entry)
-paper_tells r at e = paper_at r at e.maker e.more e.entry
+paper_tells r at e = paper_at r at e.stamp.maker e.more e.entry
 
 pub registration_tells : (r : Reader) → TellsAll r registration_seen (λ (e : Stamped). registration_told e.entry)
-registration_tells r at e = registration_at r at e.maker e.more e.entry
+registration_tells r at e = registration_at r at e.stamp.maker e.more e.entry
 
 pub role_tells : (r : Reader) (u : Option ℕ) → TellsAll r (role_seen u) (λ (e : Stamped). role_told u e.entry)
-role_tells r u at e = role_at r at e.maker e.more u e.entry
+role_tells r u at e = role_at r at e.stamp.maker e.more u e.entry
 
 pub number_tells : (r : Reader) (name : List ℕ) → TellsAll r (number_seen name) (λ (e : Stamped). number_told name e.entry)
-number_tells r name at e = number_at r at e.maker e.more name e.entry
+number_tells r name at e = number_at r at e.stamp.maker e.more name e.entry
 
-pub own_paper_tells : (r : Reader) → TellsAll r own_paper_seen (λ (e : Stamped). own_paper_told r.number e.maker e.entry)
-own_paper_tells r at e = own_paper_at r at e.maker e.more e.entry
+pub own_paper_tells : (r : Reader) → TellsAll r own_paper_seen (λ (e : Stamped). own_paper_told r.number e.stamp.maker e.entry)
+own_paper_tells r at e = own_paper_at r at e.stamp.maker e.more e.entry
 
-pub own_bytes_tells : (r : Reader) → TellsAll r own_bytes_seen (λ (e : Stamped). own_bytes_told r.number e.maker e.entry)
-own_bytes_tells r at e = own_bytes_at r at e.maker e.more e.entry
+pub own_bytes_tells : (r : Reader) → TellsAll r own_bytes_seen (λ (e : Stamped). own_bytes_told r.number e.stamp.maker e.entry)
+own_bytes_tells r at e = own_bytes_at r at e.stamp.maker e.more e.entry
 
-pub own_comment_tells : (r : Reader) → TellsAll r own_comment_seen (λ (e : Stamped). own_comment_told r.number e.maker e.entry)
-own_comment_tells r at e = own_comment_at r at e.maker e.more e.entry
+pub own_comment_tells : (r : Reader) → TellsAll r own_comment_seen (λ (e : Stamped). own_comment_told r.number e.stamp.maker e.entry)
+own_comment_tells r at e = own_comment_at r at e.stamp.maker e.more e.entry
 
-pub author_tells : (r : Reader) (p : ℕ) → Tells r (author_seen p) (λ (e : Stamped). author_told p e.maker e.entry) (names_author r)
-author_tells r p at e = author_at r at e.maker e.more p e.entry
+pub author_tells : (r : Reader) (p : ℕ) → Tells r (author_seen p) (λ (e : Stamped). author_told p e.stamp.maker e.entry) (names_author r)
+author_tells r p at e = author_at r at e.stamp.maker e.more p e.entry
 
 pub title_tells : (r : Reader) (p : ℕ) → Tells r (title_seen p) (λ (e : Stamped). title_told p e.entry) (passes part.title r)
-title_tells r p at e = title_at r at e.maker e.more p e.entry
+title_tells r p at e = title_at r at e.stamp.maker e.more p e.entry
 
 pub abstract_tells : (r : Reader) (p : ℕ) → Tells r (abstract_seen p) (λ (e : Stamped). abstract_told p e.entry) (passes part.abstract r)
-abstract_tells r p at e = abstract_at r at e.maker e.more p e.entry
+abstract_tells r p at e = abstract_at r at e.stamp.maker e.more p e.entry
 
 pub upload_tells : (r : Reader) (p : ℕ) → Tells r (upload_seen p) (λ (e : Stamped). upload_told p e.entry) (passes part.content r)
-upload_tells r p at e = upload_at r at e.maker e.more p e.entry
+upload_tells r p at e = upload_at r at e.stamp.maker e.more p e.entry
 
 pub withdrawal_tells : (r : Reader) (p : ℕ) → Tells r (withdrawal_seen p) (λ (e : Stamped). withdrawal_told p e.entry) (is_seen r)
-withdrawal_tells r p at e = withdrawal_at r at e.maker e.more p e.entry
+withdrawal_tells r p at e = withdrawal_at r at e.stamp.maker e.more p e.entry
 
 pub conflict_tells : (r : Reader) (u : Option ℕ) (p : ℕ) → Tells r (conflict_seen u p) (λ (e : Stamped). conflict_told u p e.entry) (passes part.on r)
-conflict_tells r u p at e = conflict_at r at e.maker e.more u p e.entry
+conflict_tells r u p at e = conflict_at r at e.stamp.maker e.more u p e.entry
 
 -- ---- who is shown a part of a paper
 
@@ -351,20 +351,20 @@ module _ (r : Reader) (at : Around) (p : ℕ) where
   withdrawal_kept shown maker more e = refl
 
   -- so what is told of paper p is kept
-  pub author_value : NamesAuthors r at p → (e : Stamped) → only (names_author r at e) (author_told p e.maker e.entry) ≡ author_told p e.maker e.entry
-  author_value shown e = author_kept shown e.maker e.more e.entry
+  pub author_value : NamesAuthors r at p → (e : Stamped) → only (names_author r at e) (author_told p e.stamp.maker e.entry) ≡ author_told p e.stamp.maker e.entry
+  author_value shown e = author_kept shown e.stamp.maker e.more e.entry
 
   pub title_value : ShowsText part.title r at p → (e : Stamped) → only (passes part.title r at e) (title_told p e.entry) ≡ title_told p e.entry
-  title_value shown e = title_kept shown e.maker e.more e.entry
+  title_value shown e = title_kept shown e.stamp.maker e.more e.entry
 
   pub abstract_value : ShowsText part.abstract r at p → (e : Stamped) → only (passes part.abstract r at e) (abstract_told p e.entry) ≡ abstract_told p e.entry
-  abstract_value shown e = abstract_kept shown e.maker e.more e.entry
+  abstract_value shown e = abstract_kept shown e.stamp.maker e.more e.entry
 
   pub upload_value : ShowsUpload r at p → (e : Stamped) → only (passes part.content r at e) (upload_told p e.entry) ≡ upload_told p e.entry
-  upload_value shown e = upload_kept shown e.maker e.more e.entry
+  upload_value shown e = upload_kept shown e.stamp.maker e.more e.entry
 
   pub withdrawal_value : ShowsWithdrawal r at p → (e : Stamped) → only (is_seen r at e) (withdrawal_told p e.entry) ≡ withdrawal_told p e.entry
-  withdrawal_value shown e = withdrawal_kept shown e.maker e.more e.entry
+  withdrawal_value shown e = withdrawal_kept shown e.stamp.maker e.more e.entry
 
 -- ---- who is shown a conflict
 
@@ -372,7 +372,7 @@ module _ (r : Reader) (at : Around) (p : ℕ) where
 pub conflict_value : (r : Reader) (at : Around) (u : Option ℕ) (p : ℕ) (e : Stamped)
     → ((maker : ℕ) (more : Bool) (user : ℕ) (on : Bool) → is_number u user ≡ true → passes part.on r at (stamp maker more (Conflict p user on)) ≡ true)
     → only (passes part.on r at e) (conflict_told u p e.entry) ≡ conflict_told u p e.entry
-conflict_value r at u p e h = by e.maker e.more e.entry
+conflict_value r at u p e h = by e.stamp.maker e.more e.entry
   where
     by : (maker : ℕ) (more : Bool) (e : Entry) → only (passes part.on r at (stamp maker more e)) (conflict_told u p e) ≡ conflict_told u p e
     by maker more (Conflict paper user on) =

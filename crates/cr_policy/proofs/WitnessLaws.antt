@@ -91,14 +91,14 @@ one_submission-legal alice bob ha hb = record {
 module _ (alice bob carol dave : List ℕ) where
   registers : length carol ≡ 32 → length dave ≡ 32 → Legal (one_submission alice bob) → Legal (four_registrations alice bob carol dave)
   registers hc hd legal =
-      let three : History = one_submission alice bob ++ record { maker = 3; more = false; entry = Registered 3 (codes "carol") carol } ∷ [] in
+      let three : History = one_submission alice bob ++ record { stamp = record { maker = 3 }; more = false; entry = Registered 3 (codes "carol") carol } ∷ [] in
       called three (four_registrations alice bob carol dave) (register (codes "dave") dave)
       (called (one_submission alice bob) three (register (codes "carol") carol) legal (record { caller = refl; bounded = (record { some = omega arith; few = omega arith; bytes = refl }, hc) }) refl)
       (record { caller = refl; bounded = (record { some = omega arith; few = omega arith; bytes = refl }, hd) }) refl
 
   names : Legal (four_registrations alice bob carol dave) → Legal (two_members alice bob carol dave)
   names legal =
-      let one : History = four_registrations alice bob carol dave ++ record { maker = 1; more = false; entry = Named 3 Member } ∷ [] in
+      let one : History = four_registrations alice bob carol dave ++ record { stamp = record { maker = 1 }; more = false; entry = Named 3 Member } ∷ [] in
       called one (two_members alice bob carol dave) (record { caller = Some 1; command = Name (Some (codes "dave")) Member })
       (called (four_registrations alice bob carol dave) one (record { caller = Some 1; command = Name (Some (codes "carol")) Member }) legal (record { caller = refl; bounded = refl }) refl)
       (record { caller = refl; bounded = refl }) refl

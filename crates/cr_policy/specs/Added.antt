@@ -136,7 +136,7 @@ marks (e ∷ next ∷ es) = true ∷ marks (next ∷ es)
 -- these entries are added, all by this maker, and marked so; and the command is answered this
 pub record IsAdded (maker : ℕ) (es : List Entry) (told : List Receipt) (drawn : Drawn) : Type 0 where
   pub entries : map (λ (e : Stamped). e.entry) drawn.group ≡ es
-  pub makers : AllByRecursion (λ (e : Stamped). e.maker ≡ maker) drawn.group
+  pub makers : AllByRecursion (λ (e : Stamped). e.stamp.maker ≡ maker) drawn.group
   pub marks : map (λ (e : Stamped). e.more) drawn.group ≡ marks es
   pub receipt : drawn.receipt ∷ [] ≡ told
 

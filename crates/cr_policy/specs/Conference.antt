@@ -167,12 +167,12 @@ pub record AreAsides (a : Asides) : Type 0 where
 -- an entry that is all of its command
 infix 90 ◌adds◌
 abbrev pub ◌adds◌ : ℕ → Entry → Stamped
-user adds entry = record { maker = user; more = false; entry = entry }
+user adds entry = record { stamp = record { maker = user }; more = false; entry = entry }
 
 -- all register; alice, the first, is a chair by that
 abbrev pub registered : Digests → History
 registered d =
-    record { maker = alice; more = true; entry = Registered alice (codes "alice") d.alice }
+    record { stamp = record { maker = alice }; more = true; entry = Registered alice (codes "alice") d.alice }
     ∷ alice adds Named alice Chair
     ∷ bob adds Registered bob (codes "bob") d.bob
     ∷ carol adds Registered carol (codes "carol") d.carol
@@ -199,7 +199,7 @@ opened d mode =
 abbrev pub submitted : Digests → Mode → History
 submitted d mode =
     opened d mode
-    ++ record { maker = bob; more = true; entry = Submitted 1 proofs we_prove }
+    ++ record { stamp = record { maker = bob }; more = true; entry = Submitted 1 proofs we_prove }
     ∷ bob adds Coauthor 1 gus
     ∷ gus adds Submitted 2 types we_type
     ∷ gus adds Submitted 3 drafts we_draft

@@ -116,7 +116,7 @@ SubmitterHidden = AlikeTo dave alice (in_submission Anonymous)
 
 abbrev pub submitted_with : ℕ → History
 submitted_with coauthor =
-    record { maker = bob; more = true; entry = Submitted 1 proofs we_prove } ∷ bob adds Coauthor 1 coauthor ∷ []
+    record { stamp = record { maker = bob }; more = true; entry = Submitted 1 proofs we_prove } ∷ bob adds Coauthor 1 coauthor ∷ []
 
 abbrev pub CoauthorHidden : Type 0
 CoauthorHidden = AllAlikeTo dave alice (in_submission Anonymous) (submitted_with gus) (submitted_with erin) bids_open

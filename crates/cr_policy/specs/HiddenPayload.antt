@@ -14,7 +14,7 @@ use Rattle.cr_policy.specs.ViewFacts.{is_user}
 
 -- all parts of an entry
 abbrev pub all_of : Stamped → Sighting
-all_of e = entire e.maker e.entry
+all_of e = entire e.stamp.maker e.entry
 
 -- what is never hidden by this law: of which kind an entry is, and its paper, ordinal, version,
 -- number and tag, where it has one
@@ -58,7 +58,7 @@ shown_of r at e other = sighting (shows (rows_at r at e)) false other
 -- neither is she, and where the users whom they name do neither is she
 pub record IsHiddenFrom (r : Reader) (at : Around) (e other : Stamped) : Type 0 where
   pub parts : shown_of r at e e ≡ shown_of r at e other
-  pub maker : is_number r.number e.maker ≡ is_number r.number other.maker
+  pub maker : is_number r.number e.stamp.maker ≡ is_number r.number other.stamp.maker
   pub user : is_user r.number (all_of e).user ≡ is_user r.number (all_of other).user
 
 -- the second: they differ only in what Sight doesn't show the user
@@ -77,7 +77,7 @@ IsDeclaredAlike u H H' _ maker other = Unit {0}
 
 -- the fourth: that holds of each conflict
 abbrev pub DeclaredAlike : Option ℕ → History → History → Type 0
-DeclaredAlike u H H' = PlaceByPlace (λ at e other. IsDeclaredAlike u H H' e.entry e.maker other.maker) [] H H'
+DeclaredAlike u H H' = PlaceByPlace (λ at e other. IsDeclaredAlike u H H' e.entry e.stamp.maker other.stamp.maker) [] H H'
 
 -- all four
 pub record DiffersHidden (u : Option ℕ) (H H' : History) : Type 0 where

@@ -18,7 +18,7 @@ use Rattle.cr_policy.specs.Added.{added}
 use Rattle.cr_policy.specs.Judge.{judge_bulk}
 use Rattle.cr_policy.specs.Legal.{BulkCall, IsBulkAllowed, Legal}
 use Rattle.cr_policy.specs.MayDo.{may_do}
-use Rattle.cr_policy.specs.Sentences.{committee_works, chairs, of_some, user_named}
+use Rattle.cr_policy.specs.Sentences.{committee_at_work, chairs, of_some, user_named}
 use Rattle.cr_policy.specs.View.{view}
 
 -- ---- what a row asks for
@@ -82,7 +82,7 @@ may_row u H (Ok command) = not (is_of_herself u H command) && may_do (Some u) H 
 abbrev pub with_row : ℕ → History → Result Command Rule → History
 with_row u H (Err rule) = H
 with_row u H (Ok command) =
-    H ++ map (λ (e : Entry). record { maker = u; more = false; entry = e }) (added (Some u) H command)
+    H ++ map (λ (e : Entry). record { stamp = record { maker = u }; more = false; entry = e }) (added (Some u) H command)
 
 -- each row may in its turn, as if those before it were done already
 abbrev pub may_rows : ℕ → History → List BulkRow → Bool
@@ -91,7 +91,7 @@ may_rows u H (row ∷ rows) = may_row u H (row_command row) && may_rows u (with_
 
 -- a chair sends a bulk while the committee works, where she may do each of its rows in its turn
 abbrev pub may_bulk : ℕ → History → List BulkRow → Bool
-may_bulk u H rows = chairs u H && committee_works H && may_rows u H rows
+may_bulk u H rows = chairs u H && committee_at_work H && may_rows u H rows
 
 -- BulksAsSaid: on a legal history a user's bulk is accepted exactly where it is so
 abbrev pub BulksAsSaid : Type 0

@@ -14,7 +14,7 @@ use Rattle.cr_base.specs.HistoryFacts.{is_written, own_papers_of, own_bytes_of, 
 use Rattle.cr_base.specs.Logins.{command_wants_login}
 use Rattle.cr_policy.specs.Judge.{judge}
 use Rattle.cr_policy.specs.Legal.{Legal}
-use Rattle.cr_policy.specs.Sentences.{now, comes_behind, before_bidding, committee_works, is_over, is_above}
+use Rattle.cr_policy.specs.Sentences.{now, comes_behind, before_bidding, committee_at_work, is_over, is_above}
 use Rattle.cr_policy.specs.Sentences.{on_committee, chairs, stands}
 use Rattle.cr_policy.specs.Sentences.{wrote, is_eligible, administers, reviews, of_some, user_named, is_somebody}
 use Rattle.cr_policy.specs.Sentences.{is_for_chairs_alone}
@@ -62,12 +62,12 @@ may_upload u H bytes p = may_change u H p && nat_le (own_bytes_of (Some u) H + b
 abbrev pub may_declare : ℕ → History → ℕ → ℕ → Bool
 may_declare u H p v =
     stands p H && on_committee v H
-    && ((before_bidding H && wrote u p H) || (committee_works H && (v == u || administers u p H)))
+    && ((before_bidding H && wrote u p H) || (committee_at_work H && (v == u || administers u p H)))
 
 -- while the committee works, a chair in no conflict with a paper that isn't withdrawn takes back that a member is,
 -- who is no author of it
 abbrev pub may_take_back : ℕ → History → ℕ → ℕ → Bool
-may_take_back u H p v = stands p H && administers u p H && committee_works H && on_committee v H && not (wrote v p H)
+may_take_back u H p v = stands p H && administers u p H && committee_at_work H && on_committee v H && not (wrote v p H)
 
 -- ---- bids, and who reviews
 
@@ -79,7 +79,7 @@ may_bid u H p = stands p H && is_eligible u p H && now Bidding H
 -- who doesn't review it, while fewer than 26 of its labels are given
 abbrev pub may_assign : ℕ → History → ℕ → ℕ → Bool
 may_assign u H p v =
-    stands p H && administers u p H && committee_works H && is_eligible v p H && not (reviews v p H)
+    stands p H && administers u p H && committee_at_work H && is_eligible v p H && not (reviews v p H)
     && nat_lt (length (seats_of p H)) 26
 
 -- there is a form under the label under which she reviews the paper
@@ -88,7 +88,7 @@ has_written v p H = of_some (ordinal_of (Some v) p H) (λ o. is_written p o H)
 
 -- and takes a reviewer off it under whose label there is no form yet
 abbrev pub may_unassign : ℕ → History → ℕ → ℕ → Bool
-may_unassign u H p v = stands p H && administers u p H && committee_works H && reviews v p H && not (has_written v p H)
+may_unassign u H p v = stands p H && administers u p H && committee_at_work H && reviews v p H && not (has_written v p H)
 
 -- ---- reviews, comments, tags and decisions
 
@@ -106,7 +106,7 @@ may_comment u H p = stands p H && is_eligible u p H && now Discussion H && nat_l
 -- those for chairs only where she is one
 abbrev pub may_tag : ℕ → History → List ℕ → ℕ → Bool
 may_tag u H tag p =
-    stands p H && is_eligible u p H && committee_works H && (chairs u H || not (is_for_chairs_alone tag))
+    stands p H && is_eligible u p H && committee_at_work H && (chairs u H || not (is_for_chairs_alone tag))
 
 -- a chair in no conflict with a paper that isn't withdrawn decides on it, in the discussion
 abbrev pub may_decide : ℕ → History → ℕ → Bool

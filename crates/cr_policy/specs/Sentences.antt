@@ -45,8 +45,8 @@ abbrev pub before_bidding : History → Bool
 before_bidding H = now Setup H || now Submission H
 
 -- the committee works: it bids, reviews or discusses
-abbrev pub committee_works : History → Bool
-committee_works H = now Bidding H || now Reviewing H || now Discussion H
+abbrev pub committee_at_work : History → Bool
+committee_at_work H = now Bidding H || now Reviewing H || now Discussion H
 
 -- the notification went out, so the committee's work is over
 abbrev pub is_over : History → Bool

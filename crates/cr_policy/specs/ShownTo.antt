@@ -505,5 +505,5 @@ abbrev pub each_told : {A : Type 0} → Option ℕ → History → (History → 
     → History → History → List A
 each_told u H part before [] = []
 each_told u H part before (e ∷ later) =
-    given (is_told u H before later e.maker e.entry) (part before later e.maker e.entry)
+    given (is_told u H before later e.stamp.maker e.entry) (part before later e.stamp.maker e.entry)
     ++ each_told u H part (before ++ e ∷ []) later

@@ -184,4 +184,4 @@ masked shows mine s = record {
 
 -- the entry with those parts alone
 abbrev pub sighting : (Part → Bool) → Bool → Stamped → Sighting
-sighting shows mine e = masked shows mine (entire e.maker e.entry)
+sighting shows mine e = masked shows mine (entire e.stamp.maker e.entry)

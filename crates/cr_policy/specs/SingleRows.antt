@@ -44,7 +44,7 @@ pub record LeadSingly (from : History) (user : ℕ) (rows : List BulkRow) (to : 
 
 -- the history, the marks that others follow aside
 abbrev pub unmarked : History → History
-unmarked H = map (λ (e : Stamped). record { maker = e.maker; more = false; entry = e.entry }) H
+unmarked H = map (λ (e : Stamped). record { stamp = e.stamp; more = false; entry = e.entry }) H
 
 -- what the bulk adds is, marks aside, what its rows' commands add one after another, and its receipt counts them
 pub record IsItsRows (H : History) (bulk : BulkCall) (drawn : Drawn) : Type 0 where

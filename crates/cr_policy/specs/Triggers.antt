@@ -9,7 +9,6 @@ use Rattle.cr_base.specs.declared.entry.Entry.TheVariants.{Bid, Assigned, Unassi
 use Rattle.cr_base.specs.declared.entry.Entry.TheVariants.{Commented, Tagged, Decided}
 use Rattle.cr_base.specs.declared.words.Phase.{Phase}
 use Rattle.cr_base.specs.declared.standing.Standing.{Standing}
-use Rattle.cr_base.specs.declared.words.Phase.TheVariants.{Bidding, Discussion, Notification}
 use Rattle.cr_base.specs.declared.words.Mode.{Mode}
 use Rattle.cr_base.specs.declared.words.Role.{Role}
 use Rattle.cr_base.specs.Decisions.{is_published}
@@ -18,7 +17,10 @@ use Rattle.cr_base.specs.History.{History, all_told, opens_discussion, title_tol
 use Rattle.cr_base.specs.History.{upload_told, form_told, decision_told}
 use Rattle.cr_base.specs.HistoryFacts.{phase_of, mode_of, role_of, is_author, is_conflicted, is_accepted}
 use Rattle.cr_base.specs.Page.{is_clear_member, is_clear_chair}
-use Rattle.cr_base.specs.Phases.{is_from}
+use Rattle.cr_base.specs.Phases.{members_see_papers, committee_sees_authors, chairs_see_conflicts, chairs_see_bids}
+use Rattle.cr_base.specs.Phases.{committee_sees_tags, members_see_reviewers, members_read_reviews}
+use Rattle.cr_base.specs.Phases.{members_read_comments, members_read_decisions, authors_read_reviews}
+use Rattle.cr_base.specs.Phases.{authors_see_reviewers, authors_read_decisions}
 use Rattle.cr_base.specs.TagTexts.{is_for_all, is_for_chairs}
 use Rattle.cr_base.specs.Words.{is_anonymous, is_overt, is_member}
 use Rattle.cr_policy.specs.Part as part
@@ -155,16 +157,24 @@ abbrev pub seat_rows : Reader → ℕ → ℕ → List TriggerRow
 seat_rows r paper user =
     user_named r user see whole
     ∷ is_clear_chair (standing_to r paper) see whole
-    ∷ (is_clear_member (standing_to r paper) && is_from Discussion r.now)
+    ∷ (is_clear_member (standing_to r paper) && members_see_reviewers r.now)
     see these (part.review_kind ∷ part.ordinal ∷ [])
-    ∷ (is_clear_member (standing_to r paper) && unless_anonymous r && is_from Discussion r.now)
+    ∷ (is_clear_member (standing_to r paper) && unless_anonymous r && members_see_reviewers r.now)
     see these (part.user ∷ [])
-    ∷ (authors r paper && in_open_mode r && is_from Notification r.now) see these (part.user ∷ part.ordinal ∷ [])
+    ∷ (authors r paper && in_open_mode r && authors_see_reviewers r.now) see these (part.user ∷ part.ordinal ∷ [])
     ∷ []
 
--- the reader discusses the paper: from the discussion on she is a member in no conflict with it
-abbrev pub discusses : Reader → ℕ → Bool
-discusses r paper = is_clear_member (standing_to r paper) && is_from Discussion r.now
+-- the reader is a member in no conflict with the paper, and reads its reviews
+abbrev pub reads_reviews : Reader → ℕ → Bool
+reads_reviews r paper = is_clear_member (standing_to r paper) && members_read_reviews r.now
+
+-- and reads the comments on it
+abbrev pub reads_comments : Reader → ℕ → Bool
+reads_comments r paper = is_clear_member (standing_to r paper) && members_read_comments r.now
+
+-- and reads what is decided of it
+abbrev pub reads_decisions : Reader → ℕ → Bool
+reads_decisions r paper = is_clear_member (standing_to r paper) && members_read_decisions r.now
 
 -- everyone may read the paper: it is accepted, and the conference is closed
 abbrev pub published : Reader → ℕ → Bool
@@ -191,64 +201,66 @@ rows r at by (ModeSet mode) =
 rows r at by (Submitted paper title abstract) =
     everyone see paper_alone
     ∷ authors r paper see whole_and (part.by ∷ [])
-    ∷ (at.last && members r && is_from Bidding r.now) see these (part.title ∷ [])
-    ∷ (at.last && is_clear_member (standing_to r paper) && is_from Bidding r.now) see these (part.abstract ∷ [])
-    ∷ (is_clear_chair (standing_to r paper) && is_from Bidding r.now) see these (part.by ∷ [])
-    ∷ (is_clear_member (standing_to r paper) && unless_anonymous r && is_from Bidding r.now) see these (part.by ∷ [])
+    ∷ (at.last && members r && members_see_papers r.now) see these (part.title ∷ [])
+    ∷ (at.last && is_clear_member (standing_to r paper) && members_see_papers r.now) see these (part.abstract ∷ [])
+    ∷ (is_clear_chair (standing_to r paper) && committee_sees_authors r.now) see these (part.by ∷ [])
+    ∷ (is_clear_member (standing_to r paper) && unless_anonymous r && committee_sees_authors r.now)
+    see these (part.by ∷ [])
     ∷ r.accepted paper see these (part.by ∷ [])
     ∷ (at.last && r.accepted paper) see these (part.title ∷ [])
     ∷ (at.last && published r paper) see these (part.abstract ∷ [])
     ∷ []
 rows r at by (Coauthor paper user) =
     authors r paper see whole
-    ∷ (is_clear_chair (standing_to r paper) && is_from Bidding r.now) see these (part.user ∷ [])
-    ∷ (is_clear_member (standing_to r paper) && unless_anonymous r && is_from Bidding r.now) see these (part.user ∷ [])
+    ∷ (is_clear_chair (standing_to r paper) && committee_sees_authors r.now) see these (part.user ∷ [])
+    ∷ (is_clear_member (standing_to r paper) && unless_anonymous r && committee_sees_authors r.now)
+    see these (part.user ∷ [])
     ∷ r.accepted paper see these (part.user ∷ [])
     ∷ []
 rows r at by (Revised paper title abstract) =
     authors r paper see whole
-    ∷ (at.last && members r && is_from Bidding r.now) see these (part.title ∷ [])
-    ∷ (at.last && is_clear_member (standing_to r paper) && is_from Bidding r.now) see these (part.abstract ∷ [])
+    ∷ (at.last && members r && members_see_papers r.now) see these (part.title ∷ [])
+    ∷ (at.last && is_clear_member (standing_to r paper) && members_see_papers r.now) see these (part.abstract ∷ [])
     ∷ (at.last && r.accepted paper) see these (part.title ∷ [])
     ∷ (at.last && published r paper) see these (part.abstract ∷ [])
     ∷ []
 rows r at by (Uploaded paper version content) =
     authors r paper see whole
-    ∷ (at.last && is_clear_member (standing_to r paper) && is_from Bidding r.now) see whole
+    ∷ (at.last && is_clear_member (standing_to r paper) && members_see_papers r.now) see whole
     ∷ (at.last && published r paper) see whole
     ∷ []
 rows r at by (Withdrawn paper) =
     authors r paper see paper_alone
-    ∷ (members r && is_from Bidding r.now) see paper_alone
+    ∷ (members r && members_see_papers r.now) see paper_alone
     ∷ []
 rows r at by (Conflict paper user on) =
     user_named r user see whole
     ∷ (r.wrote by paper && authors r paper) see whole
-    ∷ (is_clear_chair (standing_to r paper) && is_from Bidding r.now) see whole
+    ∷ (is_clear_chair (standing_to r paper) && chairs_see_conflicts r.now) see whole
     ∷ []
 rows r at by (Bid paper value) =
-    (is_clear_chair (standing_to r paper) && is_from Bidding r.now) see these (part.value ∷ part.by ∷ [])
+    (is_clear_chair (standing_to r paper) && chairs_see_bids r.now) see these (part.value ∷ part.by ∷ [])
     ∷ []
 rows r at by (Assigned paper user review_kind ordinal) = seat_rows r paper user
 rows r at by (Unassigned paper user ordinal) = seat_rows r paper user
 rows r at by (Reviewed paper ordinal version form) =
     (at.first && is_clear_chair (standing_to r paper)) see these (part.ordinal ∷ part.done ∷ [])
-    ∷ ((at.last_before_discussion || at.from_discussion) && discusses r paper) see whole
-    ∷ (at.last && authors r paper && is_from Notification r.now)
+    ∷ ((at.last_before_discussion || at.from_discussion) && reads_reviews r paper) see whole
+    ∷ (at.last && authors r paper && authors_read_reviews r.now)
     see these (part.ordinal ∷ part.score ∷ part.confidence ∷ part.to_authors ∷ [])
     ∷ []
 rows r at by (Commented paper n ordinal text) =
-    discusses r paper see these (part.n ∷ part.text ∷ [])
-    ∷ (discusses r paper && names_writers r paper) see these (part.by ∷ [])
-    ∷ (discusses r paper && not (names_writers r paper)) see these (part.ordinal ∷ [])
+    reads_comments r paper see these (part.n ∷ part.text ∷ [])
+    ∷ (reads_comments r paper && names_writers r paper) see these (part.by ∷ [])
+    ∷ (reads_comments r paper && not (names_writers r paper)) see these (part.ordinal ∷ [])
     ∷ []
 rows r at by (Tagged paper tag on) =
-    (is_for_all tag && is_clear_member (standing_to r paper) && is_from Bidding r.now) see whole
-    ∷ (is_for_chairs tag && is_clear_chair (standing_to r paper) && is_from Bidding r.now) see whole
+    (is_for_all tag && is_clear_member (standing_to r paper) && committee_sees_tags r.now) see whole
+    ∷ (is_for_chairs tag && is_clear_chair (standing_to r paper) && committee_sees_tags r.now) see whole
     ∷ []
 rows r at by (Decided paper decision) =
-    discusses r paper see whole
-    ∷ (at.last && authors r paper && is_from Notification r.now) see these (part.outcome ∷ part.decision ∷ [])
+    reads_decisions r paper see whole
+    ∷ (at.last && authors r paper && authors_read_decisions r.now) see these (part.outcome ∷ part.decision ∷ [])
     ∷ (at.last && r.accepted paper) see these (part.accepted ∷ [])
     ∷ []
 

@@ -10,14 +10,14 @@ use Rattle.cr_policy.specs.Triggers.{rows, user_named, ◌see◌, applies_any, s
 
 -- the rows of the table, and last the entry's own maker's, who sees it whole
 abbrev pub rows_at : Reader → Around → Stamped → List TriggerRow
-rows_at r at e = rows r (position_of at e.entry) e.maker e.entry ++ user_named r e.maker see whole ∷ []
+rows_at r at e = rows r (position_of at e.entry) e.stamp.maker e.entry ++ user_named r e.stamp.maker see whole ∷ []
 
 -- whether a row applies, and the parts of those that do, joined; the maker's own has the mark `mine`
 abbrev pub is_seen : Reader → Around → Stamped → Bool
 is_seen r at e = applies_any (rows_at r at e)
 
 abbrev pub joined : Reader → Around → Stamped → Sighting
-joined r at e = sighting (shows (rows_at r at e)) (user_named r e.maker) e
+joined r at e = sighting (shows (rows_at r at e)) (user_named r e.stamp.maker) e
 
 -- Sight: what the entry shows the reader; nothing where no row applies
 abbrev pub sight : Reader → Around → Stamped → List Sighting

@@ -130,7 +130,7 @@ impl Reviews {
         if !by.reviewer {
             return Err(Rule::NotReviewer);
         }
-        if !by.phase.is(Phase::Reviewing) && !by.phase.is(Phase::Discussion) {
+        if !by.phase.reviews_are_written() {
             return Err(Rule::WrongPhase);
         }
         if withdrawn {

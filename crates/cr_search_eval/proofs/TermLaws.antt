@@ -12,13 +12,12 @@ use Rattle.cr_base.specs.Accounts.{account_at, lines_of}
 use Rattle.cr_base.specs.Answering.{reviewer_told}
 use Rattle.cr_base.specs.Lists.{listed}
 use Rattle.cr_base.specs.Page.{gets_reviewers, is_clear_member, shows_reviewer, where_told}
-use Rattle.cr_base.specs.Phases.{is_from}
+use Rattle.cr_base.specs.Phases.{members_see_reviewers}
 use Rattle.cr_base.specs.Searching.{contains, name_has, reviewer_has, text_has}
 use Rattle.cr_base.specs.Seats.{told_seat}
 use Rattle.cr_base.specs.Sources.{name_in}
 use Rattle.cr_base.specs.Tables.{Tables}
 use Rattle.cr_base.specs.Ties.{BareTies}
-use Rattle.cr_base.specs.declared.words.Phase.TheVariants.{Discussion}
 use Rattle.cr_base.proofs.ListLaws.{name_in-lines_of}
 use Rattle.cr_view.specs.Replies.{names_of, holder_name, seated}
 
@@ -95,7 +94,7 @@ module _ (t : Tables) (by : Standing) (written : ℕ → Bool) (value : List ℕ
       hidden false h = refl
 
       split : (shows : Bool) → shows ≡ shows_reviewer by
-          → list_any seat_has (cond shows seats []) ≡ reviewer_has value (where_told (shows || (is_clear_member by && is_from Discussion by.phase)) (Some (told seats)))
+          → list_any seat_has (cond shows seats []) ≡ reviewer_has value (where_told (shows || (is_clear_member by && members_see_reviewers by.phase)) (Some (told seats)))
       split true is = seats-have seats
       split false is =
-          hidden (is_clear_member by && is_from Discussion by.phase) (sym (seats-have seats) ∙ unshown false is refl seats)
+          hidden (is_clear_member by && members_see_reviewers by.phase) (sym (seats-have seats) ∙ unshown false is refl seats)

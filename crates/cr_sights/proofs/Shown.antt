@@ -6,10 +6,9 @@ use Rattle.std.specs.Prelude.{◌||◌, ◌&&◌, not}
 use Rattle.cr_base.specs.declared.entry.Entry.{Entry}
 use Rattle.cr_base.specs.declared.entry.Stamped.{Stamped}
 use Rattle.cr_base.specs.declared.standing.Standing.{Standing}
-use Rattle.cr_base.specs.declared.words.Phase.TheVariants.{Bidding}
 use Rattle.cr_base.specs.Lists.{given}
 use Rattle.cr_base.specs.Page.{is_clear_chair, is_clear_member, shows_author}
-use Rattle.cr_base.specs.Phases.{is_from}
+use Rattle.cr_base.specs.Phases.{committee_sees_authors}
 use Rattle.cr_base.specs.Words.{is_anonymous}
 use Rattle.cr_policy.specs.Sighting.{where_shown}
 use Rattle.cr_policy.specs.Triggers.{Reader, Around}
@@ -40,11 +39,11 @@ last-row false = refl
 -- who is shown the authors of a paper, in the order of the table's rows, each behind those before it
 pub author-shown : (by : Standing) (accepted : Bool)
     → shows_author by accepted
-    ≡ (by.author || ((is_clear_chair by && is_from Bidding by.phase)
-    || ((is_clear_member by && not (is_anonymous by.mode) && is_from Bidding by.phase) || accepted)))
+    ≡ (by.author || ((is_clear_chair by && committee_sees_authors by.phase)
+    || ((is_clear_member by && not (is_anonymous by.mode) && committee_sees_authors by.phase) || accepted)))
 author-shown by accepted =
-    behind by.author (is_clear_chair by && is_from Bidding by.phase)
-    (is_clear_member by && not (is_anonymous by.mode) && is_from Bidding by.phase) accepted
+    behind by.author (is_clear_chair by && committee_sees_authors by.phase)
+    (is_clear_member by && not (is_anonymous by.mode) && committee_sees_authors by.phase) accepted
   where
     behind : (a b c d : Bool) → (((a || b) || c) || d) ≡ (a || (b || (c || d)))
     behind true b c d = refl

@@ -1,25 +1,30 @@
 //! What decisions show a reader.
 ghost use Rattle.std.specs.Prelude.{◌≡◌, ◌||◌, ◌&&◌, Some};
 ghost use Rattle.cr_base.specs.declared.entry.EntryKind.TheVariants as kinds;
-ghost use Rattle.cr_base.specs.declared.words.Phase.TheVariants as phases;
 ghost use Rattle.cr_base.specs.Lists.{listed};
 ghost use Rattle.cr_base.specs.Page.{is_clear_member};
-ghost use Rattle.cr_base.specs.Phases.{is_from};
+ghost use Rattle.cr_base.specs.Phases.{members_read_decisions, authors_read_decisions};
 ghost use Rattle.cr_base.specs.Rows.{kind_of};
 ghost use Rattle.cr_policy.specs.Triggers.{Around, none_alike};
 ghost use Rattle.cr_policy.specs.View.{sight as sight_at};
 ghost use Rattle.cr_sights.specs.Readers.{reader_in};
 
-use crate::asked::discusses;
 use crate::sighting::{Sighting, blank};
-use cr_base::{Entry, EntryKind, Phase, Stamped, Standing, UserNo};
+use cr_base::{Entry, EntryKind, Stamped, Standing, UserNo};
 use cr_view::Live;
 
-/// Whether a decision is what became of her paper: for its authors the last one is, from the notification.
-fn is_outcome(by: &Standing, is_last: bool) -> bool
-    ensures { result ≡ (is_last && by.now.author && is_from phases.Notification by.now.phase) }
+/// Whether she reads what is decided of a paper: members in no conflict with it do, once members read decisions.
+fn reads_decisions(by: &Standing) -> bool
+    ensures { result ≡ (is_clear_member by.now && members_read_decisions by.now.phase) }
 {
-    is_last && by.author && by.phase.is_from(Phase::Notification)
+    by.is_clear_member() && by.phase.members_read_decisions()
+}
+
+/// Whether a decision is what became of her paper: for its authors the last one is, once authors read decisions.
+fn is_outcome(by: &Standing, is_last: bool) -> bool
+    ensures { result ≡ (is_last && by.now.author && authors_read_decisions by.now.phase) }
+{
+    is_last && by.author && by.phase.authors_read_decisions()
 }
 
 /// Whether everyone is told of a decision: of the last on an accepted paper.
@@ -29,18 +34,18 @@ fn is_announced(is_last: bool, accepted: bool) -> bool
     is_last && accepted
 }
 
-/// Whether she is shown what was decided: who discusses the paper is, whose paper it became of, and who decided.
+/// Whether she is shown what was decided: who reads what is decided is, whose paper it became of, and who decided.
 fn shows_decision(by: &Standing, is_last: bool, mine: bool) -> bool
-    ensures { result ≡ ((is_clear_member by.now && is_from phases.Discussion by.now.phase)
-        || ((is_last && by.now.author && is_from phases.Notification by.now.phase) || mine)) }
+    ensures { result ≡ ((is_clear_member by.now && members_read_decisions by.now.phase)
+        || ((is_last && by.now.author && authors_read_decisions by.now.phase) || mine)) }
 {
-    discusses(by) || is_outcome(by, is_last) || mine
+    reads_decisions(by) || is_outcome(by, is_last) || mine
 }
 
 /// Whether she is told of a decision: who is shown what was decided is, and of the last on an accepted paper everyone.
 fn tells_decision(by: &Standing, is_last: bool, accepted: bool, mine: bool) -> bool
-    ensures { result ≡ ((is_clear_member by.now && is_from phases.Discussion by.now.phase)
-        || ((is_last && by.now.author && is_from phases.Notification by.now.phase)
+    ensures { result ≡ ((is_clear_member by.now && members_read_decisions by.now.phase)
+        || ((is_last && by.now.author && authors_read_decisions by.now.phase)
         || ((is_last && accepted) || mine))) }
 {
     shows_decision(by, is_last, mine) || is_announced(is_last, accepted)
@@ -61,7 +66,7 @@ pub(crate) fn decision<'a>(
     let Entry::Decided { paper, decision } = &stamped.entry else {
         return None;
     };
-    let mine = reader == stamped.maker;
+    let mine = reader == stamped.stamp.maker;
     let by = live.standing(&Some(reader), &Some(*paper));
     let accepted = live.is_accepted(*paper);
     if !tells_decision(&by, is_last, accepted, mine) {

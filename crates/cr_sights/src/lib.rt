@@ -4,7 +4,6 @@
 //! writes it line by line, `view_len` counts the lines.
 #![tactic(auto)]
 
-mod asked;
 mod by_kind;
 mod decisions;
 mod line;

@@ -3,9 +3,8 @@ ghost use Rattle.std.specs.Prelude.{◌≡◌, ◌||◌, ◌&&◌, ◌∷◌, []
 ghost use Rattle.cr_base.specs.Decisions.{is_published};
 ghost use Rattle.cr_base.specs.Lists.{listed};
 ghost use Rattle.cr_base.specs.Page.{is_clear_member, is_clear_chair};
-ghost use Rattle.cr_base.specs.Phases.{is_from};
+ghost use Rattle.cr_base.specs.Phases.{members_see_papers, committee_sees_authors};
 ghost use Rattle.cr_base.specs.Words.{is_member};
-ghost use Rattle.cr_base.specs.declared.words.Phase.TheVariants as phases;
 ghost use Rattle.cr_base.specs.declared.entry.EntryKind.TheVariants as kinds;
 ghost use Rattle.cr_base.specs.Rows.{kind_of};
 ghost use Rattle.cr_policy.specs.Triggers.{Around, authors, members, none_alike, published};
@@ -13,7 +12,6 @@ ghost use Rattle.cr_policy.specs.Triggers.{standing_to, unless_anonymous, user_n
 ghost use Rattle.cr_policy.specs.View.{sight as sight_at};
 ghost use Rattle.cr_sights.specs.Readers.{reader_in};
 
-use crate::asked::is_bidding;
 use crate::sighting::{Sighting, blank};
 use cr_anonymity::shows_author;
 use cr_base::{Blob, Entry, EntryKind, PaperNo, Stamped, Standing, Text, UserNo};
@@ -22,28 +20,28 @@ use cr_view::Live;
 /// Whether she is shown the title of a submission or a revision.
 fn shows_title(by: &Standing, mine: bool, is_last: bool, accepted: bool) -> bool
     ensures { result ≡ (by.now.author
-        || ((is_last && is_member by.now.role && is_from phases.Bidding by.now.phase)
+        || ((is_last && is_member by.now.role && members_see_papers by.now.phase)
         || ((is_last && accepted) || mine))) }
 {
-    by.author || is_last && by.role.is_member() && is_bidding(by) || is_last && accepted || mine
+    by.author || is_last && by.role.is_member() && by.phase.members_see_papers() || is_last && accepted || mine
 }
 
 /// Whether she is shown the abstract of a submission or a revision.
 fn shows_abstract(by: &Standing, mine: bool, is_last: bool, accepted: bool) -> bool
     ensures { result ≡ (by.now.author
-        || ((is_last && is_clear_member by.now && is_from phases.Bidding by.now.phase)
+        || ((is_last && is_clear_member by.now && members_see_papers by.now.phase)
         || ((is_last && is_published by.now.phase accepted) || mine))) }
 {
     let published = is_last && by.phase.publishes(accepted);
-    by.author || is_last && by.is_clear_member() && is_bidding(by) || published || mine
+    by.author || is_last && by.is_clear_member() && by.phase.members_see_papers() || published || mine
 }
 
 /// Whether she is told that a user is an author of a paper: its authors are, who made the entry, clear chairs from
 /// the bidding, and clear members too where the mode isn't anonymous; and everyone, where the paper is accepted.
 fn tells_coauthor(live: &Live, reader: UserNo, maker: UserNo, paper: PaperNo) -> bool
     ensures { let r = reader_in live.now.tables (Some reader) in
-        result ≡ (authors r paper || ((is_clear_chair (standing_to r paper) && is_from phases.Bidding r.now)
-        || ((is_clear_member (standing_to r paper) && unless_anonymous r && is_from phases.Bidding r.now)
+        result ≡ (authors r paper || ((is_clear_chair (standing_to r paper) && committee_sees_authors r.now)
+        || ((is_clear_member (standing_to r paper) && unless_anonymous r && committee_sees_authors r.now)
         || (r.accepted paper || user_named r maker)))) }
 {
     let by = live.standing(&Some(reader), &Some(paper));
@@ -54,8 +52,8 @@ fn tells_coauthor(live: &Live, reader: UserNo, maker: UserNo, paper: PaperNo) ->
 /// texts members from the bidding, and everyone, where the paper is accepted.
 fn tells_revision(live: &Live, reader: UserNo, maker: UserNo, is_last: bool, paper: PaperNo) -> bool
     ensures { let r = reader_in live.now.tables (Some reader) in
-        result ≡ (authors r paper || ((is_last && members r && is_from phases.Bidding r.now)
-        || ((is_last && is_clear_member (standing_to r paper) && is_from phases.Bidding r.now)
+        result ≡ (authors r paper || ((is_last && members r && members_see_papers r.now)
+        || ((is_last && is_clear_member (standing_to r paper) && members_see_papers r.now)
         || ((is_last && r.accepted paper) || ((is_last && published r paper) || user_named r maker))))) }
 {
     let by = live.standing(&Some(reader), &Some(paper));
@@ -67,21 +65,21 @@ fn tells_revision(live: &Live, reader: UserNo, maker: UserNo, is_last: bool, pap
 fn tells_upload(live: &Live, reader: UserNo, maker: UserNo, is_last: bool, paper: PaperNo) -> bool
     ensures { let r = reader_in live.now.tables (Some reader) in
         result
-        ≡ (authors r paper || ((is_last && is_clear_member (standing_to r paper) && is_from phases.Bidding r.now)
+        ≡ (authors r paper || ((is_last && is_clear_member (standing_to r paper) && members_see_papers r.now)
         || ((is_last && published r paper) || user_named r maker))) }
 {
     let by = live.standing(&Some(reader), &Some(paper));
     let published = is_last && by.phase.publishes(live.is_accepted(paper));
-    by.author || is_last && by.is_clear_member() && is_bidding(&by) || published || maker == reader
+    by.author || is_last && by.is_clear_member() && by.phase.members_see_papers() || published || maker == reader
 }
 
 /// Whether she is told that a paper is withdrawn: its authors are, who made the entry, and members from the bidding.
 fn tells_withdrawal(live: &Live, reader: UserNo, maker: UserNo, paper: PaperNo) -> bool
     ensures { let r = reader_in live.now.tables (Some reader) in
-        result ≡ (authors r paper || ((members r && is_from phases.Bidding r.now) || user_named r maker)) }
+        result ≡ (authors r paper || ((members r && members_see_papers r.now) || user_named r maker)) }
 {
     let by = live.standing(&Some(reader), &Some(paper));
-    by.author || by.role.is_member() && is_bidding(&by) || maker == reader
+    by.author || by.role.is_member() && by.phase.members_see_papers() || maker == reader
 }
 
 /// What a submission shows her: its paper, and who made it, its title and its abstract where she may
@@ -104,12 +102,12 @@ pub(crate) fn submission<'a>(
     else {
         return None;
     };
-    let mine = reader == stamped.maker;
+    let mine = reader == stamped.stamp.maker;
     let by = live.standing(&Some(reader), &Some(*paper));
     let accepted = live.is_accepted(*paper);
     let mut sighting = blank(EntryKind::Submitted, mine);
     sighting.paper = Some(*paper);
-    sighting.by = shows_author(&by, accepted).then_some(stamped.maker);
+    sighting.by = shows_author(&by, accepted).then_some(stamped.stamp.maker);
     sighting.title = shows_title(&by, mine, is_last, accepted).then_some(title);
     sighting.abstract_ = shows_abstract(&by, mine, is_last, accepted).then_some(abstract_);
     Some(sighting)
@@ -127,10 +125,10 @@ pub(crate) fn coauthor<'a>(
     let Entry::Coauthor { paper, user } = &stamped.entry else {
         return None;
     };
-    if !tells_coauthor(live, reader, stamped.maker, *paper) {
+    if !tells_coauthor(live, reader, stamped.stamp.maker, *paper) {
         return None;
     }
-    let mut sighting = blank(EntryKind::Coauthor, reader == stamped.maker);
+    let mut sighting = blank(EntryKind::Coauthor, reader == stamped.stamp.maker);
     sighting.paper = Some(*paper);
     sighting.user = Some(*user);
     Some(sighting)
@@ -156,10 +154,10 @@ pub(crate) fn revision<'a>(
     else {
         return None;
     };
-    if !tells_revision(live, reader, stamped.maker, is_last, *paper) {
+    if !tells_revision(live, reader, stamped.stamp.maker, is_last, *paper) {
         return None;
     }
-    let mine = reader == stamped.maker;
+    let mine = reader == stamped.stamp.maker;
     let by = live.standing(&Some(reader), &Some(*paper));
     let accepted = live.is_accepted(*paper);
     let mut sighting = blank(EntryKind::Revised, mine);
@@ -188,10 +186,10 @@ pub(crate) fn upload<'a>(
     else {
         return None;
     };
-    if !tells_upload(live, reader, stamped.maker, is_last, *paper) {
+    if !tells_upload(live, reader, stamped.stamp.maker, is_last, *paper) {
         return None;
     }
-    let mut sighting = blank(EntryKind::Uploaded, reader == stamped.maker);
+    let mut sighting = blank(EntryKind::Uploaded, reader == stamped.stamp.maker);
     sighting.paper = Some(*paper);
     sighting.version = Some(*version);
     sighting.content = Some(content);
@@ -210,10 +208,10 @@ pub(crate) fn withdrawal<'a>(
     let Entry::Withdrawn { paper } = &stamped.entry else {
         return None;
     };
-    if !tells_withdrawal(live, reader, stamped.maker, *paper) {
+    if !tells_withdrawal(live, reader, stamped.stamp.maker, *paper) {
         return None;
     }
-    let mut sighting = blank(EntryKind::Withdrawn, reader == stamped.maker);
+    let mut sighting = blank(EntryKind::Withdrawn, reader == stamped.stamp.maker);
     sighting.paper = Some(*paper);
     Some(sighting)
 }

@@ -71,7 +71,7 @@ fn opens(entry: &Entry) -> bool
     ensures { result ≡ opens phases.Discussion entry.now }
 {
     match entry {
-        Entry::PhaseSet { phase } => *phase == Phase::Discussion,
+        Entry::PhaseSet { phase } => phase.is(Phase::Discussion),
         _ => false,
     }
 }

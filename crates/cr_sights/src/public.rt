@@ -19,7 +19,7 @@ pub(crate) fn registration<'a>(reader: UserNo, stamped: &'a Stamped) -> Option<S
     let Entry::Registered { user, name, digest } = &stamped.entry else {
         return None;
     };
-    let mine = reader == stamped.maker;
+    let mine = reader == stamped.stamp.maker;
     let mut sighting = blank(EntryKind::Registered, mine);
     sighting.user = Some(*user);
     sighting.name = Some(name);
@@ -35,7 +35,7 @@ pub(crate) fn naming<'a>(reader: UserNo, stamped: &'a Stamped) -> Option<Sightin
     let Entry::Named { user, role } = &stamped.entry else {
         return None;
     };
-    let mut sighting = blank(EntryKind::Named, reader == stamped.maker);
+    let mut sighting = blank(EntryKind::Named, reader == stamped.stamp.maker);
     sighting.user = Some(*user);
     sighting.role = Some(*role);
     Some(sighting)
@@ -49,7 +49,7 @@ pub(crate) fn phase_set<'a>(reader: UserNo, stamped: &'a Stamped) -> Option<Sigh
     let Entry::PhaseSet { phase } = &stamped.entry else {
         return None;
     };
-    let mut sighting = blank(EntryKind::PhaseSet, reader == stamped.maker);
+    let mut sighting = blank(EntryKind::PhaseSet, reader == stamped.stamp.maker);
     sighting.phase = Some(*phase);
     Some(sighting)
 }
@@ -62,7 +62,7 @@ pub(crate) fn mode_set<'a>(reader: UserNo, stamped: &'a Stamped) -> Option<Sight
     let Entry::ModeSet { mode } = &stamped.entry else {
         return None;
     };
-    let mut sighting = blank(EntryKind::ModeSet, reader == stamped.maker);
+    let mut sighting = blank(EntryKind::ModeSet, reader == stamped.stamp.maker);
     sighting.mode = Some(*mode);
     Some(sighting)
 }

@@ -1,17 +1,18 @@
 //! What forms of reviews show a reader.
-ghost use Rattle.std.specs.Prelude.{◌≡◌, ◌||◌, Some};
+ghost use Rattle.std.specs.Prelude.{◌≡◌, ◌||◌, ◌&&◌, Some};
 ghost use Rattle.cr_base.specs.declared.entry.EntryKind.TheVariants as kinds;
 ghost use Rattle.cr_base.specs.Lists.{listed};
+ghost use Rattle.cr_base.specs.Page.{is_clear_member};
+ghost use Rattle.cr_base.specs.Phases.{members_read_reviews};
 ghost use Rattle.cr_base.specs.Rows.{kind_of};
 ghost use Rattle.cr_policy.specs.Triggers.{Around, position_of};
 ghost use Rattle.cr_policy.specs.View.{sight as sight_at};
 ghost use Rattle.cr_sights.specs.FormRows.{is_discussed_by, is_done_for, is_for_author};
 ghost use Rattle.cr_sights.specs.Readers.{reader_in};
 
-use crate::asked::discusses;
 use crate::position::Position;
 use crate::sighting::{Sighting, blank};
-use cr_base::{Entry, EntryKind, Phase, Stamped, Standing, UserNo};
+use cr_base::{Entry, EntryKind, Stamped, Standing, UserNo};
 use cr_view::Live;
 
 /// Whether she is told that there is a form: of the first under a label clear chairs are.
@@ -21,19 +22,26 @@ fn is_done_for(by: &Standing, position: Position) -> bool
     position.first && by.is_clear_chair()
 }
 
-/// Whether she discusses a form: from the discussion clear members do, the last under a label before it and all later
-/// ones.
+/// Whether she reads a paper's reviews: members in no conflict with it do, once members read reviews.
+fn reads_reviews(by: &Standing) -> bool
+    ensures { result ≡ (is_clear_member by.now && members_read_reviews by.now.phase) }
+{
+    by.is_clear_member() && by.phase.members_read_reviews()
+}
+
+/// Whether she discusses a form: who reads the paper's reviews does, the last under a label before the discussion and
+/// all later ones.
 fn is_discussed_by(by: &Standing, position: Position) -> bool
     ensures { result ≡ is_discussed_by position by.now }
 {
-    (position.last_before_discussion || position.from_discussion) && discusses(by)
+    (position.last_before_discussion || position.from_discussion) && reads_reviews(by)
 }
 
-/// Whether a form is for her as an author: from the notification the last under a label is.
+/// Whether a form is for her as an author: once authors read reviews the last under a label is.
 fn is_for_author(by: &Standing, position: Position) -> bool
     ensures { result ≡ is_for_author position by.now }
 {
-    position.last && by.author && by.phase.is_from(Phase::Notification)
+    position.last && by.author && by.phase.authors_read_reviews()
 }
 
 /// Whether she is shown all of a form: who discusses it is, and who wrote it.
@@ -80,7 +88,7 @@ pub(crate) fn review<'a>(
     else {
         return None;
     };
-    let mine = reader == stamped.maker;
+    let mine = reader == stamped.stamp.maker;
     let by = live.standing(&Some(reader), &Some(*paper));
     if !tells_review(&by, position, mine) {
         return None;

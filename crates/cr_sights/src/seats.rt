@@ -1,10 +1,9 @@
 //! What assignments and their ends show a reader.
 ghost use Rattle.std.specs.Prelude.{◌≡◌, ◌||◌, ◌&&◌, IfSome, Some, is_some, not};
 ghost use Rattle.cr_base.specs.declared.entry.EntryKind.TheVariants as kinds;
-ghost use Rattle.cr_base.specs.declared.words.Phase.TheVariants as phases;
 ghost use Rattle.cr_base.specs.Lists.{listed};
 ghost use Rattle.cr_base.specs.Page.{is_clear_chair, is_clear_member};
-ghost use Rattle.cr_base.specs.Phases.{is_from};
+ghost use Rattle.cr_base.specs.Phases.{members_see_reviewers, authors_see_reviewers};
 ghost use Rattle.cr_base.specs.Words.{is_anonymous, is_overt};
 ghost use Rattle.cr_base.specs.Rows.{kind_of};
 ghost use Rattle.cr_policy.specs.Triggers.{Around, applies_any};
@@ -12,9 +11,8 @@ ghost use Rattle.cr_policy.specs.View.{sight as sight_at};
 ghost use Rattle.cr_sights.specs.Readers.{reader_in};
 ghost use Rattle.cr_sights.specs.SeatRows.{AreShown, rows_with};
 
-use crate::asked::discusses;
 use crate::sighting::{Sighting, blank};
-use cr_base::{Entry, EntryKind, Kind, Ordinal, PaperNo, Phase, Stamped, Standing, UserNo};
+use cr_base::{Entry, EntryKind, Kind, Ordinal, PaperNo, Stamped, Standing, UserNo};
 use cr_view::Live;
 
 /// Which parts beside the paper she is shown who is told of an assignment, or of its end.
@@ -28,21 +26,28 @@ struct SeatParts {
     ordinal: bool,
 }
 
+/// Whether she is a member in no conflict with the paper, and members see who reviews it.
+fn knows_reviewers(by: &Standing) -> bool
+    ensures { result ≡ (is_clear_member by.now && members_see_reviewers by.now.phase) }
+{
+    by.is_clear_member() && by.phase.members_see_reviewers()
+}
+
 /// Whether she is an author who is shown her reviewers.
 fn sees_reviewers(by: &Standing) -> bool
-    ensures { result ≡ (by.now.author && (is_overt by.now.mode && is_from phases.Notification by.now.phase)) }
+    ensures { result ≡ (by.now.author && (is_overt by.now.mode && authors_see_reviewers by.now.phase)) }
 {
-    by.author && by.mode.is_overt() && by.phase.is_from(Phase::Notification)
+    by.author && by.mode.is_overt() && by.phase.authors_see_reviewers()
 }
 
 /// Whether she is shown who has a seat: who is named or made the entry, clear chairs, clear members from the
 /// discussion unless the mode is anonymous, and authors who are shown their reviewers.
 fn shows_user(by: &Standing, named: bool, made: bool) -> bool
     ensures { result ≡ (named || (is_clear_chair by.now
-        || ((is_clear_member by.now && (not (is_anonymous by.now.mode) && is_from phases.Discussion by.now.phase))
-        || ((by.now.author && (is_overt by.now.mode && is_from phases.Notification by.now.phase)) || made)))) }
+        || ((is_clear_member by.now && (not (is_anonymous by.now.mode) && members_see_reviewers by.now.phase))
+        || ((by.now.author && (is_overt by.now.mode && authors_see_reviewers by.now.phase)) || made)))) }
 {
-    let knows = by.is_clear_chair() || discusses(by) && !by.mode.is_anonymous();
+    let knows = by.is_clear_chair() || knows_reviewers(by) && !by.mode.is_anonymous();
     named || knows || sees_reviewers(by) || made
 }
 
@@ -50,17 +55,17 @@ fn shows_user(by: &Standing, named: bool, made: bool) -> bool
 /// clear members from the discussion.
 fn shows_kind(by: &Standing, named: bool, made: bool) -> bool
     ensures { result ≡ (named || (is_clear_chair by.now
-        || ((is_clear_member by.now && is_from phases.Discussion by.now.phase) || made))) }
+        || ((is_clear_member by.now && members_see_reviewers by.now.phase) || made))) }
 {
-    named || by.is_clear_chair() || discusses(by) || made
+    named || by.is_clear_chair() || knows_reviewers(by) || made
 }
 
 /// Whether she is told of a seat, and shown its ordinal: who is shown what it is, and authors
 /// who are shown their reviewers.
 fn shows_ordinal(by: &Standing, named: bool, made: bool) -> bool
     ensures { result ≡ (named || (is_clear_chair by.now
-        || ((is_clear_member by.now && is_from phases.Discussion by.now.phase)
-        || ((by.now.author && (is_overt by.now.mode && is_from phases.Notification by.now.phase)) || made)))) }
+        || ((is_clear_member by.now && members_see_reviewers by.now.phase)
+        || ((by.now.author && (is_overt by.now.mode && authors_see_reviewers by.now.phase)) || made)))) }
 {
     shows_kind(by, named, made) || sees_reviewers(by)
 }
@@ -109,8 +114,8 @@ pub(crate) fn assignment<'a>(
     else {
         return None;
     };
-    let parts = seat_parts(live, reader, stamped.maker, *paper, *user)?;
-    let mut sighting = blank(EntryKind::Assigned, reader == stamped.maker);
+    let parts = seat_parts(live, reader, stamped.stamp.maker, *paper, *user)?;
+    let mut sighting = blank(EntryKind::Assigned, reader == stamped.stamp.maker);
     sighting.paper = Some(*paper);
     sighting.user = parts.user.then_some(*user);
     sighting.review_kind = parts.kind.then_some(*kind);
@@ -135,8 +140,8 @@ pub(crate) fn unassignment<'a>(
     else {
         return None;
     };
-    let parts = seat_parts(live, reader, stamped.maker, *paper, *user)?;
-    let mut sighting = blank(EntryKind::Unassigned, reader == stamped.maker);
+    let parts = seat_parts(live, reader, stamped.stamp.maker, *paper, *user)?;
+    let mut sighting = blank(EntryKind::Unassigned, reader == stamped.stamp.maker);
     sighting.paper = Some(*paper);
     sighting.user = parts.user.then_some(*user);
     sighting.ordinal = parts.ordinal.then_some(ordinal.number());

@@ -2,17 +2,24 @@
 ghost use Rattle.std.specs.Prelude.{◌≡◌, ◌||◌, ◌&&◌, Some, not, unwrap_or};
 ghost use Rattle.cr_base.specs.declared.entry.EntryKind.TheVariants as kinds;
 ghost use Rattle.cr_base.specs.Lists.{listed};
-ghost use Rattle.cr_base.specs.Page.{is_clear_chair};
+ghost use Rattle.cr_base.specs.Page.{is_clear_chair, is_clear_member};
+ghost use Rattle.cr_base.specs.Phases.{members_read_comments};
 ghost use Rattle.cr_base.specs.Words.{is_anonymous};
 ghost use Rattle.cr_base.specs.Rows.{kind_of};
-ghost use Rattle.cr_policy.specs.Triggers.{Around, discusses as she_discusses, names_writers, user_named};
+ghost use Rattle.cr_policy.specs.Triggers.{Around, names_writers, reads_comments as may_read, user_named};
 ghost use Rattle.cr_policy.specs.View.{sight as sight_at};
 ghost use Rattle.cr_sights.specs.Readers.{reader_in};
 
-use crate::asked::discusses;
 use crate::sighting::{Sighting, blank};
 use cr_base::{Entry, EntryKind, Ordinal, PaperNo, Stamped, Standing, Text, UserNo};
 use cr_view::Live;
+
+/// Whether she reads the comments on a paper: members in no conflict with it do, once members read comments.
+fn reads_comments(by: &Standing) -> bool
+    ensures { result ≡ (is_clear_member by.now && members_read_comments by.now.phase) }
+{
+    by.is_clear_member() && by.phase.members_read_comments()
+}
 
 /// Whether she is named who wrote what she discusses: clear chairs are, and others unless the mode is anonymous.
 fn names_writers(by: &Standing) -> bool
@@ -21,32 +28,32 @@ fn names_writers(by: &Standing) -> bool
     by.is_clear_chair() || !by.mode.is_anonymous()
 }
 
-/// Whether she is told of a comment: who discusses the paper is, and who wrote it.
+/// Whether she is told of a comment: who reads the comments on the paper is, and who wrote it.
 fn tells_comment(live: &Live, reader: UserNo, maker: UserNo, paper: PaperNo) -> bool
     ensures { let r = reader_in live.now.tables (Some reader) in
-        result ≡ (she_discusses r paper || ((she_discusses r paper && names_writers r paper)
-        || ((she_discusses r paper && not (names_writers r paper)) || user_named r maker))) }
+        result ≡ (may_read r paper || ((may_read r paper && names_writers r paper)
+        || ((may_read r paper && not (names_writers r paper)) || user_named r maker))) }
 {
     let by = live.standing(&Some(reader), &Some(paper));
-    discusses(&by) || maker == reader
+    reads_comments(&by) || maker == reader
 }
 
 /// Whether she is shown who wrote a comment.
 fn shows_writer(live: &Live, reader: UserNo, paper: PaperNo) -> bool
     ensures { let r = reader_in live.now.tables (Some reader) in
-        result ≡ (she_discusses r paper && names_writers r paper) }
+        result ≡ (may_read r paper && names_writers r paper) }
 {
     let by = live.standing(&Some(reader), &Some(paper));
-    discusses(&by) && names_writers(&by)
+    reads_comments(&by) && names_writers(&by)
 }
 
-/// Whether she is shown its writer's label: who discusses the paper and isn't shown who wrote it is, and the writer.
+/// Whether she is shown its writer's label: who reads it and isn't shown who wrote it is, and the writer.
 fn shows_label(live: &Live, reader: UserNo, maker: UserNo, paper: PaperNo) -> bool
     ensures { let r = reader_in live.now.tables (Some reader) in
-        result ≡ ((she_discusses r paper && not (names_writers r paper)) || user_named r maker) }
+        result ≡ ((may_read r paper && not (names_writers r paper)) || user_named r maker) }
 {
     let by = live.standing(&Some(reader), &Some(paper));
-    discusses(&by) && !names_writers(&by) || maker == reader
+    reads_comments(&by) && !names_writers(&by) || maker == reader
 }
 
 /// The number of a label's ordinal, and 0 where there is none.
@@ -74,14 +81,14 @@ pub(crate) fn comment<'a>(live: &Live, reader: UserNo, stamped: &'a Stamped) -> 
     else {
         return None;
     };
-    if !tells_comment(live, reader, stamped.maker, *paper) {
+    if !tells_comment(live, reader, stamped.stamp.maker, *paper) {
         return None;
     }
-    let mine = reader == stamped.maker;
-    let label = shows_label(live, reader, stamped.maker, *paper);
+    let mine = reader == stamped.stamp.maker;
+    let label = shows_label(live, reader, stamped.stamp.maker, *paper);
     let mut sighting = blank(EntryKind::Commented, mine);
     sighting.paper = Some(*paper);
-    sighting.by = shows_writer(live, reader, *paper).then_some(stamped.maker);
+    sighting.by = shows_writer(live, reader, *paper).then_some(stamped.stamp.maker);
     sighting.n = Some(*n);
     sighting.ordinal = label.then_some(label_number(ordinal));
     sighting.text = Some(text);

@@ -2,38 +2,50 @@
 ghost use Rattle.std.specs.Prelude.{◌≡◌, ◌||◌, ◌&&◌, Bool, Some};
 ghost use Rattle.cr_base.specs.Lists.{listed};
 ghost use Rattle.cr_base.specs.Page.{is_clear_chair};
-ghost use Rattle.cr_base.specs.Phases.{is_from};
-ghost use Rattle.cr_base.specs.declared.words.Phase.TheVariants as phases;
+ghost use Rattle.cr_base.specs.Phases.{chairs_see_conflicts, chairs_see_bids};
 ghost use Rattle.cr_base.specs.declared.entry.EntryKind.TheVariants as kinds;
 ghost use Rattle.cr_base.specs.Rows.{kind_of};
 ghost use Rattle.cr_policy.specs.Triggers.{Around, authors, standing_to, user_named};
 ghost use Rattle.cr_policy.specs.View.{sight as sight_at};
 ghost use Rattle.cr_sights.specs.Readers.{reader_in};
 
-use crate::asked::oversees;
 use crate::sighting::{Sighting, blank};
-use cr_base::{Bid, Entry, EntryKind, PaperNo, Stamped, UserNo};
+use cr_base::{Bid, Entry, EntryKind, PaperNo, Stamped, Standing, UserNo};
 use cr_view::Live;
+
+/// Whether she is shown all of a paper's conflicts: chairs in no conflict with it are, once chairs see them.
+fn sees_conflicts(by: &Standing) -> bool
+    ensures { result ≡ (is_clear_chair by.now && chairs_see_conflicts by.now.phase) }
+{
+    by.is_clear_chair() && by.phase.chairs_see_conflicts()
+}
+
+/// Whether she is shown all bids for a paper, the same way.
+fn sees_bids(by: &Standing) -> bool
+    ensures { result ≡ (is_clear_chair by.now && chairs_see_bids by.now.phase) }
+{
+    by.is_clear_chair() && by.phase.chairs_see_bids()
+}
 
 /// Whether she is told that a user is in conflict with a paper, or no longer: who made the entry is, the user
 /// herself, an author where an author made it, and whoever is shown all of the paper's conflicts.
 fn tells_conflict(live: &Live, reader: UserNo, maker: UserNo, user: UserNo, paper: PaperNo) -> bool
     ensures { let r = reader_in live.now.tables (Some reader) in
         result ≡ (user_named r user || ((r.wrote maker paper && authors r paper)
-        || ((is_clear_chair (standing_to r paper) && is_from phases.Bidding r.now) || user_named r maker))) }
+        || ((is_clear_chair (standing_to r paper) && chairs_see_conflicts r.now) || user_named r maker))) }
 {
     let by = live.standing(&Some(reader), &Some(paper));
     let wrote = live.standing(&Some(maker), &Some(paper)).author;
-    user == reader || wrote && by.author || oversees(&by) || maker == reader
+    user == reader || wrote && by.author || sees_conflicts(&by) || maker == reader
 }
 
-/// Whether she is told of a bid on a paper: who made it is, and whoever oversees the paper.
+/// Whether she is told of a bid on a paper: who made it is, and whoever is shown all of the paper's bids.
 fn tells_bid(live: &Live, reader: UserNo, maker: UserNo, paper: PaperNo) -> bool
     ensures { let r = reader_in live.now.tables (Some reader) in
-        result ≡ ((is_clear_chair (standing_to r paper) && is_from phases.Bidding r.now) || user_named r maker) }
+        result ≡ ((is_clear_chair (standing_to r paper) && chairs_see_bids r.now) || user_named r maker) }
 {
     let by = live.standing(&Some(reader), &Some(paper));
-    oversees(&by) || maker == reader
+    sees_bids(&by) || maker == reader
 }
 
 /// What a conflict shows her: all of it, or nothing where she isn't told of it.
@@ -48,17 +60,17 @@ pub(crate) fn conflict<'a>(
     let Entry::Conflict { paper, user, on } = &stamped.entry else {
         return None;
     };
-    if !tells_conflict(live, reader, stamped.maker, *user, *paper) {
+    if !tells_conflict(live, reader, stamped.stamp.maker, *user, *paper) {
         return None;
     }
-    let mut sighting = blank(EntryKind::Conflict, reader == stamped.maker);
+    let mut sighting = blank(EntryKind::Conflict, reader == stamped.stamp.maker);
     sighting.paper = Some(*paper);
     sighting.user = Some(*user);
     sighting.on = Some(*on);
     Some(sighting)
 }
 
-/// What a bid shows her: how much is wanted, and by whom where she oversees the paper; or nothing where
+/// What a bid shows her: how much is wanted, and by whom where she is shown all bids; or nothing where
 /// she isn't told of it.
 pub(crate) fn bid<'a>(live: &Live, reader: UserNo, stamped: &'a Stamped) -> Option<Sighting<'a>>
     requires { kind_of stamped.now.entry ≡ kinds.Bid }
@@ -67,13 +79,13 @@ pub(crate) fn bid<'a>(live: &Live, reader: UserNo, stamped: &'a Stamped) -> Opti
     let Entry::Bid { paper, value } = &stamped.entry else {
         return None;
     };
-    if !tells_bid(live, reader, stamped.maker, *paper) {
+    if !tells_bid(live, reader, stamped.stamp.maker, *paper) {
         return None;
     }
     let by = live.standing(&Some(reader), &Some(*paper));
-    let mut sighting = blank(EntryKind::Bid, reader == stamped.maker);
+    let mut sighting = blank(EntryKind::Bid, reader == stamped.stamp.maker);
     sighting.paper = Some(*paper);
-    sighting.by = oversees(&by).then_some(stamped.maker);
+    sighting.by = sees_bids(&by).then_some(stamped.stamp.maker);
     sighting.value = Some(*value);
     Some(sighting)
 }

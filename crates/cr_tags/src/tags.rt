@@ -10,9 +10,7 @@ ghost use Rattle.cr_base.specs.Tags.{no_tags, tag_owner, is_tag_for, tags_for, t
 ghost use Rattle.cr_tags.specs.BinarySearch.{IsAt, IsGapFor};
 
 use crate::order::compare;
-use cr_base::{
-    Entry, Filed, PaperNo, Phase, Rule, SetTag, Stamped, Standing, Tag, TagList, UserNo,
-};
+use cr_base::{Entry, Filed, PaperNo, Rule, SetTag, Stamped, Standing, Tag, TagList, UserNo};
 use cr_kept::run_of;
 use std::alloc::{AllocError, Global};
 use std::marker::Model;
@@ -145,7 +143,7 @@ impl Tags {
         if by.conflicted {
             return Err(Rule::Conflict);
         }
-        if !by.phase.is_from(Phase::Bidding) || by.phase.is_from(Phase::Notification) {
+        if !by.phase.committee_works() {
             return Err(Rule::WrongPhase);
         }
         if withdrawn {
@@ -230,12 +228,12 @@ impl Tags {
     /// search, and a move of the tags behind its index, of 64 bytes each.
     pub fn apply(&mut self, stamped: &Stamped)
         requires { 0 < self.old.room }
-        ensures after { self.new.tags ≡ tags_after self.old.tags stamped.now.maker stamped.now.entry }
+        ensures after { self.new.tags ≡ tags_after self.old.tags stamped.now.stamp.maker stamped.now.entry }
         ensures room { self.old.room ≤ self.new.room + 1 }
     {
         match &stamped.entry {
             Entry::Tagged { paper, tag, on } => {
-                let owner = owner_of(tag, stamped.maker);
+                let owner = owner_of(tag, stamped.stamp.maker);
                 if *on {
                     self.insert(*paper, *tag, owner);
                 } else {

@@ -3,7 +3,7 @@ ghost use Rattle.std.specs.Prelude.{◌≡◌, ◌≤◌, ◌<◌, ◌+◌, OnOk
 ghost use Rattle.cr_base.specs.Checks.{judged, comment_checks};
 ghost use Rattle.cr_base.specs.Talk.{no_talk, talk_after, comments_in, own_comments_in, TalkFit};
 
-use cr_base::{Comment, Entry, Filed, PaperNo, Phase, Rule, Stamped, Standing, UserNo};
+use cr_base::{Comment, Entry, Filed, PaperNo, Rule, Stamped, Standing, UserNo};
 use cr_kept::{Files, Sums};
 use std::alloc::{AllocError, Global};
 use std::marker::Model;
@@ -87,7 +87,7 @@ impl Talk {
             Ok(()) => {}
             Err(rule) => return Err(rule),
         }
-        if !by.phase.is(Phase::Discussion) {
+        if !by.phase.comments_are_written() {
             return Err(Rule::WrongPhase);
         }
         if withdrawn {
@@ -117,11 +117,11 @@ impl Talk {
     /// memory. A comment costs one binary search, and a move of the comments on papers with higher numbers.
     pub fn apply(&mut self, stamped: Stamped)
         requires room { 0 < self.old.room }
-        requires fits { TalkFit self.old.talk stamped.maker stamped.entry }
-        ensures after { self.new.talk ≡ talk_after self.old.talk stamped.maker stamped.entry }
+        requires fits { TalkFit self.old.talk stamped.stamp.maker stamped.entry }
+        ensures after { self.new.talk ≡ talk_after self.old.talk stamped.stamp.maker stamped.entry }
         ensures room { self.old.room ≤ self.new.room + 1 }
     {
-        let Stamped { maker, entry, .. } = stamped;
+        let Stamped { stamp, entry, .. } = stamped;
         match entry {
             Entry::Commented {
                 paper,
@@ -129,12 +129,12 @@ impl Talk {
                 ordinal,
                 text,
             } => {
-                self.written.add(maker, 1);
+                self.written.add(stamp.maker, 1);
                 self.comments.file(
                     paper,
                     Comment {
                         n,
-                        writer: maker,
+                        writer: stamp.maker,
                         ordinal,
                         text,
                     },

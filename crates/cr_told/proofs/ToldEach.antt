@@ -34,12 +34,12 @@ module _
     all-placed : (earlier G : History) → earlier ++ G ≡ H → AllByRecursion Q G → All P (each_told u H (shown_to u H) earlier G)
     all-placed earlier [] whole h = All-nil P
     all-placed earlier (e ∷ G) whole h =
-        All-append P (given (is_told u H earlier G e.maker e.entry) (shown_to u H earlier G e.maker e.entry)) (each_told u H (shown_to u H) (earlier ++ e ∷ []) G)
-        (by (is_told u H earlier G e.maker e.entry) (each earlier G e.maker e.more e.entry whole h.0))
+        All-append P (given (is_told u H earlier G e.stamp.maker e.entry) (shown_to u H earlier G e.stamp.maker e.entry)) (each_told u H (shown_to u H) (earlier ++ e ∷ []) G)
+        (by (is_told u H earlier G e.stamp.maker e.entry) (each earlier G e.stamp.maker e.more e.entry whole h.0))
         (all-placed (earlier ++ e ∷ []) G (append_assoc earlier (e ∷ []) G ∙ whole) h.1)
       where
-        by : (told : Bool) → (told ≡ true → P (shown_to u H earlier G e.maker e.entry)) → All P (given told (shown_to u H earlier G e.maker e.entry))
-        by true one = All-cons P (shown_to u H earlier G e.maker e.entry) [] (one refl) (All-nil P)
+        by : (told : Bool) → (told ≡ true → P (shown_to u H earlier G e.stamp.maker e.entry)) → All P (given told (shown_to u H earlier G e.stamp.maker e.entry))
+        by true one = All-cons P (shown_to u H earlier G e.stamp.maker e.entry) [] (one refl) (All-nil P)
         by false one = All-nil P
 
     pub at-sighting : (before : View) (s : Sighting) (after : View) → view u H ≡ before ++ s ∷ after → AllByRecursion Q H → P s

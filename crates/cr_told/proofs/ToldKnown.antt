@@ -47,10 +47,10 @@ module _ (H : History) where
   chairs-one before maker e after whole order right = tt
 
   pub chairs-all : (before after : History) → before ++ after ≡ H → InTurn IsInOrder before after
-      → AllByRecursion (λ (e : Stamped). IsChairsTag H e.maker e.entry) after
+      → AllByRecursion (λ (e : Stamped). IsChairsTag H e.stamp.maker e.entry) after
   chairs-all before [] whole order = tt
   chairs-all before (e ∷ after) whole order = (
-    chairs-one before e.maker e.entry (e ∷ after) whole order order.0.right,
+    chairs-one before e.stamp.maker e.entry (e ∷ after) whole order order.0.right,
     chairs-all (before ++ e ∷ []) after (append_assoc before (e ∷ []) after ∙ whole) order.1,
   )
 
@@ -62,16 +62,16 @@ pub record IsKnown (H : History) (maker : ℕ) (e : Entry) : Type 0 where
   pub chairs : IsChairsTag H maker e
   pub held : IsHeld H maker e
 
-pub all-known : (H : History) → Legal H → AllByRecursion (λ (e : Stamped). IsKnown H e.maker e.entry) H
+pub all-known : (H : History) → Legal H → AllByRecursion (λ (e : Stamped). IsKnown H e.stamp.maker e.entry) H
 all-known H legal = by H (all-there H kept.in_order) (by-authors H kept.in_order) (settled H kept)
-    (chairs-all H [] H refl kept.in_order) (recursion_from_All (λ (e : Stamped). IsHeld H e.maker e.entry) H kept.stay)
+    (chairs-all H [] H refl kept.in_order) (recursion_from_All (λ (e : Stamped). IsHeld H e.stamp.maker e.entry) H kept.stay)
   where
     kept : Invariants H
     kept = legal_invariants H legal
 
-    by : (G : History) → AllByRecursion (λ (e : Stamped). IsThere H e.maker e.entry) G → AllByRecursion (λ (e : Stamped). IsByAuthor H e.maker e.entry) G
-        → AllByRecursion (λ (e : Stamped). IsSettled H e.maker e.entry) G → AllByRecursion (λ (e : Stamped). IsChairsTag H e.maker e.entry) G
-        → AllByRecursion (λ (e : Stamped). IsHeld H e.maker e.entry) G → AllByRecursion (λ (e : Stamped). IsKnown H e.maker e.entry) G
+    by : (G : History) → AllByRecursion (λ (e : Stamped). IsThere H e.stamp.maker e.entry) G → AllByRecursion (λ (e : Stamped). IsByAuthor H e.stamp.maker e.entry) G
+        → AllByRecursion (λ (e : Stamped). IsSettled H e.stamp.maker e.entry) G → AllByRecursion (λ (e : Stamped). IsChairsTag H e.stamp.maker e.entry) G
+        → AllByRecursion (λ (e : Stamped). IsHeld H e.stamp.maker e.entry) G → AllByRecursion (λ (e : Stamped). IsKnown H e.stamp.maker e.entry) G
     by [] there author settled chairs held = tt
     by (e ∷ G) there author settled chairs held = (
       record { there = there.0; author = author.0; settled = settled.0; chairs = chairs.0; held = held.0 },
@@ -97,6 +97,6 @@ pub all-of : (kind : EntryKind) → Each kind → AllOf kind
 all-of kind each u H before s after what legal is =
     at-sighting u H (λ s. view u H ≡ before ++ s ∷ after → IsTrue (is_kind kind s) → IsTrue (has what s)
     → IsTrue (is_part_told u H s kind what || is_left_untold u H s after kind what))
-    (λ (e : Stamped). IsKnown H e.maker e.entry)
+    (λ (e : Stamped). IsKnown H e.stamp.maker e.entry)
     (λ earlier later maker more e whole known told. each u H legal before after what earlier later maker more e whole known told)
     before s after is (all-known H legal) is

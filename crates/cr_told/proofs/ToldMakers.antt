@@ -24,13 +24,13 @@ IsByAuthor H maker _ = Unit {0}
 pub still-author : (v : Option ℕ) (p : ℕ) (before after H : History) → before ++ after ≡ H → is_author v p before ≡ true → is_author v p H ≡ true
 still-author v p before after H whole is =
     ap (is_author v p) (sym whole)
-    ∙ ap (list_any (is_number v)) (flat_map-append (λ (e : Stamped). author_told p e.maker e.entry) before after)
+    ∙ ap (list_any (is_number v)) (flat_map-append (λ (e : Stamped). author_told p e.stamp.maker e.entry) before after)
     ∙ list_any-append (is_number v) (authors_of p before) (authors_of p after)
     ∙ or_left (is_author v p before) (list_any (is_number v) (authors_of p after)) is
 
 module _ (H : History) where
   abbrev pub ByAuthor : Stamped → Type 0
-  ByAuthor e = IsByAuthor H e.maker e.entry
+  ByAuthor e = IsByAuthor H e.stamp.maker e.entry
 
   by-one : (before : History) (maker : ℕ) (e : Entry) (after : History) → before ++ after ≡ H → IsByRight before maker e → IsByAuthor H maker e
   by-one before maker (Coauthor paper user) after whole right = still-author (Some maker) paper before after H whole right
@@ -42,7 +42,7 @@ module _ (H : History) where
   by-all : (before after : History) → before ++ after ≡ H → InTurn IsInOrder before after → AllByRecursion ByAuthor after
   by-all before [] whole order = tt
   by-all before (e ∷ after) whole order = (
-    by-one before e.maker e.entry (e ∷ after) whole order.0.right,
+    by-one before e.stamp.maker e.entry (e ∷ after) whole order.0.right,
     by-all (before ++ e ∷ []) after (append_assoc before (e ∷ []) after ∙ whole) order.1,
   )
 

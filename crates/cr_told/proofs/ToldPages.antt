@@ -269,7 +269,7 @@ module _ (u : Option ℕ) (p : ℕ) (H : History) (there : IsSubmitted H p) (ord
       any (e ∷ G) is =
           is_nothing-append (told e) (flat_map told G)
           ∙ by (list_any (λ q. q == p) (paper_told e.entry)) (is_nothing (told e)) (is_nothing (flat_map told G))
-          (one e.maker e.more e.entry) (any G) (sym (list_any-append (λ q. q == p) (paper_told e.entry) (papers_of G)) ∙ is)
+          (one e.stamp.maker e.more e.entry) (any G) (sym (list_any-append (λ q. q == p) (paper_told e.entry) (papers_of G)) ∙ is)
         where
           by : (here nothing rest : Bool) {later : Bool} → (here ≡ true → nothing ≡ false) → (later ≡ true → rest ≡ false)
               → (here || later) ≡ true → (nothing && rest) ≡ false
@@ -322,7 +322,7 @@ module _ (u : Option ℕ) (p : ℕ) (H : History) (there : IsSubmitted H p) (ord
       ∙ ap (λ users. where_told said (Some (names_shown users V))) (reads.writers u p H)
       ∙ named said (writers_shown p V)
       (λ is. ap is_nothing (sym (reads.writers u p H) ∙ authors-seen u p H (and_parts (may stands accepted) (shows_author stands accepted) (authored ∙ is)).1)
-      ∙ submitted (λ (e : Stamped). author_told p e.maker e.entry) (λ maker more title abstract. ap (λ b. is_nothing (given b maker)) (eq-eqb p p refl)))
+      ∙ submitted (λ (e : Stamped). author_told p e.stamp.maker e.entry) (λ maker more title abstract. ap (λ b. is_nothing (given b maker)) (eq-eqb p p refl)))
       (λ isnt. writers-none u p H order (stranger isnt) (ap (λ b. author || oversees u p H || (is_eligible u p H && not (hides_authors (mode_of H))) || b) (sym programme) ∙ isnt))
     where
       said : Bool
@@ -380,7 +380,7 @@ module _ (u : Option ℕ) (p : ℕ) (H : History) (there : IsSubmitted H p) (ord
           map-flat_map content (upload_seen p) V
           ∙ flat_map-same (λ s. map content (upload_seen p s)) (part_shown (λ (s : Sighting). s.content) p) V
           (all-view u H (λ (s : Sighting). map content (upload_seen p s) ≡ part_shown (λ (s : Sighting). s.content) p s)
-          (λ (e : Stamped). IsByAuthor H e.maker e.entry) each (by-authors H order))
+          (λ (e : Stamped). IsByAuthor H e.stamp.maker e.entry) each (by-authors H order))
 
   -- so all that she is shown are told her
   pub every-upload : uploads_told (is_author_in_view u p V) (uploads_in_view p V) ≡ uploads_in_view p V

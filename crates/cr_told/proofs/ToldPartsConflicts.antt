@@ -110,7 +110,7 @@ module _ (u : Option ℕ) (H : History) (legal : Legal H) (before after : View) 
           ((λ i. list_any (λ w. w == user) (given (eq-eqb paper paper refl i && wrote i) user)) ∙ ap (λ b. b || false) (eq-eqb user user refl))))
         where
           declares : Stamped → List ℕ
-          declares e = declared_told (is_author (Some e.maker) paper H) paper e.entry
+          declares e = declared_told (is_author (Some e.stamp.maker) paper H) paper e.entry
 
       hers : is_number u user ≡ true → is_author u paper H ≡ false → is_shown_in_conflict (Some user) paper V ≡ true → lists (conflicts_given u H) (eqb paper) ≡ true
       hers mine stranger conflicted =

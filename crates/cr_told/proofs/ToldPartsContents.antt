@@ -65,8 +65,8 @@ module _ (u : Option ℕ) (p : ℕ) (H : History) where
       → flat_map (content_at k) (each_told u H (shown_to u H) before G) ≡ []
   none-later before [] order k few = refl
   none-later before (e ∷ G) order k few =
-      given-none (content_at k) (is_told u H before G e.maker e.entry) (shown_to u H before G e.maker e.entry) (each_told u H (shown_to u H) (before ++ e ∷ []) G)
-      (next-number before e.maker e.more e.entry G k order.0.number few)
+      given-none (content_at k) (is_told u H before G e.stamp.maker e.entry) (shown_to u H before G e.stamp.maker e.entry) (each_told u H (shown_to u H) (before ++ e ∷ []) G)
+      (next-number before e.stamp.maker e.more e.entry G k order.0.number few)
       (none-later (before ++ e ∷ []) G order.1 k more)
     where
       more : k ≤ length (uploads_of p (before ++ e ∷ []))
@@ -135,11 +135,11 @@ module _ (u : Option ℕ) (p : ℕ) (H : History) where
   none-earlier before G order [] s after is k some = refl
   none-earlier before [] order (b ∷ first) s after is k some = absurd (true≢false (ap is_nothing is))
   none-earlier before (e ∷ G) order (b ∷ first) s after is k some =
-      by (is_told u H before G e.maker e.entry) is (λ is. none-earlier (before ++ e ∷ []) G order.1 (b ∷ first) s after is k some)
+      by (is_told u H before G e.stamp.maker e.entry) is (λ is. none-earlier (before ++ e ∷ []) G order.1 (b ∷ first) s after is k some)
       (λ is. none-earlier (before ++ e ∷ []) G order.1 first s after is k some)
     where
       shown : Sighting
-      shown = shown_to u H before G e.maker e.entry
+      shown = shown_to u H before G e.stamp.maker e.entry
 
       rest : View
       rest = each_told u H (shown_to u H) (before ++ e ∷ []) G
@@ -148,7 +148,7 @@ module _ (u : Option ℕ) (p : ℕ) (H : History) where
       here is true h = nothing-is (content_at k shown) h
       here is false h =
           absurd (some-there (content_at k) first s after some
-          (ap (flat_map (content_at k)) (sym is) ∙ none-later (before ++ e ∷ []) G order.1 k (number-told before e.maker e.more e.entry G k order.0.number h)))
+          (ap (flat_map (content_at k)) (sym is) ∙ none-later (before ++ e ∷ []) G order.1 k (number-told before e.stamp.maker e.more e.entry G k order.0.number h)))
 
       by : (told : Bool) → given told shown ++ rest ≡ b ∷ (first ++ s ∷ after)
           → (rest ≡ b ∷ (first ++ s ∷ after) → content_at k b ++ flat_map (content_at k) first ≡ [])

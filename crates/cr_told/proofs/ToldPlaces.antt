@@ -14,11 +14,10 @@ use Rattle.cr_base.specs.declared.words.Phase.{Phase}
 use Rattle.cr_base.specs.declared.words.Phase.TheVariants.{Setup, Submission, Bidding, Reviewing, Discussion, Notification, Closed}
 use Rattle.cr_base.specs.declared.words.Role.{Role}
 use Rattle.cr_base.specs.declared.words.Role.TheVariants.{Account, Member, Chair}
-use Rattle.cr_base.specs.Checks.{is_in_committee}
 use Rattle.cr_base.specs.Lists.{given, is_number, last_or}
 use Rattle.cr_base.specs.History.{History, all_told, phase_told, role_told, paper_told}
 use Rattle.cr_base.specs.HistoryFacts.{phase_of, mode_of, role_of, papers_of, is_author, is_conflicted, is_reviewer}
-use Rattle.cr_base.specs.Phases.{phase_rank, is_from, is_phase}
+use Rattle.cr_base.specs.Phases.{phase_rank, is_from, is_phase, committee_works}
 use Rattle.cr_base.specs.Words.{is_chair, role_number}
 use Rattle.cr_history.proofs.Folds.{last_or-append}
 use Rattle.cr_history.proofs.LineAgreement.{stamp}
@@ -66,7 +65,7 @@ pub phase-rises : (first : Phase) (before after H : History) → before ++ after
 phase-rises first before [] H whole order from = ap (λ (G : History). is_from first (phase_of G)) (sym (sym (append-nil before) ∙ whole)) ∙ from
 phase-rises first before (e ∷ after) H whole order from =
     phase-rises first (before ++ e ∷ []) after H (append_assoc before (e ∷ []) after ∙ whole) order.1
-    (phase-later first before e.maker e.more e.entry order.0.phase from)
+    (phase-later first before e.stamp.maker e.more e.entry order.0.phase from)
 
 -- a chair stays one
 role-after : (v : Option ℕ) (H : History) (maker : ℕ) (more : Bool) (e : Entry)
@@ -100,7 +99,7 @@ pub chair-rises : (v : Option ℕ) (before after H : History) → before ++ afte
 chair-rises v before [] H whole order chair = ap (λ (G : History). is_chair (role_of v G)) (sym (sym (append-nil before) ∙ whole)) ∙ chair
 chair-rises v before (e ∷ after) H whole order chair =
     chair-rises v (before ++ e ∷ []) after H (append_assoc before (e ∷ []) after ∙ whole) order.1
-    (chair-later v before e.maker e.more e.entry order.0.role chair)
+    (chair-later v before e.stamp.maker e.more e.entry order.0.role chair)
 
 -- a paper stays there
 still-there : (p : ℕ) (before after H : History) → before ++ after ≡ H → IsSubmitted before p → IsSubmitted H p
@@ -112,7 +111,7 @@ still-there p before after H whole is =
 
 -- ---- what is so of each entry at the end
 
-committee-begun : (phase : Phase) → is_in_committee phase ≡ true → is_from Bidding phase ≡ true
+committee-begun : (phase : Phase) → committee_works phase ≡ true → is_from Bidding phase ≡ true
 committee-begun Setup h = absurd (true≢false (sym h))
 committee-begun Submission h = absurd (true≢false (sym h))
 committee-begun Bidding h = refl
@@ -214,18 +213,18 @@ module _ (H : History) where
     settled-one maker more e is held = tt
 
   abbrev pub Settled : Stamped → Type 0
-  Settled e = IsSettled H e.maker e.entry
+  Settled e = IsSettled H e.stamp.maker e.entry
 
-  settled-all : (before after : History) → before ++ after ≡ H → InTurn IsInOrder before after → AllByRecursion (λ (e : Stamped). IsHeld H e.maker e.entry) after
+  settled-all : (before after : History) → before ++ after ≡ H → InTurn IsInOrder before after → AllByRecursion (λ (e : Stamped). IsHeld H e.stamp.maker e.entry) after
       → AllByRecursion Settled after
   settled-all before [] whole order held = tt
   settled-all before (e ∷ after) whole order held = (
-    settled-one before (e ∷ after) whole order e.maker e.more e.entry order.0 held.0,
+    settled-one before (e ∷ after) whole order e.stamp.maker e.more e.entry order.0 held.0,
     settled-all (before ++ e ∷ []) after (append_assoc before (e ∷ []) after ∙ whole) order.1 held.1,
   )
 
   pub settled : Invariants H → AllByRecursion Settled H
-  settled kept = settled-all [] H refl kept.in_order (recursion_from_All (λ (e : Stamped). IsHeld H e.maker e.entry) H kept.stay)
+  settled kept = settled-all [] H refl kept.in_order (recursion_from_All (λ (e : Stamped). IsHeld H e.stamp.maker e.entry) H kept.stay)
 
 -- ---- the places
 
@@ -418,5 +417,5 @@ module _ (u : Option ℕ) (H : History) (legal : Legal H) where
 
 pub places_told : PlacesTold
 places_told u p H legal =
-    all-view u H (λ (s : Sighting). IsTrue (is_number s.paper p) → IsTrue (is_placed u p H s.kind s)) (λ (e : Stamped). IsSettled H e.maker e.entry)
+    all-view u H (λ (s : Sighting). IsTrue (is_number s.paper p) → IsTrue (is_placed u p H s.kind s)) (λ (e : Stamped). IsSettled H e.stamp.maker e.entry)
     (each u H legal p) (settled H (legal_invariants H legal))

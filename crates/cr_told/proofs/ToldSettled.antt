@@ -80,12 +80,12 @@ module _ (H : History) where
   there-one before maker more (Decided p decision) after whole is = paper before _ after whole p is.about
 
   abbrev pub There : Stamped → Type 0
-  There e = IsThere H e.maker e.entry
+  There e = IsThere H e.stamp.maker e.entry
 
   there-all : (before after : History) → before ++ after ≡ H → InTurn IsInOrder before after → AllByRecursion There after
   there-all before [] whole order = tt
   there-all before (e ∷ after) whole order = (
-    there-one before e.maker e.more e.entry after whole order.0,
+    there-one before e.stamp.maker e.more e.entry after whole order.0,
     there-all (before ++ e ∷ []) after (append_assoc before (e ∷ []) after ∙ whole) order.1,
   )
 

@@ -45,7 +45,7 @@ module _ (u : Option ℕ) (p : ℕ) (H : History) (order : InTurn IsInOrder [] H
   none-shown : {A : Type 0} (f : Sighting → List A) → Each f → flat_map f (view u H) ≡ []
   none-shown f each =
       none-of f (view u H)
-      (all-view u H (λ (s : Sighting). f s ≡ []) (λ (e : Stamped). IsByAuthor H e.maker e.entry) each (by-authors H order))
+      (all-view u H (λ (s : Sighting). f s ≡ []) (λ (e : Stamped). IsByAuthor H e.stamp.maker e.entry) each (by-authors H order))
 
   -- who neither wrote the paper nor may know its last text is shown none
   module _ (may : ℕ → Bool) (stranger : is_author u p H ≡ false) (hidden : may p ≡ false) where

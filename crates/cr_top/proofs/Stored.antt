@@ -223,13 +223,13 @@ not-named name other user few long true is = absurd (let e = ap length ((bytes_e
 not-named name other user few long false is = refl
 
 registers-another : (name : List ℕ) (maker : ℕ) (more : Bool) (e : Entry) → 34 < length name
-    → IsBoundedEntry (record { maker = maker; more = more; entry = e }) → number_told name e ≡ []
+    → IsBoundedEntry (record { stamp = record { maker = maker }; more = more; entry = e }) → number_told name e ≡ []
 registers-another name maker more (Registered user other digest) long b = not-named name other user b.b1.few long (bytes_eq other name) refl
 registers-another name maker more e long b = refl
 
 none-named : (name : List ℕ) (H : History) → 34 < length name → AllByRecursion IsBoundedEntry H → all_told (number_told name) H ≡ []
 none-named name [] long bounded = refl
-none-named name (s ∷ H) long bounded = ap₂ (λ (xs ys : List ℕ). xs ++ ys) (registers-another name s.maker s.more s.entry long bounded.0)
+none-named name (s ∷ H) long bounded = ap₂ (λ (xs ys : List ℕ). xs ++ ys) (registers-another name s.stamp.maker s.more s.entry long bounded.0)
     (none-named name H long bounded.1)
 
 -- nobody has registered a name of more bytes than any may have

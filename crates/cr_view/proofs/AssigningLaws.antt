@@ -11,7 +11,6 @@ use Rattle.cr_base.specs.declared.reply.Rule.TheVariants as rules
 use Rattle.cr_base.specs.declared.standing.Standing.{Standing}
 use Rattle.cr_base.specs.declared.target.Target.{Target}
 use Rattle.cr_base.specs.declared.words.Kind.{Kind}
-use Rattle.cr_base.specs.declared.words.Phase.TheVariants.{Bidding, Notification}
 use Rattle.cr_base.specs.declared.words.Role.{Role}
 use Rattle.cr_base.specs.declared.words.Role.TheVariants as roles
 use Rattle.cr_base.specs.Accounts.{role_at}
@@ -19,7 +18,7 @@ use Rattle.cr_base.specs.Checks.{Check, NamedPaper, ◌breaks◌, judged, confli
 use Rattle.cr_base.specs.Drawn.{Drawn, conflict_drawn, assignment_drawn, unassignment_drawn}
 use Rattle.cr_base.specs.Lists.{at_some, is_number}
 use Rattle.cr_base.specs.Pairs.{users_tied_to}
-use Rattle.cr_base.specs.Phases.{is_from}
+use Rattle.cr_base.specs.Phases.{authors_have_declared, conflicts_are_final}
 use Rattle.cr_base.specs.Reviews.{is_written_in}
 use Rattle.cr_base.specs.Seats.{labels_in, ordinal_in}
 use Rattle.cr_base.specs.Sources.{standing_at, facts_of_tables, has_paper}
@@ -224,7 +223,7 @@ module _ (t : Tables) (maker : ℕ) where
               ≡ judged (conflict_checks here (asked_of t paper) (Some (asked_for (Some p) (Some pair.user) pair.role)) on) x
           unread x =
               ap (λ (checks : List Check). judged (not (asked_of t paper).there breaks rules.NoPaper ∷ false breaks rules.NoUser ∷ checks) x)
-              (alike (is_some (ordinal_in t.seats (Some pair.user) p)) on (is_from Bidding here.phase) (is_from Notification here.phase))
+              (alike (is_some (ordinal_in t.seats (Some pair.user) p)) on (authors_have_declared here.phase) (conflicts_are_final here.phase))
 
       -- what the seats of these tables are asked, of an assignment and of its end
       abbrev asked_seats : Tables → Bool → Result ℕ Rule

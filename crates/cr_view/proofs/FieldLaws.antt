@@ -19,7 +19,7 @@ use Rattle.cr_base.specs.History.{FormTold, Upload}
 use Rattle.cr_base.specs.HistoryFacts.{assigned_under}
 use Rattle.cr_base.specs.Lists.{is_nothing, last, last_from, listed}
 use Rattle.cr_base.specs.Page.{shows_reviewer}
-use Rattle.cr_base.specs.Phases.{is_from}
+use Rattle.cr_base.specs.Phases.{is_from, members_read_reviews}
 use Rattle.cr_base.specs.Reviews.{forms_discussed_in, forms_in, is_written_in, last_form_in, written_told}
 use Rattle.cr_base.specs.Seats.{ordinal_in, seats_in}
 use Rattle.cr_base.specs.Tables.{Tables}
@@ -180,5 +180,5 @@ module _ (t : Tables) (user : Option ℕ) (by : Standing) (p : ℕ) where
   some-all false false h = absurd (true≢false (sym h))
 
   -- to authors, and from the discussion on, something is told where there is a form
-  pub some-reviews : (by.author || is_from Discussion by.phase) ≡ true → some_label written 26 ≡ not (is_nothing (reviews_at t user by p))
-  some-reviews h = some-all by.author (is_from Discussion by.phase) h
+  pub some-reviews : (by.author || members_read_reviews by.phase) ≡ true → some_label written 26 ≡ not (is_nothing (reviews_at t user by p))
+  some-reviews h = some-all by.author (members_read_reviews by.phase) h

@@ -9,13 +9,13 @@ use Rattle.cr_base.specs.declared.words.Role.TheVariants.{Chair}
 use Rattle.cr_base.specs.Drawn.{grouped, registration}
 
 -- behind no entry, the next is the only one
-marked-none : (maker : ℕ) (entries : List Entry) (next : Entry) → length (grouped maker entries) ≡ 0 → grouped maker entries ++ record { maker = maker; more = false; entry = next } ∷ [] ≡ grouped maker (entries ++ next ∷ [])
+marked-none : (maker : ℕ) (entries : List Entry) (next : Entry) → length (grouped maker entries) ≡ 0 → grouped maker entries ++ record { stamp = record { maker = maker }; more = false; entry = next } ∷ [] ≡ grouped maker (entries ++ next ∷ [])
 marked-none maker [] next h = refl
 marked-none maker (x ∷ []) next h = absurd (omega (arith, h))
 marked-none maker (x ∷ y ∷ entries) next h = absurd (omega (arith, h))
 
-pub marked-none-at : (maker : ℕ) (entries : List Entry) (next : Entry) (items : List Stamped) → items ≡ grouped maker entries → length items ≡ 0 → items ++ record { maker = maker; more = false; entry = next } ∷ [] ≡ grouped maker (entries ++ next ∷ [])
-marked-none-at maker entries next items is none = ap (λ xs. xs ++ record { maker = maker; more = false; entry = next } ∷ []) is ∙ marked-none maker entries next (sym (ap length is) ∙ none)
+pub marked-none-at : (maker : ℕ) (entries : List Entry) (next : Entry) (items : List Stamped) → items ≡ grouped maker entries → length items ≡ 0 → items ++ record { stamp = record { maker = maker }; more = false; entry = next } ∷ [] ≡ grouped maker (entries ++ next ∷ [])
+marked-none-at maker entries next items is none = ap (λ xs. xs ++ record { stamp = record { maker = maker }; more = false; entry = next } ∷ []) is ∙ marked-none maker entries next (sym (ap length is) ∙ none)
 
 some-grouped : (maker : ℕ) (entry : Entry) (entries : List Entry) → 0 < length (grouped maker (entry ∷ entries))
 some-grouped maker entry [] = omega arith
@@ -25,18 +25,18 @@ some-grouped maker entry (next ∷ entries) = omega arith
 marked-last : (maker : ℕ) (entries : List Entry) (next : Entry) (k : ℕ) (a : Stamped)
     → k + 1 ≡ length (grouped maker entries) → a ≡ get_or (grouped maker entries) k a
     → slice_set (grouped maker entries) k (record a { more = true })
-    ++ record { maker = maker; more = false; entry = next } ∷ [] ≡ grouped maker (entries ++ next ∷ [])
+    ++ record { stamp = record { maker = maker }; more = false; entry = next } ∷ [] ≡ grouped maker (entries ++ next ∷ [])
 marked-last maker [] next k a h is = absurd (omega (arith, h))
-marked-last maker (x ∷ []) next zero a h is = ap (λ (s : Stamped). record s { more = true } ∷ record { maker = maker; more = false; entry = next } ∷ []) is
+marked-last maker (x ∷ []) next zero a h is = ap (λ (s : Stamped). record s { more = true } ∷ record { stamp = record { maker = maker }; more = false; entry = next } ∷ []) is
 marked-last maker (x ∷ []) next (suc k) a h is = absurd (omega (arith, h))
 marked-last maker (x ∷ y ∷ entries) next zero a h is = let n = some-grouped maker y entries in absurd (omega (arith, h, n))
-marked-last maker (x ∷ y ∷ entries) next (suc k) a h is = ap (λ rest. record { maker = maker; more = true; entry = x } ∷ rest) (marked-last maker (y ∷ entries) next k a (omega (arith, h)) is)
+marked-last maker (x ∷ y ∷ entries) next (suc k) a h is = ap (λ rest. record { stamp = record { maker = maker }; more = true; entry = x } ∷ rest) (marked-last maker (y ∷ entries) next k a (omega (arith, h)) is)
 
 pub marked-last-at : (maker : ℕ) (entries : List Entry) (next : Entry) (k : ℕ) (a : Stamped) (items : List Stamped)
     → items ≡ grouped maker entries → k + 1 ≡ length items → a ≡ get_or items k a
-    → slice_set items k (record a { more = true }) ++ record { maker = maker; more = false; entry = next } ∷ []
+    → slice_set items k (record a { more = true }) ++ record { stamp = record { maker = maker }; more = false; entry = next } ∷ []
     ≡ grouped maker (entries ++ next ∷ [])
-marked-last-at maker entries next k a items is n at = ap (λ xs. slice_set xs k (record a { more = true }) ++ record { maker = maker; more = false; entry = next } ∷ []) is ∙ marked-last maker entries next k a (n ∙ ap length is) (at ∙ ap (λ xs. get_or xs k a) is)
+marked-last-at maker entries next k a items is n at = ap (λ xs. slice_set xs k (record a { more = true }) ++ record { stamp = record { maker = maker }; more = false; entry = next } ∷ []) is ∙ marked-last maker entries next k a (n ∙ ap length is) (at ∙ ap (λ xs. get_or xs k a) is)
 
 -- the first user is made a chair
 pub first-registration : (user n : ℕ) (name digest : List ℕ) → n ≡ user → n ≡ 1 → Registered user name digest ∷ Named user Chair ∷ [] ≡ registration user name digest

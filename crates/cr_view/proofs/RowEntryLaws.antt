@@ -84,7 +84,7 @@ row-drawn t user _ is drawn entry accepted told = absurd is
 -- ---- one more
 
 -- its mark is no matter
-fit-marked : (t : Tables) (s : Stamped) (more : Bool) → Fits t s → Fits t (record { maker = s.maker; more = more; entry = s.entry })
+fit-marked : (t : Tables) (s : Stamped) (more : Bool) → Fits t s → Fits t (record { stamp = s.stamp; more = more; entry = s.entry })
 fit-marked t s more fit = record {
   accounts = fit.accounts;
   papers = fit.papers;
@@ -161,19 +161,19 @@ module _ (t : Tables) (earlier : History) (before : AreEarlier t earlier) (user 
         (judged-fits now (within-from t earlier before.fits within) user command (drawn_by draw) judged-is)
 
     pub row-next : AreWithin (paper_count t.papers) t.ties → (more : Bool)
-        → AreEarlier t (earlier ++ record { maker = user; more = more; entry = entry } ∷ [])
+        → AreEarlier t (earlier ++ record { stamp = record { maker = user }; more = more; entry = entry } ∷ [])
     row-next within more =
-        let s : Stamped = record { maker = user; more = more; entry = entry } in
+        let s : Stamped = record { stamp = record { maker = user }; more = more; entry = entry } in
         record {
           rows = rows-more earlier s before.rows group-is.1;
-          fits = fits-more t earlier s before.fits (fit-marked now (record { maker = user; more = false; entry = entry }) more (row-fits within).0);
+          fits = fits-more t earlier s before.fits (fit-marked now (record { stamp = record { maker = user }; more = false; entry = entry }) more (row-fits within).0);
         }
 
 -- ---- marks
 
 -- an entry without its mark
 abbrev pub unmarked : Stamped → Stamped
-unmarked s = record { maker = s.maker; more = false; entry = s.entry }
+unmarked s = record { stamp = s.stamp; more = false; entry = s.entry }
 
 -- the tables behind entries don't hang on marks
 tables-unmarked : (t : Tables) (H : History) → tables_from t (map unmarked H) ≡ tables_from t H

@@ -37,7 +37,7 @@ use Rattle.cr_view.proofs.TargetLaws.{target-among}
 
 -- the tags after these entries
 abbrev tags_from : TagsState → History → TagsState
-tags_from tags entries = fold (λ (t : TagsState) (e : Stamped). tags_after t e.maker e.entry) tags entries
+tags_from tags entries = fold (λ (t : TagsState) (e : Stamped). tags_after t e.stamp.maker e.entry) tags entries
 
 -- the tables with the ties, the seats and the tags behind these entries, and all else as it was
 abbrev pub marked_by : Tables → History → Tables
@@ -45,11 +45,11 @@ marked_by t entries = record t { ties = ties_from t.ties entries; seats = seats_
 
 -- an entry of a row changes these alone
 one-marks : (t : Tables) (s : Stamped) → IsRowEntry s.entry → tables_after t s
-    ≡ record t { ties = ties_after t.ties s.maker s.entry; seats = seats_after t.seats s.entry; tags = tags_after t.tags s.maker s.entry }
+    ≡ record t { ties = ties_after t.ties s.stamp.maker s.entry; seats = seats_after t.seats s.entry; tags = tags_after t.tags s.stamp.maker s.entry }
 one-marks t s is = by s.entry is
   where
     by : (e : Entry) → IsRowEntry e → tables_after t (record s { entry = e })
-        ≡ record t { ties = ties_after t.ties s.maker e; seats = seats_after t.seats e; tags = tags_after t.tags s.maker e }
+        ≡ record t { ties = ties_after t.ties s.stamp.maker e; seats = seats_after t.seats e; tags = tags_after t.tags s.stamp.maker e }
     by (Conflict paper user on) is = refl
     by (Assigned paper user kind ordinal) is = refl
     by (Unassigned paper user ordinal) is = refl
@@ -65,9 +65,9 @@ rows-mark t (s ∷ entries) are =
 -- nobody becomes an author
 pub rows-authors : (ties : TiesState) (entries : History) → AreRowEntries entries → (ties_from ties entries).authors ≡ ties.authors
 rows-authors ties [] are = refl
-rows-authors ties (s ∷ entries) are = rows-authors (ties_after ties s.maker s.entry) entries are.1 ∙ by s.entry are.0
+rows-authors ties (s ∷ entries) are = rows-authors (ties_after ties s.stamp.maker s.entry) entries are.1 ∙ by s.entry are.0
   where
-    by : (e : Entry) → IsRowEntry e → (ties_after ties s.maker e).authors ≡ ties.authors
+    by : (e : Entry) → IsRowEntry e → (ties_after ties s.stamp.maker e).authors ≡ ties.authors
     by (Conflict paper user on) is = refl
     by (Assigned paper user kind ordinal) is = refl
     by (Unassigned paper user ordinal) is = refl
@@ -86,7 +86,7 @@ pub within-from : (t : Tables) (entries : History) → FitInTurn t entries → A
     → AreWithin (paper_count (tables_from t entries).papers) (tables_from t entries).ties
 within-from t [] fits within = within
 within-from t (s ∷ entries) fits within =
-    within-from (tables_after t s) entries fits.1 (within-after t.papers t.ties s.maker s.entry fits.0.papers within)
+    within-from (tables_after t s) entries fits.1 (within-after t.papers t.ties s.stamp.maker s.entry fits.0.papers within)
 
 -- ---- what is read behind them
 

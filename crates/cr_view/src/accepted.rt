@@ -7,7 +7,7 @@ ghost use Rattle.cr_base.specs.Papers.{title_at};
 ghost use Rattle.cr_base.specs.Sources.{facts_of_tables, shown_in_tables, is_accepted_in};
 
 use crate::live::Live;
-use cr_base::{AcceptedPaper, AcceptedPapers, Decision, PaperNo, Phase, Query, Text};
+use cr_base::{AcceptedPaper, AcceptedPapers, Decision, PaperNo, Query, Text};
 use std::alloc::{AllocError, Global};
 
 /// Which papers are accepted.
@@ -18,7 +18,7 @@ impl Live {
     pub fn is_accepted(&self, paper: PaperNo) -> bool
         ensures { result ≡ is_accepted_in self.now.tables paper }
     {
-        if !self.stage.phase().is_from(Phase::Notification) {
+        if !self.stage.phase().papers_may_be_accepted() {
             return false;
         }
         match self.decisions.last(paper) {

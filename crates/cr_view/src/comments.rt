@@ -12,8 +12,8 @@ use crate::live::Live;
 use crate::queries::AnswerError;
 use cr_anonymity::shows_writer;
 use cr_base::{
-    Comment, CommentLine, CommentLines, Filed, Ordinal, PaperNo, Phase, Reply, Rule, Short,
-    Standing, UserNo,
+    Comment, CommentLine, CommentLines, Filed, Ordinal, PaperNo, Reply, Rule, Short, Standing,
+    UserNo,
 };
 use std::alloc::{AllocError, Global};
 
@@ -29,7 +29,7 @@ pub(crate) fn comments_rule(by: &Standing, there: bool) -> Result<(), Rule>
         Ok(()) => {}
         Err(rule) => return Err(rule),
     }
-    if !by.phase.is_from(Phase::Discussion) {
+    if !by.phase.members_read_comments() {
         return Err(Rule::WrongPhase);
     }
     Ok(())

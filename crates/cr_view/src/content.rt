@@ -9,7 +9,7 @@ ghost use Rattle.cr_view.specs.Replies.{content_due, content_reader_at, content_
 
 use crate::live::Live;
 use crate::queries::AnswerError;
-use cr_base::{Blob, PaperNo, Phase, Reply, Rule, Standing, UserNo};
+use cr_base::{Blob, PaperNo, Reply, Rule, Standing, UserNo};
 
 impl Live {
     /// The content of a version of a paper, or of its last one, as a user, or nobody, may read it, or the
@@ -109,7 +109,7 @@ impl Live {
         if by.conflicted {
             return Err(Rule::Conflict);
         }
-        if !by.phase.is_from(Phase::Bidding) {
+        if !by.phase.members_see_papers() {
             return Err(Rule::WrongPhase);
         }
         Ok(by)

@@ -25,9 +25,7 @@ use crate::page::{
 };
 use crate::reviews::reviews_rule;
 use cr_anonymity::{shows_author, shows_reviewer};
-use cr_base::{
-    Decision, MOST_LABELS, Ordinal, PaperNo, Phase, Seat, Standing, Tag, Text, Tie, UserNo,
-};
+use cr_base::{Decision, MOST_LABELS, Ordinal, PaperNo, Seat, Standing, Tag, Text, Tie, UserNo};
 
 /// How many papers there are.
 impl Live {
@@ -148,7 +146,7 @@ impl Live {
     fn has_review(&self, user: &Option<UserNo>, by: &Standing, paper: PaperNo) -> bool
         ensures { result ≡ not (is_nothing (reviews_at self.now.tables user.now by.now paper)) }
     {
-        if by.author || by.phase.is_from(Phase::Discussion) {
+        if by.author || by.phase.members_read_reviews() {
             return self.has_any_form(paper);
         }
         match self.ordinal_of(user, paper) {

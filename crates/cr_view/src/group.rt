@@ -5,13 +5,13 @@ ghost use Rattle.cr_base.specs.declared.entry.Entry.{Entry};
 ghost use Rattle.cr_base.specs.declared.entry.Entry.TheVariants.{Submitted, Coauthor};
 ghost use Rattle.cr_base.specs.Drawn.{grouped, registration};
 
-use cr_base::{Coauthors, Digest, Entry, PaperNo, Role, Short, Stamped, Text, UserNo};
+use cr_base::{Coauthors, Digest, Entry, PaperNo, Role, Short, Stamp, Stamped, Text, UserNo};
 use std::alloc::{AllocError, Global};
 
 /// Marks the last entry as one that another of the same command follows.
 fn mark_last(group: &mut Vec<Stamped>)
     ensures marked { (maker : ℕ) (entries : List Entry) (next : Entry) → group.old.items ≡ grouped maker entries
-        → group.new.items ++ record { maker = maker; more = false; entry = next } ∷ []
+        → group.new.items ++ record { stamp = record { maker = maker }; more = false; entry = next } ∷ []
         ≡ grouped maker (entries ++ next ∷ []) }
     ensures room { vec_capacity group.old - vec_len group.old ≤ vec_capacity group.new - vec_len group.new }
 {
@@ -30,7 +30,7 @@ fn push_entry(group: &mut Vec<Stamped>, maker: UserNo, entry: Entry) -> Result<(
     group.reserve(1)?;
     mark_last(group);
     group.push_reserved(Stamped {
-        maker,
+        stamp: Stamp { maker },
         more: false,
         entry,
     });

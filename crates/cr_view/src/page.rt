@@ -8,14 +8,14 @@ ghost use Rattle.cr_base.specs.Page.{is_clear_chair, is_clear_member, gets_bid, 
 ghost use Rattle.cr_base.specs.Page.{gets_reviewers, gets_tags, gets_decision, where_told};
 
 use cr_anonymity::shows_reviewer;
-use cr_base::{Kind, Phase, Standing, Text, Versions};
+use cr_base::{Kind, Standing, Text, Versions};
 use std::alloc::{AllocError, Global};
 
 /// Whether she is told the title: authors; members from bidding on; everyone where the paper is accepted.
 pub(crate) fn gets_title(by: &Standing, accepted: bool) -> bool
     ensures { result ≡ gets_title by.now accepted }
 {
-    by.author || (by.role.is_member() && by.phase.is_from(Phase::Bidding)) || accepted
+    by.author || (by.role.is_member() && by.phase.members_see_papers()) || accepted
 }
 
 /// Whether she is told the abstract: authors; from bidding on members who aren't in conflict; everyone where
@@ -24,7 +24,7 @@ pub(crate) fn gets_abstract(by: &Standing, accepted: bool) -> bool
     ensures { result ≡ gets_abstract by.now accepted }
 {
     by.author
-        || (by.is_clear_member() && by.phase.is_from(Phase::Bidding))
+        || (by.is_clear_member() && by.phase.members_see_papers())
         || by.phase.publishes(accepted)
 }
 
@@ -51,7 +51,7 @@ pub(crate) fn conflict_told(by: &Standing) -> Option<bool>
 pub(crate) fn gets_conflicts(by: &Standing) -> bool
     ensures { result ≡ gets_conflicts by.now }
 {
-    by.is_clear_chair() && by.phase.is_from(Phase::Bidding)
+    by.is_clear_chair() && by.phase.chairs_see_conflicts()
 }
 
 /// Whether she is told whom the authors declared: authors.
@@ -67,7 +67,7 @@ pub(crate) fn gets_versions(by: &Standing, accepted: bool) -> bool
     ensures { result ≡ gets_versions by.now accepted }
 {
     by.author
-        || (by.is_clear_member() && by.phase.is_from(Phase::Bidding))
+        || (by.is_clear_member() && by.phase.members_see_papers())
         || by.phase.publishes(accepted)
 }
 
@@ -75,7 +75,7 @@ pub(crate) fn gets_versions(by: &Standing, accepted: bool) -> bool
 fn gets_withdrawn(by: &Standing) -> bool
     ensures { result ≡ gets_withdrawn by.now }
 {
-    by.author || (by.role.is_member() && by.phase.is_from(Phase::Bidding))
+    by.author || (by.role.is_member() && by.phase.members_see_papers())
 }
 
 /// Whether the paper is withdrawn, where she is told that.
@@ -93,14 +93,14 @@ pub(crate) fn withdrawn_told(by: &Standing, withdrawn: bool) -> Option<bool>
 pub(crate) fn gets_bid(by: &Standing) -> bool
     ensures { result ≡ gets_bid by.now }
 {
-    by.is_clear_member() && by.phase.is_from(Phase::Bidding)
+    by.is_clear_member() && by.phase.members_see_own_bids()
 }
 
 /// Whether she is told all bids: from bidding on chairs who aren't in conflict.
 pub(crate) fn gets_bids(by: &Standing) -> bool
     ensures { result ≡ gets_bids by.now }
 {
-    by.is_clear_chair() && by.phase.is_from(Phase::Bidding)
+    by.is_clear_chair() && by.phase.chairs_see_bids()
 }
 
 /// Whether she is told her own label: reviewers of the paper who are members and not in conflict.
@@ -115,14 +115,14 @@ pub(crate) fn gets_label(by: &Standing) -> bool
 pub(crate) fn gets_reviewers(by: &Standing) -> bool
     ensures { result ≡ gets_reviewers by.now }
 {
-    shows_reviewer(by) || (by.is_clear_member() && by.phase.is_from(Phase::Discussion))
+    shows_reviewer(by) || (by.is_clear_member() && by.phase.members_see_reviewers())
 }
 
 /// Whether she is told the tags: from bidding on members who aren't in conflict.
 pub(crate) fn gets_tags(by: &Standing) -> bool
     ensures { result ≡ gets_tags by.now }
 {
-    by.is_clear_member() && by.phase.is_from(Phase::Bidding)
+    by.is_clear_member() && by.phase.committee_sees_tags()
 }
 
 /// Whether a reviewer has written a review, where she is told that: chairs who aren't in conflict.
@@ -152,8 +152,8 @@ pub(crate) fn kind_told(by: &Standing, kind: Kind) -> Option<Kind>
 pub(crate) fn gets_decision(by: &Standing, accepted: bool) -> bool
     ensures { result ≡ gets_decision by.now accepted }
 {
-    (by.is_clear_member() && by.phase.is_from(Phase::Discussion))
-        || (by.author && by.phase.is_from(Phase::Notification))
+    (by.is_clear_member() && by.phase.members_read_decisions())
+        || (by.author && by.phase.authors_read_decisions())
         || accepted
 }
 

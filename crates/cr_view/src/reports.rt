@@ -20,27 +20,28 @@ use cr_base::{
 };
 use cr_reviews::Labels;
 
-/// Whether one who stands so may have a report that members have from this phase on, or the first broken rule.
-fn members_report(by: &Standing, first: Phase) -> Result<(), Rule>
-    ensures { result ≡ judged (members_report by.now first) tt }
+/// Whether one who stands so may have a report that members have, who see by now what it tells or don't, or the
+/// first broken rule.
+fn members_report(by: &Standing, seen: bool) -> Result<(), Rule>
+    ensures { result ≡ judged (members_report by.now seen) tt }
 {
     if !by.role.is_member() {
         return Err(Rule::NotMember);
     }
-    if !by.phase.is_from(first) {
+    if !seen {
         return Err(Rule::WrongPhase);
     }
     Ok(())
 }
 
 /// The same of a report that chairs have.
-fn chairs_report(by: &Standing, first: Phase) -> Result<(), Rule>
-    ensures { result ≡ judged (chairs_report by.now first) tt }
+fn chairs_report(by: &Standing, seen: bool) -> Result<(), Rule>
+    ensures { result ≡ judged (chairs_report by.now seen) tt }
 {
     if !by.role.is_chair() {
         return Err(Rule::NotChair);
     }
-    if !by.phase.is_from(first) {
+    if !seen {
         return Err(Rule::WrongPhase);
     }
     Ok(())
@@ -56,7 +57,7 @@ fn letter_rule(by: &Standing, there: bool) -> Result<(), Rule>
     if !by.author {
         return Err(Rule::NotAuthor);
     }
-    if !by.phase.is_from(Phase::Notification) {
+    if !by.phase.letters_are_sent() {
         return Err(Rule::WrongPhase);
     }
     Ok(())
@@ -68,11 +69,12 @@ impl Live {
     pub fn may_have(&self, user: &Option<UserNo>, report: &Report) -> Result<(), Rule>
         ensures { result ≡ judged (report_checks (facts_of_tables self.now.tables user.now) report.now) tt }
     {
+        let by = self.standing(user, &None);
         match report {
-            Report::Papers => members_report(&self.standing(user, &None), Phase::Bidding),
-            Report::Scores => members_report(&self.standing(user, &None), Phase::Discussion),
-            Report::Load => chairs_report(&self.standing(user, &None), Phase::Bidding),
-            Report::Decisions => members_report(&self.standing(user, &None), Phase::Discussion),
+            Report::Papers => members_report(&by, by.phase.members_see_papers()),
+            Report::Scores => members_report(&by, by.phase.members_read_reviews()),
+            Report::Load => chairs_report(&by, by.phase.chairs_see_reviewers()),
+            Report::Decisions => members_report(&by, by.phase.members_read_decisions()),
             Report::Letter { paper } => {
                 letter_rule(&self.standing(user, paper), self.has_paper(paper))
             }

@@ -122,7 +122,7 @@ pub(crate) fn reviews_rule(by: &Standing, there: bool) -> Result<(), Rule>
         return Err(Rule::NoPaper);
     }
     if by.author {
-        if !by.phase.is_from(Phase::Notification) {
+        if !by.phase.authors_read_reviews() {
             return Err(Rule::WrongPhase);
         }
         return Ok(());
@@ -133,10 +133,10 @@ pub(crate) fn reviews_rule(by: &Standing, there: bool) -> Result<(), Rule>
     if by.conflicted {
         return Err(Rule::Conflict);
     }
-    if by.phase.is_from(Phase::Discussion) {
+    if by.phase.members_read_reviews() {
         return Ok(());
     }
-    if !(by.reviewer && by.phase.is(Phase::Reviewing)) {
+    if !(by.reviewer && by.phase.reviewers_read_own()) {
         return Err(Rule::WrongPhase);
     }
     Ok(())
@@ -211,7 +211,7 @@ impl Live {
     ) -> Result<ReviewLines, AllocError>
         ensures { IfOk result (λ lines. lines ≡ reviews_at self.now.tables user.now by.now paper) }
     {
-        if by.author || by.phase.is_from(Phase::Discussion) {
+        if by.author || by.phase.members_read_reviews() {
             return self.all_reviews(alloc, by, paper);
         }
         self.own_reviews(alloc, user, by, paper)

@@ -12,7 +12,7 @@ ghost use Rattle.cr_view.specs.Rows.{AreEarlier, group_or_rule, row_group, row_j
 
 use crate::draw::Draw;
 use crate::live::Live;
-use cr_base::{Command, Entry, PaperNo, Phase, Rule, Short, Stamped, UserNo};
+use cr_base::{Command, Entry, PaperNo, Rule, Short, Stamped, UserNo};
 
 impl Live {
     /// Whether a user may send a bulk, or the first broken rule: `NotChair`, else `WrongPhase` before the
@@ -24,7 +24,7 @@ impl Live {
         if !by.role.is_chair() {
             return Err(Rule::NotChair);
         }
-        if !by.phase.is_from(Phase::Bidding) || by.phase.is_from(Phase::Notification) {
+        if !by.phase.committee_works() {
             return Err(Rule::WrongPhase);
         }
         Ok(())
@@ -52,7 +52,7 @@ impl Live {
         ensures fits { IfOk result
             (λ entry. FitInTurn (tables_from self.now.tables earlier.now) (grouped caller (entry ∷ []))) }
         ensures next { IfOk result (λ entry. (more : Bool)
-            → AreEarlier self.now.tables (earlier.now ++ record { maker = caller; more = more; entry = entry } ∷ [])) }
+            → AreEarlier self.now.tables (earlier.now ++ record { stamp = record { maker = caller }; more = more; entry = entry } ∷ [])) }
     {
         self.law_within();
         match self.row_draw(caller, command, earlier) {

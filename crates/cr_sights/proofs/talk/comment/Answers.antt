@@ -2,7 +2,7 @@ use Rattle.std.proofs.Common.{◌≡◌, ◌∙◌, List, [], ◌∷◌, sym, ap
 use Rattle.cr_base.specs.declared.entry.Entry.{Entry}
 use Rattle.cr_base.specs.declared.entry.Entry.TheVariants.{Commented}
 use Rattle.cr_policy.specs.Sighting.{Sighting}
-use Rattle.cr_policy.specs.Triggers.{discusses, names_writers, user_named}
+use Rattle.cr_policy.specs.Triggers.{names_writers, reads_comments, user_named}
 use Rattle.cr_sights.specs.Readers.{reader_in}
 use Rattle.cr_sights.proofs.Shown.{last-row, part-shown, seen-shown, told-shared}
 use Rattle.cr_sights.proofs.talk.comment.Goals as goal
@@ -14,9 +14,9 @@ returns c at =
     let p = c.in-Commented.paper in
     let x : Entry = Commented p c.in-Commented.n c.in-Commented.ordinal c.in-Commented.text in
     let mine = c.eq-mine.ensures in
-    let seen = sym (rw (last-row (user_named r e.maker)) at c.if-not-tells_comment.ensures) in
-    let shared = told-shared (discusses r p) (names_writers r p) (user_named r e.maker) c.if-not-tells_comment.ensures in
-    let label = rw (last-row (user_named r e.maker)) at c.shows_label-label.ensures in
+    let seen = sym (rw (last-row (user_named r e.stamp.maker)) at c.if-not-tells_comment.ensures) in
+    let shared = told-shared (reads_comments r p) (names_writers r p) (user_named r e.stamp.maker) c.if-not-tells_comment.ensures in
+    let label = rw (last-row (user_named r e.stamp.maker)) at c.shows_label-label.ensures in
     let made = part-shown _ _ _ _ c.then_some-sighting-inside.ensures (c.shows_writer.ensures ∙ last-row _) in
     let under = part-shown _ _ _ _ (rw (c.label_number.ensures) at c.then_some-sighting-inside-2.ensures) label in
     let parts : Sighting → List Sighting = λ s.

@@ -13,11 +13,11 @@ returns-then-not-fits-clause-every c = λ s h e.
     let failed = c.if-not-fits.true in
     cc
 
-fits : (c : goal.After-new) → FitsShape (shape_of c.in-Some.kind) c.args.row.now
+fits : (c : goal.After-of_row) → FitsShape (shape_of c.in-Some.kind) c.args.row.now
 fits c = subst (λ (x : Shape). FitsShape x c.args.row.now) c.shape.ensures (c.fits.ensures.0 c.if-not-fits.false)
 
-made : (c : goal.After-new) → ◌≡◌ {A = Stamped} (stamped c.in-Some.kind c.args.row.now) (record { maker = c.new.result; more = (stamped c.in-Some.kind c.args.row.now).more; entry = c.in_ok-entry.entry })
-made c = stamped-parts c.in-Some.kind c.args.row.now c.new.result c.in_ok-entry.entry c.new.ensures c.in_ok-entry.ensures
+made : (c : goal.After-of_row) → ◌≡◌ {A = Stamped} (stamped c.in-Some.kind c.args.row.now) (record { stamp = c.of_row.result; more = (stamped c.in-Some.kind c.args.row.now).more; entry = c.in_ok-entry.entry })
+made c = stamped-parts c.in-Some.kind c.args.row.now c.of_row.result c.in_ok-entry.entry c.of_row.ensures c.in_ok-entry.ensures
 
 pub returns-clause-spells : goal.returns-clause-spells
 returns-clause-spells c =

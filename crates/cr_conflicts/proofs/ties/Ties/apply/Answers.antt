@@ -7,7 +7,7 @@ use Rattle.cr_conflicts.proofs.ties.Ties.apply.Goals as goal
 pub add_author-requires-clause-behind : goal.add_author-requires-clause-behind
 add_author-requires-clause-behind c =
     let ties = c.args.self.now.ties in
-    told-before c.in-Submitted.paper c.args.stamped.now.maker ties.authors (subst (λ (e : Entry). TiesFit ties e) c.in-Submitted.is c.requires.fits)
+    told-before c.in-Submitted.paper c.args.stamped.now.stamp.maker ties.authors (subst (λ (e : Entry). TiesFit ties e) c.in-Submitted.is c.requires.fits)
 
 pub add_author-requires-in-Coauthor-clause-behind : goal.add_author-requires-in-Coauthor-clause-behind
 add_author-requires-in-Coauthor-clause-behind c =

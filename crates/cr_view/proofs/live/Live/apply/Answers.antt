@@ -10,7 +10,7 @@ use Rattle.cr_view.proofs.live.Live.apply.Goals as goal
 pub invariant_of-self-in-Registered-1 : goal.invariant_of-self-in-Registered-1
 invariant_of-self-in-Registered-1 c =
     let x = c.self.inside in
-    let maker = c.args.stamped.maker in
+    let maker = c.args.stamped.stamp.maker in
     let entry = c.args.stamped.entry in
     let fits = subst (λ (v : SeenTables). PapersFit v.tables.papers maker entry) (sym c.self.view_is) c.requires.fits.papers in
     let papers = sym c.apply-in_default.ensures.after in (

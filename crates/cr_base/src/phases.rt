@@ -1,0 +1,277 @@
+//! The order of phases, and what each opens and ends.
+ghost use Rattle.std.specs.Prelude.{◌≡◌, ◌≤◌};
+ghost use Rattle.cr_base.specs.Decisions.{is_published};
+ghost use Rattle.cr_base.specs.Phases.{phase_rank, is_from, is_phase, is_next};
+ghost use Rattle.cr_base.specs.Phases.{mode_may_be_set, accepts_submissions, papers_may_change};
+ghost use Rattle.cr_base.specs.Phases.{authors_have_declared, conflicts_are_final, roles_are_final};
+ghost use Rattle.cr_base.specs.Phases.{committee_works, bids_are_taken, reviews_are_written};
+ghost use Rattle.cr_base.specs.Phases.{comments_are_written, decisions_are_made, members_see_papers};
+ghost use Rattle.cr_base.specs.Phases.{committee_sees_authors, chairs_see_conflicts, members_see_own_bids};
+ghost use Rattle.cr_base.specs.Phases.{chairs_see_bids, committee_sees_tags, chairs_see_reviewers};
+ghost use Rattle.cr_base.specs.Phases.{members_see_reviewers, reviewers_read_own, members_read_reviews};
+ghost use Rattle.cr_base.specs.Phases.{members_read_comments, members_read_decisions, authors_read_reviews};
+ghost use Rattle.cr_base.specs.Phases.{authors_see_reviewers, authors_read_decisions, letters_are_sent};
+ghost use Rattle.cr_base.specs.Phases.{papers_may_be_accepted, papers_are_published};
+
+use crate::words::Phase;
+
+/// The order.
+impl Phase {
+    /// Its rank in the order of phases, from 0.
+    fn rank(self) -> u64
+        ensures value { result ≡ phase_rank self }
+        ensures low { result ≤ 6 }
+    {
+        match self {
+            Phase::Setup => 0,
+            Phase::Submission => 1,
+            Phase::Bidding => 2,
+            Phase::Reviewing => 3,
+            Phase::Discussion => 4,
+            Phase::Notification => 5,
+            Phase::Closed => 6,
+        }
+    }
+
+    /// Whether this is the phase told.
+    pub fn is(self, phase: Phase) -> bool
+        ensures { result ≡ is_phase self phase }
+    {
+        self.rank() == phase.rank()
+    }
+
+    /// Whether this is the first phase told, or a later one.
+    pub fn is_from(self, first: Phase) -> bool
+        ensures { result ≡ is_from first self }
+    {
+        first.rank() <= self.rank()
+    }
+
+    /// Whether the phase told follows this one.
+    pub fn is_before(self, next: Phase) -> bool
+        ensures { result ≡ is_next self next }
+    {
+        next.rank() == self.rank() + 1
+    }
+}
+
+/// What is done.
+impl Phase {
+    /// Whether chairs may choose who sees whose names.
+    pub fn mode_may_be_set(self) -> bool
+        ensures { result ≡ mode_may_be_set self }
+    {
+        self.is(Phase::Setup)
+    }
+
+    /// Whether papers are submitted.
+    pub fn accepts_submissions(self) -> bool
+        ensures { result ≡ accepts_submissions self }
+    {
+        self.is(Phase::Submission)
+    }
+
+    /// Whether authors revise their papers, upload to them and withdraw them.
+    pub fn papers_may_change(self) -> bool
+        ensures { result ≡ papers_may_change self }
+    {
+        self.is(Phase::Submission)
+    }
+
+    /// Whether authors declare conflicts no more: the committee does.
+    pub fn authors_have_declared(self) -> bool
+        ensures { result ≡ authors_have_declared self }
+    {
+        self.is_from(Phase::Bidding)
+    }
+
+    /// Whether nobody turns a conflict on or off any more.
+    pub fn conflicts_are_final(self) -> bool
+        ensures { result ≡ conflicts_are_final self }
+    {
+        self.is_from(Phase::Notification)
+    }
+
+    /// Whether nobody is named a member or a chair any more.
+    pub fn roles_are_final(self) -> bool
+        ensures { result ≡ roles_are_final self }
+    {
+        self.is_from(Phase::Notification)
+    }
+
+    /// Whether the committee works on the papers: chairs take conflicts back, assign and unassign reviewers
+    /// and send bulks, and members tag.
+    pub fn committee_works(self) -> bool
+        ensures { result ≡ committee_works self }
+    {
+        self.is_from(Phase::Bidding) && !self.is_from(Phase::Notification)
+    }
+
+    /// Whether members bid for papers.
+    pub fn bids_are_taken(self) -> bool
+        ensures { result ≡ bids_are_taken self }
+    {
+        self.is(Phase::Bidding)
+    }
+
+    /// Whether reviewers write their forms.
+    pub fn reviews_are_written(self) -> bool
+        ensures { result ≡ reviews_are_written self }
+    {
+        self.is(Phase::Reviewing) || self.is(Phase::Discussion)
+    }
+
+    /// Whether members comment on papers.
+    pub fn comments_are_written(self) -> bool
+        ensures { result ≡ comments_are_written self }
+    {
+        self.is(Phase::Discussion)
+    }
+
+    /// Whether chairs decide what becomes of papers.
+    pub fn decisions_are_made(self) -> bool
+        ensures { result ≡ decisions_are_made self }
+    {
+        self.is(Phase::Discussion)
+    }
+}
+
+/// What the committee sees.
+impl Phase {
+    /// Whether members see the papers: titles and what is withdrawn, and without a conflict abstracts and
+    /// contents.
+    pub fn members_see_papers(self) -> bool
+        ensures { result ≡ members_see_papers self }
+    {
+        self.is_from(Phase::Bidding)
+    }
+
+    /// Whether chairs, and members where the mode lets them, see who wrote a paper.
+    pub fn committee_sees_authors(self) -> bool
+        ensures { result ≡ committee_sees_authors self }
+    {
+        self.is_from(Phase::Bidding)
+    }
+
+    /// Whether chairs see who is in conflict with a paper.
+    pub fn chairs_see_conflicts(self) -> bool
+        ensures { result ≡ chairs_see_conflicts self }
+    {
+        self.is_from(Phase::Bidding)
+    }
+
+    /// Whether a member sees what she bid.
+    pub fn members_see_own_bids(self) -> bool
+        ensures { result ≡ members_see_own_bids self }
+    {
+        self.is_from(Phase::Bidding)
+    }
+
+    /// Whether chairs see what everyone bid.
+    pub fn chairs_see_bids(self) -> bool
+        ensures { result ≡ chairs_see_bids self }
+    {
+        self.is_from(Phase::Bidding)
+    }
+
+    /// Whether members see tags, and chairs those for chairs.
+    pub fn committee_sees_tags(self) -> bool
+        ensures { result ≡ committee_sees_tags self }
+    {
+        self.is_from(Phase::Bidding)
+    }
+
+    /// Whether chairs see who reviews a paper, and how much each member has to review.
+    pub fn chairs_see_reviewers(self) -> bool
+        ensures { result ≡ chairs_see_reviewers self }
+    {
+        self.is_from(Phase::Bidding)
+    }
+
+    /// Whether members see who else reviews a paper, by their names where the mode lets them.
+    pub fn members_see_reviewers(self) -> bool
+        ensures { result ≡ members_see_reviewers self }
+    {
+        self.is_from(Phase::Discussion)
+    }
+
+    /// Whether a reviewer reads her own forms, and nobody else's yet.
+    pub fn reviewers_read_own(self) -> bool
+        ensures { result ≡ reviewers_read_own self }
+    {
+        self.is(Phase::Reviewing)
+    }
+
+    /// Whether members read each other's reviews.
+    pub fn members_read_reviews(self) -> bool
+        ensures { result ≡ members_read_reviews self }
+    {
+        self.is_from(Phase::Discussion)
+    }
+
+    /// Whether members read comments.
+    pub fn members_read_comments(self) -> bool
+        ensures { result ≡ members_read_comments self }
+    {
+        self.is_from(Phase::Discussion)
+    }
+
+    /// Whether members read what was decided.
+    pub fn members_read_decisions(self) -> bool
+        ensures { result ≡ members_read_decisions self }
+    {
+        self.is_from(Phase::Discussion)
+    }
+}
+
+/// What authors and everyone are told.
+impl Phase {
+    /// Whether authors read the reviews of their papers.
+    pub fn authors_read_reviews(self) -> bool
+        ensures { result ≡ authors_read_reviews self }
+    {
+        self.is_from(Phase::Notification)
+    }
+
+    /// Whether authors see who reviewed their papers, where the mode lets them.
+    pub fn authors_see_reviewers(self) -> bool
+        ensures { result ≡ authors_see_reviewers self }
+    {
+        self.is_from(Phase::Notification)
+    }
+
+    /// Whether authors read what was decided of their papers.
+    pub fn authors_read_decisions(self) -> bool
+        ensures { result ≡ authors_read_decisions self }
+    {
+        self.is_from(Phase::Notification)
+    }
+
+    /// Whether the letters to the authors may be had.
+    pub fn letters_are_sent(self) -> bool
+        ensures { result ≡ letters_are_sent self }
+    {
+        self.is_from(Phase::Notification)
+    }
+
+    /// Whether a decision to accept counts before everyone.
+    pub fn papers_may_be_accepted(self) -> bool
+        ensures { result ≡ papers_may_be_accepted self }
+    {
+        self.is_from(Phase::Notification)
+    }
+
+    /// Whether everyone is served what is accepted.
+    pub fn papers_are_published(self) -> bool
+        ensures { result ≡ papers_are_published self }
+    {
+        self.is_from(Phase::Closed)
+    }
+
+    /// Whether everyone is served a paper, which is accepted or isn't: where it is, once the conference is closed.
+    pub fn publishes(self, accepted: bool) -> bool
+        ensures { result ≡ is_published self accepted }
+    {
+        accepted && self.papers_are_published()
+    }
+}
