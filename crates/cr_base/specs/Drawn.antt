@@ -1,4 +1,4 @@
--- What an accepted command draws: the entries that it adds, and its receipt.
+-- What an accepted command draws: the entries that it adds, and its receipt, which its first entry tells.
 use Rattle.std.specs.Prelude.{ℕ, Bool, true, false, ◌==◌, List, [], ◌∷◌, ◌++◌, map, Option, if◌then◌else◌}
 use Rattle.std.specs.List.{list_any}
 use Rattle.cr_base.specs.declared.entry.Entry.{Entry}
@@ -28,17 +28,46 @@ grouped maker [] = []
 grouped maker (e ∷ []) = record { stamp = record { maker = maker }; more = false; entry = e } ∷ []
 grouped maker (e ∷ next ∷ es) = record { stamp = record { maker = maker }; more = true; entry = e } ∷ grouped maker (next ∷ es)
 
+-- ReceiptOf: what a command is answered, by the first entry that it adds; `name` is that of the user who is given a
+-- role. A co-author never comes first.
+abbrev pub receipt_of : List ℕ → Entry → Receipt
+receipt_of name (Registered user own digest) = receipts.User user
+receipt_of name (Named user role) = receipts.Named name role
+receipt_of name (PhaseSet phase) = receipts.Phase phase
+receipt_of name (ModeSet mode) = receipts.Mode mode
+receipt_of name (Submitted paper title abstract) = receipts.Paper paper
+receipt_of name (Coauthor paper user) = receipts.Changed paper
+receipt_of name (Revised paper title abstract) = receipts.Changed paper
+receipt_of name (Uploaded paper version content) = receipts.Version version
+receipt_of name (Withdrawn paper) = receipts.Changed paper
+receipt_of name (Conflict paper user on) = receipts.Changed paper
+receipt_of name (Bid paper value) = receipts.Bid value
+receipt_of name (Assigned paper user kind ordinal) = receipts.Label ordinal
+receipt_of name (Unassigned paper user ordinal) = receipts.Changed paper
+receipt_of name (Reviewed paper ordinal version form) = receipts.Version version
+receipt_of name (Commented paper n ordinal text) = receipts.Comment n
+receipt_of name (Tagged paper tag on) = receipts.Changed paper
+receipt_of name (Decided paper decision) = receipts.Changed paper
+
+-- what a command draws that adds one entry, and gives nobody a role
+abbrev pub alone : ℕ → Entry → Drawn
+alone maker entry = record { group = grouped maker (entry ∷ []); receipt = receipt_of [] entry }
+
+-- ---- what each command draws
+
 -- a registration; the first account is a chair
 abbrev pub registration : ℕ → List ℕ → List ℕ → List Entry
 registration user name digest =
     if user == 1 then Registered user name digest ∷ Named user Chair ∷ [] else Registered user name digest ∷ []
 
 abbrev pub registration_drawn : ℕ → List ℕ → List ℕ → Drawn
-registration_drawn user name digest =
-    record { group = grouped user (registration user name digest); receipt = receipts.User user }
+registration_drawn user name digest = record {
+  group = grouped user (registration user name digest);
+  receipt = receipt_of [] (Registered user name digest);
+}
 
 abbrev pub phase_drawn : ℕ → Phase → Drawn
-phase_drawn maker to = record { group = grouped maker (PhaseSet to ∷ []); receipt = receipts.Phase to }
+phase_drawn maker to = alone maker (PhaseSet to)
 
 -- those of the users who are none of these, each where she comes first
 abbrev pub besides : List ℕ → List ℕ → List ℕ
@@ -54,61 +83,45 @@ submission maker paper title abstract users =
 abbrev pub submission_drawn : ℕ → ℕ → List ℕ → List ℕ → List ℕ → Drawn
 submission_drawn maker paper title abstract users = record {
   group = grouped maker (submission maker paper title abstract users);
-  receipt = receipts.Paper paper;
+  receipt = receipt_of [] (Submitted paper title abstract);
 }
 
 abbrev pub revision_drawn : ℕ → ℕ → List ℕ → List ℕ → Drawn
-revision_drawn maker paper title abstract =
-    record { group = grouped maker (Revised paper title abstract ∷ []); receipt = receipts.Changed paper }
+revision_drawn maker paper title abstract = alone maker (Revised paper title abstract)
 
 abbrev pub upload_drawn : ℕ → ℕ → ℕ → List ℕ → Drawn
-upload_drawn maker paper version content =
-    record { group = grouped maker (Uploaded paper version content ∷ []); receipt = receipts.Version version }
+upload_drawn maker paper version content = alone maker (Uploaded paper version content)
 
 abbrev pub withdrawal_drawn : ℕ → ℕ → Drawn
-withdrawal_drawn maker paper =
-    record { group = grouped maker (Withdrawn paper ∷ []); receipt = receipts.Changed paper }
+withdrawal_drawn maker paper = alone maker (Withdrawn paper)
 
 abbrev pub naming_drawn : ℕ → ℕ → List ℕ → Role → Drawn
 naming_drawn maker user name role =
-    record { group = grouped maker (Named user role ∷ []); receipt = receipts.Named name role }
+    record { group = grouped maker (Named user role ∷ []); receipt = receipt_of name (Named user role) }
 
 abbrev pub mode_drawn : ℕ → Mode → Drawn
-mode_drawn maker to = record { group = grouped maker (ModeSet to ∷ []); receipt = receipts.Mode to }
+mode_drawn maker to = alone maker (ModeSet to)
 
 abbrev pub conflict_drawn : ℕ → ℕ → ℕ → Bool → Drawn
-conflict_drawn maker paper user on =
-    record { group = grouped maker (Conflict paper user on ∷ []); receipt = receipts.Changed paper }
+conflict_drawn maker paper user on = alone maker (Conflict paper user on)
 
 abbrev pub bid_drawn : ℕ → ℕ → ℕ → Drawn
-bid_drawn maker paper value = record { group = grouped maker (Bid paper value ∷ []); receipt = receipts.Bid value }
+bid_drawn maker paper value = alone maker (Bid paper value)
 
 abbrev pub assignment_drawn : ℕ → ℕ → ℕ → Kind → ℕ → Drawn
-assignment_drawn maker paper user kind ordinal = record {
-  group = grouped maker (Assigned paper user kind ordinal ∷ []);
-  receipt = receipts.Label ordinal;
-}
+assignment_drawn maker paper user kind ordinal = alone maker (Assigned paper user kind ordinal)
 
 abbrev pub unassignment_drawn : ℕ → ℕ → ℕ → ℕ → Drawn
-unassignment_drawn maker paper user ordinal =
-    record { group = grouped maker (Unassigned paper user ordinal ∷ []); receipt = receipts.Changed paper }
+unassignment_drawn maker paper user ordinal = alone maker (Unassigned paper user ordinal)
 
 abbrev pub review_drawn : ℕ → ℕ → ℕ → ℕ → Form → Drawn
-review_drawn maker paper ordinal version form = record {
-  group = grouped maker (Reviewed paper ordinal version form ∷ []);
-  receipt = receipts.Version version;
-}
+review_drawn maker paper ordinal version form = alone maker (Reviewed paper ordinal version form)
 
 abbrev pub comment_drawn : ℕ → ℕ → ℕ → Option ℕ → List ℕ → Drawn
-comment_drawn maker paper n ordinal text = record {
-  group = grouped maker (Commented paper n ordinal text ∷ []);
-  receipt = receipts.Comment n;
-}
+comment_drawn maker paper n ordinal text = alone maker (Commented paper n ordinal text)
 
 abbrev pub tag_drawn : ℕ → ℕ → List ℕ → Bool → Drawn
-tag_drawn maker paper tag on =
-    record { group = grouped maker (Tagged paper tag on ∷ []); receipt = receipts.Changed paper }
+tag_drawn maker paper tag on = alone maker (Tagged paper tag on)
 
 abbrev pub decision_drawn : ℕ → ℕ → Decision → Drawn
-decision_drawn maker paper decision =
-    record { group = grouped maker (Decided paper decision ∷ []); receipt = receipts.Changed paper }
+decision_drawn maker paper decision = alone maker (Decided paper decision)

@@ -349,7 +349,7 @@ map-more user (x ∷ entries) e = ap (λ (h : History). unfinished user x ∷ h)
 
 -- the marks make no difference to the bounds
 pub marked : (user : ℕ) (m n : Bool) (e : Entry) → IsBoundedEntry (record { stamp = record { maker = user }; more = m; entry = e }) → IsBoundedEntry (record { stamp = record { maker = user }; more = n; entry = e })
-marked user m n e b = record { stamp = record { maker = b.maker }; more = by n; n1 = b.n1; n2 = b.n2; n3 = b.n3; n4 = b.n4; n5 = b.n5; b1 = b.b1; b2 = b.b2 }
+marked user m n e b = record { maker = b.maker; more = by n; n1 = b.n1; n2 = b.n2; n3 = b.n3; n4 = b.n4; n5 = b.n5; b1 = b.b1; b2 = b.b2 }
   where
     by : (n : Bool) → bit_number n ≤ 1
     by true = omega arith

@@ -190,37 +190,37 @@ module _ (H : History) (fits : FitInTurn no_tables H) where
       → IsBoundedEntry (stamp maker more (Coauthor paper user))
   bounded-coauthor maker more paper user registered fit =
       let last = fit.papers.1 in
-      record { stamp = record { maker = numbered maker registered }; more = bit_few more; n1 = paper_numbered paper (fit.papers.0, omega (arith, last)); n2 = account_numbered user fit.accounts; n3 = zero_in; n4 = zero_in; n5 = zero_in; b1 = refl; b2 = refl }
+      record { maker = numbered maker registered; more = bit_few more; n1 = paper_numbered paper (fit.papers.0, omega (arith, last)); n2 = account_numbered user fit.accounts; n3 = zero_in; n4 = zero_in; n5 = zero_in; b1 = refl; b2 = refl }
 
   bounded-entry : (maker : ℕ) (more : Bool) (e : Entry) → IsMadeByUser H maker e → IsRuled H maker e → Fits (tables_of H) (stamp maker more e)
       → IsBoundedEntry (stamp maker more e)
   bounded-entry maker more (Registered user name digest) made ruled fit =
       let next = fit.accounts.0 in
       let few = fit.accounts.1 in
-      record { stamp = record { maker = (omega (arith, made, next), omega (arith, made, few)) }; more = bit_few more; n1 = (omega (arith, next), few); n2 = zero_in; n3 = zero_in; n4 = zero_in; n5 = zero_in; b1 = ruled.texts.0; b2 = ruled.texts.1 }
+      record { maker = (omega (arith, made, next), omega (arith, made, few)); more = bit_few more; n1 = (omega (arith, next), few); n2 = zero_in; n3 = zero_in; n4 = zero_in; n5 = zero_in; b1 = ruled.texts.0; b2 = ruled.texts.1 }
   bounded-entry maker more (Named user to) made ruled fit =
-      record { stamp = record { maker = numbered maker made }; more = bit_few more; n1 = account_numbered user fit.accounts; n2 = raised_number _ to ruled.role; n3 = zero_in; n4 = zero_in; n5 = zero_in; b1 = refl; b2 = refl }
-  bounded-entry maker more (PhaseSet phase) made ruled fit = record { stamp = record { maker = numbered maker made }; more = bit_few more; n1 = (omega arith, phase_number-few phase); n2 = zero_in; n3 = zero_in; n4 = zero_in; n5 = zero_in; b1 = refl; b2 = refl }
-  bounded-entry maker more (ModeSet mode) made ruled fit = record { stamp = record { maker = numbered maker made }; more = bit_few more; n1 = (omega arith, mode_number-few mode); n2 = zero_in; n3 = zero_in; n4 = zero_in; n5 = zero_in; b1 = refl; b2 = refl }
+      record { maker = numbered maker made; more = bit_few more; n1 = account_numbered user fit.accounts; n2 = raised_number _ to ruled.role; n3 = zero_in; n4 = zero_in; n5 = zero_in; b1 = refl; b2 = refl }
+  bounded-entry maker more (PhaseSet phase) made ruled fit = record { maker = numbered maker made; more = bit_few more; n1 = (omega arith, phase_number-few phase); n2 = zero_in; n3 = zero_in; n4 = zero_in; n5 = zero_in; b1 = refl; b2 = refl }
+  bounded-entry maker more (ModeSet mode) made ruled fit = record { maker = numbered maker made; more = bit_few more; n1 = (omega arith, mode_number-few mode); n2 = zero_in; n3 = zero_in; n4 = zero_in; n5 = zero_in; b1 = refl; b2 = refl }
   bounded-entry maker more (Submitted paper title abstract) made ruled fit =
       let next = fit.papers.0 in
-      record { stamp = record { maker = numbered maker made }; more = bit_few more; n1 = (omega (arith, next), fit.papers.1); n2 = zero_in; n3 = zero_in; n4 = zero_in; n5 = zero_in; b1 = ruled.texts.0; b2 = ruled.texts.1 }
+      record { maker = numbered maker made; more = bit_few more; n1 = (omega (arith, next), fit.papers.1); n2 = zero_in; n3 = zero_in; n4 = zero_in; n5 = zero_in; b1 = ruled.texts.0; b2 = ruled.texts.1 }
   bounded-entry maker more (Coauthor paper user) made ruled fit = bounded-coauthor maker more paper user made fit
-  bounded-entry maker more (Revised paper title abstract) made ruled fit = record { stamp = record { maker = numbered maker made }; more = bit_few more; n1 = paper_numbered paper fit.papers; n2 = zero_in; n3 = zero_in; n4 = zero_in; n5 = zero_in; b1 = ruled.texts.0; b2 = ruled.texts.1 }
+  bounded-entry maker more (Revised paper title abstract) made ruled fit = record { maker = numbered maker made; more = bit_few more; n1 = paper_numbered paper fit.papers; n2 = zero_in; n3 = zero_in; n4 = zero_in; n5 = zero_in; b1 = ruled.texts.0; b2 = ruled.texts.1 }
   bounded-entry maker more (Uploaded paper version content) made ruled fit =
       let next = fit.papers.1 in
-      record { stamp = record { maker = numbered maker made }; more = bit_few more; n1 = paper_numbered paper fit.papers.0; n2 = (omega (arith, next), tt); n3 = zero_in; n4 = zero_in; n5 = zero_in; b1 = ruled.texts; b2 = refl }
-  bounded-entry maker more (Withdrawn paper) made ruled fit = record { stamp = record { maker = numbered maker made }; more = bit_few more; n1 = paper_numbered paper fit.papers; n2 = zero_in; n3 = zero_in; n4 = zero_in; n5 = zero_in; b1 = refl; b2 = refl }
+      record { maker = numbered maker made; more = bit_few more; n1 = paper_numbered paper fit.papers.0; n2 = (omega (arith, next), tt); n3 = zero_in; n4 = zero_in; n5 = zero_in; b1 = ruled.texts; b2 = refl }
+  bounded-entry maker more (Withdrawn paper) made ruled fit = record { maker = numbered maker made; more = bit_few more; n1 = paper_numbered paper fit.papers; n2 = zero_in; n3 = zero_in; n4 = zero_in; n5 = zero_in; b1 = refl; b2 = refl }
   bounded-entry maker more (Conflict paper user on) made ruled fit =
-      record { stamp = record { maker = numbered maker made }; more = bit_few more; n1 = paper_numbered paper fit.papers; n2 = account_numbered user fit.accounts; n3 = (omega arith, bit_few on); n4 = zero_in; n5 = zero_in; b1 = refl; b2 = refl }
+      record { maker = numbered maker made; more = bit_few more; n1 = paper_numbered paper fit.papers; n2 = account_numbered user fit.accounts; n3 = (omega arith, bit_few on); n4 = zero_in; n5 = zero_in; b1 = refl; b2 = refl }
   bounded-entry maker more (Bid paper value) made ruled fit =
-      record { stamp = record { maker = numbered maker made }; more = bit_few more; n1 = paper_numbered paper fit.papers; n2 = (omega arith, ruled.texts); n3 = zero_in; n4 = zero_in; n5 = zero_in; b1 = refl; b2 = refl }
+      record { maker = numbered maker made; more = bit_few more; n1 = paper_numbered paper fit.papers; n2 = (omega arith, ruled.texts); n3 = zero_in; n4 = zero_in; n5 = zero_in; b1 = refl; b2 = refl }
   bounded-entry maker more (Assigned paper user kind' ordinal) made ruled fit =
       let next = fit.seats.0 in
-      record { stamp = record { maker = numbered maker made }; more = bit_few more; n1 = paper_numbered paper fit.papers; n2 = account_numbered user fit.accounts; n3 = review_kind_number-few kind'; n4 = (omega (arith, next), fit.seats.1); n5 = zero_in; b1 = refl; b2 = refl }
+      record { maker = numbered maker made; more = bit_few more; n1 = paper_numbered paper fit.papers; n2 = account_numbered user fit.accounts; n3 = review_kind_number-few kind'; n4 = (omega (arith, next), fit.seats.1); n5 = zero_in; b1 = refl; b2 = refl }
   bounded-entry maker more (Unassigned paper user ordinal) made ruled fit =
       let drawn = seat-drawn H fits user paper ordinal fit.seats in
-      record { stamp = record { maker = numbered maker made }; more = bit_few more; n1 = paper_numbered paper fit.papers; n2 = account_numbered user fit.accounts; n3 = drawn; n4 = zero_in; n5 = zero_in; b1 = refl; b2 = refl }
+      record { maker = numbered maker made; more = bit_few more; n1 = paper_numbered paper fit.papers; n2 = account_numbered user fit.accounts; n3 = drawn; n4 = zero_in; n5 = zero_in; b1 = refl; b2 = refl }
   bounded-entry maker more (Reviewed paper ordinal version form) made ruled fit =
       let next = fit.reviews in
       record {
@@ -273,7 +273,7 @@ module _ (H : History) (fits : FitInTurn no_tables H) where
       }
 
   bounded_chair : (user : ℕ) → user ≡ 1 → IsBoundedEntry (stamp user false (Named user role.Chair))
-  bounded_chair user is = record { stamp = record { maker = (omega (arith, is), omega (arith, is)) }; more = omega arith; n1 = (omega (arith, is), omega (arith, is)); n2 = (omega arith, omega arith); n3 = zero_in; n4 = zero_in; n5 = zero_in; b1 = refl; b2 = refl }
+  bounded_chair user is = record { maker = (omega (arith, is), omega (arith, is)); more = omega arith; n1 = (omega (arith, is), omega (arith, is)); n2 = (omega arith, omega arith); n3 = zero_in; n4 = zero_in; n5 = zero_in; b1 = refl; b2 = refl }
 
 -- ---- groups
 
