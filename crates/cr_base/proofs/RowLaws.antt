@@ -1,11 +1,16 @@
 -- Rows and entries spell each other.
-use Rattle.std.proofs.Common.{ℕ, Bool, true, false, cond, ◌≡◌, ◌≤◌, ◌==◌, ◌-◌, List, [], ◌++◌, length, drop, replicate, refl, sym, ap, subst, ◌∙◌, arith, Option, Some, None}
+use Rattle.std.proofs.Common.{ℕ, Bool, true, false, cond, ◌≡◌, ◌≤◌, ◌==◌, ◌-◌, List, [], ◌∷◌, ◌++◌, length, drop, replicate, refl, sym, ap, subst, ◌∙◌, arith, Option, Some, None}
+use Rattle.std.proofs.lemmas.Bool.{eqb-true}
 use Rattle.std.proofs.lemmas.Bool.Decides.{nat_tests}
 use Rattle.std.proofs.lemmas.List.{drop-replicate}
+use Rattle.std.proofs.lemmas.Option.{none-some, same_Some}
 use Rattle.std.proofs.lemmas.Slice.{drop-append-drop}
 use Rattle.cr_base.specs.Words.{phase_number, phase_numbered, mode_number, mode_numbered, role_number, role_numbered, review_kind_number, review_kind_numbered, decision_number, decision_numbered}
+use Rattle.std.specs.Option.{option_map}
+use Rattle.std.specs.Prelude.{find}
+use Rattle.cr_base.specs.Words.{phases, modes, named_roles, review_kinds, decisions}
 use Rattle.cr_base.specs.Shapes.{FitsShape, HasText, InRange, IsAtMost, unused, some_ordinal_range}
-use Rattle.cr_base.specs.Rows.{kind_number, label_number, label_numbered, shape_of, kind_of, row_of, built, stamp_in, stamped}
+use Rattle.cr_base.specs.Rows.{kind_number, label_number, label_numbered, shape_of, kind_of, row_of, built, stamp_in, stamped, stamped_by}
 use Rattle.cr_base.specs.Rows.{IsBoundedEntry}
 use Rattle.cr_base.specs.declared.entry.EntryKind.{EntryKind}
 use Rattle.cr_base.specs.declared.entry.EntryKind.TheVariants as kind
@@ -31,27 +36,22 @@ use Rattle.cr_base.specs.declared.shape.TextKind.TheVariants.{Nothing}
 
 -- ---- words and their numbers
 
-role_number-cond : (b : Bool) (x y : Role) → role_number (cond b x y) ≡ cond b (role_number x) (role_number y)
-role_number-cond true x y = refl
-role_number-cond false x y = refl
+-- the word that is found by a number has it
+numbered-found : {W : Type 0} (number : W → ℕ) (n : ℕ) (words : List W) (x : W) → find (λ (w : W). n == number w) words ≡ Some x → number x ≡ n
+numbered-found number n [] x found = absurd (none-some x found)
+numbered-found {W = W} number n (w ∷ words) x found = by (n == number w) refl (numbered-found number n words x) found
+  where
+    by : (b : Bool) → (n == number w) ≡ b → (find (λ (v : W). n == number v) words ≡ Some x → number x ≡ n)
+        → cond b (Some w) (find (λ (v : W). n == number v) words) ≡ Some x → number x ≡ n
+    by true same behind found = sym (eqb-true n (number w) same ∙ ap number (same_Some w x found))
+    by false other behind found = behind found
 
-role_number-numbered : (n : ℕ) → 1 ≤ n → n ≤ 2 → role_number (role_numbered n) ≡ n
-role_number-numbered n l h = simp role_number-cond (grind (arith, nat_tests))
-
-role_numbered-number : (x : Role) → 1 ≤ role_number x → role_numbered (role_number x) ≡ x
+role_numbered-number : (x : Role) → 1 ≤ role_number x → role_numbered (role_number x) ≡ Some x
 role_numbered-number Account h = absurd (omega arith)
 role_numbered-number Member h = refl
 role_numbered-number Chair h = refl
 
--- a phase by its number, where the numbers are tested one after another
-phase_number-cond : (b : Bool) (x y : Phase) → phase_number (cond b x y) ≡ cond b (phase_number x) (phase_number y)
-phase_number-cond true x y = refl
-phase_number-cond false x y = refl
-
-phase_number-numbered : (n : ℕ) → n ≤ 6 → phase_number (phase_numbered n) ≡ n
-phase_number-numbered n h = simp phase_number-cond (grind (arith, nat_tests))
-
-phase_numbered-number : (x : Phase) → phase_numbered (phase_number x) ≡ x
+phase_numbered-number : (x : Phase) → phase_numbered (phase_number x) ≡ Some x
 phase_numbered-number Setup = refl
 phase_numbered-number Submission = refl
 phase_numbered-number Bidding = refl
@@ -60,38 +60,17 @@ phase_numbered-number Discussion = refl
 phase_numbered-number Notification = refl
 phase_numbered-number Closed = refl
 
-mode_number-cond : (b : Bool) (x y : Mode) → mode_number (cond b x y) ≡ cond b (mode_number x) (mode_number y)
-mode_number-cond true x y = refl
-mode_number-cond false x y = refl
-
-mode_number-numbered : (n : ℕ) → n ≤ 2 → mode_number (mode_numbered n) ≡ n
-mode_number-numbered n h = simp mode_number-cond (grind (arith, nat_tests))
-
-mode_numbered-number : (x : Mode) → mode_numbered (mode_number x) ≡ x
+mode_numbered-number : (x : Mode) → mode_numbered (mode_number x) ≡ Some x
 mode_numbered-number Overt = refl
 mode_numbered-number Blind = refl
 mode_numbered-number Anonymous = refl
 
-review_kind_number-cond : (b : Bool) (x y : Kind) → review_kind_number (cond b x y) ≡ cond b (review_kind_number x) (review_kind_number y)
-review_kind_number-cond true x y = refl
-review_kind_number-cond false x y = refl
-
-review_kind_number-numbered : (n : ℕ) → 1 ≤ n → n ≤ 3 → review_kind_number (review_kind_numbered n) ≡ n
-review_kind_number-numbered n l h = simp review_kind_number-cond (grind (arith, nat_tests))
-
-review_kind_numbered-number : (x : Kind) → review_kind_numbered (review_kind_number x) ≡ x
+review_kind_numbered-number : (x : Kind) → review_kind_numbered (review_kind_number x) ≡ Some x
 review_kind_numbered-number Primary = refl
 review_kind_numbered-number Secondary = refl
 review_kind_numbered-number Pc = refl
 
-decision_number-cond : (b : Bool) (x y : Decision) → decision_number (cond b x y) ≡ cond b (decision_number x) (decision_number y)
-decision_number-cond true x y = refl
-decision_number-cond false x y = refl
-
-decision_number-numbered : (n : ℕ) → 1 ≤ n → n ≤ 2 → decision_number (decision_numbered n) ≡ n
-decision_number-numbered n l h = simp decision_number-cond (grind (arith, nat_tests))
-
-decision_numbered-number : (x : Decision) → decision_numbered (decision_number x) ≡ x
+decision_numbered-number : (x : Decision) → decision_numbered (decision_number x) ≡ Some x
 decision_numbered-number Accept = refl
 decision_numbered-number Reject = refl
 
@@ -159,36 +138,59 @@ plain_text-is : (text : TextKind) (bytes : List ℕ) → HasText text bytes → 
 plain_text-is Nothing bytes h = sym h
 plain_text-is text bytes h = refl
 
--- the entry that a row spells has that row: a line for each kind with a word in it
-pub row_of-stamped : (k : EntryKind) (r : Row) → kind_number k ≡ r.kind → FitsShape (shape_of k) r → row_of (stamped k r) ≡ r
-row_of-stamped kind.Named r hk f = same_row r kind.Named _ _ _ _ _ _ _ hk f (unused-zero _ f.n4) (unused-zero _ f.n5) refl (role_number-numbered r.n2 f.n2.0 f.n2.1) (unused-zero _ f.n3) (sym f.b1) (sym f.b2)
-row_of-stamped kind.PhaseSet r hk f = same_row r kind.PhaseSet _ _ _ _ _ _ _ hk f (unused-zero _ f.n4) (unused-zero _ f.n5) (phase_number-numbered r.n1 f.n1.1) (unused-zero _ f.n2) (unused-zero _ f.n3) (sym f.b1) (sym f.b2)
-row_of-stamped kind.ModeSet r hk f = same_row r kind.ModeSet _ _ _ _ _ _ _ hk f (unused-zero _ f.n4) (unused-zero _ f.n5) (mode_number-numbered r.n1 f.n1.1) (unused-zero _ f.n2) (unused-zero _ f.n3) (sym f.b1) (sym f.b2)
-row_of-stamped kind.Assigned r hk f = same_row r kind.Assigned _ _ _ _ _ _ _ hk f refl (unused-zero _ f.n5) refl refl (review_kind_number-numbered r.n3 f.n3.0 f.n3.1) (sym f.b1) (sym f.b2)
-row_of-stamped kind.Commented r hk f = same_row r kind.Commented _ _ _ _ _ _ _ hk f (unused-zero _ f.n4) (unused-zero _ f.n5) refl refl (label_number-numbered r.n3) refl (sym f.b2)
-row_of-stamped kind.Decided r hk f = same_row r kind.Decided _ _ _ _ _ _ _ hk f (unused-zero _ f.n4) (unused-zero _ f.n5) refl (decision_number-numbered r.n2 f.n2.0 f.n2.1) (unused-zero _ f.n3) (sym f.b1) (sym f.b2)
-row_of-stamped k r hk f =
-    let s : Shape = shape_of k in
-    same_row r k _ _ _ _ _ _ _ hk f (plain-is s.n4 r.n4 f.n4) (plain-is s.n5 r.n5 f.n5) (plain-is s.n1 r.n1 f.n1) (plain-is s.n2 r.n2 f.n2) (plain-is s.n3 r.n3 f.n3) (plain_text-is s.b1 r.b1 f.b1) (plain_text-is s.b2 r.b2 f.b2)
+-- what holds of the entry that is made of a word that was found
+of_word : {W : Type 0} (x : Option W) (make : W → Entry) (e : Entry) (P : Entry → Type 0) → ((w : W) → x ≡ Some w → P (make w)) → option_map make x ≡ Some e → P e
+of_word None make e P holds is = absurd (none-some e is)
+of_word (Some w) make e P holds is = subst P (same_Some (make w) e is) (holds w refl)
 
-built-row_of : (e : Entry) (m : ℕ) (o : Bool) → IsBoundedEntry (record { stamp = record { maker = m }; more = o; entry = e })
-    → built (kind_of e) (row_of (record { stamp = record { maker = m }; more = o; entry = e })) ≡ e
-built-row_of (Named user role) m o h = ap (λ x. Named user x) (role_numbered-number role h.n2.0)
-built-row_of (PhaseSet phase) m o h = ap (λ x. PhaseSet x) (phase_numbered-number phase)
-built-row_of (ModeSet mode) m o h = ap (λ x. ModeSet x) (mode_numbered-number mode)
-built-row_of (Conflict paper user on) m o h = ap (λ x. Conflict paper user x) (bit-back on)
-built-row_of (Assigned paper user review_kind ordinal) m o h = ap (λ x. Assigned paper user x ordinal) (review_kind_numbered-number review_kind)
-built-row_of (Commented paper n ordinal text) m o h = ap (λ x. Commented paper n x text) (label_numbered-number ordinal h.n3)
-built-row_of (Tagged paper tag on) m o h = ap (λ x. Tagged paper tag x) (bit-back on)
-built-row_of (Decided paper decision) m o h = ap (λ x. Decided paper x) (decision_numbered-number decision)
+-- the entry that a row spells has that row: a line for each kind with a word in it
+row_of-built : (k : EntryKind) (r : Row) (e : Entry) → kind_number k ≡ r.kind → FitsShape (shape_of k) r → built k r ≡ Some e → row_of (stamped_by r e) ≡ r
+row_of-built kind.Named r e hk f = of_word (role_numbered r.n2) _ e (λ (x : Entry). row_of (stamped_by r x) ≡ r) (λ role found.
+    same_row r kind.Named _ _ _ _ _ _ _ hk f (unused-zero _ f.n4) (unused-zero _ f.n5) refl (numbered-found role_number r.n2 named_roles role found) (unused-zero _ f.n3) (sym f.b1) (sym f.b2))
+row_of-built kind.PhaseSet r e hk f = of_word (phase_numbered r.n1) _ e (λ (x : Entry). row_of (stamped_by r x) ≡ r) (λ phase found.
+    same_row r kind.PhaseSet _ _ _ _ _ _ _ hk f (unused-zero _ f.n4) (unused-zero _ f.n5) (numbered-found phase_number r.n1 phases phase found) (unused-zero _ f.n2) (unused-zero _ f.n3) (sym f.b1) (sym f.b2))
+row_of-built kind.ModeSet r e hk f = of_word (mode_numbered r.n1) _ e (λ (x : Entry). row_of (stamped_by r x) ≡ r) (λ mode found.
+    same_row r kind.ModeSet _ _ _ _ _ _ _ hk f (unused-zero _ f.n4) (unused-zero _ f.n5) (numbered-found mode_number r.n1 modes mode found) (unused-zero _ f.n2) (unused-zero _ f.n3) (sym f.b1) (sym f.b2))
+row_of-built kind.Assigned r e hk f = of_word (review_kind_numbered r.n3) _ e (λ (x : Entry). row_of (stamped_by r x) ≡ r) (λ review_kind found.
+    same_row r kind.Assigned _ _ _ _ _ _ _ hk f refl (unused-zero _ f.n5) refl refl (numbered-found review_kind_number r.n3 review_kinds review_kind found) (sym f.b1) (sym f.b2))
+row_of-built kind.Decided r e hk f = of_word (decision_numbered r.n2) _ e (λ (x : Entry). row_of (stamped_by r x) ≡ r) (λ decision found.
+    same_row r kind.Decided _ _ _ _ _ _ _ hk f (unused-zero _ f.n4) (unused-zero _ f.n5) refl (numbered-found decision_number r.n2 decisions decision found) (unused-zero _ f.n3) (sym f.b1) (sym f.b2))
+row_of-built kind.Commented r e hk f = λ is. subst (λ (x : Entry). row_of (stamped_by r x) ≡ r) (same_Some _ e is)
+    (same_row r kind.Commented _ _ _ _ _ _ _ hk f (unused-zero _ f.n4) (unused-zero _ f.n5) refl refl (label_number-numbered r.n3) refl (sym f.b2))
+row_of-built k r e hk f = λ is.
+    let s : Shape = shape_of k in
+    subst (λ (x : Entry). row_of (stamped_by r x) ≡ r) (same_Some _ e is)
+    (same_row r k _ _ _ _ _ _ _ hk f (plain-is s.n4 r.n4 f.n4) (plain-is s.n5 r.n5 f.n5) (plain-is s.n1 r.n1 f.n1) (plain-is s.n2 r.n2 f.n2) (plain-is s.n3 r.n3 f.n3) (plain_text-is s.b1 r.b1 f.b1) (plain_text-is s.b2 r.b2 f.b2))
+
+-- the entry of a stamped one that a row spells
+spelled : (k : EntryKind) (r : Row) (s : Stamped) → stamped k r ≡ Some s → (e : Entry) × (built k r ≡ Some e) × (s ≡ stamped_by r e)
+spelled k r s is = by (built k r) refl is
+  where
+    by : (found : Option Entry) → built k r ≡ found → option_map (stamped_by r) found ≡ Some s → (e : Entry) × (built k r ≡ Some e) × (s ≡ stamped_by r e)
+    by None same is = absurd (none-some s is)
+    by (Some e) same is = (e, same, sym (same_Some (stamped_by r e) s is))
+
+pub row_of-stamped : (k : EntryKind) (r : Row) (s : Stamped) → kind_number k ≡ r.kind → FitsShape (shape_of k) r → stamped k r ≡ Some s → row_of s ≡ r
+row_of-stamped k r s hk f is = let e = spelled k r s is in ap row_of e.2 ∙ row_of-built k r e.0 hk f e.1
+
+built-row_of : (e : Entry) (m : Stamp) (o : Bool) → IsBoundedEntry (record { stamp = m; more = o; entry = e })
+    → built (kind_of e) (row_of (record { stamp = m; more = o; entry = e })) ≡ Some e
+built-row_of (Named user role) m o h = ap (option_map (λ (x : Role). Named user x)) (role_numbered-number role h.n2.0)
+built-row_of (PhaseSet phase) m o h = ap (option_map (λ (x : Phase). PhaseSet x)) (phase_numbered-number phase)
+built-row_of (ModeSet mode) m o h = ap (option_map (λ (x : Mode). ModeSet x)) (mode_numbered-number mode)
+built-row_of (Conflict paper user on) m o h = ap (λ x. Some (Conflict paper user x)) (bit-back on)
+built-row_of (Assigned paper user review_kind ordinal) m o h = ap (option_map (λ (x : Kind). Assigned paper user x ordinal)) (review_kind_numbered-number review_kind)
+built-row_of (Commented paper n ordinal text) m o h = ap (λ x. Some (Commented paper n x text)) (label_numbered-number ordinal h.n3)
+built-row_of (Tagged paper tag on) m o h = ap (λ x. Some (Tagged paper tag x)) (bit-back on)
+built-row_of (Decided paper decision) m o h = ap (option_map (λ (x : Decision). Decided paper x)) (decision_numbered-number decision)
 built-row_of e m o h = refl
 
-restamp : (s : Stamped) (p : Bool) (f : Entry) → p ≡ s.more → f ≡ s.entry → ◌≡◌ {A = Stamped} (record { stamp = s.stamp; more = p; entry = f }) s
-restamp s p f hp hf = let e : ◌≡◌ {A = Stamped} (record { stamp = s.stamp; more = p; entry = f }) (record { stamp = s.stamp; more = s.more; entry = s.entry }) = cc in e
+restamp : (s : Stamped) (p : Bool) → p ≡ s.more → ◌≡◌ {A = Stamped} (record { stamp = s.stamp; more = p; entry = s.entry }) s
+restamp s p hp = let e : ◌≡◌ {A = Stamped} (record { stamp = s.stamp; more = p; entry = s.entry }) (record { stamp = s.stamp; more = s.more; entry = s.entry }) = cc in e
 
 -- an entry within its bounds is what its row spells
-pub stamped-row_of : (s : Stamped) → IsBoundedEntry s → stamped (kind_of s.entry) (row_of s) ≡ s
-stamped-row_of s h = restamp s _ _ (bit-back s.more) (built-row_of s.entry s.stamp.maker s.more h)
+pub stamped-row_of : (s : Stamped) → IsBoundedEntry s → stamped (kind_of s.entry) (row_of s) ≡ Some s
+stamped-row_of s h = ap (option_map (stamped_by (row_of s))) (built-row_of s.entry s.stamp s.more h) ∙ ap Some (restamp s _ (bit-back s.more))
 
 -- ---- the kind of a row
 
@@ -196,9 +198,13 @@ stamped-row_of s h = restamp s _ _ (bit-back s.more) (built-row_of s.entry s.sta
 one_kind : (j k : EntryKind) → kind_number j ≡ kind_number k → j ≡ k
 one_kind j k e = grind (arith, e)
 
-kind_of-built : (k : EntryKind) (r : Row) → kind_of (built k r) ≡ k
-kind_of-built kind.Registered r = refl
-kind_of-built k r = refl
+kind_of-built : (k : EntryKind) (r : Row) (e : Entry) → built k r ≡ Some e → kind_of e ≡ k
+kind_of-built kind.Named r e = of_word (role_numbered r.n2) _ e (λ (x : Entry). kind_of x ≡ kind.Named) (λ role found. refl)
+kind_of-built kind.PhaseSet r e = of_word (phase_numbered r.n1) _ e (λ (x : Entry). kind_of x ≡ kind.PhaseSet) (λ phase found. refl)
+kind_of-built kind.ModeSet r e = of_word (mode_numbered r.n1) _ e (λ (x : Entry). kind_of x ≡ kind.ModeSet) (λ mode found. refl)
+kind_of-built kind.Assigned r e = of_word (review_kind_numbered r.n3) _ e (λ (x : Entry). kind_of x ≡ kind.Assigned) (λ review_kind found. refl)
+kind_of-built kind.Decided r e = of_word (decision_numbered r.n2) _ e (λ (x : Entry). kind_of x ≡ kind.Decided) (λ decision found. refl)
+kind_of-built k r e = λ is. ap kind_of (sym (same_Some _ e is))
 
 -- the only kind of a row's number is its entry's
 kind_of-row : (k : EntryKind) (r : Row) (s : Stamped) → ((j : EntryKind) → kind_number j ≡ r.kind → j ≡ k) → row_of s ≡ r → kind_of s.entry ≡ k
@@ -207,10 +213,12 @@ kind_of-row k r s only e = only (kind_of s.entry) (ap (λ (q : Row). q.kind) e)
 -- ---- which rows are an entry's
 
 -- what a row that fits its kind's shape spells is an entry within its bounds
-pub bounded-stamped : (k : EntryKind) (r : Row) → kind_number k ≡ r.kind → FitsShape (shape_of k) r → IsBoundedEntry (stamped k r)
-bounded-stamped k r hk f =
+pub bounded-stamped : (k : EntryKind) (r : Row) (s : Stamped) → kind_number k ≡ r.kind → FitsShape (shape_of k) r → stamped k r ≡ Some s → IsBoundedEntry s
+bounded-stamped k r s hk f is =
     let P : EntryKind → Row → Type 0 = λ j q. FitsShape (shape_of j) q in
-    subst (λ (q : Row). P (kind_of (built k r)) q) (sym (row_of-stamped k r hk f)) (subst (λ (j : EntryKind). P j r) (sym (kind_of-built k r)) f)
+    let e = spelled k r s is in
+    let same : kind_of s.entry ≡ k = ap (λ (x : Stamped). kind_of x.entry) e.2 ∙ kind_of-built k r e.0 e.1 in
+    subst (λ (q : Row). P (kind_of s.entry) q) (sym (row_of-stamped k r s hk f is)) (subst (λ (j : EntryKind). P j r) (sym same) f)
 
 -- the row of an entry within its bounds fits its kind's shape
 pub row_fits : (k : EntryKind) (r : Row) (s : Stamped) → ((j : EntryKind) → kind_number j ≡ r.kind → j ≡ k) → IsBoundedEntry s → row_of s ≡ r
@@ -218,20 +226,24 @@ pub row_fits : (k : EntryKind) (r : Row) (s : Stamped) → ((j : EntryKind) → 
 row_fits k r s only h e = subst (λ (j : EntryKind). FitsShape (shape_of j) r) (kind_of-row k r s only e) (subst (λ (q : Row). FitsShape (shape_of (kind_of s.entry)) q) e h)
 
 -- a row spells no other entry
-pub only_one : (k : EntryKind) (r : Row) (s : Stamped) → ((j : EntryKind) → kind_number j ≡ r.kind → j ≡ k) → IsBoundedEntry s → row_of s ≡ r → stamped k r ≡ s
+pub only_one : (k : EntryKind) (r : Row) (s : Stamped) → ((j : EntryKind) → kind_number j ≡ r.kind → j ≡ k) → IsBoundedEntry s → row_of s ≡ r → stamped k r ≡ Some s
 only_one k r s only h e = subst (λ (j : EntryKind). stamped j r
-    ≡ s) (kind_of-row k r s only e) (subst (λ (q : Row). stamped (kind_of s.entry) q ≡ s) e (stamped-row_of s h))
+    ≡ Some s) (kind_of-row k r s only e) (subst (λ (q : Row). stamped (kind_of s.entry) q ≡ Some s) e (stamped-row_of s h))
 
 -- entries within their bounds that have the same row are the same
 pub same_entry : (s s' : Stamped) → IsBoundedEntry s → IsBoundedEntry s' → row_of s ≡ row_of s' → s ≡ s'
 same_entry s s' b b' e =
     let only = λ (j : EntryKind). one_kind j (kind_of s'.entry) in
-    sym (only_one (kind_of s'.entry) (row_of s') s only b e) ∙ only_one (kind_of s'.entry) (row_of s') s' only b' refl
+    same_Some s s' (sym (only_one (kind_of s'.entry) (row_of s') s only b e) ∙ only_one (kind_of s'.entry) (row_of s') s' only b' refl)
 
 -- the entry that a row spells, from its parts
-pub stamped-parts : (k : EntryKind) (r : Row) (stamp : Stamp) (e : Entry) → stamp ≡ stamp_in r → e ≡ built k r
-    → ◌≡◌ {A = Stamped} (stamped k r) (record { stamp = stamp; more = r.more == 1; entry = e })
-stamped-parts k r stamp e hm he = cc
+pub stamped-parts : (k : EntryKind) (r : Row) (stamp : Stamp) (e : Entry) → stamp ≡ stamp_in r → Some e ≡ built k r
+    → stamped k r ≡ Some (record { stamp = stamp; more = r.more == 1; entry = e })
+stamped-parts k r stamp e hs he = ap (option_map (stamped_by r)) (sym he) ∙ ap (λ (s : Stamp). Some (record { stamp = s; more = r.more == 1; entry = e })) (sym hs)
+
+-- where no entry is built, none is spelled
+pub unspelled : (k : EntryKind) (r : Row) (s : Stamped) → None ≡ built k r → stamped k r ≡ Some s → ⊥
+unspelled k r s none is = none-some s (ap (option_map (stamped_by r)) none ∙ is)
 
 -- ---- short texts
 

@@ -11,9 +11,15 @@ use Rattle.cr_base.specs.declared.entry.Entry.TheVariants.{Commented, Tagged, De
 use Rattle.cr_base.specs.declared.entry.Stamp.{Stamp}
 use Rattle.cr_base.specs.declared.entry.Stamped.{Stamped}
 use Rattle.cr_base.specs.declared.row.Row.{Row}
+use Rattle.std.specs.Option.{option_map}
 use Rattle.cr_base.specs.Words.{phase_number, phase_numbered, mode_number, mode_numbered, role_number, role_numbered}
 use Rattle.cr_base.specs.Words.{review_kind_number, review_kind_numbered, decision_number, decision_numbered}
 use Rattle.cr_base.specs.declared.shape.Shape.{Shape}
+use Rattle.cr_base.specs.declared.words.Decision.{Decision}
+use Rattle.cr_base.specs.declared.words.Kind.{Kind}
+use Rattle.cr_base.specs.declared.words.Mode.{Mode}
+use Rattle.cr_base.specs.declared.words.Phase.{Phase}
+use Rattle.cr_base.specs.declared.words.Role.{Role}
 use Rattle.cr_base.specs.declared.shape.TextKind.TheVariants.{Nothing, Name, Digest, Title, Abstract}
 use Rattle.cr_base.specs.declared.shape.TextKind.TheVariants.{Content, ReviewText, CommentText, Tag}
 use Rattle.cr_base.specs.Shapes.{user_range, paper_range, phase_range, mode_range, bit}
@@ -178,30 +184,34 @@ rows_of history = map row_of history
 abbrev pub IsBoundedEntry : Stamped → Type 0
 IsBoundedEntry s = FitsShape (shape_of (kind_of s.entry)) (row_of s)
 
--- the entry of a kind that a row's fields spell
-abbrev pub built : EntryKind → Row → Entry
-built kind.Registered r = Registered r.n1 r.b1 r.b2
-built kind.Named r = Named r.n1 (role_numbered r.n2)
-built kind.PhaseSet r = PhaseSet (phase_numbered r.n1)
-built kind.ModeSet r = ModeSet (mode_numbered r.n1)
-built kind.Submitted r = Submitted r.n1 r.b1 r.b2
-built kind.Coauthor r = Coauthor r.n1 r.n2
-built kind.Revised r = Revised r.n1 r.b1 r.b2
-built kind.Uploaded r = Uploaded r.n1 r.n2 r.b1
-built kind.Withdrawn r = Withdrawn r.n1
-built kind.Conflict r = Conflict r.n1 r.n2 (r.n3 == 1)
-built kind.Bid r = Bid r.n1 r.n2
-built kind.Assigned r = Assigned r.n1 r.n2 (review_kind_numbered r.n3) r.n4
-built kind.Unassigned r = Unassigned r.n1 r.n2 r.n3
+-- the entry of a kind that a row's fields spell, and none where a number is no word's
+abbrev pub built : EntryKind → Row → Option Entry
+built kind.Registered r = Some (Registered r.n1 r.b1 r.b2)
+built kind.Named r = option_map (λ (role : Role). Named r.n1 role) (role_numbered r.n2)
+built kind.PhaseSet r = option_map (λ (phase : Phase). PhaseSet phase) (phase_numbered r.n1)
+built kind.ModeSet r = option_map (λ (mode : Mode). ModeSet mode) (mode_numbered r.n1)
+built kind.Submitted r = Some (Submitted r.n1 r.b1 r.b2)
+built kind.Coauthor r = Some (Coauthor r.n1 r.n2)
+built kind.Revised r = Some (Revised r.n1 r.b1 r.b2)
+built kind.Uploaded r = Some (Uploaded r.n1 r.n2 r.b1)
+built kind.Withdrawn r = Some (Withdrawn r.n1)
+built kind.Conflict r = Some (Conflict r.n1 r.n2 (r.n3 == 1))
+built kind.Bid r = Some (Bid r.n1 r.n2)
+built kind.Assigned r =
+    option_map (λ (review_kind : Kind). Assigned r.n1 r.n2 review_kind r.n4) (review_kind_numbered r.n3)
+built kind.Unassigned r = Some (Unassigned r.n1 r.n2 r.n3)
 built kind.Reviewed r =
-    Reviewed r.n1 r.n2 r.n3 (record { score = r.n4; confidence = r.n5; to_authors = r.b1; to_pc = r.b2 })
-built kind.Commented r = Commented r.n1 r.n2 (label_numbered r.n3) r.b1
-built kind.Tagged r = Tagged r.n1 r.b1 (r.n2 == 1)
-built kind.Decided r = Decided r.n1 (decision_numbered r.n2)
+    Some (Reviewed r.n1 r.n2 r.n3 (record { score = r.n4; confidence = r.n5; to_authors = r.b1; to_pc = r.b2 }))
+built kind.Commented r = Some (Commented r.n1 r.n2 (label_numbered r.n3) r.b1)
+built kind.Tagged r = Some (Tagged r.n1 r.b1 (r.n2 == 1))
+built kind.Decided r = option_map (λ (decision : Decision). Decided r.n1 decision) (decision_numbered r.n2)
 
--- the stamp that a row's fields spell, and the entry with it
+-- the stamp that a row's fields spell, and an entry with it and the row's mark
 abbrev pub stamp_in : Row → Stamp
 stamp_in r = record { maker = r.maker }
 
-abbrev pub stamped : EntryKind → Row → Stamped
-stamped k r = record { stamp = stamp_in r; more = r.more == 1; entry = built k r }
+abbrev pub stamped_by : Row → Entry → Stamped
+stamped_by r e = record { stamp = stamp_in r; more = r.more == 1; entry = e }
+
+abbrev pub stamped : EntryKind → Row → Option Stamped
+stamped k r = option_map (stamped_by r) (built k r)

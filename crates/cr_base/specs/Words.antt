@@ -46,16 +46,9 @@ phase_number Discussion = 4
 phase_number Notification = 5
 phase_number Closed = 6
 
--- the phase of a number in rows, from 0 to 6
-abbrev pub phase_numbered : ℕ → Phase
-phase_numbered n =
-    if n == 0 then Setup
-    else (if n == 1 then Submission
-    else (if n == 2 then Bidding
-    else (if n == 3 then Reviewing
-    else (if n == 4 then Discussion
-    else (if n == 5 then Notification
-    else Closed)))))
+-- the phase of a number in rows
+abbrev pub phase_numbered : ℕ → Option Phase
+phase_numbered n = find (λ phase. n == phase_number phase) phases
 
 -- ---- modes
 
@@ -79,9 +72,9 @@ mode_number Overt = 0
 mode_number Blind = 1
 mode_number Anonymous = 2
 
--- the mode of a number in rows, from 0 to 2
-abbrev pub mode_numbered : ℕ → Mode
-mode_numbered n = if n == 0 then Overt else (if n == 1 then Blind else Anonymous)
+-- the mode of a number in rows
+abbrev pub mode_numbered : ℕ → Option Mode
+mode_numbered n = find (λ mode. n == mode_number mode) modes
 
 -- members other than chairs don't see who wrote
 abbrev pub is_anonymous : Mode → Bool
@@ -117,9 +110,9 @@ review_kind_number Primary = 1
 review_kind_number Secondary = 2
 review_kind_number Pc = 3
 
--- the kind of assignment of a number in rows, from 1 to 3
-abbrev pub review_kind_numbered : ℕ → Kind
-review_kind_numbered n = if n == 1 then Primary else (if n == 2 then Secondary else Pc)
+-- the kind of assignment of a number in rows
+abbrev pub review_kind_numbered : ℕ → Option Kind
+review_kind_numbered n = find (λ kind. n == review_kind_number kind) review_kinds
 
 -- a bid is kept plus 20; who has told none has bid 0
 abbrev pub no_bid : ℕ
@@ -161,9 +154,9 @@ abbrev pub decision_number : Decision → ℕ
 decision_number Accept = 1
 decision_number Reject = 2
 
--- the decision of a number in rows, 1 or 2
-abbrev pub decision_numbered : ℕ → Decision
-decision_numbered n = if n == 1 then Accept else Reject
+-- the decision of a number in rows
+abbrev pub decision_numbered : ℕ → Option Decision
+decision_numbered n = find (λ decision. n == decision_number decision) decisions
 
 -- it is to accept the paper, where there is one
 abbrev pub is_accept : Option Decision → Bool
@@ -193,9 +186,9 @@ role_number Account = 0
 role_number Member = 1
 role_number Chair = 2
 
--- the role that a row names a user to: 1 is a member, 2 a chair
-abbrev pub role_numbered : ℕ → Role
-role_numbered n = if n == 2 then Chair else Member
+-- the role that a row names a user to
+abbrev pub role_numbered : ℕ → Option Role
+role_numbered n = find (λ role. n == role_number role) named_roles
 
 -- a chair is a member
 abbrev pub is_member : Role → Bool

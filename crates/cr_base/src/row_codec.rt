@@ -407,78 +407,81 @@ fn digest_of(bytes: &Blob) -> Digest
     digest
 }
 
-/// The entry of a kind that the fields of a row spell.
-fn entry_from(kind: EntryKind, row: &Row) -> Result<Entry, AllocError>
+/// The entry of a kind that the fields of a row spell, and none where a number is no word's.
+fn entry_from(kind: EntryKind, row: &Row) -> Result<Option<Entry>, AllocError>
     requires { FitsShape (shape_of kind) row.now }
-    ensures { IfOk result (λ entry. entry ≡ built kind row.now) }
+    ensures { IfOk result (λ found. found ≡ built kind row.now) }
 {
     match kind {
-        EntryKind::Registered => Ok(Entry::Registered {
+        EntryKind::Registered => Ok(Some(Entry::Registered {
             user: UserNo::new(row.n1),
             name: Short::from_slice(row.b1.as_slice()),
             digest: digest_of(&row.b2),
-        }),
-        EntryKind::Named => Ok(Entry::Named {
-            user: UserNo::new(row.n1),
-            role: Role::from_number(row.n2),
-        }),
-        EntryKind::PhaseSet => Ok(Entry::PhaseSet {
-            phase: Phase::from_number(row.n1),
-        }),
-        EntryKind::ModeSet => Ok(Entry::ModeSet {
-            mode: Mode::from_number(row.n1),
-        }),
+        })),
+        EntryKind::Named => {
+            let user = UserNo::new(row.n1);
+            Ok(Role::from_number(row.n2).map(|role| Entry::Named { user, role }))
+        }
+        EntryKind::PhaseSet => {
+            Ok(Phase::from_number(row.n1).map(|phase| Entry::PhaseSet { phase }))
+        }
+        EntryKind::ModeSet => Ok(Mode::from_number(row.n1).map(|mode| Entry::ModeSet { mode })),
         EntryKind::Submitted => {
             let texts = TwoTexts::from_blobs(&row.b1, &row.b2)?;
-            Ok(Entry::Submitted {
+            Ok(Some(Entry::Submitted {
                 paper: PaperNo::new(row.n1),
                 title: texts.first,
                 abstract_: texts.second,
-            })
+            }))
         }
-        EntryKind::Coauthor => Ok(Entry::Coauthor {
+        EntryKind::Coauthor => Ok(Some(Entry::Coauthor {
             paper: PaperNo::new(row.n1),
             user: UserNo::new(row.n2),
-        }),
+        })),
         EntryKind::Revised => {
             let texts = TwoTexts::from_blobs(&row.b1, &row.b2)?;
-            Ok(Entry::Revised {
+            Ok(Some(Entry::Revised {
                 paper: PaperNo::new(row.n1),
                 title: texts.first,
                 abstract_: texts.second,
-            })
+            }))
         }
-        EntryKind::Uploaded => Ok(Entry::Uploaded {
+        EntryKind::Uploaded => Ok(Some(Entry::Uploaded {
             paper: PaperNo::new(row.n1),
             version: row.n2,
             content: row.b1.copy()?,
-        }),
-        EntryKind::Withdrawn => Ok(Entry::Withdrawn {
+        })),
+        EntryKind::Withdrawn => Ok(Some(Entry::Withdrawn {
             paper: PaperNo::new(row.n1),
-        }),
-        EntryKind::Conflict => Ok(Entry::Conflict {
+        })),
+        EntryKind::Conflict => Ok(Some(Entry::Conflict {
             paper: PaperNo::new(row.n1),
             user: UserNo::new(row.n2),
             on: row.n3 == 1,
-        }),
-        EntryKind::Bid => Ok(Entry::Bid {
+        })),
+        EntryKind::Bid => Ok(Some(Entry::Bid {
             paper: PaperNo::new(row.n1),
             value: Bid::from_raised(row.n2),
-        }),
-        EntryKind::Assigned => Ok(Entry::Assigned {
-            paper: PaperNo::new(row.n1),
-            user: UserNo::new(row.n2),
-            kind: Kind::from_number(row.n3),
-            ordinal: Ordinal::new(row.n4),
-        }),
-        EntryKind::Unassigned => Ok(Entry::Unassigned {
+        })),
+        EntryKind::Assigned => {
+            let paper = PaperNo::new(row.n1);
+            let user = UserNo::new(row.n2);
+            let ordinal = Ordinal::new(row.n4);
+            Ok(Kind::from_number(row.n3).map(|kind| Entry::Assigned {
+                paper,
+                user,
+                kind,
+                ordinal,
+            }))
+        }
+        EntryKind::Unassigned => Ok(Some(Entry::Unassigned {
             paper: PaperNo::new(row.n1),
             user: UserNo::new(row.n2),
             ordinal: Ordinal::new(row.n3),
-        }),
+        })),
         EntryKind::Reviewed => {
             let texts = TwoTexts::from_blobs(&row.b1, &row.b2)?;
-            Ok(Entry::Reviewed {
+            Ok(Some(Entry::Reviewed {
                 paper: PaperNo::new(row.n1),
                 ordinal: Ordinal::new(row.n2),
                 version: row.n3,
@@ -488,23 +491,23 @@ fn entry_from(kind: EntryKind, row: &Row) -> Result<Entry, AllocError>
                     to_authors: texts.first,
                     to_pc: texts.second,
                 },
-            })
+            }))
         }
-        EntryKind::Commented => Ok(Entry::Commented {
+        EntryKind::Commented => Ok(Some(Entry::Commented {
             paper: PaperNo::new(row.n1),
             n: row.n2,
             ordinal: label_of_number(row.n3),
             text: Text::from_blob(&row.b1)?,
-        }),
-        EntryKind::Tagged => Ok(Entry::Tagged {
+        })),
+        EntryKind::Tagged => Ok(Some(Entry::Tagged {
             paper: PaperNo::new(row.n1),
             tag: tag_of(&row.b1),
             on: row.n2 == 1,
-        }),
-        EntryKind::Decided => Ok(Entry::Decided {
-            paper: PaperNo::new(row.n1),
-            decision: Decision::from_number(row.n2),
-        }),
+        })),
+        EntryKind::Decided => {
+            let paper = PaperNo::new(row.n1);
+            Ok(Decision::from_number(row.n2).map(|decision| Entry::Decided { paper, decision }))
+        }
     }
 }
 
@@ -534,7 +537,9 @@ impl Stamped {
         if !kind.shape().fits(row) {
             return Ok(None);
         }
-        let entry = entry_from(kind, row)?;
+        let Some(entry) = entry_from(kind, row)? else {
+            return Ok(None);
+        };
         Ok(Some(Stamped {
             stamp: Stamp::of_row(row),
             more: row.more == 1,

@@ -117,18 +117,19 @@ impl Phase {
         }
     }
 
-    /// The phase of a number in rows, from 0 to 6.
-    pub(crate) fn from_number(number: u64) -> Phase
+    /// The phase of a number in rows, and none where no phase has it.
+    pub(crate) fn from_number(number: u64) -> Option<Phase>
         ensures { result ≡ phase_numbered number }
     {
         match number {
-            0 => Phase::Setup,
-            1 => Phase::Submission,
-            2 => Phase::Bidding,
-            3 => Phase::Reviewing,
-            4 => Phase::Discussion,
-            5 => Phase::Notification,
-            _ => Phase::Closed,
+            0 => Some(Phase::Setup),
+            1 => Some(Phase::Submission),
+            2 => Some(Phase::Bidding),
+            3 => Some(Phase::Reviewing),
+            4 => Some(Phase::Discussion),
+            5 => Some(Phase::Notification),
+            6 => Some(Phase::Closed),
+            _ => None,
         }
     }
 }
@@ -169,14 +170,15 @@ impl Mode {
         }
     }
 
-    /// The mode of a number in rows, from 0 to 2.
-    pub(crate) fn from_number(number: u64) -> Mode
+    /// The mode of a number in rows, and none where no mode has it.
+    pub(crate) fn from_number(number: u64) -> Option<Mode>
         ensures { result ≡ mode_numbered number }
     {
         match number {
-            0 => Mode::Overt,
-            1 => Mode::Blind,
-            _ => Mode::Anonymous,
+            0 => Some(Mode::Overt),
+            1 => Some(Mode::Blind),
+            2 => Some(Mode::Anonymous),
+            _ => None,
         }
     }
 
@@ -237,14 +239,15 @@ impl Kind {
         }
     }
 
-    /// The kind of a number in rows, from 1 to 3.
-    pub(crate) fn from_number(number: u64) -> Kind
+    /// The kind of a number in rows, and none where no kind has it.
+    pub(crate) fn from_number(number: u64) -> Option<Kind>
         ensures { result ≡ review_kind_numbered number }
     {
         match number {
-            1 => Kind::Primary,
-            2 => Kind::Secondary,
-            _ => Kind::Pc,
+            1 => Some(Kind::Primary),
+            2 => Some(Kind::Secondary),
+            3 => Some(Kind::Pc),
+            _ => None,
         }
     }
 }
@@ -282,14 +285,14 @@ impl Decision {
         }
     }
 
-    /// The decision of a number in rows, 1 or 2.
-    pub(crate) fn from_number(number: u64) -> Decision
+    /// The decision of a number in rows, and none where no decision has it.
+    pub(crate) fn from_number(number: u64) -> Option<Decision>
         ensures { result ≡ decision_numbered number }
     {
-        if number == 1 {
-            Decision::Accept
-        } else {
-            Decision::Reject
+        match number {
+            1 => Some(Decision::Accept),
+            2 => Some(Decision::Reject),
+            _ => None,
         }
     }
 }
@@ -350,14 +353,15 @@ impl Role {
         }
     }
 
-    /// The role that a row names somebody to by 1 or 2.
-    pub(crate) fn from_number(number: u64) -> Role
+    /// The role that a row names somebody to by a number, and none where no such role has it: nobody is named an
+    /// account.
+    pub(crate) fn from_number(number: u64) -> Option<Role>
         ensures { result ≡ role_numbered number }
     {
-        if number == 2 {
-            Role::Chair
-        } else {
-            Role::Member
+        match number {
+            1 => Some(Role::Member),
+            2 => Some(Role::Chair),
+            _ => None,
         }
     }
 }

@@ -269,7 +269,7 @@ ReviewersStay H = All (λ (e : Stamped). IsHeld H e.stamp.maker e.entry) H
 
 -- the row of the entry spells the entry
 abbrev pub IsSpelled : Stamped → Type 0
-IsSpelled e = stamped (kind_of e.entry) (row_of e) ≡ e
+IsSpelled e = stamped (kind_of e.entry) (row_of e) ≡ Some e
 
 -- what every legal history keeps, and what of a bulk's entries stands behind one. Each entry is within its bounds, so
 -- that its row spells it; it fits the tables of what stands before it; and it is in order there. Conflicts are

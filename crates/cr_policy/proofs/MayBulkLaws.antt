@@ -21,6 +21,7 @@ use Rattle.cr_base.specs.Drawn.{Drawn}
 use Rattle.cr_base.specs.History.{History}
 use Rattle.cr_base.specs.HistoryFacts.{phase_of, role_of}
 use Rattle.cr_base.specs.Lists.{is_number}
+use Rattle.cr_base.specs.Phases.{committee_works}
 use Rattle.cr_base.specs.Sources.{Facts, Shown}
 use Rattle.cr_base.specs.Words.{is_chair}
 use Rattle.cr_history.proofs.LineAgreement.{stamp}

@@ -17,7 +17,7 @@ use Rattle.cr_base.specs.Phases.{is_from}
 use Rattle.cr_history.proofs.ListCuts.{until-append, until-before}
 use Rattle.cr_history.proofs.LineAgreement.{stamp}
 use Rattle.cr_policy.specs.Part.{Part}
-use Rattle.cr_policy.specs.Triggers.{Reader, Around, Position, position_of, standing_to, members, authors, TriggerRow, rows, applies_any, none_in, none_alike, published, discusses}
+use Rattle.cr_policy.specs.Triggers.{Reader, Around, Position, position_of, standing_to, members, authors, TriggerRow, rows, applies_any, none_in, none_alike, published, reads_reviews}
 use Rattle.cr_policy.specs.View.{is_seen, rows_at}
 use Rattle.cr_policy.proofs.Walk.{is_nothing-append}
 
@@ -247,7 +247,7 @@ record SilentUpload (r : Reader) (last : Bool) (p : ℕ) : Type 0 where
 
 record SilentForm (r : Reader) (place : Position) (p : ℕ) : Type 0 where
   done : (place.first && is_clear_chair (standing_to r p)) ≡ false
-  discussed : ((place.last_before_discussion || place.from_discussion) && discusses r p) ≡ false
+  discussed : ((place.last_before_discussion || place.from_discussion) && reads_reviews r p) ≡ false
   told : (place.last && authors r p && is_from Notification r.now) ≡ false
 
 record SilentDecision (r : Reader) (last : Bool) (p : ℕ) : Type 0 where
@@ -339,8 +339,8 @@ module _ (r : Reader) (at : Around) (gone : Stamped) (unseen : is_seen r at gone
       alike-rows _ _ refl (
         stands-row apart with.first without.first place.first (is_clear_chair (standing_to r paper)) moved.first (λ no. (silent no).done),
         (
-          stands-row_discussed apart with.last_before_discussion without.last_before_discussion place.last_before_discussion with.from_discussion (discusses r paper) place.from_discussion moved.early (λ no. (silent no).discussed)
-              ∙ (λ i. (without.last_before_discussion || moved.late i) && discusses r paper),
+          stands-row_discussed apart with.last_before_discussion without.last_before_discussion place.last_before_discussion with.from_discussion (reads_reviews r paper) place.from_discussion moved.early (λ no. (silent no).discussed)
+              ∙ (λ i. (without.last_before_discussion || moved.late i) && reads_reviews r paper),
           (
             stands-row_both apart with.last without.last place.last (authors r paper) (is_from Notification r.now) moved.last (λ no. (silent no).told),
             tt,

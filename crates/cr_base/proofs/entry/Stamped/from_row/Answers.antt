@@ -1,9 +1,9 @@
-use Rattle.std.proofs.Common.{◌≡◌, ap, subst, sym, ◌∙◌, Some, IsTrue}
+use Rattle.std.proofs.Common.{◌≡◌, ◌==◌, subst, sym, ◌∙◌, Some, IsTrue}
 use Rattle.cr_base.specs.Shapes.{FitsShape}
-use Rattle.cr_base.specs.Rows.{shape_of, row_of, stamped, IsBoundedEntry}
+use Rattle.cr_base.specs.Rows.{shape_of, stamped}
 use Rattle.cr_base.specs.declared.entry.Stamped.{Stamped}
 use Rattle.cr_base.specs.declared.shape.Shape.{Shape}
-use Rattle.cr_base.proofs.RowLaws.{row_of-stamped, bounded-stamped, row_fits, only_one, stamped-parts}
+use Rattle.cr_base.proofs.RowLaws.{row_of-stamped, bounded-stamped, row_fits, only_one, stamped-parts, unspelled}
 use Rattle.cr_base.proofs.entry.Stamped.from_row.Goals as goal
 
 pub returns-then-not-fits-clause-every : goal.returns-then-not-fits-clause-every
@@ -16,13 +16,17 @@ returns-then-not-fits-clause-every c = λ s h e.
 fits : (c : goal.After-of_row) → FitsShape (shape_of c.in-Some.kind) c.args.row.now
 fits c = subst (λ (x : Shape). FitsShape x c.args.row.now) c.shape.ensures (c.fits.ensures.0 c.if-not-fits.false)
 
-made : (c : goal.After-of_row) → ◌≡◌ {A = Stamped} (stamped c.in-Some.kind c.args.row.now) (record { stamp = c.of_row.result; more = (stamped c.in-Some.kind c.args.row.now).more; entry = c.in_ok-entry.entry })
-made c = stamped-parts c.in-Some.kind c.args.row.now c.of_row.result c.in_ok-entry.entry c.of_row.ensures c.in_ok-entry.ensures
+abbrev made : (c : goal.After-of_row) → Stamped
+made c = record { stamp = c.of_row.result; more = (c.args.row.now).more == 1; entry = c.in-Some-2.entry }
+
+spelled : (c : goal.After-of_row) → stamped c.in-Some.kind c.args.row.now ≡ Some (made c)
+spelled c = stamped-parts c.in-Some.kind c.args.row.now c.of_row.result c.in-Some-2.entry c.of_row.ensures (sym c.in-Some-2.is ∙ c.in_ok-entry.ensures)
 
 pub returns-clause-spells : goal.returns-clause-spells
 returns-clause-spells c =
-    subst (λ (x : Stamped). IsBoundedEntry x × (row_of x ≡ c.args.row.now)) (made c)
-    (bounded-stamped c.in-Some.kind c.args.row.now c.in-Some.ensures.some (fits c), row_of-stamped c.in-Some.kind c.args.row.now c.in-Some.ensures.some (fits c))
+    let kind = c.in-Some.kind in
+    let row = c.args.row.now in
+    (bounded-stamped kind row (made c) c.in-Some.ensures.some (fits c) (spelled c), row_of-stamped kind row (made c) c.in-Some.ensures.some (fits c) (spelled c))
 
 pub returns-clause-every : goal.returns-clause-every
-returns-clause-every c = λ s h e. ap (λ (x : Stamped). Some x) (sym (made c) ∙ only_one c.in-Some.kind c.args.row.now s c.in-Some.ensures.only h e)
+returns-clause-every c = λ s h e. sym (spelled c) ∙ only_one c.in-Some.kind c.args.row.now s c.in-Some.ensures.only h e
