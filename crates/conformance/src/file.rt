@@ -5,7 +5,7 @@ use crate::text::LineError;
 use std::alloc::{AllocError, AllocFailed, Global};
 
 /// Why a file has no cases.
-#[derive(Clone, Copy, Debug, PartialEq, Eq)]
+#[derive(Clone, Copy, PartialEq, Eq)]
 pub enum FileError {
     /// This line, from 1, is none of the forms.
     NoForm(usize),

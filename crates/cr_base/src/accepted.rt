@@ -6,7 +6,7 @@ use crate::page::Names;
 use crate::texts::Text;
 
 /// A paper that is accepted.
-#[derive(Drop, Debug)]
+#[derive(Drop)]
 pub struct AcceptedPaper {
     /// Its authors, the submitter first.
     pub authors: Names,

@@ -3,7 +3,7 @@ ghost use Rattle.std.specs.Prelude.{◌≡◌};
 ghost use Rattle.cr_base.specs.Logins.{ask_reads_credentials, ask_wants_login};
 
 /// What a request asks for, by its path and its method alone.
-#[derive(Clone, Copy, PartialEq, Eq, Debug)]
+#[derive(Clone, Copy, PartialEq, Eq)]
 pub enum Ask {
     /// A new account: POST of `/register`.
     Register,

@@ -8,7 +8,7 @@ use std::marker::Model;
 pub(crate) const HIGHEST_RAISED: u64 = 40;
 
 /// A bid on a paper, from -20 to 20; 0 where none was told. Contracts see it plus 20, as rows spell it.
-#[derive(Clone, Copy, Debug, PartialEq, Eq)]
+#[derive(Clone, Copy, PartialEq, Eq)]
 pub struct Bid {
     raised: u8,
 }

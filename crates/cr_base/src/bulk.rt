@@ -11,7 +11,7 @@ use std::marker::Model;
 pub const MOST_ROWS: usize = 512;
 
 /// One row of a bulk, each field as the file has it, in UTF-8.
-#[derive(Drop, Debug)]
+#[derive(Drop)]
 pub struct BulkRow {
     /// The paper, in decimal.
     pub paper: Blob,
@@ -26,7 +26,7 @@ pub struct BulkRow {
 
 /// The rows of a bulk in their order, at most 512, with room for an entry each: so judging them takes no memory.
 /// Contracts see the list of rows.
-#[derive(Drop, Debug)]
+#[derive(Drop)]
 pub struct BulkRows {
     rows: Vec<BulkRow>,
     entries: Vec<Stamped>,
@@ -82,7 +82,7 @@ impl BulkRows {
 }
 
 /// What a bulk breaks.
-#[derive(Clone, Copy, Debug, PartialEq, Eq)]
+#[derive(Clone, Copy, PartialEq, Eq)]
 pub enum Broken {
     /// A rule on the bulk as a whole.
     Rule(Rule),

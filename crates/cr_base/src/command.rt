@@ -13,7 +13,6 @@ use crate::tag::Tag;
 use crate::texts::{Blob, Short, Text};
 use crate::told::ToldNames;
 use crate::words::{Decision, Kind, Mode, Phase, Role};
-use std::fmt;
 
 /// What a request may change.
 #[derive(Drop)]
@@ -219,20 +218,6 @@ impl Command {
         ensures { result ≡ command_wants_login self.now }
     {
         self.ask().wants_login()
-    }
-}
-
-/// The request alone: no text and no digest is printed.
-impl fmt::Debug for Command {
-    fn fmt<W: fmt::Write>(&self, f: &mut fmt::Formatter<W>) -> fmt::Result {
-        fmt::Debug::fmt(&self.ask(), f)
-    }
-}
-
-/// The request alone.
-impl fmt::Debug for Query {
-    fn fmt<W: fmt::Write>(&self, f: &mut fmt::Formatter<W>) -> fmt::Result {
-        fmt::Debug::fmt(&self.ask(), f)
     }
 }
 

@@ -5,7 +5,7 @@ use crate::numbers::{Ordinal, UserNo};
 use crate::texts::{Short, Text};
 
 /// What is kept of a comment on a paper.
-#[derive(Drop, Debug)]
+#[derive(Drop)]
 pub struct Comment {
     /// Its number among those on the paper, from 1.
     pub n: u64,
@@ -18,7 +18,7 @@ pub struct Comment {
 }
 
 /// A comment as it is told: its writer by name, or by label where the caller may not be told the name.
-#[derive(Drop, Debug)]
+#[derive(Drop)]
 pub struct CommentLine {
     /// The ordinal of the label under which the writer reviewed the paper, where the caller
     /// isn't told her name and she did.

@@ -3,7 +3,7 @@
 use std::alloc::AllocError;
 
 /// Why bytes give no value.
-#[derive(Clone, Copy, Debug, PartialEq, Eq)]
+#[derive(Clone, Copy, PartialEq, Eq)]
 pub enum DecodeError {
     /// They spell none.
     Malformed,

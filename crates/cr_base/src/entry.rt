@@ -9,7 +9,6 @@ use crate::tag::Tag;
 use crate::texts::{Blob, Short, Text, TwoTexts};
 use crate::words::{Decision, Kind, Mode, Phase, Role};
 use std::alloc::AllocError;
-use std::fmt;
 
 /// The SHA-256 digest of a secret (FIPS 180-4): 32 bytes.
 pub type Digest = [u8; 32];
@@ -160,7 +159,7 @@ pub enum Entry {
 }
 
 /// The kind of an entry.
-#[derive(Clone, Copy, Debug, PartialEq, Eq)]
+#[derive(Clone, Copy, PartialEq, Eq)]
 pub enum EntryKind {
     /// An [`Entry::Registered`].
     Registered,
@@ -199,14 +198,14 @@ pub enum EntryKind {
 }
 
 /// What a command's entries have alike, beside what each says: who gave it.
-#[derive(Clone, Copy, Debug, PartialEq, Eq)]
+#[derive(Clone, Copy, PartialEq, Eq)]
 pub struct Stamp {
     /// Who gave the command; of a registration the new user.
     pub maker: UserNo,
 }
 
 /// An entry with the stamp of its command, and whether another entry of the same command follows.
-#[derive(Drop, Debug)]
+#[derive(Drop)]
 pub struct Stamped {
     /// The stamp of its command.
     pub stamp: Stamp,
@@ -217,7 +216,7 @@ pub struct Stamped {
 }
 
 /// What is kept of a registered user.
-#[derive(Clone, Copy, Debug)]
+#[derive(Clone, Copy)]
 pub struct Account {
     /// Her name.
     pub name: Short,
@@ -368,13 +367,6 @@ impl Entry {
                 decision: *decision,
             }),
         }
-    }
-}
-
-/// Its kind alone: no text and no digest is printed.
-impl fmt::Debug for Entry {
-    fn fmt<W: fmt::Write>(&self, f: &mut fmt::Formatter<W>) -> fmt::Result {
-        fmt::Debug::fmt(&self.kind(), f)
     }
 }
 

@@ -6,7 +6,7 @@ use crate::texts::{Text, TwoTexts};
 use std::alloc::AllocError;
 
 /// What a reviewer writes of a paper (the HotCRP manual's review form, with two texts).
-#[derive(Drop, Debug)]
+#[derive(Drop)]
 pub struct Form {
     /// How good the paper is: 1 to 5.
     pub score: Grade,

@@ -5,7 +5,7 @@ use crate::numbers::PaperNo;
 use crate::texts::Text;
 
 /// A paper that a search finds.
-#[derive(Drop, Debug)]
+#[derive(Drop)]
 pub struct FoundPaper {
     /// The paper.
     pub paper: PaperNo,

@@ -4,7 +4,7 @@ ghost use Rattle.std.specs.Prelude.{◌≡◌};
 use std::marker::Model;
 
 /// Values in an order that their place says. Contracts see the list.
-#[derive(Drop, Debug)]
+#[derive(Drop)]
 pub struct Items<T> {
     items: Vec<T>,
 }

@@ -9,7 +9,7 @@ use crate::words::Role;
 pub type PaperNos = Items<PaperNo>;
 
 /// What a user is told of herself.
-#[derive(Drop, Debug)]
+#[derive(Drop)]
 pub struct Me {
     /// The papers that she reviews.
     pub assigned: PaperNos,

@@ -6,7 +6,6 @@ use crate::numbers::{Ordinal, PaperNo};
 use crate::tag::Tag;
 use crate::texts::{Short, Text};
 use crate::words::{Decision, Kind};
-use std::fmt;
 
 /// Names of users, in an order that their place says.
 pub type Names = Items<Short>;
@@ -24,7 +23,7 @@ pub type Reviewers = Items<Reviewer>;
 pub type TagList = Items<Tag>;
 
 /// A bid on a paper, and whose it is.
-#[derive(Clone, Copy, Debug)]
+#[derive(Clone, Copy)]
 pub struct Bidder {
     /// Her last bid.
     pub bid: Bid,
@@ -33,7 +32,7 @@ pub struct Bidder {
 }
 
 /// A reviewer of a paper: each but her label is there only where the caller may be told it.
-#[derive(Clone, Copy, Debug)]
+#[derive(Clone, Copy)]
 pub struct Reviewer {
     /// Whether she has written a review.
     pub done: Option<bool>,
@@ -78,11 +77,4 @@ pub struct Page {
     pub versions: Option<Versions>,
     /// Whether it was withdrawn.
     pub withdrawn: Option<bool>,
-}
-
-/// The paper's number alone: nothing that the caller is told of it is printed.
-impl fmt::Debug for Page {
-    fn fmt<W: fmt::Write>(&self, f: &mut fmt::Formatter<W>) -> fmt::Result {
-        fmt::Debug::fmt(&self.paper, f)
-    }
 }

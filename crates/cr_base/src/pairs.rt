@@ -5,7 +5,7 @@ ghost use Rattle.cr_base.specs.Pairs.{major, minor};
 use crate::numbers::{PaperNo, UserNo};
 
 /// A paper and a user.
-#[derive(Clone, Copy, Debug)]
+#[derive(Clone, Copy)]
 pub struct Pair {
     /// The paper.
     pub paper: PaperNo,
@@ -14,7 +14,7 @@ pub struct Pair {
 }
 
 /// A paper and a user who are tied, and what is kept of the two: `()` where nothing is but that.
-#[derive(Clone, Copy, Debug)]
+#[derive(Clone, Copy)]
 pub struct Tie<V> {
     /// Who is tied to what.
     pub pair: Pair,
@@ -23,7 +23,7 @@ pub struct Tie<V> {
 }
 
 /// In which order pairs stand, and so by which of their numbers they are found.
-#[derive(Clone, Copy, Debug, PartialEq, Eq)]
+#[derive(Clone, Copy, PartialEq, Eq)]
 pub enum Order {
     /// By the paper, and those of one paper by the user.
     ByPaper,

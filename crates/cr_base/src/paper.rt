@@ -3,7 +3,7 @@ use crate::texts::Text;
 
 /// What is kept of a submitted paper. Its authors are no part of it, since they stand among
 /// the ties, nor are its uploads.
-#[derive(Drop, Debug)]
+#[derive(Drop)]
 pub struct Paper {
     /// Its title.
     pub title: Text,

@@ -13,7 +13,7 @@ use crate::texts::{Blob, Short};
 use crate::words::{Mode, Phase, Role};
 
 /// A rule of the conference, broken by a command or a query.
-#[derive(Clone, Copy, Debug, PartialEq, Eq)]
+#[derive(Clone, Copy, PartialEq, Eq)]
 pub enum Rule {
     /// Somebody has registered the name.
     NameTaken,
@@ -74,7 +74,7 @@ pub enum Rule {
 }
 
 /// What an accepted command is answered.
-#[derive(Clone, Copy, Debug, PartialEq, Eq)]
+#[derive(Clone, Copy, PartialEq, Eq)]
 pub enum Receipt {
     /// The account made.
     User {
@@ -137,7 +137,7 @@ pub enum Receipt {
 }
 
 /// One account, as everyone sees it.
-#[derive(Clone, Copy, Debug)]
+#[derive(Clone, Copy)]
 pub struct AccountLine {
     /// The user's number.
     pub user: UserNo,
@@ -151,7 +151,7 @@ pub struct AccountLine {
 pub type AccountLines = Items<AccountLine>;
 
 /// What everyone may know of the conference.
-#[derive(Clone, Copy, Debug, PartialEq, Eq)]
+#[derive(Clone, Copy, PartialEq, Eq)]
 pub struct Conference {
     /// Its mode.
     pub mode: Mode,
@@ -162,7 +162,7 @@ pub struct Conference {
 }
 
 /// What a command or a query is answered.
-#[derive(Drop, Debug)]
+#[derive(Drop)]
 pub enum Reply {
     /// The command was accepted.
     Accepted(Receipt),

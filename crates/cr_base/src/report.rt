@@ -6,7 +6,7 @@ use crate::ask::Ask;
 use crate::numbers::PaperNo;
 
 /// Which report is asked for.
-#[derive(Clone, Copy, Debug)]
+#[derive(Clone, Copy)]
 pub enum Report {
     /// All papers, a line each: for members, from the bidding on.
     Papers,

@@ -9,7 +9,7 @@ use crate::words::Phase;
 
 /// What is kept of a form that a reviewer has written. All of them are kept, since which one is whose to read goes by
 /// the phase.
-#[derive(Drop, Debug)]
+#[derive(Drop)]
 pub struct WrittenForm {
     /// The ordinal of the label under which it was written.
     pub ordinal: Ordinal,
@@ -31,7 +31,7 @@ impl WrittenForm {
 }
 
 /// A review as it is told: each of its last three parts is there only where the caller may be told it.
-#[derive(Drop, Debug)]
+#[derive(Drop)]
 pub struct ReviewLine {
     /// How sure the reviewer is.
     pub confidence: Grade,

@@ -5,7 +5,7 @@ use crate::words::Kind;
 
 /// What a reviewer is to a paper, and whether she still is. A seat is kept when she leaves,
 /// since its label isn't used again.
-#[derive(Clone, Copy, Debug, PartialEq, Eq)]
+#[derive(Clone, Copy, PartialEq, Eq)]
 pub struct Seat {
     /// What she is to the paper.
     pub kind: Kind,

@@ -9,7 +9,7 @@ use crate::words::{Mode, Phase, Role};
 /// What the rules ask about a caller: the phase and the mode of the conference, her role, and how she is
 /// tied to the paper that is asked for. A caller who is nobody has no ties, and there are none where no
 /// paper is named.
-#[derive(Clone, Copy, Debug, PartialEq, Eq)]
+#[derive(Clone, Copy, PartialEq, Eq)]
 pub struct Standing {
     /// The conference's phase.
     pub phase: Phase,

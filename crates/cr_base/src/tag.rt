@@ -9,7 +9,7 @@ use std::marker::Model;
 /// A word that members put on a paper (the HotCRP manual's tags): 1 to 32 of `a-z0-9-`, behind nothing, behind
 /// `~` where the tag is private to whoever sets it, or behind `~~` where it is for chairs. Contracts see the
 /// list of its bytes.
-#[derive(Clone, Copy, Debug)]
+#[derive(Clone, Copy)]
 pub struct Tag {
     text: Short,
 }
@@ -28,7 +28,7 @@ impl Model for Tag {
 }
 
 /// A tag that is on at a paper, and who owns it.
-#[derive(Clone, Copy, Debug)]
+#[derive(Clone, Copy)]
 pub struct SetTag {
     /// The tag.
     pub tag: Tag,

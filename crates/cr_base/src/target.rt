@@ -3,7 +3,7 @@
 use crate::words::Role;
 
 /// What the rules ask about a user whom a command names, where somebody registered the name.
-#[derive(Clone, Copy, Debug, PartialEq, Eq)]
+#[derive(Clone, Copy, PartialEq, Eq)]
 pub struct Target {
     /// Her role.
     pub role: Role,

@@ -90,7 +90,7 @@ impl Blob {
 }
 
 /// UTF-8 text of any length, held once: a copy shares it. Contracts see the list of its bytes.
-#[derive(Drop, Debug)]
+#[derive(Drop)]
 pub struct Text {
     text: ByteStr,
 }
@@ -181,7 +181,7 @@ impl TwoTexts {
 }
 
 /// At most 34 bytes, kept in place: a name, say. Contracts see the list of its bytes.
-#[derive(Clone, Copy, Debug)]
+#[derive(Clone, Copy)]
 pub struct Short {
     bytes: [u8; 34],
     len: usize,

@@ -6,7 +6,7 @@ use crate::texts::Short;
 use std::marker::Model;
 
 /// Names as they were told, in their order; None where what was told is no name. Contracts see the list.
-#[derive(Drop, Debug)]
+#[derive(Drop)]
 pub struct ToldNames {
     names: Vec<Option<Short>>,
 }
@@ -39,7 +39,7 @@ impl ToldNames {
 pub const MOST_COAUTHORS: usize = 19;
 
 /// A paper's co-authors, at most 19, kept in place: no memory is taken for them. Contracts see the list.
-#[derive(Drop, Debug)]
+#[derive(Drop)]
 pub struct Coauthors {
     users: [UserNo; MOST_COAUTHORS],
     count: usize,

@@ -8,7 +8,7 @@ ghost use Rattle.cr_base.specs.Words.{role_name, role_named, role_number, role_n
 
 /// A phase of the conference (CoCon's phases). A conference starts in setup, and moves on to the next
 /// phase only.
-#[derive(Clone, Copy, Debug, PartialEq, Eq)]
+#[derive(Clone, Copy, PartialEq, Eq)]
 pub enum Phase {
     /// Accounts register; nothing can be submitted yet.
     Setup,
@@ -27,7 +27,7 @@ pub enum Phase {
 }
 
 /// Who sees the names of authors and reviewers; a conference starts in `Blind`.
-#[derive(Clone, Copy, Debug, PartialEq, Eq)]
+#[derive(Clone, Copy, PartialEq, Eq)]
 pub enum Mode {
     /// Authors see who reviewed them, and reviewers who wrote. Its word is `open`.
     Overt,
@@ -39,7 +39,7 @@ pub enum Mode {
 }
 
 /// What a reviewer is to a paper.
-#[derive(Clone, Copy, Debug, PartialEq, Eq)]
+#[derive(Clone, Copy, PartialEq, Eq)]
 pub enum Kind {
     /// She answers for its reviews first.
     Primary,
@@ -50,7 +50,7 @@ pub enum Kind {
 }
 
 /// What the committee decides of a paper.
-#[derive(Clone, Copy, Debug, PartialEq, Eq)]
+#[derive(Clone, Copy, PartialEq, Eq)]
 pub enum Decision {
     /// The conference takes it.
     Accept,
@@ -59,7 +59,7 @@ pub enum Decision {
 }
 
 /// What a user is to the committee. A chair is a member.
-#[derive(Clone, Copy, Debug, PartialEq, Eq)]
+#[derive(Clone, Copy, PartialEq, Eq)]
 pub enum Role {
     /// Registered, and no member of the committee.
     Account,

@@ -7,7 +7,7 @@ use crate::secret::{digest_of, is_secret};
 use cr_base::{Digest, Short, is_name};
 
 /// What a request tells of its caller.
-#[derive(Clone, Copy, Debug)]
+#[derive(Clone, Copy)]
 pub struct Credentials {
     /// The name told: 1 to 32 of `a-z0-9-`.
     pub name: Short,

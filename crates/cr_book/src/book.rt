@@ -57,7 +57,7 @@ impl<K: Keeper> Model for Book<K> {
 }
 
 /// Why a command or a bulk was not taken. `B` tells what is broken: a `Rule` of a command, a `Broken` of a bulk.
-#[derive(Clone, Copy, Debug, PartialEq, Eq)]
+#[derive(Clone, Copy, PartialEq, Eq)]
 pub enum BookError<B> {
     /// This is broken.
     Broken(B),

@@ -14,7 +14,7 @@ use cr_view::Live;
 use std::alloc::Global;
 
 /// Why a store doesn't open.
-#[derive(Drop, Debug)]
+#[derive(Drop)]
 pub enum OpenError {
     /// A row is no entry's, or doesn't continue a legal history, or is the last one though another of
     /// its command or its bulk should follow.

@@ -6,7 +6,7 @@ ghost use Rattle.cr_bulk.specs.Actions.{seen};
 use cr_base::Kind;
 
 /// What a row does, by the word in its column `action`.
-#[derive(Clone, Copy, Debug, PartialEq, Eq)]
+#[derive(Clone, Copy, PartialEq, Eq)]
 pub(crate) enum Action {
     /// A user becomes a reviewer of this kind.
     Assign(Kind),

@@ -17,14 +17,14 @@ const MODULUS: u64 = 2_147_483_648;
 const DIVISOR: u64 = 65_536;
 
 /// A generator of numbers. The same seed gives the same numbers.
-#[derive(Clone, Copy, Debug)]
+#[derive(Clone, Copy)]
 pub struct Dice {
     /// What the next draw begins with.
     pub seed: u64,
 }
 
 /// What one step draws.
-#[derive(Clone, Copy, Debug)]
+#[derive(Clone, Copy)]
 pub struct Roll {
     /// Who acts, unless a chair does in her place: one of the eight.
     pub user: UserNo,

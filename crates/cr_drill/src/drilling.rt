@@ -42,7 +42,7 @@ const LATER_PHASES: [Phase; 6] = [
 ];
 
 /// What a drill has come to, beside its book.
-#[derive(Clone, Copy, Debug)]
+#[derive(Clone, Copy)]
 pub(crate) struct Progress {
     /// What is drawn from.
     pub(crate) dice: Dice,

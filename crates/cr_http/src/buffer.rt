@@ -18,7 +18,7 @@ const LEAST_ROOM: usize = 4_096;
 const PIECE: usize = 65_536;
 
 /// What one read did.
-#[derive(Clone, Copy, Debug, PartialEq, Eq)]
+#[derive(Clone, Copy, PartialEq, Eq)]
 pub enum Fill {
     /// There are more bytes.
     Grew,

@@ -10,7 +10,7 @@ use crate::head_range::{HeadRange, Look, Search, WINDOW, look_on};
 use cr_ports::Source;
 
 /// How the search for a head ended.
-#[derive(Clone, Copy, Debug, PartialEq, Eq)]
+#[derive(Clone, Copy, PartialEq, Eq)]
 pub enum HeadFill {
     /// A head lies here.
     Found(HeadRange),

@@ -14,7 +14,7 @@ use cr_base::{all_digits, decimal_value};
 pub const MAX_BODY: usize = 4_194_304;
 
 /// What the fields of a head say of its body.
-#[derive(Clone, Copy, Debug, PartialEq, Eq)]
+#[derive(Clone, Copy, PartialEq, Eq)]
 pub enum Framing {
     /// It has so many bytes.
     Body(usize),

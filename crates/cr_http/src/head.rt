@@ -17,7 +17,7 @@ use std::marker::Model;
 pub const MAX_FIELDS: usize = 64;
 
 /// The version of HTTP that a head names.
-#[derive(Clone, Copy, Debug, PartialEq, Eq)]
+#[derive(Clone, Copy, PartialEq, Eq)]
 pub enum Version {
     /// HTTP/1.0.
     Http10,

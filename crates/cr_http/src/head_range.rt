@@ -7,7 +7,7 @@ ghost use Rattle.cr_http.specs.Search.{IsLine, Looks, reached};
 pub const WINDOW: usize = 16_384;
 
 /// Where a head begins and ends.
-#[derive(Clone, Copy, Debug, PartialEq, Eq)]
+#[derive(Clone, Copy, PartialEq, Eq)]
 pub struct HeadRange {
     /// The first byte behind the empty lines at the front.
     pub start: usize,
@@ -16,7 +16,7 @@ pub struct HeadRange {
 }
 
 /// Where the search for a head stands.
-#[derive(Clone, Copy, Debug, PartialEq, Eq)]
+#[derive(Clone, Copy, PartialEq, Eq)]
 pub enum Search {
     /// Up to here there are empty lines alone.
     Skipping(usize),
@@ -30,7 +30,7 @@ pub enum Search {
 }
 
 /// What a look for a head saw.
-#[derive(Clone, Copy, Debug, PartialEq, Eq)]
+#[derive(Clone, Copy, PartialEq, Eq)]
 pub enum Look {
     /// A whole head.
     Found(HeadRange),
@@ -39,7 +39,7 @@ pub enum Look {
 }
 
 /// What begins at an offset.
-#[derive(Clone, Copy, Debug, PartialEq, Eq)]
+#[derive(Clone, Copy, PartialEq, Eq)]
 pub enum Line {
     /// An empty line of so many bytes, LF or CR LF.
     Empty(usize),

@@ -14,7 +14,7 @@ use std::alloc::Global;
 use std::marker::Model;
 
 /// Where a whole request lies in the bytes that were read.
-#[derive(Clone, Copy, Debug, PartialEq, Eq)]
+#[derive(Clone, Copy, PartialEq, Eq)]
 pub struct Extent {
     /// Its head.
     pub range: HeadRange,

@@ -14,7 +14,7 @@ use httparse::spans::{HeaderSpan, RequestSpans};
 const MAX_LINES: usize = 66;
 
 /// What a head says of the request.
-#[derive(Clone, Copy, Debug, PartialEq, Eq)]
+#[derive(Clone, Copy, PartialEq, Eq)]
 pub enum HeadJudgement {
     /// The head is read.
     Framed {

@@ -19,7 +19,7 @@ use cr_ports::Source;
 use httparse::spans::HeaderSpan;
 
 /// What was read.
-#[derive(Clone, Copy, Debug, PartialEq, Eq)]
+#[derive(Clone, Copy, PartialEq, Eq)]
 pub enum RequestRead {
     /// A whole request, which the inbox now lends.
     Whole,

@@ -2,7 +2,7 @@
 
 /// Why a connection is closed before a whole request was read. Its answer is the connection's last
 /// one. The statuses are those of RFC 9110, and of RFC 6585, section 5, for 431.
-#[derive(Clone, Copy, Debug, PartialEq, Eq)]
+#[derive(Clone, Copy, PartialEq, Eq)]
 pub enum Refusal {
     /// No head ends within 16,384 bytes, or the head has more than 64 fields (431).
     HeadTooLarge,

@@ -8,7 +8,7 @@ use httparse::spans::HeaderSpan;
 use std::marker::Model;
 
 /// The values of the fields of one name, where one is wanted.
-#[derive(Clone, Copy, Debug)]
+#[derive(Clone, Copy)]
 pub enum Values<'b> {
     /// There is no such field.
     None,

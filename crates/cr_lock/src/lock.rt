@@ -62,7 +62,7 @@ impl<T: Stands> Model for HistoryLock<T> {
 }
 
 /// Why a pass was not split.
-#[derive(Debug, Clone, Copy, PartialEq, Eq, Drop)]
+#[derive(Clone, Copy, PartialEq, Eq, Drop)]
 pub enum SplitError {
     /// Its share is 1, which can't be halved.
     Full,

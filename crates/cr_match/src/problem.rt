@@ -3,7 +3,7 @@
 use std::alloc::Global;
 
 /// A paper and a member who may review it, both counted from 0, and what that is worth, -20 to 20.
-#[derive(Clone, Copy, Debug, PartialEq, Eq)]
+#[derive(Clone, Copy, PartialEq, Eq)]
 pub struct Pair {
     pub paper: u32,
     pub member: u32,
@@ -12,7 +12,7 @@ pub struct Pair {
 
 /// Each paper needs `per_paper` of the members, each of whom takes `load` papers at most. Only `pairs` may be chosen,
 /// which stand in order, by paper, then member.
-#[derive(Debug, Drop)]
+#[derive(Drop)]
 pub struct Problem {
     pub papers: u32,
     pub members: u32,
@@ -23,7 +23,7 @@ pub struct Problem {
 
 /// Prices show how great a sum can be: `per_paper` times those of all papers, `load` times those of all members, and
 /// what each pair weighs above its two prices together. No plan's sum is greater.
-#[derive(Debug, Drop)]
+#[derive(Drop)]
 pub struct Prices {
     /// One for each paper, of either sign.
     pub papers: Vec<i64>,
@@ -32,7 +32,7 @@ pub struct Prices {
 }
 
 /// What answers a problem.
-#[derive(Debug, Drop)]
+#[derive(Drop)]
 pub enum Solved {
     /// The chosen pairs in the order of the problem's, the sum of their weights, and the prices that say the same sum.
     Best {

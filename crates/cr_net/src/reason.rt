@@ -4,7 +4,7 @@ use std::fmt;
 use std::io::ErrorKind;
 
 /// What a fault was. Its text is one line, without the address.
-#[derive(Clone, Copy, Debug, PartialEq, Eq)]
+#[derive(Clone, Copy, PartialEq, Eq)]
 pub enum Reason {
     /// The address is none of this machine's loopback addresses.
     NotLoopback,

@@ -11,7 +11,7 @@ use std::marker::Model;
 /// want of it.
 ///
 /// Contracts see both.
-#[derive(Drop, Debug)]
+#[derive(Drop)]
 pub struct Stage {
     phase: Phase,
     mode: Mode,

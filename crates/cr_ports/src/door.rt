@@ -4,7 +4,7 @@ ghost use Rattle.std.specs.Prelude.{◌≡◌, ◌≤◌, ◌+◌, ℕ, Bool, Op
 use crate::{Sink, Source};
 
 /// What a door answers when it is asked for its next connection.
-#[derive(Debug, Drop)]
+#[derive(Drop)]
 pub enum NextConnection<I, O> {
     /// A connection: what it reads from, and what it writes to.
     Conn(I, O),
@@ -15,7 +15,7 @@ pub enum NextConnection<I, O> {
 }
 
 /// What a door answered, without the connection.
-#[derive(Clone, Copy, Debug, PartialEq, Eq)]
+#[derive(Clone, Copy, PartialEq, Eq)]
 pub enum DoorAnswer {
     /// A connection was given.
     Conn,
@@ -27,7 +27,7 @@ pub enum DoorAnswer {
 
 /// A connection that was given back: its source and its sink as they were given, and as they came
 /// back.
-#[derive(Debug, Drop)]
+#[derive(Drop)]
 pub struct Served<I, O> {
     /// As it was given.
     pub given: (I, O),

@@ -6,7 +6,7 @@ use crate::Door;
 use std::alloc::Global;
 
 /// What opening gates gave.
-#[derive(Debug, Drop)]
+#[derive(Drop)]
 pub enum Opened<D> {
     /// The doors, one a worker, in their order.
     Doors(Vec<D>),

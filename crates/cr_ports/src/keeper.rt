@@ -6,7 +6,7 @@ ghost use Rattle.cr_ports.specs.Keeping.{HasCause, and_rows};
 use cr_base::Row;
 
 /// Why a keeper didn't do what it was asked.
-#[derive(Clone, Copy, Debug, PartialEq, Eq)]
+#[derive(Clone, Copy, PartialEq, Eq)]
 pub enum KeeperError {
     /// A fault of what keeps the rows, which was counted.
     Failed,

@@ -4,7 +4,7 @@ ghost use Rattle.cr_ports.specs.Count.{Rises};
 ghost use Rattle.cr_ports.specs.Stream.{taken_and, took, TakesWithin};
 
 /// What one write did.
-#[derive(Clone, Copy, Debug, PartialEq, Eq)]
+#[derive(Clone, Copy, PartialEq, Eq)]
 pub enum WriteStep {
     /// So many bytes of the piece's front were taken: at least 1 of a piece that isn't empty.
     Took(usize),

@@ -4,7 +4,7 @@ ghost use Rattle.cr_ports.specs.Count.{Rises};
 ghost use Rattle.cr_ports.specs.Stream.{and_left, gave, FillsWithin};
 
 /// What one read did.
-#[derive(Clone, Copy, Debug, PartialEq, Eq)]
+#[derive(Clone, Copy, PartialEq, Eq)]
 pub enum ReadStep {
     /// So many bytes, from 1 to the buffer's length, now stand at the front of the buffer.
     Got(usize),

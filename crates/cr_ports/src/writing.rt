@@ -5,7 +5,7 @@ ghost use Rattle.cr_ports.specs.Writing.{BreaksOff, Writes, outlet_of};
 use crate::sink::{Sink, WriteStep};
 
 /// A write failed: a fault of the sink, which it counted.
-#[derive(Clone, Copy, Debug, PartialEq, Eq)]
+#[derive(Clone, Copy, PartialEq, Eq)]
 pub struct WriteFault;
 
 /// Writes all the bytes, or a part of them up to a fault. `WriteFault` comes only where the sink's count

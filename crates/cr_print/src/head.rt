@@ -41,7 +41,7 @@ pub(crate) const HEAD_ROOM: usize = STATUS_LINE
     + EMPTY_LINE;
 
 /// What kind of content an answer has (RFC 9110, section 8.3.1).
-#[derive(Clone, Copy, PartialEq, Eq, Debug)]
+#[derive(Clone, Copy, PartialEq, Eq)]
 pub(crate) enum MediaType {
     /// JSON (RFC 8259).
     Json,
@@ -67,7 +67,7 @@ impl MediaType {
 }
 
 /// The field that only some answers have, right behind the status line.
-#[derive(Clone, Copy, PartialEq, Eq, Debug)]
+#[derive(Clone, Copy, PartialEq, Eq)]
 pub(crate) enum Extra {
     /// None.
     Nothing,
@@ -78,7 +78,7 @@ pub(crate) enum Extra {
 }
 
 /// What a head tells that follows from what is answered.
-#[derive(Clone, Copy, PartialEq, Eq, Debug)]
+#[derive(Clone, Copy, PartialEq, Eq)]
 pub(crate) struct AnswerHead {
     /// The status.
     pub status: Status,

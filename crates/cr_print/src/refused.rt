@@ -18,7 +18,7 @@ use cr_routes::Resource;
 use std::alloc::AllocError;
 
 /// Why a request is refused.
-#[derive(Clone, Copy, PartialEq, Eq, Debug)]
+#[derive(Clone, Copy, PartialEq, Eq)]
 pub enum Refused {
     /// The connection closes before a whole request was read.
     Closing(Refusal),

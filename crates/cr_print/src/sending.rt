@@ -2,7 +2,7 @@
 
 /// What the sending of an answer takes from its request and connection, whatever it tells. Status and media
 /// type aren't part of it: they follow from what is answered, so that no caller can say another one.
-#[derive(Clone, Copy, PartialEq, Eq, Debug)]
+#[derive(Clone, Copy, PartialEq, Eq)]
 pub struct Sending {
     /// The request is a HEAD: no content is sent, and `Content-Length` is the content's without it
     /// (RFC 9110, section 9.3.2).

@@ -5,7 +5,7 @@ ghost use Rattle.cr_print.specs.Status.{code_of, phrase_of};
 use http::StatusCode;
 
 /// A status that an answer has.
-#[derive(Clone, Copy, PartialEq, Eq, Debug)]
+#[derive(Clone, Copy, PartialEq, Eq)]
 pub(crate) enum Status {
     Okay,
     Created,

@@ -5,7 +5,7 @@ ghost use Rattle.cr_reports.specs.Loads.{IsFew, no_load, with_form, with_kind};
 use cr_base::Kind;
 
 /// How much a user reviews, in papers.
-#[derive(Clone, Copy, Debug)]
+#[derive(Clone, Copy)]
 pub(crate) struct Load {
     /// As primary reviewer.
     pub(crate) primary: u64,

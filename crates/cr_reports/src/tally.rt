@@ -6,7 +6,7 @@ ghost use Rattle.cr_reports.specs.ReportLines.{one};
 use cr_base::Decision;
 
 /// How many papers were decided which way.
-#[derive(Clone, Copy, Debug)]
+#[derive(Clone, Copy)]
 pub(crate) struct Tally {
     /// How many were accepted.
     pub(crate) accepted: u64,

@@ -10,7 +10,7 @@ use crate::labels::Labels;
 use cr_base::{Filed, Ordinal, Phase, WrittenForm};
 
 /// When a form was written.
-#[derive(Clone, Copy, Debug)]
+#[derive(Clone, Copy)]
 pub(crate) enum Written {
     /// At any time.
     Ever,

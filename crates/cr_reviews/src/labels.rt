@@ -9,7 +9,7 @@ use std::marker::Model;
 const FLAGS: usize = MOST_LABELS as usize + 1;
 
 /// Some of the labels of a paper. Contracts see a flag for each ordinal.
-#[derive(Clone, Copy, Debug)]
+#[derive(Clone, Copy)]
 pub struct Labels {
     flags: [bool; FLAGS],
 }

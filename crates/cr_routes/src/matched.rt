@@ -7,7 +7,7 @@ use crate::resource::Resource;
 use matchit::Params;
 
 /// A path's resource, with what its parameters took of the path, in their order. No path has more than two.
-#[derive(Clone, Copy, PartialEq, Eq, Debug)]
+#[derive(Clone, Copy, PartialEq, Eq)]
 pub struct Matched<'p> {
     /// Which of the server's paths it is.
     pub resource: Resource,

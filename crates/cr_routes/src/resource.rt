@@ -5,7 +5,7 @@ use crate::method::Method;
 use cr_base::Ask;
 
 /// A path that the server knows.
-#[derive(Clone, Copy, PartialEq, Eq, Debug)]
+#[derive(Clone, Copy, PartialEq, Eq)]
 pub enum Resource {
     /// `/register`
     Register,

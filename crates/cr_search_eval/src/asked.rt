@@ -6,7 +6,7 @@ use cr_base::{PaperNo, Standing, UserNo};
 use cr_view::Live;
 
 /// A paper, and how the user who asks of it stands to it: told once for all terms.
-#[derive(Clone, Copy, Debug)]
+#[derive(Clone, Copy)]
 pub(crate) struct Asked {
     /// Who asks.
     pub(crate) user: UserNo,

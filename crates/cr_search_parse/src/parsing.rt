@@ -16,7 +16,7 @@ use std::alloc::Global;
 const MOST_BYTES: usize = 1_024;
 
 /// Why a text is no search.
-#[derive(Drop, Debug)]
+#[derive(Drop)]
 pub enum ParseError {
     /// It is none.
     BadQuery {

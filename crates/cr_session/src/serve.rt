@@ -21,7 +21,7 @@ use std::alloc::Global;
 use std::sync::Wait;
 
 /// Why a connection was closed before its stream ended.
-#[derive(Clone, Copy, Debug, PartialEq, Eq)]
+#[derive(Clone, Copy, PartialEq, Eq)]
 pub enum Why {
     /// The request asked for it, or was the last that may come.
     Asked,
@@ -30,7 +30,7 @@ pub enum Why {
 }
 
 /// How a connection ended.
-#[derive(Clone, Copy, Debug, PartialEq, Eq)]
+#[derive(Clone, Copy, PartialEq, Eq)]
 pub enum Ending {
     /// The stream ended between requests.
     Clean,
@@ -47,7 +47,7 @@ pub enum Ending {
 }
 
 /// What became of one request.
-#[derive(Clone, Copy, Debug, PartialEq, Eq)]
+#[derive(Clone, Copy, PartialEq, Eq)]
 pub enum RequestOutcome {
     /// It was answered, and the connection goes on.
     Goes,

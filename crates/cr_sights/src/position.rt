@@ -6,7 +6,7 @@ use std::marker::Model;
 /// An entry of any other kind is the first and the last of its own.
 ///
 /// Contracts see it as the trigger table asks for it.
-#[derive(Clone, Copy, Debug)]
+#[derive(Clone, Copy)]
 pub struct Position {
     /// Whether no earlier entry is of its series.
     pub first: bool,

@@ -17,7 +17,7 @@ use cr_view::Live;
 use std::alloc::{AllocError, Global};
 
 /// Why a view was not written whole.
-#[derive(Clone, Copy, Debug, PartialEq, Eq)]
+#[derive(Clone, Copy, PartialEq, Eq)]
 pub enum ViewError {
     /// A write failed, and the sink counted it.
     WriteFault,

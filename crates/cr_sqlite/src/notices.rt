@@ -3,7 +3,7 @@
 use crate::reason::Reason;
 
 /// Whether appends are taken.
-#[derive(Clone, Copy, Debug, PartialEq, Eq)]
+#[derive(Clone, Copy, PartialEq, Eq)]
 enum Appends {
     /// The last one was kept.
     Taken,

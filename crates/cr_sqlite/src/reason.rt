@@ -3,7 +3,7 @@ use sqlite::{Error, ErrorCode};
 use std::fmt;
 
 /// What a fault was. Its text is one line, without the path.
-#[derive(Clone, Copy, Debug, PartialEq, Eq)]
+#[derive(Clone, Copy, PartialEq, Eq)]
 pub enum Reason {
     /// The crate `sqlite` refused the file, the disk failed, or another process holds the file.
     Database(Error),
@@ -48,7 +48,7 @@ impl fmt::Display for Reason {
 }
 
 /// Why a connection wasn't taken as a keeper, or a call of one gave up.
-#[derive(Clone, Copy, Debug, PartialEq, Eq)]
+#[derive(Clone, Copy, PartialEq, Eq)]
 pub enum StoreError {
     /// A fault, which was counted.
     Failed(Reason),

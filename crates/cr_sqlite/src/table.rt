@@ -1,7 +1,7 @@
 //! The four tables of rows.
 
 /// A table of rows, by the kinds of entry that it has.
-#[derive(Clone, Copy, Debug, PartialEq, Eq)]
+#[derive(Clone, Copy, PartialEq, Eq)]
 pub(crate) enum Table {
     /// Kinds 1 to 4.
     People,

@@ -36,7 +36,7 @@ fn tell_entries<O: Sink>(out: &mut O, entries: u64) -> Result<(), WriteFault>
 }
 
 /// Where connections come from, how many are served at once, and how many in all.
-#[derive(Clone, Copy, Debug)]
+#[derive(Clone, Copy)]
 pub struct Address<'a> {
     /// The address that is listened at.
     pub listen: &'a str,

@@ -17,7 +17,7 @@ use crate::live::Live;
 use cr_base::{Bid, Kind, PaperNo, Role, Rule, Short, Stamped, Standing, UserNo};
 
 /// The paper that a command names, where it is there.
-#[derive(Clone, Copy, Debug)]
+#[derive(Clone, Copy)]
 pub(crate) struct Named {
     /// How the caller stands to it.
     pub(crate) by: Standing,
@@ -28,7 +28,7 @@ pub(crate) struct Named {
 }
 
 /// The paper and the user that a command names, where both are there.
-#[derive(Clone, Copy, Debug)]
+#[derive(Clone, Copy)]
 struct NamedPair {
     /// The paper.
     named: Named,

@@ -13,7 +13,7 @@ use std::alloc::{AllocError, Global};
 /// What an accepted command draws: the numbers that it was given or that were found for its names, and
 /// its own texts, moved out of it. Its receipt and its entries come from here, and nothing is looked up
 /// again.
-#[derive(Drop, Debug)]
+#[derive(Drop)]
 pub enum Draw {
     /// A new account.
     Registration {

@@ -75,7 +75,7 @@ impl Live {
 }
 
 /// Why a query is not answered.
-#[derive(Clone, Copy, Debug, PartialEq, Eq)]
+#[derive(Clone, Copy, PartialEq, Eq)]
 pub enum AnswerError {
     /// The query breaks this rule.
     Rule(Rule),

@@ -148,7 +148,7 @@ impl Live {
 }
 
 /// How many scores a paper has, and their sum.
-#[derive(Clone, Copy, Debug)]
+#[derive(Clone, Copy)]
 pub struct ScoreSum {
     /// How many there are: 0 to 26.
     pub count: u64,

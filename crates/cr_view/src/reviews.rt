@@ -23,7 +23,7 @@ use cr_base::{
 use std::alloc::{AllocError, Global};
 
 /// A label under which reviews are told.
-#[derive(Clone, Copy, Debug)]
+#[derive(Clone, Copy)]
 pub(crate) struct Heading {
     /// Whether they are told to an author of the paper.
     pub(crate) to_author: bool,

@@ -6,7 +6,7 @@ use cr_bodies::Credentials;
 use cr_routes::Resource;
 
 /// What a whole request wishes, by its path, its method and its body, or its query string.
-#[derive(Drop, Debug)]
+#[derive(Drop)]
 pub enum What {
     /// The path is none of the server's: answered `no_route`.
     NoRoute,
@@ -29,7 +29,7 @@ pub enum What {
 }
 
 /// What a whole request wishes, who tells so, and in which form the answer comes.
-#[derive(Drop, Debug)]
+#[derive(Drop)]
 pub struct Wish {
     /// What the field Authorization tells a request that reads it; None where another comes with it, and where there
     /// is no such field, more than one, or one that tells none.

@@ -13,7 +13,7 @@ use clap::error::ErrorKind;
 use std::alloc::Global;
 
 /// What the program is asked to do. Its texts are lent from the words, and may be empty.
-#[derive(Clone, Copy, Debug, PartialEq, Eq)]
+#[derive(Clone, Copy, PartialEq, Eq)]
 pub enum Job<'a> {
     /// One connection over standard input and standard output.
     Pipe {
@@ -48,7 +48,7 @@ pub enum Job<'a> {
 }
 
 /// Why the words name no job.
-#[derive(Clone, Copy, Debug, PartialEq, Eq)]
+#[derive(Clone, Copy, PartialEq, Eq)]
 pub enum WordsError {
     /// The words are refused. A call for help counts as refused.
     Usage,

@@ -3,7 +3,7 @@ ghost use Rattle.std.specs.Prelude.{◌≡◌};
 ghost use Rattle.cr_workers.specs.Doors.{joined};
 
 /// How some workers ended.
-#[derive(Clone, Copy, Debug, PartialEq, Eq)]
+#[derive(Clone, Copy, PartialEq, Eq)]
 pub enum Worked {
     /// Each door gave its share, and no connection ended for lack of memory.
     Done,
