@@ -198,7 +198,7 @@ class Laws:
             return
         drawn, said = verdict[1], lambda word: self.rules.call("Added", word, u, H, command)
         entries = said("added")
-        told = (tuple(e["entry"] for e in drawn["group"]), {e["maker"] for e in drawn["group"]}, tuple(e["more"] for e in drawn["group"]), (drawn["receipt"],))
+        told = (tuple(e["entry"] for e in drawn["group"]), {e["stamp"]["maker"] for e in drawn["group"]}, tuple(e["more"] for e in drawn["group"]), (drawn["receipt"],))
         if told != (tuple(entries), {said("made_by")}, tuple(self.rules.call("Added", "marks", entries)), tuple(said("answered"))):
             self.note("adds", (name, u, command))
         before = tuple(H)

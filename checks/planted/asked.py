@@ -84,7 +84,7 @@ TWINS = {
 
 
 def entry(maker, made):
-    return {"maker": maker, "more": False, "entry": made}
+    return {"stamp": {"maker": maker}, "more": False, "entry": made}
 
 
 def labels_spent():

@@ -327,7 +327,9 @@ impl Ties {
                 insert_where(&mut self.declared, wrote, bare(*paper, *user));
                 switch(&mut self.conflicts, *paper, *user, *on);
             }
-            Entry::Bid { paper, value } => self.bids.insert(bid_by(*paper, stamped.stamp.maker, *value)),
+            Entry::Bid { paper, value } => self
+                .bids
+                .insert(bid_by(*paper, stamped.stamp.maker, *value)),
             _ => {}
         }
     }

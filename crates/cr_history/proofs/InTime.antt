@@ -14,7 +14,7 @@ use Rattle.cr_base.specs.declared.words.Phase.TheVariants.{Setup, Submission, Bi
 use Rattle.cr_base.specs.Lists.{last_or, is_number, until, since}
 use Rattle.cr_base.specs.History.{History, all_told, opens, phase_told, author_told}
 use Rattle.cr_base.specs.HistoryFacts.{phase_of, authors_of, is_author}
-use Rattle.cr_base.specs.Phases.{phase_rank, is_from, is_phase}
+use Rattle.cr_base.specs.Phases.{phase_rank, is_from, is_phase, authors_have_declared}
 use Rattle.cr_base.specs.Drawn.{submission}
 use Rattle.cr_history.proofs.Folds.{last_or-append}
 use Rattle.cr_history.specs.Invariants.{is_opening, ByAuthor, ByHerselfOrOther, Early, Late, DeclaresInTime, IsDiscussedInTime, IsInPhase, IsByRight}
@@ -94,14 +94,14 @@ late-more H g none maker (Conflict paper user on) h = λ other.
     ∙ ap (list_any (is_number (Some maker))) (none paper)
 late-more H g none maker e h = tt
 
-early-new : (H : History) → is_from Bidding (phase_of H) ≡ false → (maker : ℕ) (e : Entry) → EntryAllowed H maker e → ByAuthor H maker e
+early-new : (H : History) → authors_have_declared (phase_of H) ≡ false → (maker : ℕ) (e : Entry) → EntryAllowed H maker e → ByAuthor H maker e
 early-new H soon maker (Conflict paper user on) h = by_author _ _ _ _ soon h
   where
     by_author : (begun other author on : Bool) → begun ≡ false → cond begun other (author && on) ≡ true → author ≡ true
     by_author begun other author on soon h = grind arith
 early-new H soon maker e h = tt
 
-late-new : (H : History) → is_from Bidding (phase_of H) ≡ true → (maker : ℕ) (e : Entry) → EntryAllowed H maker e → ByHerselfOrOther H maker e
+late-new : (H : History) → authors_have_declared (phase_of H) ≡ true → (maker : ℕ) (e : Entry) → EntryAllowed H maker e → ByHerselfOrOther H maker e
 late-new H begun maker (Conflict paper user on) h = by_other _ _ _ _ _ _ begun h
   where
     by_other : (begun own on chair author declared : Bool) → begun ≡ true → cond begun ((own && on) || (chair && not (author || declared))) (author && on)

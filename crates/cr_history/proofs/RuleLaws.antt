@@ -27,7 +27,7 @@ use Rattle.cr_base.specs.History.{History, Registration, all_told, registration_
 use Rattle.cr_base.specs.HistoryFacts.{phase_of, role_of, accounts_of, papers_of, own_papers_of, own_bytes_of}
 use Rattle.cr_base.specs.HistoryFacts.{is_author, is_conflicted, bid_of, ordinal_of, seats_of, is_written, own_forms_of, own_comments_of, is_accepted, standing_of}
 use Rattle.cr_base.specs.Page.{gets_conflicts}
-use Rattle.cr_base.specs.Phases.{is_from, is_phase, is_next, committee_works}
+use Rattle.cr_base.specs.Phases.{is_from, is_next, mode_may_be_set, accepts_submissions, authors_have_declared, conflicts_are_final, committee_works, bids_are_taken, reviews_are_written, comments_are_written, decisions_are_made}
 use Rattle.cr_base.specs.Words.{role_number, is_member, is_chair}
 use Rattle.cr_base.specs.Bounds.{IsForm, IsBoundedCommand}
 use Rattle.cr_base.specs.TagTexts.{is_tag, is_for_chairs}
@@ -122,13 +122,13 @@ module _ (H : History) (maker : ℕ) where
   author-named None h = absurd (true≢false h)
   author-named (Some p) h = not-false (is_author (Some maker) p H) h
 
-  submitting : not (is_phase (phase_of H) Submission) ≡ false → is_phase (phase_of H) Submission ≡ true
-  submitting h = not-false (is_phase (phase_of H) Submission) h
+  submitting : not (accepts_submissions (phase_of H)) ≡ false → accepts_submissions (phase_of H) ≡ true
+  submitting h = not-false (accepts_submissions (phase_of H)) h
 
 -- ---- conflicts
 
 -- before the bidding it isn't the notification yet
-not_late : (phase : Phase) → is_from Bidding phase ≡ false → is_from Notification phase ≡ false
+not_late : (phase : Phase) → authors_have_declared phase ≡ false → conflicts_are_final phase ≡ false
 not_late Setup h = refl
 not_late Submission h = refl
 not_late Bidding h = absurd (true≢false h)
@@ -164,10 +164,10 @@ author-right false own chair conflicted false hb ha = absurd (true≢false (sym 
 -- the five lists of rules say who turns which conflict when
 module _ (H : History) (maker paper user : ℕ) where
   abbrev begun : Bool
-  begun = is_from Bidding (phase_of H)
+  begun = authors_have_declared (phase_of H)
 
   abbrev late : Bool
-  late = is_from Notification (phase_of H)
+  late = conflicts_are_final (phase_of H)
 
   abbrev by_maker : Standing
   by_maker = standing_of (Some maker) (Some paper) H
@@ -278,7 +278,7 @@ module _ (H : History) (maker : ℕ) (shown : Shown) (registered : IsRegistered 
   conflict-ruled_for (Some p) (Some v) on none =
       let by = standing_of (Some maker) (Some p) H in
       let k = asked-there (λ target. NoneBroken (conflict_checks by (paper_named facts shown (Some p)) target on)) p v none.1.0 none in
-      case-ruled H maker p v on (is_from Bidding (phase_of H)) (is_from Notification (phase_of H)) (shown.withdrawn p) k.role
+      case-ruled H maker p v on (authors_have_declared (phase_of H)) (conflicts_are_final (phase_of H)) (shown.withdrawn p) k.role
       (eqb v maker) (wrote p v) (wrote p v || declared p v) (is_some (shown.ordinal (Some v) p)) refl refl k.held refl k.holds.1.1
 
   -- ---- bids and assignments
@@ -293,7 +293,7 @@ module _ (H : History) (maker : ℕ) (shown : Shown) (registered : IsRegistered 
   bid-ruled (Some p) value bounded none =
       let by = standing_of (Some maker) (Some p) H in
       record {
-        phase = not-false (is_phase by.phase Bidding) none.1.1.1.0;
+        phase = not-false (bids_are_taken by.phase) none.1.1.1.0;
         chair = tt;
         role = tt;
         member = tt;
@@ -371,7 +371,7 @@ module _ (H : History) (maker : ℕ) (shown : Shown) (registered : IsRegistered 
   reviewed-ruled (Some p) version form bounded none =
       let by = standing_of (Some maker) (Some p) H in
       record {
-        phase = not-false (is_phase by.phase Reviewing || is_phase by.phase Discussion) none.1.1.1.1.0;
+        phase = not-false (reviews_are_written by.phase) none.1.1.1.1.0;
         chair = tt;
         role = tt;
         member = tt;
@@ -387,7 +387,7 @@ module _ (H : History) (maker : ℕ) (shown : Shown) (registered : IsRegistered 
   commented-ruled (Some p) n own text bounded none =
       let by = standing_of (Some maker) (Some p) H in
       record {
-        phase = not-false (is_phase by.phase Discussion) none.1.1.1.0;
+        phase = not-false (comments_are_written by.phase) none.1.1.1.0;
         chair = tt;
         role = tt;
         member = tt;
@@ -419,7 +419,7 @@ module _ (H : History) (maker : ℕ) (shown : Shown) (registered : IsRegistered 
   decided-ruled (Some p) decision none =
       let by = standing_of (Some maker) (Some p) H in
       record {
-        phase = not-false (is_phase by.phase Discussion) none.1.1.1.0;
+        phase = not-false (decisions_are_made by.phase) none.1.1.1.0;
         chair = not-false (is_chair by.role) none.1.0;
         role = tt;
         member = tt;
@@ -474,7 +474,7 @@ module _ (H : History) (maker : ℕ) (shown : Shown) (registered : IsRegistered 
   command-adds (SetMode to) drawn bounded accepted =
       let k = judged-Ok (mode_checks standing (phase_of H)) (mode_drawn maker to) drawn accepted in
       subst (λ (d : Drawn). Adds H d.group) k.1
-      (single maker (ModeSet to) registered tt (record { phase = not-false (is_phase (phase_of H) Setup) k.0.1.0; chair = not-false (is_chair standing.role) k.0.0; role = tt; member = tt; right = tt; seat = tt; texts = tt }))
+      (single maker (ModeSet to) registered tt (record { phase = not-false (mode_may_be_set (phase_of H)) k.0.1.0; chair = not-false (is_chair standing.role) k.0.0; role = tt; member = tt; right = tt; seat = tt; texts = tt }))
   command-adds (SetConflict paper name on) drawn bounded accepted =
       let target : Option ℕ = user_among facts.accounts name in
       let k = judged-Ok (checks paper target on) (conflict_drawn maker (unwrap_or paper 0) (unwrap_or target 0) on) drawn accepted in

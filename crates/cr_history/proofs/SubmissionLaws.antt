@@ -9,13 +9,12 @@ use Rattle.std.proofs.lemmas.List.Folds.{list_any-append}
 use Rattle.cr_base.specs.declared.entry.Entry.{Entry}
 use Rattle.cr_base.specs.declared.entry.Entry.TheVariants.{Submitted, Coauthor, Revised, Withdrawn, Conflict}
 use Rattle.cr_base.specs.declared.entry.Stamped.{Stamped}
-use Rattle.cr_base.specs.declared.words.Phase.TheVariants.{Submission}
 use Rattle.cr_base.specs.Drawn.{grouped, besides, submission}
 use Rattle.cr_base.specs.History.{History, Registration, all_told, registration_told}
 use Rattle.cr_base.specs.HistoryFacts.{phase_of, is_author}
 use Rattle.cr_base.specs.Lists.{given, is_number}
 use Rattle.cr_base.specs.Papers.{PapersState, new_paper, with_texts, as_withdrawn, papers_after, paper_count, PapersFit}
-use Rattle.cr_base.specs.Phases.{is_phase}
+use Rattle.cr_base.specs.Phases.{accepts_submissions}
 use Rattle.cr_base.specs.Tables.{Tables, no_tables, tables_after, tables_from, tables_of, Fits, FitInTurn}
 use Rattle.cr_base.proofs.PaperLaws.{length-with_paper}
 use Rattle.cr_history.specs.Invariants.{IsRegistered, InTurn, is_conflict_with}
@@ -70,17 +69,17 @@ fits-behind H s g fits = subst (λ (t : Tables). FitInTurn t g) (sym (tables_of-
 pub record IsSubmitting (maker paper : ℕ) (H : History) : Type 0 where
   pub fits : FitInTurn no_tables H
   pub registered : IsRegistered H maker
-  pub phase : IsTrue (is_phase (phase_of H) Submission)
+  pub phase : IsTrue (accepts_submissions (phase_of H))
   pub author : IsTrue (is_author (Some maker) paper H)
   pub first : has_conflict paper H ≡ false
 
 module _ (maker paper : ℕ) where
-  submitting-first : (H : History) (more : Bool) (title abstract : List ℕ) → FitInTurn no_tables H → IsRegistered H maker → is_phase (phase_of H) Submission ≡ true
+  submitting-first : (H : History) (more : Bool) (title abstract : List ℕ) → FitInTurn no_tables H → IsRegistered H maker → accepts_submissions (phase_of H) ≡ true
       → Fits (tables_of H) (stamp maker more (Submitted paper title abstract)) → IsSubmitting maker paper (H ++ stamp maker more (Submitted paper title abstract) ∷ [])
   submitting-first H more title abstract fits registered phase fit = record {
     fits = FitInTurn-append no_tables H g fits (fit, tt);
     registered = registered-append H g maker registered;
-    phase = ap (λ now. is_phase now Submission) (phase_stays H g refl) ∙ phase;
+    phase = ap (λ now. accepts_submissions now) (phase_stays H g refl) ∙ phase;
     author = author-append (Some maker) paper H g ∙ made (is_author (Some maker) paper H) (eqb paper paper) (eq-eqb paper paper refl);
     first = list_any-append (λ (e : Stamped). is_conflict_with paper e.entry) H g
         ∙ ap (λ b. b || (false || false)) (no_conflict-from paper no_tables H fits (let next = fit.papers.0 in omega (arith, next)));
@@ -98,7 +97,7 @@ module _ (maker paper : ℕ) where
   submitting-more H more user before fit = record {
     fits = FitInTurn-append no_tables H g before.fits (fit, tt);
     registered = registered-append H g maker before.registered;
-    phase = ap (λ now. is_phase now Submission) (phase_stays H g refl) ∙ before.phase;
+    phase = ap (λ now. accepts_submissions now) (phase_stays H g refl) ∙ before.phase;
     author = author-append (Some maker) paper H g ∙ ap (λ b. b || is_author (Some maker) paper g) before.author;
     first = list_any-append (λ (e : Stamped). is_conflict_with paper e.entry) H g ∙ ap (λ b. b || (false || false)) before.first;
   }
@@ -121,7 +120,7 @@ module _ (maker paper : ℕ) where
         let s = stamp maker true (Coauthor paper u) in
         (each H true u before fits.0, coauthors-in_turn (H ++ s ∷ []) (v ∷ us) (submitting-more H true u before fits.0) (fits-behind H s (grouped maker (told (v ∷ us))) fits.1))
 
-    pub submission-in_turn : (H : History) (title abstract users : List ℕ) → FitInTurn no_tables H → IsRegistered H maker → is_phase (phase_of H) Submission ≡ true
+    pub submission-in_turn : (H : History) (title abstract users : List ℕ) → FitInTurn no_tables H → IsRegistered H maker → accepts_submissions (phase_of H) ≡ true
         → ((more : Bool) → Fits (tables_of H) (stamp maker more (Submitted paper title abstract)) → P H (stamp maker more (Submitted paper title abstract)))
         → FitInTurn (tables_of H) (grouped maker (submission maker paper title abstract users)) → InTurn P H (grouped maker (submission maker paper title abstract users))
     submission-in_turn H title abstract users before registered phase one fits = by (besides (maker ∷ []) users) fits

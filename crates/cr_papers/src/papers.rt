@@ -330,7 +330,8 @@ impl Papers {
                 version,
                 content,
             } => {
-                self.uploaded.add(stamp.maker, content.as_slice().len() as u64);
+                self.uploaded
+                    .add(stamp.maker, content.as_slice().len() as u64);
                 self.uploads.add(paper, version, content);
             }
             Entry::Withdrawn { paper } => {

@@ -12,13 +12,12 @@ use Rattle.cr_base.specs.declared.entry.Entry.TheVariants.{Commented}
 use Rattle.cr_base.specs.declared.entry.Stamped.{Stamped}
 use Rattle.cr_base.specs.declared.reply.AccountLine.{AccountLine}
 use Rattle.cr_base.specs.declared.standing.Standing.{Standing}
-use Rattle.cr_base.specs.declared.words.Phase.TheVariants.{Discussion}
 use Rattle.cr_base.specs.Answering.{comment_line}
 use Rattle.cr_base.specs.Lists.{given}
 use Rattle.cr_base.specs.History.{History, CommentTold, comment_told}
 use Rattle.cr_base.specs.HistoryFacts.{phase_of, standing_of, comments_of}
 use Rattle.cr_base.specs.Page.{is_clear_member, shows_writer}
-use Rattle.cr_base.specs.Phases.{is_from}
+use Rattle.cr_base.specs.Phases.{members_read_comments}
 use Rattle.cr_base.specs.Rows.{label_number, IsBoundedEntry}
 use Rattle.cr_base.specs.Sources.{name_in}
 use Rattle.cr_base.specs.Words.{is_anonymous, is_chair, is_member}
@@ -111,7 +110,7 @@ numbered-told p (e ∷ H) bounded =
 
 -- who discusses the paper sees each comment on it, and of its writer what the standing tells
 module _ (u : Option ℕ) (p : ℕ) (H : History) (accounts : List AccountLine) (clear : is_clear_member (standing_of u (Some p) H) ≡ true)
-    (discussed : is_from Discussion (phase_of H) ≡ true) where
+    (discussed : members_read_comments (phase_of H) ≡ true) where
   abbrev by : Standing
   by = standing_of u (Some p) H
 
@@ -128,7 +127,7 @@ module _ (u : Option ℕ) (p : ℕ) (H : History) (accounts : List AccountLine) 
   anonymous = is_anonymous by.mode
 
   abbrev from_discussion : Bool
-  from_discussion = is_from Discussion by.phase
+  from_discussion = members_read_comments by.phase
 
   comment-shown : (at : Around) → ShowsComment line (reader u H) at p
   comment-shown at maker more n ordinal text =

@@ -9,12 +9,11 @@ use Rattle.cr_base.specs.declared.entry.Entry.{Entry}
 use Rattle.cr_base.specs.declared.entry.Entry.TheVariants.{Decided}
 use Rattle.cr_base.specs.declared.entry.Stamped.{Stamped}
 use Rattle.cr_base.specs.declared.words.Decision.{Decision}
-use Rattle.cr_base.specs.declared.words.Phase.TheVariants.{Notification}
 use Rattle.cr_base.specs.Lists.{given, last, last_or}
 use Rattle.cr_base.specs.History.{History, decision_told}
 use Rattle.cr_base.specs.HistoryFacts.{phase_of, standing_of, is_author, is_withdrawn, decision_of, is_accepted}
 use Rattle.cr_base.specs.Page.{gets_decision}
-use Rattle.cr_base.specs.Phases.{is_from}
+use Rattle.cr_base.specs.Phases.{authors_read_decisions, papers_may_be_accepted}
 use Rattle.cr_base.specs.Words.{is_accept}
 use Rattle.cr_base.proofs.LastLaws.{last_from-map}
 use Rattle.cr_history.proofs.LineAgreement.{stamp}
@@ -87,7 +86,7 @@ module _ (passing : Stamped → Bool) (p : ℕ) where
 -- where the paper is accepted there is a decision on it
 is_decided : (p : ℕ) (H : History) → is_accepted p H ≡ true → is_some (decision_of p H) ≡ true
 is_decided p H accepted =
-    let parts = and_parts (is_accept (decision_of p H) && not (is_withdrawn p H)) (is_from Notification (phase_of H)) accepted in
+    let parts = and_parts (is_accept (decision_of p H) && not (is_withdrawn p H)) (papers_may_be_accepted (phase_of H)) accepted in
     by (decision_of p H) (and_parts (is_accept (decision_of p H)) (not (is_withdrawn p H)) parts.0).0
   where
     by : (o : Option Decision) → is_accept o ≡ true → is_some o ≡ true
@@ -153,5 +152,5 @@ decision-seen u p H told =
     (λ at e last.
     kept_decision (passes part.decision r at) p
     (λ maker more decision.
-    decision_shown (reads_decisions r p) (none_in (decision_told p) at.after) (is_author u p H) (is_from Notification (phase_of H)) (user_named r maker)
+    decision_shown (reads_decisions r p) (none_in (decision_told p) at.after) (is_author u p H) (authors_read_decisions (phase_of H)) (user_named r maker)
     last told) e) [] H

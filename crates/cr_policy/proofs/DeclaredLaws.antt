@@ -11,7 +11,7 @@ use Rattle.cr_base.specs.Lists.{given, listed, is_number, until, since}
 use Rattle.cr_base.specs.History.{History, opens, declared_told}
 use Rattle.cr_base.specs.HistoryFacts.{authors_of, is_author, is_conflict_on, declared_by_authors}
 use Rattle.cr_base.specs.Page.{is_clear_chair}
-use Rattle.cr_base.specs.Phases.{is_from}
+use Rattle.cr_base.specs.Phases.{chairs_see_conflicts}
 use Rattle.cr_base.specs.Words.{is_chair}
 use Rattle.cr_history.specs.Invariants.{is_opening, ByAuthor, ByHerselfOrOther, Early, Late, DeclaresInTime}
 use Rattle.cr_policy.specs.Part as part
@@ -118,7 +118,7 @@ module _ (u p : ℕ) (H : History) (author : is_author (Some u) p H ≡ true) wh
       given_both _ (eqb paper p) (eqb u maker || not (eqb u user)) (is_author (Some maker) p H) user
       (λ same. let e : paper ≡ p = eqb-true paper p same in
       let a : r.author paper ≡ true = ap r.author e ∙ author in
-      late_shown (eqb u user) (r.wrote maker paper) (r.author paper) (is_clear_chair (standing_to r paper)) (is_from Bidding r.now) (eqb u maker) a
+      late_shown (eqb u user) (r.wrote maker paper) (r.author paper) (is_clear_chair (standing_to r paper)) (chairs_see_conflicts r.now) (eqb u maker) a
       (not_clear (is_chair r.rank) (r.author paper) (is_conflict_on (Some u) paper H) a)
       (λ own. ap (λ m. is_author (Some m) paper H) (sym (eqb-true u maker own)) ∙ a)
       (λ other named. h (ap (λ n. eqb n maker) (sym (eqb-true u user named)) ∙ other))

@@ -14,7 +14,7 @@ use Rattle.cr_base.specs.declared.standing.Standing.{Standing}
 use Rattle.cr_base.specs.declared.target.Target.{Target}
 use Rattle.cr_base.specs.declared.words.Kind.{Kind}
 use Rattle.cr_base.specs.declared.words.Phase.{Phase}
-use Rattle.cr_base.specs.declared.words.Phase.TheVariants.{Submission, Bidding, Reviewing, Discussion, Notification}
+use Rattle.cr_base.specs.declared.words.Phase.TheVariants.{Bidding, Reviewing, Discussion, Notification}
 use Rattle.cr_base.specs.declared.words.Role.{Role}
 use Rattle.cr_base.specs.declared.words.Role.TheVariants.{Account, Member, Chair}
 use Rattle.cr_base.specs.Checks.{Check, ◌breaks◌, judged, declare_checks, own_checks, other_checks, off_checks, conflict_case, conflict_checks}
@@ -23,7 +23,7 @@ use Rattle.cr_base.specs.Checks.{review_checks, comment_checks, tag_checks, deci
 use Rattle.cr_base.specs.Lists.{at_some, is_number}
 use Rattle.cr_base.specs.History.{History, Upload}
 use Rattle.cr_base.specs.Page.{is_clear_member, is_clear_chair, shows_author, gets_conflicts, gets_withdrawn}
-use Rattle.cr_base.specs.Phases.{phase_rank, is_from, is_phase, committee_works}
+use Rattle.cr_base.specs.Phases.{phase_rank, is_from, is_phase, papers_may_change, authors_have_declared, conflicts_are_final, committee_works, bids_are_taken, reviews_are_written, comments_are_written, decisions_are_made, members_read_comments}
 use Rattle.cr_base.specs.Tables.{tables_of}
 use Rattle.cr_base.specs.TagTexts.{is_for_chairs}
 use Rattle.cr_base.specs.Words.{is_anonymous, is_member, is_chair}
@@ -169,7 +169,7 @@ record Agree (facts : Facts) (shown tabled : Shown) : Type 0 where
   ordinal : (p : ℕ) → gets_conflicts (facts.standing (Some p)) ≡ true → (v : Option ℕ) → shown.ordinal v p ≡ tabled.ordinal v p
   labels : (p : ℕ) → gets_conflicts (facts.standing (Some p)) ≡ true → shown.labels p ≡ tabled.labels p
   written : (p : ℕ) → gets_conflicts (facts.standing (Some p)) ≡ true → (o : ℕ) → shown.written p o ≡ tabled.written p o
-  comments : (p : ℕ) → is_clear_member (facts.standing (Some p)) ≡ true → is_from Discussion (facts.standing (Some p)).phase ≡ true
+  comments : (p : ℕ) → is_clear_member (facts.standing (Some p)) ≡ true → members_read_comments (facts.standing (Some p)).phase ≡ true
       → length (shown.comments p) ≡ length (tabled.comments p)
 
 -- a paper's authors are judged alike: whether it is withdrawn is asked, and what was uploaded is counted, only behind the
@@ -182,7 +182,7 @@ module _ (facts : Facts) (shown tabled : Shown) (same : Agree facts shown tabled
   before = not (has_paper facts (Some p)) breaks rules.NoPaper ∷ not by_author.author breaks rules.NotAuthor ∷ []
 
   abbrev behind : Bool → List Check → List Check
-  behind withdrawn more = not (is_phase by_author.phase Submission) breaks rules.WrongPhase ∷ withdrawn breaks rules.Withdrawn ∷ more
+  behind withdrawn more = not (papers_may_change by_author.phase) breaks rules.WrongPhase ∷ withdrawn breaks rules.Withdrawn ∷ more
 
   author-same : (more : List Check) (drawn : List Upload → Drawn)
       → judged (before ++ behind (shown.withdrawn p) more) (drawn (shown.uploads p))
@@ -206,10 +206,10 @@ conflict-same facts shown tabled u (Some p) target on same = by (role_among fact
     drawn = conflict_drawn (maker_of u) p (unwrap_or target 0) on
 
     bidding : Bool
-    bidding = is_from Bidding standing.phase
+    bidding = authors_have_declared standing.phase
 
     late : Bool
-    late = is_from Notification standing.phase
+    late = conflicts_are_final standing.phase
 
     herself : Bool
     herself = is_number target (maker_of u)
@@ -269,15 +269,15 @@ module _ (facts : Facts) (shown tabled : Shown) (same : Agree facts shown tabled
   bid-same : (drawn : Drawn)
       → judged (bid_checks by_member (paper_named facts shown (Some p))) drawn ≡ judged (bid_checks by_member (paper_named facts tabled (Some p))) drawn
   bid-same drawn =
-      withdrawn-same (for_members (not (is_phase by_member.phase Bidding) breaks rules.WrongPhase ∷ [])) drawn
-      (λ none. (none.1.0, at_phase Bidding refl (not-false (is_phase by_member.phase Bidding) none.1.1.1.0)))
+      withdrawn-same (for_members (not (bids_are_taken by_member.phase) breaks rules.WrongPhase ∷ [])) drawn
+      (λ none. (none.1.0, at_phase Bidding refl (not-false (bids_are_taken by_member.phase) none.1.1.1.0)))
 
   review-same : (drawn : Drawn)
       → judged (review_checks by_member (paper_named facts shown (Some p))) drawn ≡ judged (review_checks by_member (paper_named facts tabled (Some p))) drawn
   review-same drawn =
       withdrawn-same
       (for_members (not by_member.reviewer breaks rules.NotReviewer
-      ∷ not (is_phase by_member.phase Reviewing || is_phase by_member.phase Discussion) breaks rules.WrongPhase ∷ [])) drawn
+      ∷ not (reviews_are_written by_member.phase) breaks rules.WrongPhase ∷ [])) drawn
       (λ none. (none.1.0, begun (is_phase by_member.phase Reviewing) (is_phase by_member.phase Discussion) refl refl none.1.1.1.1.0))
     where
       begun : (r d : Bool) → is_phase by_member.phase Reviewing ≡ r → is_phase by_member.phase Discussion ≡ d → not (r || d) ≡ false
@@ -303,10 +303,10 @@ module _ (facts : Facts) (shown tabled : Shown) (same : Agree facts shown tabled
   decide-same drawn =
       asked-behind
       (not (has_paper facts (Some p)) breaks rules.NoPaper ∷ not (is_chair by_member.role) breaks rules.NotChair
-      ∷ by_member.conflicted breaks rules.Conflict ∷ not (is_phase by_member.phase Discussion) breaks rules.WrongPhase ∷ [])
+      ∷ by_member.conflicted breaks rules.Conflict ∷ not (decisions_are_made by_member.phase) breaks rules.WrongPhase ∷ [])
       (shown.withdrawn p) (tabled.withdrawn p) rules.Withdrawn [] drawn
       (λ none.
-      let begun = at_phase Discussion refl (not-false (is_phase by_member.phase Discussion) none.1.1.1.0) in
+      let begun = at_phase Discussion refl (not-false (decisions_are_made by_member.phase) none.1.1.1.0) in
       same.withdrawn p (told-chair by_member drawn none.1.0 begun))
 
   -- so it is of a comment, and how many there are is counted only behind those that let through members from the discussion on
@@ -314,11 +314,11 @@ module _ (facts : Facts) (shown tabled : Shown) (same : Agree facts shown tabled
       → judged (comment_checks by_member (paper_named facts shown (Some p)) own) (drawn (length (shown.comments p)))
       ≡ judged (comment_checks by_member (paper_named facts tabled (Some p)) own) (drawn (length (tabled.comments p)))
   comment-same own drawn =
-      judged-behind (for_members (not (is_phase by_member.phase Discussion) breaks rules.WrongPhase ∷ []))
+      judged-behind (for_members (not (comments_are_written by_member.phase) breaks rules.WrongPhase ∷ []))
       (behind (shown.withdrawn p)) (behind (tabled.withdrawn p))
       (drawn (length (shown.comments p))) (drawn (length (tabled.comments p)))
       (λ none.
-      let now = not-false (is_phase by_member.phase Discussion) none.1.1.1.0 in
+      let now = not-false (comments_are_written by_member.phase) none.1.1.1.0 in
       ap (λ (withdrawn : Bool). judged (behind withdrawn) (drawn (length (shown.comments p))))
       (same.withdrawn p (told-member by_member (drawn 0) none.1.0 (at_phase Discussion refl now)))
       ∙ ap (λ (n : ℕ). judged (behind (tabled.withdrawn p)) (drawn n))

@@ -14,7 +14,7 @@ use Rattle.cr_base.specs.declared.words.Mode.{Mode}
 use Rattle.cr_base.specs.declared.reply.Rule.TheVariants as rules
 use Rattle.cr_base.specs.declared.standing.Standing.{Standing}
 use Rattle.cr_base.specs.declared.words.Phase.{Phase}
-use Rattle.cr_base.specs.declared.words.Phase.TheVariants.{Setup, Submission, Bidding, Reviewing, Discussion, Notification}
+use Rattle.cr_base.specs.declared.words.Phase.TheVariants.{Setup, Submission, Bidding, Reviewing, Discussion}
 use Rattle.cr_base.specs.declared.words.Role.{Role}
 use Rattle.cr_base.specs.declared.words.Role.TheVariants.{Account}
 use Rattle.cr_base.specs.Checks.{Check, ◌breaks◌, judged, NamedPaper, phase_checks, mode_checks, submit_checks, revise_checks, upload_checks}
@@ -26,7 +26,7 @@ use Rattle.cr_base.specs.Lists.{at_some, is_number}
 use Rattle.cr_base.specs.History.{History}
 use Rattle.cr_base.specs.HistoryFacts.{standing_of, phase_of, role_of, is_conflicted, is_withdrawn, is_author, is_reviewer, authors_of, papers_of, ordinal_of, seats_of}
 use Rattle.cr_base.specs.HistoryFacts.{accounts_of, number_of, is_written, own_comments_of, own_bytes_of, own_papers_of}
-use Rattle.cr_base.specs.Phases.{is_phase, is_from, is_next, committee_works}
+use Rattle.cr_base.specs.Phases.{is_phase, is_next, mode_may_be_set, accepts_submissions, papers_may_change, authors_have_declared, conflicts_are_final, roles_are_final, committee_works, bids_are_taken, comments_are_written, decisions_are_made}
 use Rattle.cr_base.specs.Sources.{maker_of, number_in, users_among, role_among, paper_named}
 use Rattle.cr_base.specs.Tables.{tables_of}
 use Rattle.cr_base.specs.TagTexts.{is_for_chairs}
@@ -123,7 +123,7 @@ module _ (w : ℕ) (H : History) (legal : Legal H) where
   bids None value = accepted-as u H legal (commands.Bid None value)
   bids (Some p) value =
       accepted-checks u H legal (commands.Bid (Some p) value) (bid_checks (standing_of u (Some p) H) (paper_named (facts_of u H) (shown_of H) (Some p))) _ refl
-      ∙ said (is_paper p H) (is_member (role_of u H)) (is_conflicted u p H) (is_phase (phase_of H) Bidding) (is_withdrawn p H)
+      ∙ said (is_paper p H) (is_member (role_of u H)) (is_conflicted u p H) (bids_are_taken (phase_of H)) (is_withdrawn p H)
       (is_members (role_of u H)) (now Bidding H) (member-same (role_of u H)) (phase-same Bidding (phase_of H))
     where
       said : (t m c n w m' n' : Bool) → m ≡ m' → n ≡ n'
@@ -133,7 +133,7 @@ module _ (w : ℕ) (H : History) (legal : Legal H) where
   modes : (to : Mode) → is_ok (judge u (view u H) (commands.SetMode to)) ≡ may_set_mode w H
   modes to =
       accepted-checks u H legal (commands.SetMode to) (mode_checks (standing_of u None H) (phase_of H)) _ refl
-      ∙ said (is_chair (role_of u H)) (is_phase (phase_of H) Setup) (is_chairs (role_of u H)) (now Setup H)
+      ∙ said (is_chair (role_of u H)) (mode_may_be_set (phase_of H)) (is_chairs (role_of u H)) (now Setup H)
       (chair-same (role_of u H)) (phase-same Setup (phase_of H))
     where
       said : (c n c' n' : Bool) → c ≡ c' → n ≡ n' → (not (not c) && (not (not n) && true)) ≡ (c' && n')
@@ -143,7 +143,7 @@ module _ (w : ℕ) (H : History) (legal : Legal H) where
   by_author : (p : ℕ)
       → none_broken (revise_checks (standing_of u (Some p) H) (paper_named (facts_of u H) (shown_of H) (Some p))) ≡ may_change w H p
   by_author p =
-      said (is_paper p H) (is_author u p H) (is_phase (phase_of H) Submission) (is_withdrawn p H) (now Submission H)
+      said (is_paper p H) (is_author u p H) (papers_may_change (phase_of H)) (is_withdrawn p H) (now Submission H)
       (phase-same Submission (phase_of H))
     where
       said : (t a n w n' : Bool) → n ≡ n' → (not (not t) && (not (not a) && (not (not n) && (not w && true)))) ≡ ((t && not w) && a && n')
@@ -166,7 +166,7 @@ module _ (w : ℕ) (H : History) (legal : Legal H) where
   uploads (Some p) content =
       accepted-checks u H legal (commands.Upload (Some p) content)
       (upload_checks (standing_of u (Some p) H) (paper_named (facts_of u H) (shown_of H) (Some p)) (own_bytes_of u H) (length content)) _ refl
-      ∙ said (is_paper p H) (is_author u p H) (is_phase (phase_of H) Submission) (is_withdrawn p H) (now Submission H)
+      ∙ said (is_paper p H) (is_author u p H) (papers_may_change (phase_of H)) (is_withdrawn p H) (now Submission H)
       (nat_lt 67108864 (own_bytes_of u H + length content)) (nat_le (own_bytes_of u H + length content) 67108864)
       (phase-same Submission (phase_of H)) (up_to 67108864 (own_bytes_of u H + length content))
     where
@@ -193,7 +193,7 @@ module _ (w : ℕ) (H : History) (legal : Legal H) where
   comments (Some p) text =
       accepted-checks u H legal (commands.Comment (Some p) text)
       (comment_checks (standing_of u (Some p) H) (paper_named (facts_of u H) (shown_of H) (Some p)) (own_comments_of u H)) _ refl
-      ∙ said (is_paper p H) (is_member (role_of u H)) (is_conflicted u p H) (is_phase (phase_of H) Discussion) (is_withdrawn p H)
+      ∙ said (is_paper p H) (is_member (role_of u H)) (is_conflicted u p H) (comments_are_written (phase_of H)) (is_withdrawn p H)
       (nat_le 1000 (own_comments_of u H)) (is_members (role_of u H)) (now Discussion H) (nat_lt (own_comments_of u H) 1000)
       (member-same (role_of u H)) (phase-same Discussion (phase_of H)) (fewer 1000 (own_comments_of u H))
     where
@@ -219,7 +219,7 @@ module _ (w : ℕ) (H : History) (legal : Legal H) where
   decisions None decision = accepted-as u H legal (commands.Decide None decision)
   decisions (Some p) decision =
       accepted-checks u H legal (commands.Decide (Some p) decision) (decide_checks (standing_of u (Some p) H) (paper_named (facts_of u H) (shown_of H) (Some p))) _ refl
-      ∙ said (is_paper p H) (is_chair (role_of u H)) (is_conflicted u p H) (is_phase (phase_of H) Discussion) (is_withdrawn p H)
+      ∙ said (is_paper p H) (is_chair (role_of u H)) (is_conflicted u p H) (decisions_are_made (phase_of H)) (is_withdrawn p H)
       (is_chairs (role_of u H)) (now Discussion H) (chair-same (role_of u H)) (phase-same Discussion (phase_of H))
     where
       said : (t m c n w m' n' : Bool) → m ≡ m' → n ≡ n'
@@ -231,7 +231,7 @@ module _ (w : ℕ) (H : History) (legal : Legal H) where
       accepted-checks u H legal (commands.Submit title abstract names)
       (submit_checks (list_any is_none (users_among (accounts_of H) names)) (standing_of u None H) (length (papers_of H)) (own_papers_of u H)) _ refl
       ∙ said (list_any is_none (users_among (accounts_of H) names)) (list_all (λ name. is_somebody name H) names)
-      (is_phase (phase_of H) Submission) (now Submission H) (nat_le 9999 (length (papers_of H))) (nat_lt (length (papers_of H)) 9999)
+      (accepts_submissions (phase_of H)) (now Submission H) (nat_le 9999 (length (papers_of H))) (nat_lt (length (papers_of H)) 9999)
       (nat_le 20 (own_papers_of u H)) (nat_lt (own_papers_of u H) 20)
       (all_somebody u H legal names) (phase-same Submission (phase_of H)) (fewer 9999 (length (papers_of H))) (fewer 20 (own_papers_of u H))
     where
@@ -252,7 +252,7 @@ module _ (w : ℕ) (H : History) (legal : Legal H) where
       each v is =
           ap (λ (o : Option Role). is_ok (judged (name_checks (standing_of u None H) (option_map of_role o) role) (naming_drawn (maker_of u) v (unwrap_or name []) role))) is
           ∙ judged-none_broken (name_checks (standing_of u None H) (Some (of_role (role_of (Some v) H))) role) (naming_drawn (maker_of u) v (unwrap_or name []) role)
-          ∙ said (is_chair (role_of u H)) (is_chairs (role_of u H)) (is_from Notification (phase_of H)) (is_over H)
+          ∙ said (is_chair (role_of u H)) (is_chairs (role_of u H)) (roles_are_final (phase_of H)) (is_over H)
           (nat_le (role_number role) (role_number (role_of (Some v) H))) (is_above role (role_of (Some v) H))
           (chair-same (role_of u H)) (over-same (phase_of H)) (above-same role (role_of (Some v) H))
 
@@ -306,7 +306,7 @@ module _ (w : ℕ) (H : History) (legal : Legal H) where
       each v is =
           ap (λ (o : Option Role). is_ok (judged (conflict_checks (by p) (named p) (option_map (user_at p v) o) true) (conflict_drawn w p v true))) is
           ∙ judged-none_broken (conflict_checks (by p) (named p) (Some (user_at p v (role_of (Some v) H))) true) (conflict_drawn w p v true)
-          ∙ declared-said (is_from Bidding (phase_of H)) (is_from Notification (phase_of H)) (is_paper p H) (is_withdrawn p H) (by p)
+          ∙ declared-said (authors_have_declared (phase_of H)) (conflicts_are_final (phase_of H)) (is_paper p H) (is_withdrawn p H) (by p)
           (user_at p v (role_of (Some v) H)) (same_user v)
           ∙ (λ i. stands p H && is_members (role_of (Some v) H)
           && ((early-same (phase_of H) i && is_author (Some w) p H) || (in_committee-same (phase_of H) i && (eqb v w || administers w p H))))

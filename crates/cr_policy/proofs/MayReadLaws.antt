@@ -8,13 +8,13 @@ use Rattle.cr_base.specs.declared.command.Query.TheVariants as queries
 use Rattle.cr_base.specs.declared.report.Report.{Report}
 use Rattle.cr_base.specs.declared.report.Report.TheVariants as reports
 use Rattle.cr_base.specs.declared.words.Decision.{Decision}
-use Rattle.cr_base.specs.declared.words.Phase.TheVariants.{Bidding, Reviewing, Discussion, Notification, Closed}
+use Rattle.cr_base.specs.declared.words.Phase.TheVariants.{Reviewing, Closed}
 use Rattle.cr_base.specs.Answering.{upload_of, uploads_told, content_by, content_asked}
 use Rattle.cr_base.specs.Lists.{is_number}
 use Rattle.cr_base.specs.History.{History, Upload}
 use Rattle.cr_base.specs.HistoryFacts.{phase_of, role_of, is_conflicted, is_withdrawn, is_author, is_reviewer, authors_of, uploads_of}
 use Rattle.cr_base.specs.HistoryFacts.{is_accepted, is_conflict_on}
-use Rattle.cr_base.specs.Phases.{is_phase, is_from}
+use Rattle.cr_base.specs.Phases.{members_see_papers, chairs_see_reviewers, reviewers_read_own, members_read_reviews, members_read_comments, members_read_decisions, authors_read_reviews, letters_are_sent, papers_may_be_accepted, papers_are_published}
 use Rattle.cr_base.specs.Words.{is_member, is_chair}
 use Rattle.cr_history.proofs.RuleLaws.{facts_of}
 use Rattle.cr_policy.specs.Legal.{Legal}
@@ -42,7 +42,7 @@ accepts-same (Some Reject) = refl
 
 -- a paper that is accepted is in
 in-same : (p : ℕ) (H : History) → is_accepted p H ≡ is_in p H
-in-same p H = said (is_accept (decision_of p H)) (accepts (decision_of p H)) (is_withdrawn p H) (is_from Notification (phase_of H)) (is_over H)
+in-same p H = said (is_accept (decision_of p H)) (accepts (decision_of p H)) (is_withdrawn p H) (papers_may_be_accepted (phase_of H)) (is_over H)
     (accepts-same (decision_of p H)) (over-same (phase_of H))
   where
     said : (a a' w o o' : Bool) → a ≡ a' → o ≡ o' → (a && not w && o) ≡ (o' && a' && not w)
@@ -113,8 +113,8 @@ module _ (u : Option ℕ) (H : History) (legal : Legal H) where
       ≡ (is_paper p H && (is_public p H || (is_author u p H || ((is_members (role_of u H) && not (is_conflicted u p H)) && not (before_bidding H))))
       && has_version (is_author u p H) version (uploads_of p H))
   content-checked p version =
-      content-said (is_paper p H) (is_author u p H) (is_accepted p H) (is_in p H) (is_from Closed (phase_of H)) (now Closed H)
-      (is_member (role_of u H)) (is_members (role_of u H)) (is_conflicted u p H) (is_from Bidding (phase_of H)) (not (before_bidding H))
+      content-said (is_paper p H) (is_author u p H) (is_accepted p H) (is_in p H) (papers_are_published (phase_of H)) (now Closed H)
+      (is_member (role_of u H)) (is_members (role_of u H)) (is_conflicted u p H) (members_see_papers (phase_of H)) (not (before_bidding H))
       (is_some (content_by (facts_of u H) (shown_of H) (Some p) version)) (has_version (is_author u p H) version (uploads_of p H))
       (in-same p H) (closed-same (phase_of H)) (member-same (role_of u H)) (begun-same (phase_of H))
       (some-content (upload_of version (uploads_told (is_author u p H) (uploads_of p H))) ∙ version-same (is_author u p H) version (uploads_of p H))
@@ -136,8 +136,8 @@ module _ (w : ℕ) (H : History) (legal : Legal H) where
   reviews-read (Some p) =
       answered-checks u H legal (queries.Reviews (Some p)) refl
       ∙ said (is_paper p H) (is_author u p H) (is_conflict_on u p H) (is_member (role_of u H)) (is_members (role_of u H)) (is_reviewer u p H)
-      (is_from Notification (phase_of H)) (is_over H) (is_from Discussion (phase_of H)) (from_discussion H)
-      (is_phase (phase_of H) Reviewing) (now Reviewing H)
+      (authors_read_reviews (phase_of H)) (is_over H) (members_read_reviews (phase_of H)) (from_discussion H)
+      (reviewers_read_own (phase_of H)) (now Reviewing H)
       (member-same (role_of u H)) (over-same (phase_of H)) (discussed-same (phase_of H)) (phase-same Reviewing (phase_of H))
     where
       said : (t a k m m' r o o' d d' g g' : Bool) → m ≡ m' → o ≡ o' → d ≡ d' → g ≡ g'
@@ -149,7 +149,7 @@ module _ (w : ℕ) (H : History) (legal : Legal H) where
   comments-read None = answered-as u H legal (queries.Comments None)
   comments-read (Some p) =
       answered-checks u H legal (queries.Comments (Some p)) refl
-      ∙ said (is_paper p H) (is_member (role_of u H)) (is_members (role_of u H)) (is_conflicted u p H) (is_from Discussion (phase_of H))
+      ∙ said (is_paper p H) (is_member (role_of u H)) (is_members (role_of u H)) (is_conflicted u p H) (members_read_comments (phase_of H))
       (from_discussion H) (member-same (role_of u H)) (discussed-same (phase_of H))
     where
       said : (t m m' c d d' : Bool) → m ≡ m' → d ≡ d'
@@ -163,24 +163,24 @@ module _ (w : ℕ) (H : History) (legal : Legal H) where
   reports-read : (report : Report) → is_told (answer u (view u H) (queries.Report report)) ≡ may_report w H report
   reports-read reports.Papers =
       answered-checks u H legal (queries.Report reports.Papers) refl
-      ∙ report-said (is_member (role_of u H)) (is_members (role_of u H)) (is_from Bidding (phase_of H)) (not (before_bidding H))
+      ∙ report-said (is_member (role_of u H)) (is_members (role_of u H)) (members_see_papers (phase_of H)) (not (before_bidding H))
       (member-same (role_of u H)) (begun-same (phase_of H))
   reports-read reports.Scores =
       answered-checks u H legal (queries.Report reports.Scores) refl
-      ∙ report-said (is_member (role_of u H)) (is_members (role_of u H)) (is_from Discussion (phase_of H)) (from_discussion H)
+      ∙ report-said (is_member (role_of u H)) (is_members (role_of u H)) (members_read_reviews (phase_of H)) (from_discussion H)
       (member-same (role_of u H)) (discussed-same (phase_of H))
   reports-read reports.Load =
       answered-checks u H legal (queries.Report reports.Load) refl
-      ∙ report-said (is_chair (role_of u H)) (is_chairs (role_of u H)) (is_from Bidding (phase_of H)) (not (before_bidding H))
+      ∙ report-said (is_chair (role_of u H)) (is_chairs (role_of u H)) (chairs_see_reviewers (phase_of H)) (not (before_bidding H))
       (chair-same (role_of u H)) (begun-same (phase_of H))
   reports-read reports.Decisions =
       answered-checks u H legal (queries.Report reports.Decisions) refl
-      ∙ report-said (is_member (role_of u H)) (is_members (role_of u H)) (is_from Discussion (phase_of H)) (from_discussion H)
+      ∙ report-said (is_member (role_of u H)) (is_members (role_of u H)) (members_read_decisions (phase_of H)) (from_discussion H)
       (member-same (role_of u H)) (discussed-same (phase_of H))
   reports-read (reports.Letter None) = answered-as u H legal (queries.Report (reports.Letter None))
   reports-read (reports.Letter (Some p)) =
       answered-checks u H legal (queries.Report (reports.Letter (Some p))) refl
-      ∙ said (is_paper p H) (is_author u p H) (is_from Notification (phase_of H)) (is_over H) (over-same (phase_of H))
+      ∙ said (is_paper p H) (is_author u p H) (letters_are_sent (phase_of H)) (is_over H) (over-same (phase_of H))
     where
       said : (t a o o' : Bool) → o ≡ o' → (not (not t) && (not (not a) && (not (not o) && true))) ≡ (t && a && o')
       said t a o o' ho = grind arith
@@ -190,7 +190,7 @@ module _ (w : ℕ) (H : History) (legal : Legal H) where
 -- what nobody is asked for a login of: the page and the content of a published paper
 module _ (H : History) (legal : Legal H) where
   is_published-same : (p : ℕ) → is_published (phase_of H) (is_accepted p H) ≡ is_public p H
-  is_published-same p = said (is_accepted p H) (is_in p H) (is_from Closed (phase_of H)) (now Closed H) (in-same p H) (closed-same (phase_of H))
+  is_published-same p = said (is_accepted p H) (is_in p H) (papers_are_published (phase_of H)) (now Closed H) (in-same p H) (closed-same (phase_of H))
     where
       said : (x x' l l' : Bool) → x ≡ x' → l ≡ l' → (x && l) ≡ (x' && l')
       said x x' l l' hx hl = grind arith

@@ -18,7 +18,6 @@ use Rattle.cr_base.specs.declared.reply.Rule.{Rule}
 use Rattle.cr_base.specs.declared.reply.Rule.TheVariants as rules
 use Rattle.cr_base.specs.declared.search.Step.{Step}
 use Rattle.cr_base.specs.declared.standing.Standing.{Standing}
-use Rattle.cr_base.specs.declared.words.Phase.TheVariants.{Bidding, Discussion}
 use Rattle.cr_base.specs.Accounts.{lines_of}
 use Rattle.cr_base.specs.Checks.{Check, ◌breaks◌, judged, reads_freely}
 use Rattle.cr_base.specs.Decisions.{is_published}
@@ -28,7 +27,7 @@ use Rattle.cr_base.specs.Lists.{listed}
 use Rattle.cr_base.specs.Page.{PaperTexts, page_of, where_told, is_clear_member, is_clear_chair}
 use Rattle.cr_base.specs.Page.{gets_title, gets_abstract, shows_author, gets_conflict, gets_conflicts, gets_declared}
 use Rattle.cr_base.specs.Page.{gets_versions, gets_withdrawn, gets_bid, gets_bids, gets_label, gets_reviewers, gets_tags, gets_decision}
-use Rattle.cr_base.specs.Phases.{is_from}
+use Rattle.cr_base.specs.Phases.{members_see_papers, committee_sees_authors, members_read_comments}
 use Rattle.cr_base.specs.Tables.{Tables, no_tables, tables_of, FitInTurn}
 use Rattle.cr_base.specs.Answering.{uploads_told, upload_of, content_by, content_asked, query_checks, bidder_told, reviewer_told, page_by}
 use Rattle.cr_base.specs.Answering.{told_of_paper, found_by, search_told, reviews_answered, comments_answered}
@@ -182,7 +181,7 @@ module _ (u : Option ℕ) (H : History) (kept : Invariants H) (told : AreTold H)
       (reply (content_by facts shown (Some p) version)) (reply (content_by facts tabled (Some p) version))
       (λ none. ap (λ (uploads : List Upload). answered (option_map (λ (upload : Upload). upload.content) (upload_of version uploads)))
       (uploads-tables u H told p
-      (reads by.author (is_published by.phase (facts.accepted p)) (is_member by.role) by.conflicted (is_from Bidding by.phase)
+      (reads by.author (is_published by.phase (facts.accepted p)) (is_member by.role) by.conflicted (members_see_papers by.phase)
       none.1.0 none.1.1.0 none.1.1.1.0)))
     where
       by : Standing
@@ -196,7 +195,7 @@ module _ (u : Option ℕ) (H : History) (kept : Invariants H) (told : AreTold H)
           not (has_paper facts (Some p)) breaks rules.NoPaper
           ∷ not (free || is_member by.role) breaks rules.NotMember
           ∷ (not free && by.conflicted) breaks rules.Conflict
-          ∷ not (free || is_from Bidding by.phase) breaks rules.WrongPhase
+          ∷ not (free || members_see_papers by.phase) breaks rules.WrongPhase
           ∷ []
 
       behind : Option (List ℕ) → List Check
@@ -224,7 +223,7 @@ module _ (u : Option ℕ) (H : History) (kept : Invariants H) (told : AreTold H)
       (replies.Comments (comments_by facts shown p)) (replies.Comments (comments_by facts tabled p))
       (λ none. ap answered
       (comments-tables u H told p facts.accounts kept.bounded (clear (is_member by.role) by.conflicted none.1.0 none.1.1.0)
-      (not-false (is_from Discussion by.phase) none.1.1.1.0)))
+      (not-false (members_read_comments by.phase) none.1.1.1.0)))
     where
       by : Standing
       by = facts.standing (Some p)
@@ -242,9 +241,9 @@ module _ (u : Option ℕ) (H : History) (kept : Invariants H) (told : AreTold H)
   accepted_paper-same p is =
       let by : Standing = facts.standing (Some p) in
       let authors = authors-tables u H told p
-      (named by.author (is_clear_chair by && is_from Bidding by.phase) (is_clear_member by && not (is_anonymous by.mode) && is_from Bidding by.phase)
+      (named by.author (is_clear_chair by && committee_sees_authors by.phase) (is_clear_member by && not (is_anonymous by.mode) && committee_sees_authors by.phase)
       (facts.accepted p) is) in
-      let title = title-tables u H told p (titled by.author (is_member by.role && is_from Bidding by.phase) (facts.accepted p) is) in
+      let title = title-tables u H told p (titled by.author (is_member by.role && members_see_papers by.phase) (facts.accepted p) is) in
       λ i. record { authors = names_in facts.accounts (authors i); paper = p; title = unwrap_or (title i) [] }
     where
       named : (a c m accepted : Bool) → accepted ≡ true → (a || c || m || accepted) ≡ true

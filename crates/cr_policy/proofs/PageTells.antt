@@ -6,14 +6,13 @@ use Rattle.cr_base.specs.declared.entry.Entry.{Entry}
 use Rattle.cr_base.specs.declared.entry.Entry.TheVariants.{Submitted, Revised}
 use Rattle.cr_base.specs.declared.entry.Stamped.{Stamped}
 use Rattle.cr_base.specs.declared.standing.Standing.{Standing}
-use Rattle.cr_base.specs.declared.words.Phase.TheVariants.{Bidding}
 use Rattle.cr_base.specs.Lists.{given, listed, last, last_or, is_nothing}
 use Rattle.cr_base.specs.History.{History, author_told, title_told, abstract_told, upload_told, withdrawal_told}
 use Rattle.cr_base.specs.Answering.{uploads_told}
 use Rattle.cr_base.specs.HistoryFacts.{phase_of, standing_of, is_author, is_conflict_on, title_of, abstract_of, authors_of, uploads_of}
 use Rattle.cr_base.specs.HistoryFacts.{is_withdrawn, is_accepted}
 use Rattle.cr_base.specs.Page.{is_clear_member, is_clear_chair, gets_title, gets_abstract, shows_author, gets_conflicts, gets_versions, gets_withdrawn}
-use Rattle.cr_base.specs.Phases.{is_from}
+use Rattle.cr_base.specs.Phases.{members_see_papers, committee_sees_authors, chairs_see_conflicts}
 use Rattle.cr_base.specs.Words.{is_anonymous}
 use Rattle.cr_policy.specs.Part as part
 use Rattle.cr_policy.specs.Triggers.{reader, user_named, members, standing_to, unless_anonymous, published, none_in}
@@ -38,7 +37,7 @@ title-seen u p H told =
     fold_last (reader u H) (title_seen p) (λ (e : Stamped). title_told p e.entry) (passes part.title (reader u H)) (title_tells (reader u H) p)
     (λ at e last.
     let none : Bool = none_in (title_told p) at.after in
-    let begun : Bool = is_from Bidding (phase_of H) in
+    let begun : Bool = members_see_papers (phase_of H) in
     let shown : (own : Bool)
     → (is_author u p H || ((none && members (reader u H) && begun) || ((none && is_accepted p H) || (own || false)))) ≡ true =
     λ own. text_shown (is_author u p H) none (members (reader u H)) begun (is_accepted p H) own last told in
@@ -75,7 +74,7 @@ abstract-seen u p H told =
     (λ at e last.
     let clear : Bool = is_clear_member (standing_to (reader u H) p) in
     let none : Bool = none_in (title_told p) at.after in
-    let begun : Bool = is_from Bidding (phase_of H) in
+    let begun : Bool = members_see_papers (phase_of H) in
     let out : Bool = published (reader u H) p in
     let shown : (own : Bool) → (is_author u p H || ((none && clear && begun) || ((none && out) || (own || false)))) ≡ true =
     λ own. text_shown (is_author u p H) none clear begun out own (same_nothing p at.after ∙ last) told in
@@ -100,7 +99,7 @@ last_upload-seen u p H told =
     (λ at e last.
     let clear : Bool = is_clear_member (standing_to (reader u H) p) in
     upload_value (reader u H) at p (λ maker more version content.
-    text_shown (is_author u p H) (none_in (upload_told p) at.after) clear (is_from Bidding (phase_of H)) (published (reader u H) p)
+    text_shown (is_author u p H) (none_in (upload_told p) at.after) clear (members_see_papers (phase_of H)) (published (reader u H) p)
     (user_named (reader u H) maker) last told) e) [] H
 
 -- so what she is told of it is what the history tells her
@@ -121,7 +120,7 @@ pub withdrawn-seen : (u : Option ℕ) (p : ℕ) (H : History) → gets_withdrawn
 withdrawn-seen u p H told =
     ap (last_or false) (fold_all (reader u H) (withdrawal_seen p) (λ (e : Stamped). withdrawal_told p e.entry) (is_seen (reader u H)) (withdrawal_tells (reader u H) p)
     (λ at e. withdrawal_value (reader u H) at p (λ maker more.
-    withdrawal_shown (is_author u p H) (members (reader u H)) (is_from Bidding (phase_of H)) (user_named (reader u H) maker) told) e) [] H)
+    withdrawal_shown (is_author u p H) (members (reader u H)) (members_see_papers (phase_of H)) (user_named (reader u H) maker) told) e) [] H)
 
 -- ---- authors
 
@@ -146,7 +145,7 @@ authors-seen u p H told =
     member = is_clear_member (standing_to (reader u H) p)
 
     begun : Bool
-    begun = is_from Bidding (phase_of H)
+    begun = committee_sees_authors (phase_of H)
 
     shown : (rest : Bool)
         → (is_author u p H || ((chair && begun) || ((member && unless_anonymous (reader u H) && begun) || (is_accepted p H || rest)))) ≡ true
@@ -155,7 +154,7 @@ authors-seen u p H told =
 -- whoever is shown a paper's authors, whatever becomes of it
 pub also_accepted : (by : Standing) (accepted : Bool) → shows_author by false ≡ true → shows_author by accepted ≡ true
 also_accepted by accepted told =
-    either by.author (is_clear_chair by && is_from Bidding by.phase) (is_clear_member by && not (is_anonymous by.mode) && is_from Bidding by.phase)
+    either by.author (is_clear_chair by && committee_sees_authors by.phase) (is_clear_member by && not (is_anonymous by.mode) && committee_sees_authors by.phase)
     accepted told
   where
     either : (a c m accepted : Bool) → (a || c || m || false) ≡ true → (a || c || m || accepted) ≡ true
@@ -169,4 +168,4 @@ third n w c own h = grind arith
 -- a clear chair sees each entry on a conflict with the paper from the bidding on
 pub conflicts-seen : (u : Option ℕ) (p : ℕ) (H : History) → gets_conflicts (standing_of u (Some p) H) ≡ true → (v : Option ℕ) → is_conflict_on_in_view v p (view u H) ≡ is_conflict_on v p H
 conflicts-seen u p H told v =
-    declared-seen_where u v p H (λ at maker more user on _. third (user_named (reader u H) user) (is_author (Some maker) p H && is_author u p H) (is_clear_chair (standing_to (reader u H) p) && is_from Bidding (phase_of H)) (user_named (reader u H) maker) told)
+    declared-seen_where u v p H (λ at maker more user on _. third (user_named (reader u H) user) (is_author (Some maker) p H && is_author u p H) (is_clear_chair (standing_to (reader u H) p) && chairs_see_conflicts (phase_of H)) (user_named (reader u H) maker) told)

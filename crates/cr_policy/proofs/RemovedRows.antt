@@ -9,11 +9,10 @@ use Rattle.std.proofs.lemmas.List.Folds.{list_any-append}
 use Rattle.cr_base.specs.declared.entry.Entry.{Entry}
 use Rattle.cr_base.specs.declared.entry.Entry.TheVariants.{PhaseSet, Submitted, Revised, Uploaded, Reviewed, Decided}
 use Rattle.cr_base.specs.declared.entry.Stamped.{Stamped}
-use Rattle.cr_base.specs.declared.words.Phase.TheVariants.{Bidding, Notification}
 use Rattle.cr_base.specs.Lists.{given, is_nothing, until}
 use Rattle.cr_base.specs.History.{History, opens_discussion, title_told, upload_told, form_told, decision_told}
 use Rattle.cr_base.specs.Page.{is_clear_member, is_clear_chair}
-use Rattle.cr_base.specs.Phases.{is_from}
+use Rattle.cr_base.specs.Phases.{members_see_papers, authors_read_reviews, authors_read_decisions}
 use Rattle.cr_history.proofs.ListCuts.{until-append, until-before}
 use Rattle.cr_history.proofs.LineAgreement.{stamp}
 use Rattle.cr_policy.specs.Part.{Part}
@@ -236,22 +235,22 @@ pub record Moved (apart : Bool) (with without gone : Position) : Type 0 where
 
 -- none of these rows applies to an entry that gives a paper texts and shows nothing; it is the last of its series, or it isn't
 record SilentTexts (r : Reader) (last : Bool) (p : ℕ) : Type 0 where
-  title : (last && members r && is_from Bidding r.now) ≡ false
-  abstract : (last && is_clear_member (standing_to r p) && is_from Bidding r.now) ≡ false
+  title : (last && members r && members_see_papers r.now) ≡ false
+  abstract : (last && is_clear_member (standing_to r p) && members_see_papers r.now) ≡ false
   accepted : (last && r.accepted p) ≡ false
   published : (last && published r p) ≡ false
 
 record SilentUpload (r : Reader) (last : Bool) (p : ℕ) : Type 0 where
-  content : (last && is_clear_member (standing_to r p) && is_from Bidding r.now) ≡ false
+  content : (last && is_clear_member (standing_to r p) && members_see_papers r.now) ≡ false
   published : (last && published r p) ≡ false
 
 record SilentForm (r : Reader) (place : Position) (p : ℕ) : Type 0 where
   done : (place.first && is_clear_chair (standing_to r p)) ≡ false
   discussed : ((place.last_before_discussion || place.from_discussion) && reads_reviews r p) ≡ false
-  told : (place.last && authors r p && is_from Notification r.now) ≡ false
+  told : (place.last && authors r p && authors_read_reviews r.now) ≡ false
 
 record SilentDecision (r : Reader) (last : Bool) (p : ℕ) : Type 0 where
-  outcome : (last && authors r p && is_from Notification r.now) ≡ false
+  outcome : (last && authors r p && authors_read_decisions r.now) ≡ false
   accepted : (last && r.accepted p) ≡ false
 
 module _ (r : Reader) (at : Around) (maker : ℕ) (more : Bool) where
@@ -294,13 +293,13 @@ module _ (r : Reader) (at : Around) (gone : Stamped) (unseen : is_seen r at gone
   place = position_of at gone.entry
 
   abbrev bidding : Bool
-  bidding = is_from Bidding r.now
+  bidding = members_see_papers r.now
 
   -- the rows that ask whether texts are the paper's last apply alike with the entry and without it
   record MovedTexts (p : ℕ) : Type 0 where
-    title : (with.last && members r && is_from Bidding r.now) ≡ (without.last && members r && is_from Bidding r.now)
-    abstract : (with.last && is_clear_member (standing_to r p) && is_from Bidding r.now)
-        ≡ (without.last && is_clear_member (standing_to r p) && is_from Bidding r.now)
+    title : (with.last && members r && members_see_papers r.now) ≡ (without.last && members r && members_see_papers r.now)
+    abstract : (with.last && is_clear_member (standing_to r p) && members_see_papers r.now)
+        ≡ (without.last && is_clear_member (standing_to r p) && members_see_papers r.now)
     accepted : (with.last && r.accepted p) ≡ (without.last && r.accepted p)
     published : (with.last && published r p) ≡ (without.last && published r p)
 
@@ -342,7 +341,7 @@ module _ (r : Reader) (at : Around) (gone : Stamped) (unseen : is_seen r at gone
           stands-row_discussed apart with.last_before_discussion without.last_before_discussion place.last_before_discussion with.from_discussion (reads_reviews r paper) place.from_discussion moved.early (λ no. (silent no).discussed)
               ∙ (λ i. (without.last_before_discussion || moved.late i) && reads_reviews r paper),
           (
-            stands-row_both apart with.last without.last place.last (authors r paper) (is_from Notification r.now) moved.last (λ no. (silent no).told),
+            stands-row_both apart with.last without.last place.last (authors r paper) (authors_read_reviews r.now) moved.last (λ no. (silent no).told),
             tt,
           ),
         ),
@@ -353,7 +352,7 @@ module _ (r : Reader) (at : Around) (gone : Stamped) (unseen : is_seen r at gone
       alike-rows _ _ refl (
         refl,
         (
-          stands-row_both apart with.last without.last place.last (authors r paper) (is_from Notification r.now) moved.last (λ no. (silent no).outcome),
+          stands-row_both apart with.last without.last place.last (authors r paper) (authors_read_decisions r.now) moved.last (λ no. (silent no).outcome),
           (stands-row apart with.last without.last place.last (r.accepted paper) moved.last (λ no. (silent no).accepted), tt),
         ),
       )

@@ -15,14 +15,14 @@ use Rattle.cr_base.specs.declared.review.ReviewLine.{ReviewLine}
 use Rattle.cr_base.specs.declared.standing.Standing.{Standing}
 use Rattle.cr_base.specs.declared.words.Decision.{Decision}
 use Rattle.cr_base.specs.declared.words.Kind.TheVariants.{Primary, Secondary, Pc}
-use Rattle.cr_base.specs.declared.words.Phase.TheVariants.{Bidding, Discussion, Notification}
+use Rattle.cr_base.specs.declared.words.Phase.TheVariants.{Discussion, Notification}
 use Rattle.cr_base.specs.Answering.{review_told}
 use Rattle.cr_base.specs.Checks.{judged}
 use Rattle.cr_base.specs.History.{History, SeatTold, FormTold}
 use Rattle.cr_base.specs.Labels.{by_labels, most_labels}
 use Rattle.cr_base.specs.Lists.{listed, last, is_number, total}
 use Rattle.cr_base.specs.Page.{is_clear_member, is_clear_chair, shows_reviewer, where_told}
-use Rattle.cr_base.specs.Phases.{phase_rank, is_from}
+use Rattle.cr_base.specs.Phases.{phase_rank, is_from, members_see_papers, chairs_see_reviewers, letters_are_sent}
 use Rattle.cr_base.specs.Reports.{report_checks, report_told, is_clear_of, clear_papers, open_papers, title_by, space, line_end, in_four, to_left}
 use Rattle.cr_base.specs.Reports.{paper_mark, papers_end, papers_told, last_scores, scores_line, scores_told}
 use Rattle.cr_base.specs.Reports.{held, is_seat_of_kind, load_line, load_told, decision_word, decision_line, decided, decisions_end, decisions_told}
@@ -119,9 +119,9 @@ module _ (u : Option ℕ) (H : History) (told : AreTold H) (forms : AreFormsTold
 
   -- ---- what members are told from the bidding on of every paper
 
-  module _ (serves : is_member here.role ≡ true) (begun : is_from Bidding here.phase ≡ true) where
+  module _ (serves : is_member here.role ≡ true) (begun : members_see_papers here.phase ≡ true) where
     withdrawn-same : (p : ℕ) → shown.withdrawn p ≡ tabled.withdrawn p
-    withdrawn-same p = withdrawn-tables u H told p (gets (to p).author (is_member here.role) (is_from Bidding here.phase) serves begun)
+    withdrawn-same p = withdrawn-tables u H told p (gets (to p).author (is_member here.role) (members_see_papers here.phase) serves begun)
       where
         gets : (a m b : Bool) → m ≡ true → b ≡ true → (a || (m && b)) ≡ true
         gets a m b hm hb = grind arith
@@ -129,7 +129,7 @@ module _ (u : Option ℕ) (H : History) (told : AreTold H) (forms : AreFormsTold
     title-same : (p : ℕ) → title_by shown p ≡ title_by tabled p
     title-same p =
         ap (λ (title : Option (List ℕ)). unwrap_or title [])
-        (title-tables u H told p (gets (to p).author (is_member here.role) (is_from Bidding here.phase) (facts.accepted p) serves begun))
+        (title-tables u H told p (gets (to p).author (is_member here.role) (members_see_papers here.phase) (facts.accepted p) serves begun))
       where
         gets : (a m b accepted : Bool) → m ≡ true → b ≡ true → (a || (m && b) || accepted) ≡ true
         gets a m b accepted hm hb = grind arith
@@ -213,7 +213,7 @@ module _ (u : Option ℕ) (H : History) (told : AreTold H) (forms : AreFormsTold
 
   -- ---- what chairs in no conflict with a paper are told from the bidding on
 
-  module _ (serves : is_chair here.role ≡ true) (begun : is_from Bidding here.phase ≡ true) where
+  module _ (serves : is_chair here.role ≡ true) (begun : chairs_see_reviewers here.phase ≡ true) where
     clear_chair : (p : ℕ) → IsClear p → is_clear_chair (to p) ≡ true
     clear_chair p clear = both (is_chair here.role) (to p).conflicted serves clear
       where
@@ -224,7 +224,7 @@ module _ (u : Option ℕ) (H : History) (told : AreTold H) (forms : AreFormsTold
     written-same p clear o = written-tables u H told p (clear_chair p clear) o
 
     seats-same : (p : ℕ) → IsClear p → shown.reviewers p ≡ tabled.reviewers p
-    seats-same p clear = seats-tables u H told p (both (is_clear_chair (to p)) (is_from Bidding here.phase) (clear_chair p clear) begun)
+    seats-same p clear = seats-tables u H told p (both (is_clear_chair (to p)) (chairs_see_reviewers here.phase) (clear_chair p clear) begun)
       where
         both : (k b : Bool) → k ≡ true → b ≡ true → (k && b) ≡ true
         both k b hk hb = grind arith
@@ -262,11 +262,11 @@ module _ (u : Option ℕ) (H : History) (told : AreTold H) (forms : AreFormsTold
 
   -- ---- what a paper's authors are told from the notification on
 
-  module _ (p : ℕ) (author : (to p).author ≡ true) (notified : is_from Notification here.phase ≡ true) where
+  module _ (p : ℕ) (author : (to p).author ≡ true) (notified : letters_are_sent here.phase ≡ true) where
     letter_title : title_by shown p ≡ title_by tabled p
     letter_title =
         ap (λ (title : Option (List ℕ)). unwrap_or title [])
-        (title-tables u H told p (gets (to p).author (is_member here.role && is_from Bidding here.phase) (facts.accepted p) author))
+        (title-tables u H told p (gets (to p).author (is_member here.role && members_see_papers here.phase) (facts.accepted p) author))
       where
         gets : (a m accepted : Bool) → a ≡ true → (a || m || accepted) ≡ true
         gets a m accepted ha = grind arith
@@ -322,7 +322,7 @@ module _ (u : Option ℕ) (H : History) (told : AreTold H) (forms : AreFormsTold
       ≡ judged (report_checks facts report) (replies.Report (report_told facts tabled report))
   report-tables reports.Papers =
       judged-behind (report_checks facts reports.Papers) [] [] (replies.Report (papers_told facts shown)) (replies.Report (papers_told facts tabled))
-      (λ none. ap answered (papers-same (not-false (is_member here.role) none.0) (not-false (is_from Bidding here.phase) none.1.0)))
+      (λ none. ap answered (papers-same (not-false (is_member here.role) none.0) (not-false (members_see_papers here.phase) none.1.0)))
   report-tables reports.Scores =
       judged-behind (report_checks facts reports.Scores) [] [] (replies.Report (scores_told facts shown)) (replies.Report (scores_told facts tabled))
       (λ none.
@@ -330,7 +330,7 @@ module _ (u : Option ℕ) (H : History) (told : AreTold H) (forms : AreFormsTold
       ap answered (scores-same (not-false (is_member here.role) none.0) (begun_by (phase_rank here.phase) discussed) discussed))
   report-tables reports.Load =
       judged-behind (report_checks facts reports.Load) [] [] (replies.Report (load_told facts shown)) (replies.Report (load_told facts tabled))
-      (λ none. ap answered (load-same (not-false (is_chair here.role) none.0) (not-false (is_from Bidding here.phase) none.1.0)))
+      (λ none. ap answered (load-same (not-false (is_chair here.role) none.0) (not-false (chairs_see_reviewers here.phase) none.1.0)))
   report-tables reports.Decisions =
       judged-behind (report_checks facts reports.Decisions) [] [] (replies.Report (decisions_told facts shown)) (replies.Report (decisions_told facts tabled))
       (λ none.
@@ -339,4 +339,4 @@ module _ (u : Option ℕ) (H : History) (told : AreTold H) (forms : AreFormsTold
   report-tables (reports.Letter None) = refl
   report-tables (reports.Letter (Some p)) =
       judged-behind (report_checks facts (reports.Letter (Some p))) [] [] (replies.Report (letter_told facts shown p)) (replies.Report (letter_told facts tabled p))
-      (λ none. ap answered (letter-same p (not-false (to p).author none.1.0) (not-false (is_from Notification here.phase) none.1.1.0)))
+      (λ none. ap answered (letter-same p (not-false (to p).author none.1.0) (not-false (letters_are_sent here.phase) none.1.1.0)))

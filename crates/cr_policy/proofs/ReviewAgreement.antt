@@ -9,7 +9,6 @@ use Rattle.cr_base.specs.declared.reply.Reply.TheVariants as replies
 use Rattle.cr_base.specs.declared.reply.Rule.{Rule}
 use Rattle.cr_base.specs.declared.review.ReviewLine.{ReviewLine}
 use Rattle.cr_base.specs.declared.standing.Standing.{Standing}
-use Rattle.cr_base.specs.declared.words.Phase.TheVariants.{Discussion, Notification}
 use Rattle.cr_base.specs.Answering.{reviewer_told, review_told, reviews_by}
 use Rattle.cr_base.specs.Labels.{by_labels, most_labels}
 use Rattle.cr_base.specs.Checks.{judged, of_there, reviews_checks}
@@ -17,7 +16,7 @@ use Rattle.cr_base.specs.History.{History, SeatTold, FormTold}
 use Rattle.cr_base.specs.HistoryFacts.{assigned_under, reviewers_of, last_form_of, forms_discussed_of}
 use Rattle.cr_base.specs.Lists.{listed}
 use Rattle.cr_base.specs.Page.{is_clear_chair, is_clear_member, gets_conflicts, gets_reviewers, shows_reviewer, where_told}
-use Rattle.cr_base.specs.Phases.{is_from}
+use Rattle.cr_base.specs.Phases.{members_read_reviews, authors_read_reviews}
 use Rattle.cr_base.specs.Reviews.{last_form_in, forms_discussed_in, is_written_in, written_told}
 use Rattle.cr_base.specs.Seats.{seats_in, reviewers_in}
 use Rattle.cr_base.specs.Sources.{Facts, Shown, standing_at, has_paper, name_in, facts_of_tables, shown_in_tables}
@@ -97,22 +96,22 @@ module _ (u : Option ℕ) (H : History) (told : AreTold H) (p : ℕ) where
     tell = review_told by accounts named user o
 
     -- the last form of a label, as an author is told of it
-    pub last_form-tables : by.author ≡ true → is_from Notification by.phase ≡ true
+    pub last_form-tables : by.author ≡ true → authors_read_reviews by.phase ≡ true
         → map tell (listed (last_form_in_view p o (view u H))) ≡ map tell (listed (option_map written_told (last_form_in (tables_of H).reviews p o)))
     last_form-tables author notified =
         subst
-        (λ (s : Standing). s.author ≡ true → is_from Notification s.phase ≡ true
+        (λ (s : Standing). s.author ≡ true → authors_read_reviews s.phase ≡ true
         → map (review_told s accounts named user o) (listed (last_form_in_view p o (view u H)))
         ≡ map (review_told s accounts named user o) (listed (last_form_of p o H)))
         (told.standing u (Some p)) (λ author notified. last_form-seen u p H accounts named user o author notified) author notified
         ∙ ap (λ (form : Option FormTold). map tell (listed form)) (last_form_of-tables p o H)
 
     -- the forms that are discussed, as one who discusses the paper is told of them
-    pub discussed-tables : AreFormsTold H → is_clear_member by ≡ true → is_from Discussion by.phase ≡ true
+    pub discussed-tables : AreFormsTold H → is_clear_member by ≡ true → members_read_reviews by.phase ≡ true
         → map tell (forms_discussed_in_view p o (view u H)) ≡ map tell (forms_discussed_in (tables_of H).reviews p o)
     discussed-tables forms clear discussed =
         subst
-        (λ (s : Standing). is_clear_member s ≡ true → is_from Discussion s.phase ≡ true
+        (λ (s : Standing). is_clear_member s ≡ true → members_read_reviews s.phase ≡ true
         → map (review_told s accounts named user o) (forms_discussed_in_view p o (view u H))
         ≡ map (review_told s accounts named user o) (forms_discussed_of p o H))
         (told.standing u (Some p)) (λ clear discussed. discussed-seen u p H accounts named user o clear discussed) clear discussed
@@ -148,8 +147,8 @@ module _ (u : Option ℕ) (H : History) (told : AreTold H) (p : ℕ) where
       (review_told-same by accounts (shows_reviewer by) (shown.assigned p o) (tabled.assigned p o) o (λ names. assigned-tables names o))
 
   -- the reviews by any user's view are those by the tables, where she may ask for them
-  reviews-same : AreFormsTold H → (author discussed : Bool) → by.author ≡ author → is_from Discussion by.phase ≡ discussed
-      → (author ≡ true → is_from Notification by.phase ≡ true) → (author ≡ false → is_clear_member by ≡ true)
+  reviews-same : AreFormsTold H → (author discussed : Bool) → by.author ≡ author → members_read_reviews by.phase ≡ discussed
+      → (author ≡ true → authors_read_reviews by.phase ≡ true) → (author ≡ false → is_clear_member by ≡ true)
       → reviews_with shown author discussed ≡ reviews_with tabled author discussed
   reviews-same forms true discussed ha hd notified clear =
       each-label _ _ (λ o.
@@ -169,8 +168,8 @@ module _ (u : Option ℕ) (H : History) (told : AreTold H) (p : ℕ) where
       judged-behind (reviews_checks by (of_there (has_paper facts (Some p)))) [] []
       (replies.Reviews (reviews_by facts shown p)) (replies.Reviews (reviews_by facts tabled p))
       (λ none. ap (λ (lines : List ReviewLine). answered lines)
-      (reviews-same forms by.author (is_from Discussion by.phase) refl refl
-      (λ author. notified by.author (is_from Notification by.phase) author none.1.0)
+      (reviews-same forms by.author (members_read_reviews by.phase) refl refl
+      (λ author. notified by.author (authors_read_reviews by.phase) author none.1.0)
       (λ other. clear by.author (is_member by.role) by.conflicted other none.1.1.0 none.1.1.1.0)))
     where
       answered : List ReviewLine → Result Reply Rule

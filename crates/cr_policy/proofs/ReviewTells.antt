@@ -10,13 +10,13 @@ use Rattle.cr_base.specs.declared.form.Form.{Form}
 use Rattle.cr_base.specs.declared.reply.AccountLine.{AccountLine}
 use Rattle.cr_base.specs.declared.review.ReviewLine.{ReviewLine}
 use Rattle.cr_base.specs.declared.standing.Standing.{Standing}
-use Rattle.cr_base.specs.declared.words.Phase.TheVariants.{Discussion, Notification}
+use Rattle.cr_base.specs.declared.words.Phase.TheVariants.{Discussion}
 use Rattle.cr_base.specs.Answering.{review_told}
 use Rattle.cr_base.specs.Lists.{is_nothing, last, last_from, last_or, listed, since, until}
 use Rattle.cr_base.specs.History.{History, FormTold, form_told, own_form_told, opens_discussion, whole_form}
 use Rattle.cr_base.specs.HistoryFacts.{standing_of, forms_of, last_form_of, forms_discussed_of, own_forms_of, is_written}
 use Rattle.cr_base.specs.Page.{is_clear_member, is_clear_chair, where_told}
-use Rattle.cr_base.specs.Phases.{is_from}
+use Rattle.cr_base.specs.Phases.{members_read_reviews, authors_read_reviews}
 use Rattle.cr_history.proofs.LineAgreement.{stamp}
 use Rattle.cr_policy.specs.Part as part
 use Rattle.cr_policy.specs.Triggers.{Reader, reader, Around, user_named, standing_to}
@@ -113,26 +113,26 @@ module _ (u : Option ℕ) (p : ℕ) (H : History) (accounts : List AccountLine) 
       whole d n a f own hn h = grind arith
 
   -- an author sees the last form of each label from the notification on
-  pub last_form-seen : by.author ≡ true → is_from Notification by.phase ≡ true
+  pub last_form-seen : by.author ≡ true → authors_read_reviews by.phase ≡ true
       → map tell (listed (last_form_in_view p o (view u H))) ≡ map tell (listed (last_form_of p o H))
   last_form-seen author notified =
       last_as tell r (form_seen p o) told (passes part.score r) (form_tells tell r p o shows-form)
       (λ at e last. form_kept part.score r at p o
-      (λ maker more version form. shown _ (is_nothing (flat_map told at.after)) by.author (is_from Notification by.phase) (user_named r maker)
+      (λ maker more version form. shown _ (is_nothing (flat_map told at.after)) by.author (authors_read_reviews by.phase) (user_named r maker)
       last author notified) e) [] H
     where
       shown : (d n a f own : Bool) → n ≡ true → a ≡ true → f ≡ true → (d || ((n && a && f) || (own || false))) ≡ true
       shown d n a f own hn ha hf = grind arith
 
   -- who discusses the paper sees of each label's forms the last before the discussion, and all later ones
-  module _ (clear : is_clear_member by ≡ true) (discussed : is_from Discussion by.phase ≡ true) where
+  module _ (clear : is_clear_member by ≡ true) (discussed : members_read_reviews by.phase ≡ true) where
     -- an entry that stands so is shown
     kept_at : (at : Around) (e : Stamped) (none : Bool) → none ≡ is_nothing (flat_map told (until opens_discussion at.after))
         → ((not (list_any opens_discussion at.before) && none) || list_any opens_discussion at.before) ≡ true
         → only (passes part.score r at e) (told e) ≡ told e
     kept_at at e none is placed =
         form_kept part.score r at p o (λ maker more version form.
-        shown (list_any opens_discussion at.before) none _ (is_clear_member by) (is_from Discussion by.phase) _ is placed clear discussed) e
+        shown (list_any opens_discussion at.before) none _ (is_clear_member by) (members_read_reviews by.phase) _ is placed clear discussed) e
       where
         shown : (opened none n c d rest : Bool) → none ≡ n → ((not opened && none) || opened) ≡ true → c ≡ true → d ≡ true
             → ((((not opened && n) || opened) && (c && d)) || rest) ≡ true

@@ -11,7 +11,6 @@ use Rattle.cr_base.specs.declared.entry.Stamped.{Stamped}
 use Rattle.cr_base.specs.declared.page.Reviewer.{Reviewer}
 use Rattle.cr_base.specs.declared.reply.AccountLine.{AccountLine}
 use Rattle.cr_base.specs.declared.standing.Standing.{Standing}
-use Rattle.cr_base.specs.declared.words.Phase.TheVariants.{Bidding, Discussion, Notification}
 use Rattle.cr_base.specs.declared.words.Role.{Role}
 use Rattle.cr_base.specs.declared.words.Role.TheVariants.{Account, Member, Chair}
 use Rattle.cr_base.specs.Answering.{reviewer_told}
@@ -19,7 +18,7 @@ use Rattle.cr_base.specs.Lists.{last}
 use Rattle.cr_base.specs.History.{History, SeatTold, bid_told, assigned_told, unassigned_told}
 use Rattle.cr_base.specs.HistoryFacts.{phase_of, standing_of, is_conflict_on, bid_of, ordinal_of, seats_of, seats_left, reviewers_of, assigned_under}
 use Rattle.cr_base.specs.Page.{is_clear_member, is_clear_chair, gets_bids, gets_conflicts, gets_reviewers, shows_reviewer, where_told}
-use Rattle.cr_base.specs.Phases.{is_from}
+use Rattle.cr_base.specs.Phases.{chairs_see_conflicts, chairs_see_reviewers, members_see_reviewers, authors_see_reviewers}
 use Rattle.cr_base.specs.Sources.{name_in}
 use Rattle.cr_base.specs.Words.{is_overt, is_chair, is_member}
 use Rattle.cr_history.proofs.LineAgreement.{stamp}
@@ -58,7 +57,7 @@ seat-seen_by_chair u v p H told = seat-seen_where u v p H (λ at. record {
     chair = is_clear_chair (standing_to (reader u H) p)
 
     clear : (named rest : Bool) → (named || (chair || rest)) ≡ true
-    clear named rest = or_right named (chair || rest) (or_left chair rest (and_parts chair (is_from Bidding (phase_of H)) told).0)
+    clear named rest = or_right named (chair || rest) (or_left chair rest (and_parts chair (chairs_see_conflicts (phase_of H)) told).0)
 
 -- ---- reviewers
 
@@ -116,10 +115,10 @@ module _ (u : Option ℕ) (p : ℕ) (H : History) (accounts : List AccountLine) 
   member = is_clear_member by
 
   abbrev discussed : Bool
-  discussed = is_from Discussion by.phase
+  discussed = members_see_reviewers by.phase
 
   abbrev notified : Bool
-  notified = is_from Notification by.phase
+  notified = authors_see_reviewers by.phase
 
   abbrev tell : SeatTold → Reviewer
   tell = reviewer_told by accounts written
@@ -128,7 +127,7 @@ module _ (u : Option ℕ) (p : ℕ) (H : History) (accounts : List AccountLine) 
   shown_label named own = named || (chair || ((member && discussed) || ((by.author && is_overt by.mode && notified) || (own || false))))
 
   label_shown : (named own : Bool) → shown_label named own ≡ true
-  label_shown named own = shown chair (is_from Bidding by.phase) member (unless_anonymous (reader u H)) discussed by.author
+  label_shown named own = shown chair (chairs_see_reviewers by.phase) member (unless_anonymous (reader u H)) discussed by.author
       (is_overt by.mode) notified named own told
     where
       shown : (c b m n d a o f named own : Bool) → (((c && b) || (m && n && d) || (a && o && f)) || (m && d)) ≡ true
@@ -137,7 +136,7 @@ module _ (u : Option ℕ) (p : ℕ) (H : History) (accounts : List AccountLine) 
 
   kind_shown : (named own : Bool) → member ≡ true → (named || (chair || ((member && discussed) || (own || false)))) ≡ true
   kind_shown named own clear =
-      shown chair (is_from Bidding by.phase) member (unless_anonymous (reader u H)) discussed by.author (is_overt by.mode) notified named own clear
+      shown chair (chairs_see_reviewers by.phase) member (unless_anonymous (reader u H)) discussed by.author (is_overt by.mode) notified named own clear
       (no_author (is_member by.role) by.author (is_conflict_on u p H) clear) told
     where
       no_author : (serves a d : Bool) → (serves && not (a || d)) ≡ true → a ≡ false
@@ -149,7 +148,7 @@ module _ (u : Option ℕ) (p : ℕ) (H : History) (accounts : List AccountLine) 
 
   user_shown : (named own : Bool) → shows_reviewer by ≡ true
       → (named || (chair || ((member && unless_anonymous (reader u H) && discussed) || ((by.author && is_overt by.mode && notified) || (own || false))))) ≡ true
-  user_shown named own h = shown chair (is_from Bidding by.phase) (member && unless_anonymous (reader u H) && discussed)
+  user_shown named own h = shown chair (chairs_see_reviewers by.phase) (member && unless_anonymous (reader u H) && discussed)
       (by.author && is_overt by.mode && notified) named own h
     where
       shown : (c b m a named own : Bool) → ((c && b) || m || a) ≡ true → (named || (c || (m || (a || (own || false))))) ≡ true
@@ -242,7 +241,7 @@ reviewers-seen_by_chair u p H told =
     let by : Standing = standing_of u (Some p) H in
     let names = first_of (shows_reviewer by) _ (first_of _ _ (first_of (gets_conflicts by) _ told)) in
     reviewers-seen_whole u p H [] (λ _. false) names (first_of _ _ (first_of (gets_conflicts by) _ told))
-    (chair_clear by.role by.conflicted (and_parts (is_clear_chair by) (is_from Bidding by.phase) told).0)
+    (chair_clear by.role by.conflicted (and_parts (is_clear_chair by) (chairs_see_reviewers by.phase) told).0)
   where
     chair_clear : (role : Role) (c : Bool) → (is_chair role && not c) ≡ true → (is_member role && not c) ≡ true
     chair_clear Account c h = absurd (true≢false (sym h))

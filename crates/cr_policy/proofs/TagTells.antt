@@ -10,12 +10,11 @@ use Rattle.cr_base.specs.declared.entry.EntryKind.TheVariants as kinds
 use Rattle.cr_base.specs.declared.entry.Stamped.{Stamped}
 use Rattle.cr_base.specs.declared.standing.Standing.{Standing}
 use Rattle.cr_base.specs.declared.tag.SetTag.{SetTag}
-use Rattle.cr_base.specs.declared.words.Phase.TheVariants.{Bidding}
 use Rattle.cr_base.specs.Lists.{given, is_number}
 use Rattle.cr_base.specs.History.{History, TagTold, tag_told}
 use Rattle.cr_base.specs.HistoryFacts.{standing_of, tags_left, tags_of}
 use Rattle.cr_base.specs.Page.{is_clear_member, gets_tags}
-use Rattle.cr_base.specs.Phases.{is_from}
+use Rattle.cr_base.specs.Phases.{committee_sees_tags}
 use Rattle.cr_base.specs.Tags.{tag_owner, is_owner, is_tag_for, tags_for}
 use Rattle.cr_base.specs.TagTexts.{is_tilded, is_private, is_for_chairs, is_for_all}
 use Rattle.cr_base.specs.Words.{is_chair, is_member}
@@ -227,7 +226,7 @@ tags-seen u p H told =
     chair = is_chair by.role
 
     begun : Bool
-    begun = is_from Bidding by.phase
+    begun = committee_sees_tags by.phase
 
     first : (all k b rest : Bool) → (k && b) ≡ true → all ≡ true → ((all && k && b) || rest) ≡ true
     first all k b rest h ha = grind arith

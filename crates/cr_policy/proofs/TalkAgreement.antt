@@ -5,12 +5,11 @@ use Rattle.std.specs.List.{All}
 use Rattle.std.proofs.lemmas.List.{length-map}
 use Rattle.cr_base.specs.declared.reply.AccountLine.{AccountLine}
 use Rattle.cr_base.specs.declared.standing.Standing.{Standing}
-use Rattle.cr_base.specs.declared.words.Phase.TheVariants.{Discussion}
 use Rattle.cr_base.specs.Answering.{comment_line}
 use Rattle.cr_base.specs.History.{History, CommentTold}
 use Rattle.cr_base.specs.HistoryFacts.{comments_of, tags_of}
 use Rattle.cr_base.specs.Page.{gets_tags, is_clear_member}
-use Rattle.cr_base.specs.Phases.{is_from}
+use Rattle.cr_base.specs.Phases.{members_read_comments}
 use Rattle.cr_base.specs.Rows.{IsBoundedEntry}
 use Rattle.cr_base.specs.Sources.{standing_at}
 use Rattle.cr_base.specs.Tables.{tables_of}
@@ -31,18 +30,18 @@ module _ (u : Option ℕ) (H : History) (told : AreTold H) (p : ℕ) where
   -- ---- comments
 
   -- as one who discusses the paper is told of them
-  pub comments-tables : (accounts : List AccountLine) → All IsBoundedEntry H → is_clear_member by ≡ true → is_from Discussion by.phase ≡ true
+  pub comments-tables : (accounts : List AccountLine) → All IsBoundedEntry H → is_clear_member by ≡ true → members_read_comments by.phase ≡ true
       → map (comment_line by accounts) (comments_in_view p (view u H))
       ≡ map (comment_line by accounts) (map comment_as_told (comments_in (tables_of H).talk p))
   comments-tables accounts bounded clear discussed =
       subst
-      (λ (s : Standing). is_clear_member s ≡ true → is_from Discussion s.phase ≡ true
+      (λ (s : Standing). is_clear_member s ≡ true → members_read_comments s.phase ≡ true
       → map (comment_line s accounts) (comments_in_view p (view u H)) ≡ map (comment_line s accounts) (comments_of p H))
       (told.standing u (Some p)) (λ clear discussed. comments-seen u p H accounts clear discussed bounded) clear discussed
       ∙ ap (map (comment_line by accounts)) (told.comments p)
 
   -- so she sees how many there are
-  pub comment_count-tables : All IsBoundedEntry H → is_clear_member by ≡ true → is_from Discussion by.phase ≡ true
+  pub comment_count-tables : All IsBoundedEntry H → is_clear_member by ≡ true → members_read_comments by.phase ≡ true
       → length (comments_in_view p (view u H)) ≡ length (map comment_as_told (comments_in (tables_of H).talk p))
   comment_count-tables bounded clear discussed =
       let seen : List CommentTold = comments_in_view p (view u H) in

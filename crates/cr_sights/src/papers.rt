@@ -23,7 +23,10 @@ fn shows_title(by: &Standing, mine: bool, is_last: bool, accepted: bool) -> bool
         || ((is_last && is_member by.now.role && members_see_papers by.now.phase)
         || ((is_last && accepted) || mine))) }
 {
-    by.author || is_last && by.role.is_member() && by.phase.members_see_papers() || is_last && accepted || mine
+    by.author
+        || is_last && by.role.is_member() && by.phase.members_see_papers()
+        || is_last && accepted
+        || mine
 }
 
 /// Whether she is shown the abstract of a submission or a revision.
@@ -33,7 +36,10 @@ fn shows_abstract(by: &Standing, mine: bool, is_last: bool, accepted: bool) -> b
         || ((is_last && is_published by.now.phase accepted) || mine))) }
 {
     let published = is_last && by.phase.publishes(accepted);
-    by.author || is_last && by.is_clear_member() && by.phase.members_see_papers() || published || mine
+    by.author
+        || is_last && by.is_clear_member() && by.phase.members_see_papers()
+        || published
+        || mine
 }
 
 /// Whether she is told that a user is an author of a paper: its authors are, who made the entry, clear chairs from
@@ -70,7 +76,10 @@ fn tells_upload(live: &Live, reader: UserNo, maker: UserNo, is_last: bool, paper
 {
     let by = live.standing(&Some(reader), &Some(paper));
     let published = is_last && by.phase.publishes(live.is_accepted(paper));
-    by.author || is_last && by.is_clear_member() && by.phase.members_see_papers() || published || maker == reader
+    by.author
+        || is_last && by.is_clear_member() && by.phase.members_see_papers()
+        || published
+        || maker == reader
 }
 
 /// Whether she is told that a paper is withdrawn: its authors are, who made the entry, and members from the bidding.

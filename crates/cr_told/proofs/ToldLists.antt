@@ -27,7 +27,7 @@ use Rattle.cr_base.specs.History.{History, Upload, BidTold, SeatTold, CommentTol
 use Rattle.cr_base.specs.HistoryFacts.{standing_of, phase_of, mode_of, role_of, is_author, is_conflicted, is_accepted}
 use Rattle.cr_base.specs.Lists.{listed, last, last_or, total, is_number}
 use Rattle.cr_base.specs.Page.{where_told, is_clear_member, is_clear_chair, shows_reviewer, shows_writer, gets_bids, gets_reviewers, gets_tags}
-use Rattle.cr_base.specs.Phases.{is_from}
+use Rattle.cr_base.specs.Phases.{is_from, members_see_papers, members_read_comments}
 use Rattle.cr_base.specs.Sources.{has_paper, name_in}
 use Rattle.cr_base.specs.Words.{is_member, is_chair, is_anonymous}
 use Rattle.cr_base.proofs.LastLaws.{last_from-map}
@@ -400,7 +400,7 @@ module _ (u : Option ℕ) (p : ℕ) (H : History) (there : IsSubmitted H p) (ord
   comments-told =
       ap (λ (by : Standing). comments_answered (reply_or_rule
       (judged (not (has_paper (facts_in_view u V) (Some p)) breaks rules.NoPaper ∷ not (is_member by.role) breaks rules.NotMember ∷ by.conflicted breaks rules.Conflict
-      ∷ not (is_from Discussion by.phase) breaks rules.WrongPhase ∷ [])
+      ∷ not (members_read_comments by.phase) breaks rules.WrongPhase ∷ [])
       (replies.Comments (map (comment_line by (accounts_in_view V)) (comments_in_view p V))))))
       (standing_from_view u (Some p) H)
       ∙ comments-gate (has_paper (facts_in_view u V) (Some p)) (is_member (role_of u H)) (is_conflicted u p H) (is_from Discussion (phase_of H))
@@ -429,7 +429,7 @@ module _ (u : Option ℕ) (p : ℕ) (H : History) (there : IsSubmitted H p) (ord
 
   reads-it : ((((is_author u p H || is_published (phase_of H) (is_accepted p H)) || is_member (role_of u H))
       && not (not (is_author u p H || is_published (phase_of H) (is_accepted p H)) && is_conflicted u p H))
-      && ((is_author u p H || is_published (phase_of H) (is_accepted p H)) || is_from Bidding (phase_of H)))
+      && ((is_author u p H || is_published (phase_of H) (is_accepted p H)) || members_see_papers (phase_of H)))
       ≡ (is_author u p H || (is_eligible u p H || appears p H))
   reads-it =
       to (is_member (role_of u H)) _ (is_from Bidding (phase_of H)) _ (is_author u p H) (is_conflicted u p H) (is_published (phase_of H) (is_accepted p H)) _
@@ -450,11 +450,11 @@ module _ (u : Option ℕ) (p : ℕ) (H : History) (there : IsSubmitted H p) (ord
       (judged (not (has_paper (facts_in_view u V) (Some p)) breaks rules.NoPaper
       ∷ not (reads_freely (standing_from_view u (Some p) H i) (accepted-seen u p H i) || is_member (standing_from_view u (Some p) H i).role) breaks rules.NotMember
       ∷ (not (reads_freely (standing_from_view u (Some p) H i) (accepted-seen u p H i)) && (standing_from_view u (Some p) H i).conflicted) breaks rules.Conflict
-      ∷ not (reads_freely (standing_from_view u (Some p) H i) (accepted-seen u p H i) || is_from Bidding (standing_from_view u (Some p) H i).phase) breaks rules.WrongPhase
+      ∷ not (reads_freely (standing_from_view u (Some p) H i) (accepted-seen u p H i) || members_see_papers (standing_from_view u (Some p) H i).phase) breaks rules.WrongPhase
       ∷ not (is_some (found i)) breaks rules.NoContent ∷ [])
       (replies.Content (unwrap_or (found i) [])))))
       ∙ content-gate (has_paper (facts_in_view u V) (Some p)) (reads_freely stands (is_accepted p H) || is_member (role_of u H))
-      (not (reads_freely stands (is_accepted p H)) && is_conflicted u p H) (reads_freely stands (is_accepted p H) || is_from Bidding (phase_of H)) shown is-there
+      (not (reads_freely stands (is_accepted p H)) && is_conflicted u p H) (reads_freely stands (is_accepted p H) || members_see_papers (phase_of H)) shown is-there
       ∙ ap (λ b. where_told b shown) reads-it
       ∙ free (is_author u p H || (is_eligible u p H || appears p H)) shown none
     where

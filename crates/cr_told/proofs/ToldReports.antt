@@ -13,7 +13,6 @@ use Rattle.cr_base.specs.declared.review.ReviewLine.{ReviewLine}
 use Rattle.cr_base.specs.declared.standing.Standing.{Standing}
 use Rattle.cr_base.specs.declared.words.Decision.TheVariants.{Accept}
 use Rattle.cr_base.specs.declared.words.Kind.TheVariants.{Primary, Secondary, Pc}
-use Rattle.cr_base.specs.declared.words.Phase.TheVariants.{Bidding, Discussion, Notification}
 use Rattle.cr_base.specs.Answering.{reply_or_rule}
 use Rattle.cr_base.specs.Checks.{judged, ◌breaks◌}
 use Rattle.cr_base.specs.History.{History, SeatTold, FormTold}
@@ -21,7 +20,7 @@ use Rattle.cr_base.specs.HistoryFacts.{phase_of, role_of, is_author, assigned_un
 use Rattle.cr_base.specs.Labels.{by_labels, most_labels}
 use Rattle.cr_base.specs.Lists.{listed, last, last_or, is_number, total, until, since}
 use Rattle.cr_base.specs.Page.{shows_reviewer}
-use Rattle.cr_base.specs.Phases.{is_from}
+use Rattle.cr_base.specs.Phases.{members_see_papers, chairs_see_reviewers, members_read_reviews, members_read_decisions, letters_are_sent}
 use Rattle.cr_base.specs.Reports.{in_four, space, line_end, to_left, paper_mark, papers_end, scores_line, is_seat_of_kind, decision_word, decisions_end}
 use Rattle.cr_base.specs.Reports.{is_accepting, is_rejecting, is_undecided, paper_named_line, decision_named_line, letter_form, letter_told}
 use Rattle.cr_base.specs.Reports.{members_report, chairs_report, letter_checks, papers_told, scores_told, load_told, decisions_told}
@@ -157,20 +156,20 @@ module _ (u : Option ℕ) (H : History) where
 pub reports_told : ReportsTold
 reports_told u H = record {
   papers =
-      ap (λ (by : Standing). report_answered (reply_or_rule (judged (members_report by Bidding) (replies.Report (papers_told (F u H) (S u H)))))) (standing_from_view u None H)
-      ∙ to-members (is_member (role_of u H)) (is_from Bidding (phase_of H)) (papers_told (F u H) (S u H))
+      ap (λ (by : Standing). report_answered (reply_or_rule (judged (members_report by (members_see_papers by.phase)) (replies.Report (papers_told (F u H) (S u H)))))) (standing_from_view u None H)
+      ∙ to-members (is_member (role_of u H)) (members_see_papers (phase_of H)) (papers_told (F u H) (S u H))
       ∙ (λ i. where_known (member-committee (role_of u H) i && (phase-words (phase_of H)).bidding i) (papers-same u H i));
   scores =
-      ap (λ (by : Standing). report_answered (reply_or_rule (judged (members_report by Discussion) (replies.Report (scores_told (F u H) (S u H)))))) (standing_from_view u None H)
-      ∙ to-members (is_member (role_of u H)) (is_from Discussion (phase_of H)) (scores_told (F u H) (S u H))
+      ap (λ (by : Standing). report_answered (reply_or_rule (judged (members_report by (members_read_reviews by.phase)) (replies.Report (scores_told (F u H) (S u H)))))) (standing_from_view u None H)
+      ∙ to-members (is_member (role_of u H)) (members_read_reviews (phase_of H)) (scores_told (F u H) (S u H))
       ∙ (λ i. where_known (member-committee (role_of u H) i && (phase-words (phase_of H)).discussion i) (scores-text u H i));
   load =
-      ap (λ (by : Standing). report_answered (reply_or_rule (judged (chairs_report by Bidding) (replies.Report (load_told (F u H) (S u H)))))) (standing_from_view u None H)
-      ∙ to-chairs (is_chair (role_of u H)) (is_from Bidding (phase_of H)) (load_told (F u H) (S u H))
+      ap (λ (by : Standing). report_answered (reply_or_rule (judged (chairs_report by (chairs_see_reviewers by.phase)) (replies.Report (load_told (F u H) (S u H)))))) (standing_from_view u None H)
+      ∙ to-chairs (is_chair (role_of u H)) (chairs_see_reviewers (phase_of H)) (load_told (F u H) (S u H))
       ∙ (λ i. where_known (chair-leads (role_of u H) i && (phase-words (phase_of H)).bidding i) (load-text u H i));
   decisions =
-      ap (λ (by : Standing). report_answered (reply_or_rule (judged (members_report by Discussion) (replies.Report (decisions_told (F u H) (S u H)))))) (standing_from_view u None H)
-      ∙ to-members (is_member (role_of u H)) (is_from Discussion (phase_of H)) (decisions_told (F u H) (S u H))
+      ap (λ (by : Standing). report_answered (reply_or_rule (judged (members_report by (members_read_decisions by.phase)) (replies.Report (decisions_told (F u H) (S u H)))))) (standing_from_view u None H)
+      ∙ to-members (is_member (role_of u H)) (members_read_decisions (phase_of H)) (decisions_told (F u H) (S u H))
       ∙ (λ i. where_known (member-committee (role_of u H) i && (phase-words (phase_of H)).discussion i) (decisions-text u H i));
 }
 
@@ -178,7 +177,7 @@ pub letters_told : LettersTold
 letters_told u p H legal there =
     ap (λ (by : Standing). report_answered (reply_or_rule
     (judged (letter_checks by (has_paper (F u H) (Some p))) (replies.Report (letter_told (F u H) (S u H) p))))) (standing_from_view u (Some p) H)
-    ∙ to-authors (has_paper (F u H) (Some p)) (is_author u p H) (is_from Notification (phase_of H)) (letter_told (F u H) (S u H) p)
+    ∙ to-authors (has_paper (F u H) (Some p)) (is_author u p H) (letters_are_sent (phase_of H)) (letter_told (F u H) (S u H) p)
     (ap (λ papers. list_any (λ q. q == p) papers) (papers-seen u H) ∙ there)
     ∙ (λ i. where_known (is_author u p H && (phase-words (phase_of H)).notification i)
     (paper_named_line p (unwrap_or (last (reads.titles u p H i)) [])

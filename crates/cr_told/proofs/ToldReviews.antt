@@ -22,7 +22,7 @@ use Rattle.cr_base.specs.HistoryFacts.{standing_of, phase_of, role_of, is_author
 use Rattle.cr_base.specs.Labels.{by_labels, most_labels}
 use Rattle.cr_base.specs.Lists.{listed, last, is_number, until, since}
 use Rattle.cr_base.specs.Page.{where_told, shows_reviewer}
-use Rattle.cr_base.specs.Phases.{is_from, is_phase}
+use Rattle.cr_base.specs.Phases.{is_from, is_phase, reviewers_read_own, members_read_reviews, authors_read_reviews}
 use Rattle.cr_base.specs.Sources.{has_paper}
 use Rattle.cr_base.specs.Words.{is_member}
 use Rattle.cr_base.proofs.LastLaws.{last_from-map, listed-map}
@@ -189,9 +189,9 @@ module _ (u : Option ℕ) (p : ℕ) (H : History) where
     gate true false over true false false lines h = refl
     gate true false over true false true lines h = refl
 
-    answered-to : (not (is_author u p H && not (is_from Notification (phase_of H))) && (is_author u p H || is_member (role_of u H))
+    answered-to : (not (is_author u p H && not (authors_read_reviews (phase_of H))) && (is_author u p H || is_member (role_of u H))
         && not (not (is_author u p H) && is_conflicted u p H)
-        && (is_author u p H || is_from Discussion (phase_of H) || (is_reviewer u p H && is_phase (phase_of H) Reviewing)))
+        && (is_author u p H || members_read_reviews (phase_of H) || (is_reviewer u p H && reviewers_read_own (phase_of H))))
         ≡ (is_notified u p H || discusses u p H || reviews_now u p H)
     answered-to =
         to (is_member (role_of u H)) _ (is_past_submission (phase_of H)) (is_from Discussion (phase_of H)) _ (is_from Notification (phase_of H)) _
@@ -232,16 +232,16 @@ module _ (u : Option ℕ) (p : ℕ) (H : History) where
     reviews-told =
         ap (λ (by : Standing). reviews_answered (reply_or_rule
         (judged (not (has_paper (facts_in_view u V) (Some p)) breaks rules.NoPaper
-        ∷ (by.author && not (is_from Notification by.phase)) breaks rules.WrongPhase
+        ∷ (by.author && not (authors_read_reviews by.phase)) breaks rules.WrongPhase
         ∷ not (by.author || is_member by.role) breaks rules.NotMember
         ∷ (not by.author && by.conflicted) breaks rules.Conflict
-        ∷ not (by.author || is_from Discussion by.phase || (by.reviewer && is_phase by.phase Reviewing)) breaks rules.WrongPhase
+        ∷ not (by.author || members_read_reviews by.phase || (by.reviewer && reviewers_read_own by.phase)) breaks rules.WrongPhase
         ∷ [])
-        (replies.Reviews (lines_by by.author (is_from Discussion by.phase) (shows_reviewer by) (not by.author) (ordinal_in_view u p V))))))
+        (replies.Reviews (lines_by by.author (members_read_reviews by.phase) (shows_reviewer by) (not by.author) (ordinal_in_view u p V))))))
         (standing_from_view u (Some p) H)
         ∙ gate (has_paper (facts_in_view u V) (Some p)) (is_author u p H) (is_from Notification (phase_of H)) (is_member (role_of u H)) (is_conflicted u p H)
-        (is_author u p H || is_from Discussion (phase_of H) || (is_reviewer u p H && is_phase (phase_of H) Reviewing))
-        (lines_by (is_author u p H) (is_from Discussion (phase_of H)) (shows_reviewer stands) (not (is_author u p H)) (ordinal_in_view u p V)) (is-there u p H there order)
+        (is_author u p H || members_read_reviews (phase_of H) || (is_reviewer u p H && reviewers_read_own (phase_of H)))
+        (lines_by (is_author u p H) (members_read_reviews (phase_of H)) (shows_reviewer stands) (not (is_author u p H)) (ordinal_in_view u p V)) (is-there u p H there order)
         ∙ (λ i. where_known (answered-to i)
         (lines_by (is_author u p H) ((phase-words (phase_of H)).discussion i) (knows u p H there order i) (not (is_author u p H)) (ordinal_in_view u p V)))
         ∙ ap (where_known (is_notified u p H || discusses u p H || reviews_now u p H))
