@@ -1,22 +1,36 @@
 #!/usr/bin/env python3
-"""Measures what the gate costs: runs a command such as `rt ci` and adds up the processor time of every
-prover below it, crate by crate, in three parts: the crates' own proofs, their tests, and the edits that
-have to be refused. Prints a table in Markdown.
+"""Measures what the gate costs: runs a command such as `rt ci` and adds up the processor time of all that it starts,
+crate by crate, in five parts: the crates' own proofs, their tests, the edits that have to be refused, what makes the
+programs (Rattle's back end, clang and Rattle's own compiler, linking), and running them and the tests. Prints a table
+in Markdown.
 
     bench/gate_time.py rt ci --anew        from nothing
     bench/gate_time.py --pid 1234          joins a run that is under way
 
-It looks at /proc every half second, so what starts and ends between two looks is missed; a prover runs
-for seconds at least. Where it is stopped (SIGTERM, or Control-C) it prints what it saw by then.
+The sum of all is exact: the kernel adds a process's time to its parent's when it ends. Whose it is, is looked up in
+/proc every quarter of a second; what ran between the last look at a process and its end has a line of its own. Where
+the script is stopped (SIGTERM, or Control-C) it prints what it saw by then.
 """
+import ctypes
 import os
+import resource
 import signal
 import subprocess
 import sys
 import time
 
 TICKS = os.sysconf("SC_CLK_TCK")
-PARTS = ("proofs", "tests", "edits")
+PARTS = ("proofs", "tests", "edits", "builds", "runs")
+ELSE = ("", "rt itself and all else")
+PR_SET_CHILD_SUBREAPER = 36
+
+
+class Process:
+    """What was last seen of a process: whose it is, and its seconds, its own and those of its children that ended."""
+
+    def __init__(self):
+        self.parent = self.label = None
+        self.own = self.ended = 0.0
 
 
 def read(path):
@@ -28,92 +42,131 @@ def read(path):
         return b""
 
 
-def parents():
-    """Every process with its parent."""
+def stats():
+    """Every process: its number with when it started, which no other shares, its parent's number, and its seconds."""
     found = {}
     for name in os.listdir("/proc"):
         if name.isdigit():
             fields = read(f"/proc/{name}/stat").rpartition(b")")[2].split()
-            if fields:
-                found[int(name)] = int(fields[1])
+            if len(fields) > 19:
+                own, ended = (sum(map(int, fields[at : at + 2])) / TICKS for at in (11, 13))
+                found[int(name)] = ((int(name), fields[19]), int(fields[1]), own, ended)
     return found
 
 
-def below(root):
-    """The processes that descend from `root`."""
-    up = parents()
-    down = {}
-    for pid, parent in up.items():
-        down.setdefault(parent, []).append(pid)
-    waiting, found = [root], []
+def label(pid, inherited):
+    """The crate and the part that a process works for: by its words, else its parent's."""
+    words = [word.decode(errors="replace") for word in read(f"/proc/{pid}/cmdline").split(b"\0")]
+    try:
+        folder = os.readlink(f"/proc/{pid}/cwd")
+    except OSError:
+        folder = ""
+    tool = os.path.basename(words[0])
+    if tool == "rattle" and "--crate-name" in words:
+        crate = words[words.index("--crate-name") + 1]
+        if os.path.basename(folder).startswith("rt-edit-"):
+            return crate, "edits"
+        if "--crate-checked" in words:
+            return crate, "builds"
+        return crate, "tests" if "--test" in words else "proofs"
+    if tool == "rattle-link":
+        return os.path.basename(folder), "builds"
+    if tool in ("clang", "ld.lld", "llvm-ar", "rattle-x64"):
+        return inherited[0], "builds"
+    for word in words:
+        if "/rt-run-" in word and "/bin/" in word:
+            return os.path.basename(word).removesuffix("_tests"), "runs"
+    return inherited
+
+
+def look(joined, seen):
+    """Notes what the joined process, else each child of this one, and all below has used so far, and whose it is."""
+    found = stats()
+    below = {}
+    for pid, (_, parent, _, _) in found.items():
+        below.setdefault(parent, []).append(pid)
+    first = below.get(os.getpid(), []) if joined is None else [joined] if joined in found else []
+    waiting = [(pid, None, ELSE) for pid in first]
     while waiting:
-        for child in down.get(waiting.pop(), []):
-            found.append(child)
-            waiting.append(child)
-    return found
+        pid, parent, inherited = waiting.pop()
+        key, _, own, ended = found[pid]
+        process = seen.setdefault(key, Process())
+        process.parent = process.parent or parent
+        process.label = label(pid, inherited)
+        process.own, process.ended = own, ended
+        waiting += [(child, key, process.label) for child in below.get(pid, [])]
+    return {found[pid][0] for pid in found}
 
 
-def look(root, seen):
-    """Notes the processor time so far of each prover below `root`."""
-    for pid in below(root):
-        words = read(f"/proc/{pid}/cmdline").split(b"\0")
-        if b"--crate-name" not in words or not words[0].endswith(b"/rattle"):
-            continue
-        crate = words[words.index(b"--crate-name") + 1].decode()
-        try:
-            where = os.readlink(f"/proc/{pid}/cwd")
-        except OSError:
-            continue
-        if "must" in where or "edit" in where:
-            part = "edits"
-        elif b"--test" in words:
-            part = "tests"
-        else:
-            part = "proofs"
-        fields = read(f"/proc/{pid}/stat").rpartition(b")")[2].split()
-        if len(fields) > 19:
-            seconds = (int(fields[11]) + int(fields[12])) / TICKS
-            seen[(pid, fields[19])] = (crate, part, where, seconds)
+def sums(seen, alive):
+    """The seconds of each label. Of a process's children that ended, what no look has seen is its own label's."""
+    gone = {}
+    for key, process in seen.items():
+        if key not in alive:
+            gone[process.parent] = gone.get(process.parent, 0.0) + process.own + process.ended
+    told = {}
+    for key, process in seen.items():
+        unseen = max(process.ended - gone.get(key, 0.0), 0.0)
+        told[process.label] = told.get(process.label, 0.0) + process.own + unseen
+    return told
 
 
-def table(seen):
-    """The sums, a line a crate."""
-    sums = {}
-    for crate, part, _, seconds in seen.values():
-        sums.setdefault(crate, dict.fromkeys(PARTS, 0.0))[part] += seconds
-    lines = ["| crate | proofs | tests | edits |", "|---|---|---|---|"]
-    for crate in sorted(sums):
-        lines.append(f"| {crate} | " + " | ".join(f"{sums[crate][part] / 60:.1f}" for part in PARTS) + " |")
-    whole = {part: sum(line[part] for line in sums.values()) / 60 for part in PARTS}
-    lines.append("| all, processor minutes | " + " | ".join(f"{whole[part]:.1f}" for part in PARTS) + " |")
+def table(told, total):
+    """The sums in minutes, a line a crate."""
+    rest = told.pop(ELSE, 0.0)
+    lines = ["| crate | " + " | ".join(PARTS) + " |", "|---" * (len(PARTS) + 1) + "|"]
+    for crate in sorted({crate for crate, _ in told}):
+        lines.append(f"| {crate} | " + " | ".join(f"{told.get((crate, part), 0.0) / 60:.1f}" for part in PARTS) + " |")
+    whole = [sum(seconds for (_, part), seconds in told.items() if part == wanted) / 60 for wanted in PARTS]
+    lines.append("| all, processor minutes | " + " | ".join(f"{minutes:.1f}" for minutes in whole) + " |")
+    seen = sum(whole) + rest / 60
+    lines += ["", f"{ELSE[1]}: {rest / 60:.1f}", f"between two looks: {max(total / 60 - seen, 0.0):.1f}"]
+    lines.append(f"together: {max(total / 60, seen):.1f} processor minutes")
     return "\n".join(lines)
+
+
+def used_by_children():
+    """The seconds of all that this script started and that ended."""
+    used = resource.getrusage(resource.RUSAGE_CHILDREN)
+    return used.ru_utime + used.ru_stime
+
+
+def reap():
+    """Takes the time of what lost its parent and ended: it is this script's child then."""
+    time.sleep(1)
+    try:
+        while os.waitpid(-1, os.WNOHANG)[0]:
+            pass
+    except ChildProcessError:
+        pass
 
 
 def main():
     words = sys.argv[1:]
     if not words:
         sys.exit(__doc__)
-    seen, run = {}, None
+    seen, alive, joined, run = {}, set(), None, None
     if words[0] == "--pid":
-        root = int(words[1])
-        alive = lambda: os.path.exists(f"/proc/{root}")
+        joined = int(words[1])
+        goes_on = lambda: os.path.exists(f"/proc/{joined}")
     else:
+        ctypes.CDLL(None).prctl(PR_SET_CHILD_SUBREAPER, 1, 0, 0, 0)
         run = subprocess.Popen(words)
-        root = run.pid
-        alive = lambda: run.poll() is None
+        goes_on = lambda: run.poll() is None
     signal.signal(signal.SIGTERM, signal.default_int_handler)
+    began = time.time()
     try:
-        while alive():
-            look(root, seen)
-            time.sleep(0.5)
+        while goes_on():
+            alive = look(joined, seen)
+            time.sleep(0.25)
     except KeyboardInterrupt:
         print("stopped before its end")
-    print(table(seen), flush=True)
-    if os.environ.get("GATE_TIME_PLACES"):
-        for crate, part, where, seconds in sorted(seen.values()):
-            print(f"{seconds:8.1f} {crate} {part} {where}")
+    took = time.time() - began
+    reap()
+    print(table(sums(seen, alive), used_by_children()))
+    print(f"by the clock: {took / 60:.1f} minutes", flush=True)
     if run is not None:
-        sys.exit(run.returncode)
+        sys.exit(run.poll())
 
 
 if __name__ == "__main__":

@@ -3,8 +3,8 @@
 use crate::connection::{Connection, Talk};
 use crate::store::{PATH, Store, copied};
 use cr_base::Row;
-use cr_ports::{MemGates, MemSink, MemSource};
-use cr_top::{Exit, top};
+use cr_ports::{MemGates, MemShelf, MemSink, MemSource};
+use cr_top::{Exit, run_top};
 use std::alloc::{AllocError, Global};
 use std::sync::Wait;
 use std::thread::Threads;
@@ -101,6 +101,26 @@ pub struct Input<'a> {
     pub doors: Doors<'a>,
 }
 
+/// What a run is handed: its own streams, its stores, and the gates of its connections.
+struct Outside {
+    source: MemSource,
+    sink: MemSink,
+    shelf: MemShelf,
+    gates: MemGates,
+}
+
+// Written out, so that a caller doesn't prove again how each part is dropped.
+impl Drop for Outside {
+    fn drop(self) {
+        let Outside {
+            source: _,
+            sink: _,
+            shelf: _,
+            gates: _,
+        } = self;
+    }
+}
+
 /// What came of one connection.
 #[derive(Drop)]
 pub struct Came {
@@ -110,7 +130,6 @@ pub struct Came {
 }
 
 /// What came of a run.
-#[derive(Drop)]
 pub struct Outcome {
     pub exit: Exit,
     pub own: Came,
@@ -118,6 +137,18 @@ pub struct Outcome {
     pub connections: Vec<Came>,
     /// The rows that stand in the store.
     pub rows: Vec<Row>,
+}
+
+// Written out, as that of `Outside`.
+impl Drop for Outcome {
+    fn drop(self) {
+        let Outcome {
+            exit: _,
+            own: _,
+            connections: _,
+            rows: _,
+        } = self;
+    }
 }
 
 // What came of a connection.
@@ -140,6 +171,16 @@ fn ends_of(alloc: Global, gates: &MemGates) -> Result<Vec<Came>, AllocError> {
     Ok(all)
 }
 
+// What came of a run that ended so.
+fn outcome_of(alloc: Global, exit: Exit, outside: &Outside) -> Result<Outcome, AllocError> {
+    Ok(Outcome {
+        exit,
+        own: end_of(alloc, &outside.source, &outside.sink)?,
+        connections: ends_of(alloc, &outside.gates)?,
+        rows: copied(alloc, outside.shelf.rows_at(PATH))?,
+    })
+}
+
 // A copy of the lists.
 fn lists(alloc: Global, lists: &[Vec<u64>]) -> Result<Vec<Vec<u64>>, AllocError> {
     let mut copies = Vec::new(alloc);
@@ -147,6 +188,21 @@ fn lists(alloc: Global, lists: &[Vec<u64>]) -> Result<Vec<Vec<u64>>, AllocError>
         copies.push(list.to_vec(alloc)?)?;
     }
     Ok(copies)
+}
+
+impl Outside {
+    // Does what the words ask for.
+    fn run<R: Threads + Wait + Sync>(&mut self, rt: &R, alloc: Global, words: &[String]) -> Exit {
+        run_top(
+            rt,
+            alloc,
+            words,
+            &mut self.source,
+            &mut self.sink,
+            &mut self.shelf,
+            &mut self.gates,
+        )
+    }
 }
 
 impl Input<'_> {
@@ -167,17 +223,38 @@ impl Input<'_> {
         Ok(())
     }
 
-    // Gates that give the connections.
-    fn gates(&self, alloc: Global) -> Result<MemGates, AllocError> {
+    // Puts all connections behind those that the gates give.
+    fn add_all(&self, alloc: Global, gates: &mut MemGates) -> Result<(), AllocError> {
+        for connection in self.doors.connections {
+            self.add(alloc, gates, &connection.talk, connection.count)?;
+        }
+        Ok(())
+    }
+
+    // Gates that give no connection yet.
+    fn no_gates(&self, alloc: Global) -> Result<MemGates, AllocError> {
         let mut opens = Vec::new(alloc);
         if self.doors.are_shut {
             opens.push(0)?;
         }
-        let mut gates = MemGates::new(alloc, opens, lists(alloc, self.doors.failing)?);
-        for connection in self.doors.connections {
-            self.add(alloc, &mut gates, &connection.talk, connection.count)?;
-        }
+        Ok(MemGates::new(alloc, opens, lists(alloc, self.doors.failing)?))
+    }
+
+    // Gates that give the connections.
+    fn gates(&self, alloc: Global) -> Result<MemGates, AllocError> {
+        let mut gates = self.no_gates(alloc)?;
+        self.add_all(alloc, &mut gates)?;
         Ok(gates)
+    }
+
+    // What the run is handed, with room for so many bytes of answers.
+    fn outside(&self, alloc: Global, room: usize) -> Result<Outside, AllocError> {
+        Ok(Outside {
+            source: self.cut.source(alloc, self.sent, self.read_fault)?,
+            sink: self.out_cut.sink(alloc, room, self.write_fault)?,
+            shelf: self.store.shelf(alloc)?,
+            gates: self.gates(alloc)?,
+        })
     }
 
     /// Runs it, with room for so many bytes of answers.
@@ -187,24 +264,8 @@ impl Input<'_> {
         alloc: Global,
         room: usize,
     ) -> Result<Outcome, AllocError> {
-        let mut source = self.cut.source(alloc, self.sent, self.read_fault)?;
-        let mut sink = self.out_cut.sink(alloc, room, self.write_fault)?;
-        let mut shelf = self.store.shelf(alloc)?;
-        let mut gates = self.gates(alloc)?;
-        let exit = top(
-            rt,
-            alloc,
-            self.words,
-            &mut source,
-            &mut sink,
-            &mut shelf,
-            &mut gates,
-        );
-        Ok(Outcome {
-            exit,
-            own: end_of(alloc, &source, &sink)?,
-            connections: ends_of(alloc, &gates)?,
-            rows: copied(alloc, shelf.rows_at(PATH))?,
-        })
+        let mut outside = self.outside(alloc, room)?;
+        let exit = outside.run(rt, alloc, self.words);
+        outcome_of(alloc, exit, &outside)
     }
 }

@@ -294,14 +294,25 @@ fn compare<R: Threads + Wait + Sync>(
     due: &Due<'_>,
 ) -> Result<Option<String>, AllocError> {
     let outcome = input.run(rt, alloc, due.out.len().saturating_add(SPARE_ROOM))?;
+    differing_outcome(alloc, case, input.cut, due, &outcome)
+}
+
+// The first difference between what came of a run by this cut and what is due of it.
+fn differing_outcome(
+    alloc: Global,
+    case: &Case,
+    cut: Cut,
+    due: &Due<'_>,
+    outcome: &Outcome,
+) -> Result<Option<String>, AllocError> {
     if outcome.own.out.as_slice() != due.out {
         return Ok(Some(differing_answer(alloc, case, outcome.own.out.as_slice(), due.out)?));
     }
-    if let Some(why) = differing_end(alloc, &outcome, due)? {
+    if let Some(why) = differing_end(alloc, outcome, due)? {
         return Ok(Some(why));
     }
     let rows = outcome.rows.as_slice();
-    differing_connection(alloc, case, input.cut, outcome.connections.as_slice(), rows)
+    differing_connection(alloc, case, cut, outcome.connections.as_slice(), rows)
 }
 
 // The first answer that isn't the one that is due.

@@ -18,7 +18,6 @@ use std::marker::Model;
 ///
 /// Contracts see the rows at each path, the paths that were opened, the lists and the count of
 /// faults.
-#[derive(Drop)]
 pub struct MemShelf {
     alloc: Global,
     stores: BTreeMap<String, Vec<Row>>,
@@ -26,6 +25,20 @@ pub struct MemShelf {
     failing_appends: Vec<u64>,
     failing_reads: Vec<u64>,
     faults: u64,
+}
+
+// Written out, so that a caller doesn't prove again how each part is dropped.
+impl Drop for MemShelf {
+    fn drop(self) {
+        let MemShelf {
+            alloc: _,
+            stores: _,
+            opens: _,
+            failing_appends: _,
+            failing_reads: _,
+            faults: _,
+        } = self;
+    }
 }
 
 impl Model for MemShelf {

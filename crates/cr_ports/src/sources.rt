@@ -15,10 +15,19 @@ use std::marker::Model;
 /// are listed.
 ///
 /// Contracts see the bytes that are left and the lists.
-#[derive(Drop)]
 pub struct MemSource {
     bytes: Unread,
     script: Script,
+}
+
+// Written out, so that a caller doesn't prove again how each part is dropped.
+impl Drop for MemSource {
+    fn drop(self) {
+        let MemSource {
+            bytes: _,
+            script: _,
+        } = self;
+    }
 }
 
 impl Model for MemSource {

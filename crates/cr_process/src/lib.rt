@@ -8,7 +8,7 @@
 use cr_net::TcpGates;
 use cr_ports::{ReadSource, WriteSink};
 use cr_sqlite::SqliteShelf;
-use cr_top::{Exit, top};
+use cr_top::{Exit, run_top};
 use cr_words::{Job, read_words};
 use std::alloc::{AllocError, Global};
 use std::env;
@@ -86,7 +86,7 @@ pub fn run<R: Threads + Wait + Sync>(rt: &HostRuntime, handle: &R) -> ExitCode {
         let _ = tell(rt, &[], Exit::OutOfMemory, &shelf, &gates);
         return ExitCode::from(Exit::OutOfMemory.code());
     };
-    let exit = top(
+    let exit = run_top(
         handle,
         rt.alloc(),
         words.as_slice(),

@@ -10,14 +10,14 @@ ghost use Rattle.cr_session.specs.Turning.{Sends, ServesRequest};
 ghost use Rattle.cr_ports.specs.Writing.{outlet_of};
 
 use crate::reading::{RoutedInbox, WishRead, read_wish};
+use crate::server::Server;
 use crate::turn::{TurnResult, block_of, in_turn, print_turn};
 use cr_book::Book;
 use cr_http::Refusal;
-use cr_lock::{HistoryLock, Pass};
+use cr_lock::Pass;
 use cr_ports::{Keeper, Sink, Source, write_all};
 use cr_print::{ANSWER_ROOM, Refused, Sending, no_memory_text, print_refusal};
 use cr_wire::Wish;
-use std::alloc::Global;
 use std::sync::Wait;
 
 /// Why a connection was closed before its stream ended.
@@ -71,15 +71,14 @@ fn closes(wish: &Wish, number: usize) -> bool
 
 /// Judges one request in one turn, and writes its answer, in room that was made when the connection began.
 fn serve_request<R: Wait, K: Keeper, O: Sink>(
-    rt: &R,
-    lock: &HistoryLock<Book<K>>,
+    server: &Server<'_, R, K>,
     pass: &mut Pass<Book<K>>,
     sink: &mut O,
     reply: &mut Vec<u8>,
     wish: Wish,
     number: usize,
 ) -> RequestOutcome
-    requires own { pass.old.lock ≡ lock.now.lock }
+    requires own { pass.old.lock ≡ server.now.lock.lock }
     requires few { pass.old.turns < 2 ^ 40 }
     requires bounded { IsBoundedWhat wish.what }
     requires room { 512 ≤ vec_capacity reply.old }
@@ -94,7 +93,7 @@ fn serve_request<R: Wait, K: Keeper, O: Sink>(
         closes: close,
     };
     reply.clear();
-    let turn = in_turn(rt, lock, pass, wish);
+    let turn = in_turn(server, pass, wish);
     if let TurnResult::OutOfMemory = turn {
         return RequestOutcome::OutOfMemory;
     }
@@ -154,9 +153,7 @@ pub fn note_no_memory<O: Sink>(sink: &mut O, is_head: bool) -> Ending
 
 /// Reads request number `number` and serves it; an ending where it is the last.
 fn serve_next_request<R: Wait, K: Keeper, S: Source, O: Sink>(
-    rt: &R,
-    alloc: Global,
-    lock: &HistoryLock<Book<K>>,
+    server: &Server<'_, R, K>,
     pass: &mut Pass<Book<K>>,
     source: &mut S,
     sink: &mut O,
@@ -164,7 +161,7 @@ fn serve_next_request<R: Wait, K: Keeper, S: Source, O: Sink>(
     reply: &mut Vec<u8>,
     number: usize,
 ) -> Option<Ending>
-    requires own { pass.old.lock ≡ lock.now.lock }
+    requires own { pass.old.lock ≡ server.now.lock.lock }
     requires few { pass.old.turns < 2 ^ 40 }
     requires room { 512 ≤ vec_capacity reply.old }
     ensures round { let world = world_of S.faults O.taken O.faults in
@@ -173,10 +170,10 @@ fn serve_next_request<R: Wait, K: Keeper, S: Source, O: Sink>(
     ensures pass { StaysPass 1 pass.old pass.new }
     ensures room { 512 ≤ vec_capacity reply.new }
 {
-    match read_wish(alloc, source, inbox) {
+    match read_wish(server.alloc, source, inbox) {
         WishRead::Wish(wish) => {
             let is_head = wish.is_head;
-            match serve_request(rt, lock, pass, sink, reply, wish, number) {
+            match serve_request(server, pass, sink, reply, wish, number) {
                 RequestOutcome::Goes => None,
                 RequestOutcome::Closes => Some(Ending::Closed(Why::Asked)),
                 RequestOutcome::WriteFault => Some(Ending::WriteFault),
@@ -208,14 +205,12 @@ fn serve_next_request<R: Wait, K: Keeper, S: Source, O: Sink>(
 /// can't be had, the connection ends before anything is read. Later, memory may run out for more bytes,
 /// for reading a body or a search, for an accepted command and for a query that isn't refused, and for nothing else.
 pub fn serve_connection<R: Wait, K: Keeper, S: Source, O: Sink>(
-    rt: &R,
-    alloc: Global,
-    lock: &HistoryLock<Book<K>>,
+    server: &Server<'_, R, K>,
     pass: &mut Pass<Book<K>>,
     source: &mut S,
     sink: &mut O,
 ) -> Ending
-    requires own { pass.old.lock ≡ lock.now.lock }
+    requires own { pass.old.lock ≡ server.now.lock.lock }
     requires few { pass.old.turns ≤ 2 ^ 40 - 2 ^ 20 }
     ensures connection { let world = world_of S.faults O.taken O.faults in
         ConnectionInHistory S.left S.read_gives result 0 [] (world pass.old source.old sink.old)
@@ -232,16 +227,16 @@ pub fn serve_connection<R: Wait, K: Keeper, S: Source, O: Sink>(
     ensures read_fault { result ≡ Ending.ReadFault → Rises (S.faults source.old) (S.faults source.new) }
     ensures write_fault { result ≡ Ending.WriteFault → Rises (O.faults sink.old) (O.faults sink.new) }
 {
-    let Ok(mut inbox) = RoutedInbox::new(alloc) else {
+    let Ok(mut inbox) = RoutedInbox::new(server.alloc) else {
         return note_no_memory(sink, false);
     };
-    let Ok(mut reply) = Vec::with_capacity(alloc, ANSWER_ROOM) else {
+    let Ok(mut reply) = Vec::with_capacity(server.alloc, ANSWER_ROOM) else {
         return note_no_memory(sink, false);
     };
     let mut number = 0;
     'serving: loop {
         if let Some(ending) = serve_next_request(
-            rt, alloc, lock, pass, source, sink, &mut inbox, &mut reply, number,
+            server, pass, source, sink, &mut inbox, &mut reply, number,
         ) {
             return ending;
         }

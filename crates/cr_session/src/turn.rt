@@ -14,9 +14,10 @@ ghost use Rattle.cr_session.specs.Told.{as_bulk, is_unauthorized};
 ghost use Rattle.cr_session.specs.Turning.{Turns, IsBulkCaller, ChangesBook, AnswersQuery};
 ghost use Rattle.cr_session.specs.Turning.{refused_for, turn_block, turn_front, MayWantToPrint};
 
+use crate::server::Server;
 use cr_base::{Broken, BulkRows, Command, Query, Receipt, Reply, UserNo};
 use cr_book::{AnswerError, Book, BookError};
-use cr_lock::{HistoryLock, Pass};
+use cr_lock::Pass;
 use cr_ports::Keeper;
 use cr_print::{Refused, Sending, block, print_receipt, print_refusal, print_reply};
 use cr_wire::{What, Wish};
@@ -41,12 +42,11 @@ pub(crate) enum TurnResult {
 /// Judges or answers a wish in one turn of the lock, on a history that begins with what the pass had seen.
 #[tactic(auto, using(crate::proofs::TurnLaws::turns_grow))]
 pub(crate) fn in_turn<R: Wait, K: Keeper>(
-    rt: &R,
-    lock: &HistoryLock<Book<K>>,
+    server: &Server<'_, R, K>,
     pass: &mut Pass<Book<K>>,
     wish: Wish,
 ) -> TurnResult
-    requires own { pass.old.lock ≡ lock.now.lock }
+    requires own { pass.old.lock ≡ server.now.lock.lock }
     requires few { pass.old.turns < 2 ^ 40 }
     requires bounded { IsBoundedWhat wish.what }
     ensures { (b b' : Ledger)
@@ -54,7 +54,8 @@ pub(crate) fn in_turn<R: Wait, K: Keeper>(
         × Turns result wish b b'
         × (pass.new ≡ after_turn pass.old b.history b'.history b.faults b'.faults) }
 {
-    lock.turn(rt, pass, |book: &mut Book<K>| take_turn(book, wish))
+    let lock = &server.lock;
+    lock.turn(server.rt, pass, |book: &mut Book<K>| take_turn(book, wish))
 }
 
 /// Judges or answers a wish. Takes no memory on a refusal: `TurnResult::OutOfMemory` comes only for a command or a

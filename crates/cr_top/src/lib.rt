@@ -15,7 +15,7 @@ mod viewing;
 pub use drilled::drill;
 pub use exit::{Exit, exit_of};
 pub use piping::pipe;
-pub use run::top;
+pub use run::{run_top, top};
 pub use serve::{Address, serve_store};
 pub use storing::pipe_store;
 pub use viewing::view_store;

@@ -6,9 +6,8 @@ ghost use Rattle.cr_top.specs.Exits.{exit_of};
 ghost use Rattle.cr_top.specs.Runs.{Pipes, outside_of, IsFaultless, AnswersAll};
 
 use cr_book::Book;
-use cr_lock::HistoryLock;
 use cr_ports::{Keeper, Sink, Source};
-use cr_session::{Ending, note_no_memory, serve_connection};
+use cr_session::{Ending, Server, note_no_memory, serve_connection};
 use std::alloc::Global;
 use std::sync::Wait;
 
@@ -42,11 +41,11 @@ pub fn pipe<R: Wait, K: Keeper, I: Source, O: Sink>(
     ensures read_fault { result.0 ≡ Ending.ReadFault → Rises (I.faults input.old) (I.faults input.new) }
     ensures write_fault { result.0 ≡ Ending.WriteFault → Rises (O.faults out.old) (O.faults out.new) }
 {
-    let (lock, mut pass) = match HistoryLock::new(alloc, book) {
+    let (server, mut pass) = match Server::new(rt, alloc, book) {
         Ok(made) => made,
-        Err((_, book)) => return (note_no_memory(out, false), book.close()),
+        Err(book) => return (note_no_memory(out, false), book.close()),
     };
-    let ending = serve_connection(rt, alloc, &lock, &mut pass, input, out);
-    let book = lock.close(pass);
+    let ending = serve_connection(&server, &mut pass, input, out);
+    let book = server.close(pass);
     (ending, book.close())
 }

@@ -151,3 +151,17 @@ pub fn top<R: Threads + Wait + Sync, I: Source, O: Sink, S: Shelf, G: Gates>(
         Err(WordsError::OutOfMemory) => Exit::OutOfMemory,
     }
 }
+
+/// Does what `top` does, and promises nothing of its own: what is said of a run is said of `top`. It is for callers that
+/// state nothing of one, so that `top`'s clauses aren't read again at each of their types.
+pub fn run_top<R: Threads + Wait + Sync, I: Source, O: Sink, S: Shelf, G: Gates>(
+    rt: &R,
+    alloc: Global,
+    words: &[String],
+    input: &mut I,
+    out: &mut O,
+    shelf: &mut S,
+    gates: &mut G,
+) -> Exit {
+    top(rt, alloc, words, input, out, shelf, gates)
+}

@@ -10,21 +10,19 @@ ghost use Rattle.cr_workers.specs.Doors.{AreReady, door_of, ServesSeen, turns_fo
 use crate::worked::Worked;
 use crate::worker::serve_door;
 use cr_book::Book;
-use cr_lock::{HistoryLock, Pass};
+use cr_lock::Pass;
 use cr_ports::{Door, Keeper};
-use std::alloc::Global;
+use cr_session::Server;
 use std::sync::Wait;
 use std::thread::{Threads, join};
 
 /// Serves one door, or none.
 fn serve_last<R: Wait, K: Keeper, D: Door + Drop>(
-    rt: &R,
-    alloc: Global,
-    lock: &HistoryLock<Book<K>>,
+    server: &Server<'_, R, K>,
     pass: Pass<Book<K>>,
     doors: Vec<D>,
 ) -> (Pass<Book<K>>, Vec<D>, Worked)
-    requires own { pass.lock ≡ lock.now.lock }
+    requires own { pass.lock ≡ server.now.lock.lock }
     requires last { length doors.items ≤ 1 }
     requires ready { AreReady D.left D.is_out doors.items pass.turns }
     ensures serves { ServesSeen (door_of D.left D.is_out D.faults D.log)
@@ -40,7 +38,7 @@ fn serve_last<R: Wait, K: Keeper, D: Door + Drop>(
     };
     let mut pass = pass;
     let mut door = door;
-    let worked = serve_door(rt, alloc, lock, &mut pass, &mut door);
+    let worked = serve_door(server, &mut pass, &mut door);
     let Ok(()) = doors.push(door) else {
         unreachable!()
     };
@@ -91,13 +89,11 @@ fn rejoin<D: Drop>(front: Vec<D>, back: Vec<D>) -> Vec<D>
 /// are not asked, and the answer is `OutOfMemory`.
 #[cycle(halves)]
 pub(crate) fn serve_doors<R: Threads + Wait + Sync, K: Keeper + Send, D: Door + Drop + Send>(
-    rt: &R,
-    alloc: Global,
-    lock: &HistoryLock<Book<K>>,
+    server: &Server<'_, R, K>,
     pass: Pass<Book<K>>,
     doors: Vec<D>,
 ) -> (Pass<Book<K>>, Vec<D>, Worked)
-    requires own { pass.lock ≡ lock.now.lock }
+    requires own { pass.lock ≡ server.now.lock.lock }
     requires share { length doors.items ≤ pass.share }
     requires ready { AreReady D.left D.is_out doors.items pass.turns }
     ensures serves { ServesSeen (door_of D.left D.is_out D.faults D.log)
@@ -108,17 +104,17 @@ pub(crate) fn serve_doors<R: Threads + Wait + Sync, K: Keeper + Send, D: Door + 
     ensures room { vec_capacity doors ≤ vec_capacity result.1 }
 {
     if doors.len() <= 1 {
-        return serve_last(rt, alloc, lock, pass, doors);
+        return serve_last(server, pass, doors);
     }
     let (front, back) = match halve(doors) {
         Ok(halves) => halves,
         Err(doors) => return (pass, doors, Worked::OutOfMemory),
     };
-    let Ok((larger, smaller)) = lock.split(pass) else {
+    let Ok((larger, smaller)) = server.lock.split(pass) else {
         unreachable!()
     };
     let first_half = move || -> (Pass<Book<K>>, Vec<D>, Worked)
-        requires { IsSync R.row × (larger.lock ≡ lock.now.lock) × (length front.items ≤ larger.share)
+        requires { IsSync R.row × (larger.lock ≡ server.now.lock.lock) × (length front.items ≤ larger.share)
             × AreReady D.left D.is_out front.items larger.turns }
         ensures serves { ServesSeen (door_of D.left D.is_out D.faults D.log)
             (streams_of D.In.left D.In.read_gives D.In.faults D.Out.taken D.Out.faults)
@@ -126,19 +122,19 @@ pub(crate) fn serve_doors<R: Threads + Wait + Sync, K: Keeper + Send, D: Door + 
         ensures pass { StaysPass (turns_for (total D.left front.items)) larger result.0 }
         ensures len { length result.1.items ≡ length front.items }
         ensures room { vec_capacity front ≤ vec_capacity result.1 }
-    { serve_doors(rt, alloc, lock, larger, front) };
+    { serve_doors(server, larger, front) };
     let second_half = move || -> (Pass<Book<K>>, Vec<D>, Worked)
-        requires { IsSync R.row × (smaller.lock ≡ lock.now.lock) × (length back.items ≤ smaller.share)
+        requires { IsSync R.row × (smaller.lock ≡ server.now.lock.lock) × (length back.items ≤ smaller.share)
             × AreReady D.left D.is_out back.items smaller.turns }
         ensures serves { ServesSeen (door_of D.left D.is_out D.faults D.log)
             (streams_of D.In.left D.In.read_gives D.In.faults D.Out.taken D.Out.faults)
             result.2 back.items result.1.items smaller result.0 }
         ensures pass { StaysPass (turns_for (total D.left back.items)) smaller result.0 }
         ensures len { length result.1.items ≡ length back.items }
-    { serve_doors(rt, alloc, lock, smaller, back) };
-    let ((one, front, first), (other, back, second)) = join(rt, first_half, second_half);
+    { serve_doors(server, smaller, back) };
+    let ((one, front, first), (other, back, second)) = join(server.rt, first_half, second_half);
     (
-        lock.join(one, other),
+        server.lock.join(one, other),
         rejoin(front, back),
         first.and(second),
     )

@@ -9,8 +9,8 @@ ghost use Rattle.cr_workers.specs.OneHistory.{ServesHistory};
 use crate::doors::serve_doors;
 use crate::worked::Worked;
 use cr_book::Book;
-use cr_lock::HistoryLock;
 use cr_ports::{Door, Keeper};
+use cr_session::Server;
 use std::alloc::Global;
 use std::sync::Wait;
 use std::thread::Threads;
@@ -38,10 +38,10 @@ pub fn serve_book<R: Threads + Wait + Sync, K: Keeper + Send, D: Door + Drop + S
         ServesHistory (streams_of D.In.left D.In.read_gives D.In.faults D.Out.taken D.Out.faults)
         result.0 (seen doors.items) (seen result.2.items) (ledger_of K.faults book) (ledger_of K.faults result.1) }
 {
-    let (lock, pass) = match HistoryLock::new(alloc, book) {
+    let (server, pass) = match Server::new(rt, alloc, book) {
         Ok(made) => made,
-        Err((_, book)) => return (Worked::OutOfMemory, book, doors),
+        Err(book) => return (Worked::OutOfMemory, book, doors),
     };
-    let (pass, doors, worked) = serve_doors(rt, alloc, &lock, pass, doors);
-    (worked, lock.close(pass), doors)
+    let (pass, doors, worked) = serve_doors(&server, pass, doors);
+    (worked, server.close(pass), doors)
 }

@@ -6,10 +6,9 @@ ghost use Rattle.cr_workers.specs.Doors.{door_of, ended_by, lacks, ServesNext, S
 
 use crate::worked::Worked;
 use cr_book::Book;
-use cr_lock::{HistoryLock, Pass};
+use cr_lock::Pass;
 use cr_ports::{Door, Keeper, NextConnection};
-use cr_session::{Ending, serve_connection};
-use std::alloc::Global;
+use cr_session::{Ending, Server, serve_connection};
 use std::sync::Wait;
 
 /// How a door that gives no further connection answered.
@@ -23,13 +22,11 @@ pub enum Last {
 
 /// Serves the door's next connection to its end and gives it back; or tells how the door answered that has none.
 fn serve_next_connection<R: Wait, K: Keeper, D: Door>(
-    rt: &R,
-    alloc: Global,
-    lock: &HistoryLock<Book<K>>,
+    server: &Server<'_, R, K>,
     pass: &mut Pass<Book<K>>,
     door: &mut D,
 ) -> Result<Ending, Last>
-    requires own { pass.old.lock ≡ lock.now.lock }
+    requires own { pass.old.lock ≡ server.now.lock.lock }
     requires few { pass.old.turns + turns_for (D.left door.old) ≤ 2 ^ 40 }
     requires back { IsFalse (D.is_out door.old) }
     ensures serves { let seen = door_of D.left D.is_out D.faults D.log in
@@ -41,7 +38,7 @@ fn serve_next_connection<R: Wait, K: Keeper, D: Door>(
         NextConnection::Done => Err(Last::Done),
         NextConnection::Failed => Err(Last::Failed),
         NextConnection::Conn(mut source, mut sink) => {
-            let ending = serve_connection(rt, alloc, lock, pass, &mut source, &mut sink);
+            let ending = serve_connection(server, pass, &mut source, &mut sink);
             door.give_back(source, sink);
             Ok(ending)
         }
@@ -74,13 +71,11 @@ fn ended_by(lacked: bool, last: Last) -> Worked
 /// Serves the door's connections, each to its end before the next is asked for. A connection's
 /// fault ends that connection alone.
 pub(crate) fn serve_door<R: Wait, K: Keeper, D: Door>(
-    rt: &R,
-    alloc: Global,
-    lock: &HistoryLock<Book<K>>,
+    server: &Server<'_, R, K>,
     pass: &mut Pass<Book<K>>,
     door: &mut D,
 ) -> Worked
-    requires own { pass.old.lock ≡ lock.now.lock }
+    requires own { pass.old.lock ≡ server.now.lock.lock }
     requires few { pass.old.turns + turns_for (D.left door.old) ≤ 2 ^ 40 }
     requires back { IsFalse (D.is_out door.old) }
     ensures serves { ServesSeen (door_of D.left D.is_out D.faults D.log)
@@ -90,7 +85,7 @@ pub(crate) fn serve_door<R: Wait, K: Keeper, D: Door>(
 {
     let mut lacked = false;
     'serving: loop {
-        match serve_next_connection(rt, alloc, lock, pass, door) {
+        match serve_next_connection(server, pass, door) {
             Ok(ending) => lacked = has_lacked(lacked, ending),
             Err(last) => return ended_by(lacked, last),
         }

@@ -4,9 +4,9 @@ ghost use Rattle.std.specs.Prelude.{◌≡◌, ◌+◌, ◌-◌, ◌^◌, ◌≤
 use crate::streams::{GET_PHASE, sink, source};
 use cr_base::UserNo;
 use cr_book::{Book, empty_book};
-use cr_lock::{HistoryLock, Pass};
+use cr_lock::Pass;
 use cr_ports::{MemSink, PlainKeeper, PlainSource};
-use cr_session::serve_connection;
+use cr_session::{Server, serve_connection};
 use std::alloc::{AllocError, Global};
 use std::sync::Wait;
 use std::test::Fail;
@@ -58,78 +58,54 @@ fn new_streams(alloc: Global) -> Result<Streams, AllocError> {
     })
 }
 
-/// A lock round a book without rows, and its one pass.
-fn locked(
+/// A server of a book without rows, and the one pass of its lock.
+fn new_server<R: Wait>(
+    rt: &R,
     alloc: Global,
-) -> Result<(HistoryLock<Book<PlainKeeper>>, Pass<Book<PlainKeeper>>), AllocError>
-    ensures { IfOk result (λ made. (made.1.lock ≡ made.0.lock) × (made.1.share ≡ 64) × (made.1.turns ≡ 0)) }
+) -> Result<(Server<'_, R, PlainKeeper>, Pass<Book<PlainKeeper>>), AllocError>
+    ensures { IfOk result (λ made. (made.1.lock ≡ made.0.lock.lock) × (made.1.share ≡ 64) × (made.1.turns ≡ 0)) }
 {
-    match HistoryLock::new(alloc, empty_book(alloc).ok_or(AllocError)?) {
+    match Server::new(rt, alloc, empty_book(alloc).ok_or(AllocError)?) {
         Ok(made) => Ok(made),
-        Err((error, book)) => {
+        Err(book) => {
             let _ = book.close();
-            Err(error)
+            Err(AllocError)
         }
     }
 }
 
 /// Serves a connection, of whose clauses the pass's alone are told.
 fn serve<R: Wait>(
-    rt: &R,
-    alloc: Global,
-    lock: &HistoryLock<Book<PlainKeeper>>,
+    server: &Server<'_, R, PlainKeeper>,
     pass: &mut Pass<Book<PlainKeeper>>,
     source: &mut PlainSource,
     sink: &mut MemSink,
 )
-    requires own { pass.old.lock ≡ lock.now.lock }
+    requires own { pass.old.lock ≡ server.now.lock.lock }
     requires few { pass.old.turns ≤ 2 ^ 40 - 2 ^ 20 }
     ensures own { (pass.new.lock ≡ pass.old.lock) × (pass.new.share ≡ pass.old.share) }
     ensures turns { pass.new.turns ≤ pass.old.turns + 2 ^ 20 }
 {
-    let _ = serve_connection(rt, alloc, lock, pass, source, sink);
+    let _ = serve_connection(server, pass, source, sink);
 }
 
 /// One of two passes submits a paper; joined with the other, it asks for the phase.
 fn join_and_ask<R: Wait>(
-    rt: &R,
-    alloc: Global,
-    lock: &HistoryLock<Book<PlainKeeper>>,
+    server: &Server<'_, R, PlainKeeper>,
     mut pass: Pass<Book<PlainKeeper>>,
     streams: &mut Streams,
 ) -> Pass<Book<PlainKeeper>>
-    requires own { pass.lock ≡ lock.now.lock }
+    requires own { pass.lock ≡ server.now.lock.lock }
     requires fresh { (pass.share ≡ 64) × (pass.turns ≡ 0) }
-    ensures { (result.lock ≡ lock.now.lock) × (result.share ≡ 64) }
+    ensures { (result.lock ≡ server.now.lock.lock) × (result.share ≡ 64) }
 {
-    serve(
-        rt,
-        alloc,
-        lock,
-        &mut pass,
-        &mut streams.begin,
-        &mut streams.sink,
-    );
-    let Ok((mut one, other)) = lock.split(pass) else {
+    serve(server, &mut pass, &mut streams.begin, &mut streams.sink);
+    let Ok((mut one, other)) = server.lock.split(pass) else {
         unreachable!()
     };
-    serve(
-        rt,
-        alloc,
-        lock,
-        &mut one,
-        &mut streams.submit,
-        &mut streams.sink,
-    );
-    let mut both = lock.join(one, other);
-    serve(
-        rt,
-        alloc,
-        lock,
-        &mut both,
-        &mut streams.phase,
-        &mut streams.sink,
-    );
+    serve(server, &mut one, &mut streams.submit, &mut streams.sink);
+    let mut both = server.lock.join(one, other);
+    serve(server, &mut both, &mut streams.phase, &mut streams.sink);
     both
 }
 
@@ -143,10 +119,10 @@ fn view_len(book: Book<PlainKeeper>) -> Result<u64, AllocError> {
 /// Whether the last answer tells of the paper, and the length of its author's view.
 fn told_by_joined_passes<R: Wait>(rt: &R, alloc: Global) -> Result<(bool, u64), AllocError> {
     let mut streams = new_streams(alloc)?;
-    let (lock, pass) = locked(alloc)?;
-    let pass = join_and_ask(rt, alloc, &lock, pass, &mut streams);
+    let (server, pass) = new_server(rt, alloc)?;
+    let pass = join_and_ask(&server, pass, &mut streams);
     let is_told = streams.sink.taken().ends_with(ONE_PAPER.as_bytes());
-    let length = view_len(lock.close(pass))?;
+    let length = view_len(server.close(pass))?;
     Ok((is_told, length))
 }
 

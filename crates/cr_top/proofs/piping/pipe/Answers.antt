@@ -17,7 +17,7 @@ returns-clause-pipes g c =
     let o = outside_of g.I.Source.faults g.O.Sink.taken g.O.Sink.faults c.args.input.now c.args.out.now in
     let o' = outside_of g.I.Source.faults g.O.Sink.taken g.O.Sink.faults c.serve_connection-ending.new.source c.serve_connection-ending.new.sink in
     let made = c.in-Ok.ensures in
-    pipes-locked g.K.Keeper.rows g.K.Keeper.faults g.I.Source.left g.I.Source.read_gives c.serve_connection-ending.result c.args.book c.in-Ok.made.0.first
+    pipes-locked g.K.Keeper.rows g.K.Keeper.faults g.I.Source.left g.I.Source.read_gives c.serve_connection-ending.result c.args.book c.in-Ok.made.0.lock.first
     c.close-book.result c.close-2.result c.in-Ok.made.1 c.serve_connection-ending.new.pass o o'
     made.0 (ap (λ (p : KnownPass). p.seen) made.1) (ap (λ (p : KnownPass). p.mine) made.1) c.close-book.ensures
     c.close-2.ensures.same c.close-2.ensures.legal c.close-2.ensures.kept c.serve_connection-ending.ensures.connection

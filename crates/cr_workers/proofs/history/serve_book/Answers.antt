@@ -20,6 +20,6 @@ returns g c =
     (map (door_of g.D.Door.left g.D.Door.is_out g.D.Door.faults g.D.Door.log) c.args.doors.items)
     (map (door_of g.D.Door.left g.D.Door.is_out g.D.Door.faults g.D.Door.log) c.serve_doors-pass.result.1.items)
     (ledger_of g.K.Keeper.faults b) (ledger_of g.K.Keeper.faults c.close.result)) made.0
-    (history-closed (λ b. b.log) (λ b. g.K.Keeper.faults b.keeper) _ _ _ _ c.in-Ok.made.0.first c.close.result c.in-Ok.made.1 c.serve_doors-pass.result.0
+    (history-closed (λ b. b.log) (λ b. g.K.Keeper.faults b.keeper) _ _ _ _ c.in-Ok.made.0.lock.first c.close.result c.in-Ok.made.1 c.serve_doors-pass.result.0
     (ap (λ (p : KnownPass). p.seen) made.1 ∙ sym (ap (λ b. b.log) made.0))
     (ap (λ (p : KnownPass). p.mine) made.1) c.serve_doors-pass.ensures.serves c.close.ensures)
