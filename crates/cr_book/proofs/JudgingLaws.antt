@@ -16,7 +16,7 @@ use Rattle.cr_base.specs.History.{History}
 use Rattle.cr_base.specs.Tables.{Tables, tables_after, tables_from}
 use Rattle.cr_base.specs.Sources.{facts_of_tables, shown_in_tables}
 use Rattle.cr_base.specs.Bulk.{IsRowCommand}
-use Rattle.cr_view.specs.Rows.{AreEarlier, group_or_rule, row_group, row_judged_at}
+use Rattle.cr_judge.specs.Rows.{AreEarlier, group_or_rule, row_group, row_judged_at}
 use Rattle.cr_book.specs.BulkRebuilding.{caller_judged, unfinished, row_judged_behind}
 use Rattle.cr_book.proofs.OpeningBulks.{row_command-of_row, rows-drawn, whole-group, map-more}
 

@@ -20,7 +20,7 @@ use Rattle.cr_history.proofs.TableAgreement.{rows_of-append}
 use Rattle.cr_policy.specs.Legal.{BulkCall, Legal}
 use Rattle.cr_policy.proofs.AcceptedLaws.{accepted-adds}
 use Rattle.cr_policy.proofs.LegalLaws.{Legal-judge_bulk, Legal-bulk_accepted}
-use Rattle.cr_view.specs.Rows.{AreEarlier}
+use Rattle.cr_judge.specs.Rows.{AreEarlier}
 use Rattle.cr_book.specs.BulkRebuilding.{is_of_row, begins_bulk, unfinished, IsDrawn, AreDrawn, caller_judged, may_bulk, IsOpenBulk, has_room, is_makers, may_go_on, GoesOn, NoBulk, IsBulkRead, is_of_bulk}
 use Rattle.cr_book.specs.Opening.{Continue}
 use Rattle.cr_book.specs.Reading.{IsOpen, IsGroup, IsReading, IsGoing}

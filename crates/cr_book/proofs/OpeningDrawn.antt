@@ -19,7 +19,7 @@ use Rattle.cr_base.specs.Shapes.{FitsShape}
 use Rattle.cr_base.specs.Tables.{Tables, tables_after, tables_from}
 use Rattle.cr_base.proofs.RowLaws.{same_entry}
 use Rattle.cr_base.specs.Bulk.{IsRowCommand, IsRowEntry}
-use Rattle.cr_view.specs.Rows.{AreEarlier, AreRowEntries, group_or_rule, row_group, row_judged_at}
+use Rattle.cr_judge.specs.Rows.{AreEarlier, AreRowEntries, group_or_rule, row_group, row_judged_at}
 use Rattle.cr_book.specs.BulkRebuilding.{row_command_told, IsDrawn, IsTried}
 use Rattle.cr_book.proofs.JudgingLaws.{drawn-group, drawn-rule}
 use Rattle.cr_book.proofs.OpeningBulks.{none_some, some_is, one_is, err_ok, ok_is, drawn-of_row}

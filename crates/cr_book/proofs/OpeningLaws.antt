@@ -9,7 +9,7 @@ use Rattle.cr_base.specs.declared.row.Row.{Row}
 use Rattle.cr_base.specs.History.{History}
 use Rattle.cr_base.specs.Rows.{row_of, rows_of, IsBoundedEntry}
 use Rattle.cr_base.specs.Tables.{Tables, tables_of, tables_from, FitInTurn}
-use Rattle.cr_view.specs.Rows.{AreEarlier}
+use Rattle.cr_judge.specs.Rows.{AreEarlier}
 use Rattle.cr_policy.specs.Legal.{Legal}
 use Rattle.cr_policy.proofs.LegalLaws.{Legal-accepted}
 use Rattle.cr_history.proofs.TableAgreement.{tables_of-append, rows_of-append}

@@ -1,7 +1,7 @@
 -- Users and their names, by the tables: a user has the name by which she is found, and is found by the name that she has.
 use Rattle.std.proofs.Common.{ℕ, Bool, true, false, cond, ◌≡◌, ◌≤◌, ◌<◌, ◌+◌, ◌-◌, List, [], ◌∷◌, ◌++◌, length, eqb, zero, suc, refl, sym, ap, subst, ◌∙◌, arith, Option, Some, None}
 use Rattle.std.specs.Prelude.{nat_le, ◌&&◌}
-use Rattle.std.specs.List.{AllByRecursion, list_all, slice_get, position_from}
+use Rattle.std.specs.List.{AllByRecursion, list_all, slice_get}
 use Rattle.std.specs.Option.{option_map, option_and_then}
 use Rattle.std.specs.Str.{bytes_eq}
 use Rattle.std.proofs.lemmas.Bool.{eqb-true, true≢false}
@@ -16,13 +16,14 @@ use Rattle.cr_base.specs.declared.words.Role.{Role}
 use Rattle.cr_base.specs.Accounts.{number_at, account_at, accounts_after, with_role, AccountsFit}
 use Rattle.cr_base.specs.History.{History}
 use Rattle.cr_base.specs.Tables.{Tables, no_tables, tables_after, tables_from, tables_of, FitInTurn}
-use Rattle.cr_base.proofs.AccountLaws.{number_at-from, number_at-push, number_at-with_role}
+use Rattle.cr_base.proofs.AccountLaws.{number_at-push, number_at-with_role}
 use Rattle.cr_base.proofs.ChangeLaws.{where_changed, numbered-changed_at}
 use Rattle.cr_base.proofs.ListLaws.{numbered-push}
 use Rattle.cr_policy.specs.Legal.{Legal}
 use Rattle.cr_policy.proofs.LegalLaws.{Legal-fits, legal_invariants}
 use Rattle.cr_base.specs.Rows.{IsBoundedEntry}
 use Rattle.cr_base.specs.Texts.{IsName, is_name, is_name_byte}
+use Rattle.cr_judge.proofs.NameLaws.{name-found}
 use Rattle.cr_book.specs.Rebuilding.{name_told, is_taken, first_free, name_left}
 
 none_some : {A : Type 0} (x : A) → None ≡ Some x → ⊥
@@ -33,27 +34,8 @@ some_is x y e = cc (e)
 
 -- ---- the name of a user found by her name
 
-named-from : (accounts : List Account) (name : List ℕ) (i k : ℕ) → position_from (λ (a : Account). bytes_eq a.name name) i accounts ≡ Some k → (d : ℕ) × (k ≡ i + d) × (option_map (λ (a : Account). a.name) (slice_get accounts d) ≡ Some name)
-named-from [] name i k h = absurd (none_some k h)
-named-from (a ∷ accounts) name i k h = by (bytes_eq a.name name) refl h (λ h. named-from accounts name (i + 1) k h)
-  where
-    by : (b : Bool) → bytes_eq a.name name ≡ b → cond b (Some i) (position_from (λ (a : Account). bytes_eq a.name name) (i + 1) accounts) ≡ Some k
-        → (position_from (λ (a : Account). bytes_eq a.name name) (i + 1) accounts ≡ Some k → (d : ℕ) × (k ≡ (i + 1) + d) × (option_map (λ (a : Account). a.name) (slice_get accounts d) ≡ Some name))
-        → (d : ℕ) × (k ≡ i + d) × (option_map (λ (a : Account). a.name) (slice_get (a ∷ accounts) d) ≡ Some name)
-    by true same h rest = (0, (let e : i ≡ k = cc (h) in omega (arith, e)), ap Some ((bytes_eq-Decides a.name name).0 same))
-    by false same h rest = let r = rest h in let e = r.1 in (suc r.0, omega (arith, e), r.2)
-
 pub named : (t : Tables) (name : List ℕ) (user : ℕ) → number_at t.accounts name ≡ Some user → name_told t user ≡ Some name
-named t name user h = by (position_from (λ (a : Account). bytes_eq a.name name) 0 t.accounts) refl (sym (number_at-from t.accounts name) ∙ h)
-  where
-    by : (o : Option ℕ) → position_from (λ (a : Account). bytes_eq a.name name) 0 t.accounts ≡ o → option_map (λ i. i + 1) o ≡ Some user → name_told t user ≡ Some name
-    by None is h = cc
-    by (Some k) is h =
-        let found = named-from t.accounts name 0 k is in
-        let e : k + 1 ≡ user = cc (h) in
-        let at = found.1 in
-        let next : suc found.0 ≡ user = omega (arith, e, at) in
-        subst (λ (n : ℕ). name_told t n ≡ Some name) next found.2
+named t name user is = name-found t.accounts name user is
 
 -- ---- the user of a name that somebody has
 

@@ -17,7 +17,7 @@ use Rattle.cr_base.specs.Lists.{is_nothing}
 use Rattle.cr_base.specs.Rows.{row_of, rows_of, IsBoundedEntry}
 use Rattle.cr_base.specs.Sources.{facts_of_tables, shown_in_tables, standing_at}
 use Rattle.cr_base.specs.Tables.{Tables, tables_after, tables_from}
-use Rattle.cr_view.specs.Rows.{AreEarlier}
+use Rattle.cr_judge.specs.Rows.{AreEarlier}
 use Rattle.cr_book.specs.Rebuilding.{paper_command_told, is_known}
 
 -- ---- one row

@@ -26,6 +26,7 @@ use cr_base::{
     Broken, BulkRows, Command, Digest, EntryKind, Query, Receipt, Reply, Report, Rule, Search,
     Short, Stamped, UserNo,
 };
+use cr_judge::judge;
 use cr_lock::Stands;
 use cr_ports::{Keeper, KeeperError, Sink};
 use cr_sights::{ViewError, view_len, write_view};
@@ -150,12 +151,12 @@ impl<K: Keeper> Book<K> {
         ensures count { K.faults self.old.keeper ≤ K.faults self.new.keeper }
         ensures legal { Legal self.new.log }
     {
-        let draw = match self.live.judge(caller, command) {
-            Ok(draw) => draw,
+        let effect = match judge(&self.live, caller, command) {
+            Ok(effect) => effect,
             Err(rule) => return Err(BookError::Broken(rule)),
         };
-        let receipt = draw.receipt();
-        let Ok(group) = draw.group(self.alloc) else {
+        let receipt = effect.receipt(&self.live);
+        let Ok(group) = effect.group(self.alloc) else {
             return Err(BookError::OutOfMemory);
         };
         match self.keep(group) {

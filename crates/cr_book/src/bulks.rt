@@ -3,13 +3,14 @@ ghost use Rattle.std.specs.Prelude.{◌≡◌, ◌↔◌, ◌++◌, ◌∷◌, [
 ghost use Rattle.cr_base.specs.Rows.{row_of};
 ghost use Rattle.cr_base.specs.Tables.{tables_from};
 ghost use Rattle.cr_base.specs.Bulk.{IsRowCommand};
-ghost use Rattle.cr_view.specs.Rows.{AreEarlier};
+ghost use Rattle.cr_judge.specs.Rows.{AreEarlier};
 ghost use Rattle.cr_book.specs.BulkRebuilding.{begins_bulk, has_room, is_makers};
 ghost use Rattle.cr_book.specs.BulkRebuilding.{is_of_bulk, is_of_row, may_bulk, may_go_on};
 ghost use Rattle.cr_book.specs.BulkRebuilding.{row_command_told, GoesOn, IsDrawn, IsTried};
 
 use crate::rebuilding::{is_known, paper_command_of};
 use cr_base::{Command, Entry, MOST_ROWS, Row, Stamp, Stamped, UserNo};
+use cr_judge::judge_row;
 use cr_view::Live;
 use std::alloc::{AllocError, Global};
 
@@ -61,7 +62,7 @@ fn is_makers(begun: &[Stamped], user: UserNo) -> bool
 fn may_bulk(live: &Live, user: UserNo) -> bool
     ensures { result ≡ may_bulk live.now.tables user }
 {
-    is_known(live, &Some(user)) && live.may_bulk(user).is_ok()
+    is_known(live, &Some(user)) && cr_judge::may_bulk(live, user).is_ok()
 }
 
 /// Whether the entry's maker may give a bulk of so many rows, the first of which are hers.
@@ -117,7 +118,7 @@ fn is_drawn(
     let Some(command) = row_command_of(live, entry) else {
         return Ok(false);
     };
-    match live.judge_row(next.stamp.maker, command, begun) {
+    match judge_row(live, next.stamp.maker, command, begun) {
         Ok(drawn) => spells(alloc, drawn, next.stamp, next.more, row),
         Err(_) => Ok(false),
     }

@@ -5,10 +5,11 @@ ghost use Rattle.cr_base.specs.Bulk.{bulk_by_role, bulk_drawn, entries_of, row_c
 ghost use Rattle.cr_base.specs.Drawn.{grouped};
 ghost use Rattle.cr_base.specs.Tables.{tables_from};
 ghost use Rattle.cr_base.specs.Bulk.{IsRowCommand};
-ghost use Rattle.cr_view.specs.Rows.{AreEarlier, group_or_rule, row_group};
+ghost use Rattle.cr_judge.specs.Rows.{AreEarlier, group_or_rule, row_group};
 ghost use Rattle.cr_book.specs.BulkRebuilding.{row_judged_behind};
 
 use cr_base::{Broken, BulkRow, BulkRows, Command, Entry, Rule, Stamp, Stamped, UserNo};
+use cr_judge::may_bulk;
 use cr_view::Live;
 
 /// The command that a row tells, or why it tells none.
@@ -24,11 +25,11 @@ fn judge_row(live: &Live, caller: UserNo, row: &BulkRow, earlier: &[Stamped]) ->
     requires { AreEarlier live.now.tables earlier.now }
     ensures judged { row_group caller result
         ≡ group_or_rule (row_judged_behind live.now.tables earlier.now caller row.now) }
-    ensures next { IfOk result (λ entry. (more : Bool)
-        → AreEarlier live.now.tables (earlier.now ++ record { stamp = record { maker = caller }; more = more; entry = entry } ∷ [])) }
+    ensures next { IfOk result (λ entry. (more : Bool) → AreEarlier live.now.tables
+        (earlier.now ++ record { stamp = record { maker = caller }; more = more; entry = entry } ∷ [])) }
 {
     match command_of(row) {
-        Ok(command) => live.judge_row(caller, command, earlier),
+        Ok(command) => cr_judge::judge_row(live, caller, command, earlier),
         Err(rule) => Err(rule),
     }
 }
@@ -87,7 +88,7 @@ pub(crate) fn judge_bulk(
     ensures group { IfOk result (λ group. group.items ≡ grouped caller (entries_of group.items)) }
     ensures broken { IfErr result (λ broken. bulk_by_role live.now.tables caller rows ≡ Err broken) }
 {
-    match live.may_bulk(caller) {
+    match may_bulk(live, caller) {
         Ok(()) => {}
         Err(rule) => return Err(Broken::Rule(rule)),
     }

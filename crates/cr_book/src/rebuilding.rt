@@ -4,7 +4,7 @@ ghost use Rattle.std.specs.Prelude.{IfOk, IfSome, IsTrue, None, Some};
 ghost use Rattle.std.specs.Option.{option_map};
 ghost use Rattle.cr_base.specs.Tables.{FitInTurn};
 ghost use Rattle.cr_base.specs.declared.command.Command.TheVariants as commands;
-ghost use Rattle.cr_view.specs.Draws.{drawn_by};
+ghost use Rattle.cr_judge.specs.Effects.{drawn_by, group_of};
 ghost use Rattle.cr_book.specs.Rebuilding.{giver_told, command_told, target_command_told};
 ghost use Rattle.cr_book.specs.Rebuilding.{paper_command_told, user_command_told};
 ghost use Rattle.cr_book.specs.Rebuilding.{drawn_told, is_known, IsBegun, NoneBegun};
@@ -13,7 +13,8 @@ ghost use Rattle.cr_base.specs.declared.row.Row.{Row};
 use crate::coauthor_names::authors_told;
 use crate::rows::rows_of;
 use cr_base::{Command, Entry, MOST_COAUTHORS, Row, Stamped, Text, ToldNames, UserNo};
-use cr_view::{Draw, Live};
+use cr_judge::{Effect, judge};
+use cr_view::Live;
 use std::alloc::{AllocError, Global};
 
 /// Who gave the command of a group with this first entry.
@@ -24,6 +25,13 @@ fn caller_of(first: &Stamped) -> Option<UserNo>
         Entry::Registered { .. } => None,
         _ => Some(first.stamp.maker),
     }
+}
+
+/// Who made the entry.
+fn maker_of(stamped: &Stamped) -> UserNo
+    ensures { result ≡ stamped.now.stamp.maker }
+{
+    stamped.stamp.maker
 }
 
 /// Whether it is nobody, or a user who has registered.
@@ -166,18 +174,18 @@ fn submission_of(title: Text, abstract_: Text, authors: ToldNames) -> Option<Com
     })
 }
 
-/// What that command draws; none where it has no caller, or breaks a rule.
-fn draw_of(live: &Live, first: Stamped, authors: ToldNames) -> Option<Draw>
-    ensures drawn { option_map drawn_by result ≡ drawn_told live.now.tables authors first }
-    ensures fits { IfSome result (λ draw. FitInTurn live.now.tables (drawn_by draw).group) }
+/// What that command comes to; none where it has no caller, or breaks a rule.
+fn effect_of(live: &Live, first: Stamped, authors: ToldNames) -> Option<Effect>
+    ensures drawn { option_map (drawn_by live.now.tables.accounts) result ≡ drawn_told live.now.tables authors first }
+    ensures fits { IfSome result (λ effect. FitInTurn live.now.tables (group_of effect)) }
 {
     let caller = caller_of(&first);
     if !is_known(live, &caller) {
         return None;
     }
     let command = command_of(live, first.entry, authors)?;
-    match live.judge(&caller, command) {
-        Ok(draw) => Some(draw),
+    match judge(live, &caller, command) {
+        Ok(effect) => Some(effect),
         Err(_) => None,
     }
 }
@@ -215,11 +223,12 @@ pub(crate) fn begun(
     let Some(first) = Stamped::from_row(&rows[0])? else {
         return Ok(None);
     };
-    let authors = authors_told(alloc, live, first.stamp.maker, rows)?;
-    let Some(draw) = draw_of(live, first, authors) else {
+    let maker = maker_of(&first);
+    let authors = authors_told(alloc, live, maker, rows)?;
+    let Some(effect) = effect_of(live, first, authors) else {
         return Ok(None);
     };
-    let group = draw.group(alloc)?;
+    let group = effect.group(alloc)?;
     let all = rows_of(alloc, &group)?;
     if !are_first(rows, &all) {
         return Ok(None);

@@ -152,8 +152,8 @@ pub fn top<R: Threads + Wait + Sync, I: Source, O: Sink, S: Shelf, G: Gates>(
     }
 }
 
-/// Does what `top` does, and promises nothing of its own: what is said of a run is said of `top`. It is for callers that
-/// state nothing of one, so that `top`'s clauses aren't read again at each of their types.
+/// Does what `top` does, and promises nothing of its own: what is said of a run is said of `top`. It is for callers
+/// that state nothing of one, so that `top`'s clauses aren't read again at each of their types.
 pub fn run_top<R: Threads + Wait + Sync, I: Source, O: Sink, S: Shelf, G: Gates>(
     rt: &R,
     alloc: Global,

@@ -1,17 +1,8 @@
--- What a command draws, by reads of the tables.
-use Rattle.std.proofs.Common.{ℕ, ◌≡◌, List, sym, ap, ◌∙◌, Option, Result, Ok, Err}
-use Rattle.std.specs.Prelude.{IsErrAnd}
-use Rattle.cr_base.specs.declared.command.Command.{Command}
+-- What is made of what a list of checks lets pass.
+use Rattle.std.proofs.Common.{◌≡◌, List, sym, ap, ◌∙◌, Result, Ok, Err}
 use Rattle.cr_base.specs.declared.reply.Rule.{Rule}
 use Rattle.cr_base.specs.Checks.{Check, judged}
-use Rattle.cr_base.specs.Drawn.{Drawn}
-use Rattle.cr_base.specs.Judging.{judge_by_role}
-use Rattle.cr_base.specs.Tables.{Tables}
 use Rattle.cr_base.proofs.CheckLaws.{judged-Ok, judged-none, judged-Err}
-use Rattle.cr_view.specs.declared.draw.Draw.{Draw}
-use Rattle.cr_view.specs.Draws.{drawn_or_rule}
-
--- ---- a list of checks
 
 -- a broken rule is told whatever would be drawn
 pub refused : {A B : Type 0} (checks : List Check) (x : A) (y : B) (rule : Rule) → ◌≡◌ {A = Result A Rule} (Err rule) (judged checks x)
@@ -35,16 +26,3 @@ pub judged-made : {A B : Type 0} (checks : List Check) (make : A → B) (x : A) 
     → r ≡ judged checks x → made_of make r ≡ judged checks (make x)
 judged-made checks make x (Ok given) h = passed checks make x given h
 judged-made checks make x (Err rule) h = refused checks x (make x) rule h
-
--- a broken rule that is passed up is told
-pub passed-up : (r : Result Draw Rule) (rule : Rule) (due : Result Drawn Rule) → IsErrAnd r (λ (e : Rule). e ≡ rule)
-    → ◌≡◌ {A = Result Drawn Rule} (Err rule) due → drawn_or_rule r ≡ due
-passed-up (Ok draw) rule due is told = absurd is
-passed-up (Err e) rule due is told = ap (λ (x : Rule). Err x) is ∙ told
-
--- ---- commands
-
--- the same command of the same caller
-pub along : (t : Tables) (caller given : Option ℕ) (command told : Command) (r : Result Drawn Rule) → caller ≡ given → command ≡ told → r
-    ≡ judge_by_role t given told → r ≡ judge_by_role t caller command
-along t caller given command told r who is h = h ∙ sym (ap (judge_by_role t given) is) ∙ sym (ap (λ (u : Option ℕ). judge_by_role t u command) who)

@@ -1,19 +1,7 @@
--- Whose a command or a query is.
-use Rattle.std.specs.Prelude.{ℕ, ◌≤◌, length, Option, IsSome}
-use Rattle.cr_base.specs.declared.command.Command.{Command}
-use Rattle.cr_base.specs.declared.command.Command.TheVariants.{Submit}
+-- Whose a query is.
+use Rattle.std.specs.Prelude.{ℕ, Option, IsSome}
 use Rattle.cr_base.specs.declared.command.Query.{Query}
 use Rattle.cr_base.specs.declared.command.Query.TheVariants as queries
-use Rattle.cr_base.specs.Logins.{IfWanted, command_wants_login}
-
--- there is a caller, where the command wants a login
-abbrev pub HasCaller : Option ℕ → Command → Type 0
-HasCaller caller command = IfWanted (command_wants_login command) (IsSome caller)
-
--- a submission tells no more co-authors than a draw has place for
-abbrev pub HasFewAuthors : Command → Type 0
-HasFewAuthors (Submit title abstract authors) = length authors ≤ 19
-HasFewAuthors _ = Unit {0}
 
 -- there is a caller, where the query is about herself, and it is no search and no report, which aren't answered here:
 -- that nobody may ask for what is told of a paper is no concern of the tables, which answer it for anybody

@@ -1,12 +1,8 @@
 pub mod Accepted
-pub mod ByTables
 pub mod Callers
 pub mod Comments
-pub mod Draws
 pub mod Fields
 pub mod Replies
 pub mod Reports
 pub mod Reviews
-pub mod Rows
 pub mod Seen
-pub mod Targets

@@ -1,16 +1,11 @@
-//! All tables of a conference as one: what a caller is to it, what a command or a query of hers is
-//! answered, and what an accepted command adds. Every look-up is in the tables; no view is made.
+//! All tables of a conference as one: what a caller is to it, what a query of hers is answered, and what entries
+//! make of them. Every look-up is in the tables; no view is made. What a command comes to is judged above this crate.
 #![tactic(auto)]
 
 mod accepted;
-mod assigning;
-mod coauthors;
-mod commands;
 mod comments;
 mod content;
-mod draw;
 mod fields;
-mod group;
 mod lists;
 mod live;
 mod me;
@@ -19,10 +14,7 @@ mod queries;
 mod reports;
 mod reviewing;
 mod reviews;
-mod rows;
-mod writing;
 
-pub use draw::Draw;
 pub use live::Live;
 pub use queries::AnswerError;
 pub use reports::ScoreSum;

@@ -195,7 +195,7 @@ impl Live {
     }
 
     /// Whether the user is an author of the paper; false for nobody, and where no paper is named.
-    fn is_author(&self, user: &Option<UserNo>, paper: &Option<PaperNo>) -> bool
+    pub fn is_author(&self, user: &Option<UserNo>, paper: &Option<PaperNo>) -> bool
         ensures { result ≡ at_some (is_author_in self.now.tables.ties user.now) paper.now }
     {
         let Some(user) = user else {
@@ -234,10 +234,76 @@ impl Live {
     }
 
     /// Nothing to run: a law, that the papers which have ties are there, and those which have seats.
-    pub(crate) fn law_within(&self)
+    pub fn law_within(&self)
         ensures ties { AreWithin (paper_count self.now.tables.papers) self.now.tables.ties }
         ensures seats { IsTrue (are_within (paper_count self.now.tables.papers) self.now.tables.seats) }
     {
         let _papers = &self.papers;
+    }
+}
+
+/// The tables, lent to whoever judges by them.
+impl Live {
+    /// The table of the phase and the mode.
+    pub fn stage_table(&self) -> &Stage
+        ensures { result.now ≡ self.now.tables.stage }
+    {
+        &self.stage
+    }
+
+    /// The table of accounts.
+    pub fn account_table(&self) -> &Accounts
+        ensures { result.now.accounts ≡ self.now.tables.accounts }
+    {
+        &self.accounts
+    }
+
+    /// The table of papers.
+    pub fn paper_table(&self) -> &Papers
+        ensures { result.now.papers ≡ self.now.tables.papers }
+    {
+        &self.papers
+    }
+
+    /// The table of authors, conflicts and bids.
+    pub fn tie_table(&self) -> &Ties
+        ensures { result.now.ties ≡ self.now.tables.ties }
+    {
+        &self.ties
+    }
+
+    /// The table of who reviews which paper.
+    pub fn seat_table(&self) -> &Seats
+        ensures { result.now.seats ≡ self.now.tables.seats }
+    {
+        &self.seats
+    }
+
+    /// The table of reviews.
+    pub fn review_table(&self) -> &Reviews
+        ensures { result.now.reviews ≡ self.now.tables.reviews }
+    {
+        &self.reviews
+    }
+
+    /// The table of comments.
+    pub fn comment_table(&self) -> &Talk
+        ensures { result.now.talk ≡ self.now.tables.talk }
+    {
+        &self.talk
+    }
+
+    /// The table of tags.
+    pub fn tag_table(&self) -> &Tags
+        ensures { result.now.tags ≡ self.now.tables.tags }
+    {
+        &self.tags
+    }
+
+    /// The table of decisions.
+    pub fn decision_table(&self) -> &Decisions
+        ensures { result.now.decisions ≡ self.now.tables.decisions }
+    {
+        &self.decisions
     }
 }

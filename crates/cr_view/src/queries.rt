@@ -12,7 +12,6 @@ ghost use Rattle.cr_view.specs.Callers.{HasAsker};
 ghost use Rattle.cr_view.specs.Replies.{AnswersAsDue, ShowsAsDue, conference_at, names_of};
 ghost use Rattle.cr_view.specs.Replies.{page_at, page_due, reader_at, versions_at};
 
-use crate::commands::maker;
 use crate::lists::push_some;
 use crate::live::Live;
 use crate::page::{
@@ -24,6 +23,17 @@ use cr_base::{
     UserNo, Versions,
 };
 use std::alloc::{AllocError, Global};
+
+/// The caller of a query that is a user's.
+fn maker(caller: &Option<UserNo>) -> UserNo
+    requires { IsSome caller.now }
+    ensures { caller.now ≡ Some result }
+{
+    match caller {
+        Some(user) => *user,
+        None => unreachable!(),
+    }
+}
 
 /// Who may ask.
 impl Live {

@@ -1,6 +1,6 @@
 use Rattle.std.proofs.Common.{sym, subst}
 use Rattle.cr_base.specs.History.{History}
-use Rattle.cr_view.specs.Rows.{AreEarlier}
+use Rattle.cr_judge.specs.Rows.{AreEarlier}
 use Rattle.cr_book.proofs.OpeningBulkRows.{earlier-of, as-many}
 use Rattle.cr_book.proofs.OpeningLaws.{test-refused, test-last, test-more, test-fits}
 use Rattle.cr_book.proofs.reading.read_of_bulk.Goals as goal

@@ -5,7 +5,7 @@ use Rattle.cr_base.specs.Drawn.{Drawn}
 use Rattle.cr_base.specs.Tables.{Tables, tables_of, FitInTurn}
 use Rattle.cr_policy.specs.Legal.{Legal}
 use Rattle.cr_policy.proofs.LegalLaws.{Legal-accepted}
-use Rattle.cr_view.specs.Draws.{drawn_by}
+use Rattle.cr_judge.specs.Effects.{drawn_by, group_of}
 use Rattle.cr_book.specs.Seen.{SeenBook}
 use Rattle.cr_book.specs.declared.book.BookError.TheVariants as errors
 use Rattle.cr_book.proofs.BookLaws.{judged-by_view, drawn-ok, drawn-no_error}
@@ -29,49 +29,49 @@ returns-in-Err-clause-only_rule g c = λ rule told.
 pub keep-requires-clause-legal : goal.keep-requires-clause-legal
 keep-requires-clause-legal g c =
     let same = ap (λ (v : SeenBook g.row.K.Denot). v.log) c.self.view_is in
-    let told = judged-by_view g.K.Keeper.rows _ c.args.self.now.log _ _ c.args.caller.now c.args.command (Ok (drawn_by c.in-Ok.draw))
+    let told = judged-by_view g.K.Keeper.rows _ c.args.self.now.log _ _ c.args.caller.now c.args.command (Ok (drawn_by c.self.inside.live.tables.accounts c.in-Ok.effect))
     (ap (λ (v : SeenBook g.row.K.Denot). v.log) c.self.view_is) c.self.invariant c.in-Ok.ensures.drawn in
     subst (λ (group : History). Legal (c.args.self.now.log ++ group)) (sym c.in-Ok-group.ensures)
-    (Legal-accepted c.args.self.now.log c.args.caller.now c.args.command (drawn_by c.in-Ok.draw) (subst (λ (h : History). Legal h) same c.self.invariant.legal)
+    (Legal-accepted c.args.self.now.log c.args.caller.now c.args.command (drawn_by c.self.inside.live.tables.accounts c.in-Ok.effect) (subst (λ (h : History). Legal h) same c.self.invariant.legal)
     c.requires told)
 
 pub keep-requires-clause-fits : goal.keep-requires-clause-fits
 keep-requires-clause-fits g c =
     subst (λ (group : History). FitInTurn (tables_of c.args.self.now.log) group) (sym c.in-Ok-group.ensures)
-    (subst (λ (t : Tables). FitInTurn t (drawn_by c.in-Ok.draw).group)
+    (subst (λ (t : Tables). FitInTurn t (group_of c.in-Ok.effect))
     (c.self.invariant.same ∙ ap (λ (v : SeenBook g.row.K.Denot). tables_of v.log) c.self.view_is) c.in-Ok.ensures.fits)
 
 pub returns-in_default-clause-rule : goal.returns-in_default-clause-rule
 returns-in_default-clause-rule g c = λ rule told.
-    let drawn = judged-by_view g.K.Keeper.rows _ c.args.self.now.log _ _ c.args.caller.now c.args.command (Ok (drawn_by c.in-Ok.draw))
+    let drawn = judged-by_view g.K.Keeper.rows _ c.args.self.now.log _ _ c.args.caller.now c.args.command (Ok (drawn_by c.self.inside.live.tables.accounts c.in-Ok.effect))
     (ap (λ (v : SeenBook g.row.K.Denot). v.log) c.self.view_is) c.self.invariant c.in-Ok.ensures.drawn in
     absurd (drawn-no_error _ _ rule drawn told)
 
 pub returns-in_default-clause-memory : goal.returns-in_default-clause-memory
 returns-in_default-clause-memory g c = λ is.
-    drawn-ok _ _ (judged-by_view g.K.Keeper.rows _ c.args.self.now.log _ _ c.args.caller.now c.args.command (Ok (drawn_by c.in-Ok.draw))
+    drawn-ok _ _ (judged-by_view g.K.Keeper.rows _ c.args.self.now.log _ _ c.args.caller.now c.args.command (Ok (drawn_by c.self.inside.live.tables.accounts c.in-Ok.effect))
     (ap (λ (v : SeenBook g.row.K.Denot). v.log) c.self.view_is) c.self.invariant c.in-Ok.ensures.drawn)
 
 pub returns-in-Err-keep-clause-rule : goal.returns-in-Err-keep-clause-rule
 returns-in-Err-keep-clause-rule g c = λ rule told.
-    let drawn = judged-by_view g.K.Keeper.rows _ c.args.self.now.log _ _ c.args.caller.now c.args.command (Ok (drawn_by c.in-Ok.draw))
+    let drawn = judged-by_view g.K.Keeper.rows _ c.args.self.now.log _ _ c.args.caller.now c.args.command (Ok (drawn_by c.self.inside.live.tables.accounts c.in-Ok.effect))
     (ap (λ (v : SeenBook g.row.K.Denot). v.log) c.self.view_is) c.self.invariant c.in-Ok.ensures.drawn in
     absurd (drawn-no_error _ _ rule drawn told)
 
 pub returns-in-Err-keep-clause-memory : goal.returns-in-Err-keep-clause-memory
 returns-in-Err-keep-clause-memory g c = λ is.
-    drawn-ok _ _ (judged-by_view g.K.Keeper.rows _ c.args.self.now.log _ _ c.args.caller.now c.args.command (Ok (drawn_by c.in-Ok.draw))
+    drawn-ok _ _ (judged-by_view g.K.Keeper.rows _ c.args.self.now.log _ _ c.args.caller.now c.args.command (Ok (drawn_by c.self.inside.live.tables.accounts c.in-Ok.effect))
     (ap (λ (v : SeenBook g.row.K.Denot). v.log) c.self.view_is) c.self.invariant c.in-Ok.ensures.drawn)
 
 pub returns-in-Err-keep-clause-lost : goal.returns-in-Err-keep-clause-lost
 returns-in-Err-keep-clause-lost g c = λ is.
-    drawn-ok _ _ (judged-by_view g.K.Keeper.rows _ c.args.self.now.log _ _ c.args.caller.now c.args.command (Ok (drawn_by c.in-Ok.draw))
+    drawn-ok _ _ (judged-by_view g.K.Keeper.rows _ c.args.self.now.log _ _ c.args.caller.now c.args.command (Ok (drawn_by c.self.inside.live.tables.accounts c.in-Ok.effect))
     (ap (λ (v : SeenBook g.row.K.Denot). v.log) c.self.view_is) c.self.invariant c.in-Ok.ensures.drawn)
 
 pub returns-in-Ok-keep-clause-accepted : goal.returns-in-Ok-keep-clause-accepted
 returns-in-Ok-keep-clause-accepted g c = record {
-  drawn = drawn_by c.in-Ok.draw;
-  judged = judged-by_view g.K.Keeper.rows _ c.args.self.now.log _ _ c.args.caller.now c.args.command (Ok (drawn_by c.in-Ok.draw))
+  drawn = drawn_by c.self.inside.live.tables.accounts c.in-Ok.effect;
+  judged = judged-by_view g.K.Keeper.rows _ c.args.self.now.log _ _ c.args.caller.now c.args.command (Ok (drawn_by c.self.inside.live.tables.accounts c.in-Ok.effect))
       (ap (λ (v : SeenBook g.row.K.Denot). v.log) c.self.view_is) c.self.invariant c.in-Ok.ensures.drawn;
   receipt_is = c.receipt-receipt.ensures;
   added = c.in-Ok-keep.ensures.kept ∙ ap (λ (group : History). c.args.self.now.log ++ group) c.in-Ok-group.ensures;
@@ -79,6 +79,6 @@ returns-in-Ok-keep-clause-accepted g c = record {
 
 pub returns-in-Ok-keep-clause-rule : goal.returns-in-Ok-keep-clause-rule
 returns-in-Ok-keep-clause-rule g c = λ rule told.
-    let drawn = judged-by_view g.K.Keeper.rows _ c.args.self.now.log _ _ c.args.caller.now c.args.command (Ok (drawn_by c.in-Ok.draw))
+    let drawn = judged-by_view g.K.Keeper.rows _ c.args.self.now.log _ _ c.args.caller.now c.args.command (Ok (drawn_by c.self.inside.live.tables.accounts c.in-Ok.effect))
     (ap (λ (v : SeenBook g.row.K.Denot). v.log) c.self.view_is) c.self.invariant c.in-Ok.ensures.drawn in
     absurd (drawn-no_error _ _ rule drawn told)

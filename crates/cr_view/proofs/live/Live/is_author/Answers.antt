@@ -1,4 +1,4 @@
-use Rattle.cr_view.proofs.TargetLaws.{nobody-author}
+use Rattle.cr_view.proofs.NobodyLaws.{nobody-author}
 use Rattle.cr_view.proofs.live.Live.is_author.Goals as goal
 
 pub returns-in_default : goal.returns-in_default

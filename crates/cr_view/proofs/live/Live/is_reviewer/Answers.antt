@@ -1,4 +1,4 @@
-use Rattle.cr_view.proofs.TargetLaws.{nobody-reviewer}
+use Rattle.cr_view.proofs.NobodyLaws.{nobody-reviewer}
 use Rattle.cr_view.proofs.live.Live.is_reviewer.Goals as goal
 
 pub returns-in_default : goal.returns-in_default

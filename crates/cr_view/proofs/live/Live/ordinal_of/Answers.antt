@@ -1,4 +1,4 @@
-use Rattle.cr_view.proofs.TargetLaws.{nobody-seat}
+use Rattle.cr_view.proofs.NobodyLaws.{nobody-seat}
 use Rattle.cr_view.proofs.live.Live.ordinal_of.Goals as goal
 
 pub returns-in-None : goal.returns-in-None

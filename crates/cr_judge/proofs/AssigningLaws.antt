@@ -1,0 +1,234 @@
+-- What a command draws that names a paper and a user, by reads of the tables; `user` is whom they have for the name.
+use Rattle.std.proofs.Common.{ℕ, Bool, true, false, ◌≡◌, ◌+◌, List, ◌∷◌, refl, sym, ap, subst, ◌∙◌, ◌||◌, Option, Some, None, Result, Ok, Err}
+use Rattle.std.specs.Prelude.{IsSome, is_some, is_none, not, unwrap_or}
+use Rattle.std.specs.List.{list_any}
+use Rattle.std.specs.Option.{option_map, option_and_then}
+use Rattle.cr_base.specs.declared.entry.Account.{Account}
+use Rattle.cr_base.specs.declared.pairs.Order.TheVariants.{ByPaper}
+use Rattle.cr_base.specs.declared.reply.Rule.{Rule}
+use Rattle.cr_base.specs.declared.reply.Rule.TheVariants as rules
+use Rattle.cr_base.specs.declared.standing.Standing.{Standing}
+use Rattle.cr_base.specs.declared.target.Target.{Target}
+use Rattle.cr_base.specs.declared.words.Kind.{Kind}
+use Rattle.cr_base.specs.declared.words.Role.{Role}
+use Rattle.cr_base.specs.Accounts.{role_at}
+use Rattle.cr_base.specs.Checks.{Check, NamedPaper, ◌breaks◌, judged, conflict_case, conflict_checks, assign_checks, unassign_checks}
+use Rattle.cr_base.specs.Drawn.{Drawn, conflict_drawn, assignment_drawn, unassignment_drawn}
+use Rattle.cr_base.specs.Lists.{at_some, is_number}
+use Rattle.cr_base.specs.Pairs.{users_tied_to}
+use Rattle.cr_base.specs.Papers.{is_withdrawn_at}
+use Rattle.cr_base.specs.Phases.{authors_have_declared, conflicts_are_final}
+use Rattle.cr_base.specs.Seats.{SeatsState, labels_in, ordinal_in}
+use Rattle.cr_base.specs.Sources.{standing_at}
+use Rattle.cr_base.specs.Tables.{Tables}
+use Rattle.cr_base.specs.Ties.{TiesState, is_author_in, is_conflicted_in}
+use Rattle.cr_base.proofs.CheckLaws.{NoneBroken, judged-Ok}
+use Rattle.cr_base.proofs.ListLaws.{role_among-lines_of}
+use Rattle.cr_base.proofs.PairLaws.{list_any-others_of}
+use Rattle.cr_assign.specs.Targets as seats
+use Rattle.cr_conflicts.specs.Targets as ties
+use Rattle.cr_view.proofs.JudgeLaws.{made_of, judged-made}
+use Rattle.cr_judge.specs.declared.named.Named.{Named}
+use Rattle.cr_judge.specs.Named.{there_in, named_at, target_with, written_at, asked_at, conflict_at, assignment_at, unassignment_at}
+use Rattle.cr_judge.proofs.NamedLaws.{there-judged}
+
+-- ---- the user
+
+-- where the rule isn't broken that she isn't there, she is
+pub target-there : {A : Type 0} (accounts : List Account) (user : Option ℕ) (target : Option (ℕ × Role)) → target ≡ target_with accounts user
+    → (of_target : ℕ × Role → Target) (checks : Option Target → List Check) → (NoneBroken (checks None) → ⊥) → (x given : A)
+    → ◌≡◌ {A = Result A Rule} (Ok given) (judged (checks (option_map of_target target)) x) → IsSome user
+target-there accounts user target has of_target checks refused x given h =
+    by user
+    (subst (λ (o : Option (ℕ × Role)). NoneBroken (checks (option_map of_target o))) has (judged-Ok (checks (option_map of_target target)) x given (sym h)).0)
+  where
+    by : (v : Option ℕ) → NoneBroken (checks (option_map of_target (target_with accounts v))) → IsSome v
+    by None none = absurd (refused none)
+    by (Some v) none = refl
+
+-- the role of a user who has an account goes on with her
+pub target-some : (accounts seen : List Account) → seen ≡ accounts → (user : Option ℕ) (v : ℕ) (role : Option Role) → user ≡ Some v
+    → role ≡ role_at seen v → option_map (λ (r : Role). (v, r)) role ≡ target_with accounts user
+target-some accounts seen same user v role is told =
+    ap (option_map (λ (r : Role). (v, r))) (told ∙ ap (λ (x : List Account). role_at x v) same) ∙ sym (ap (target_with accounts) is)
+
+-- ---- what the rules ask of her
+
+module _ (t : Tables) (maker : ℕ) where
+  -- what the rules ask of a user of this role
+  abbrev asked_for : Option ℕ → Option ℕ → Role → Target
+  asked_for paper user role = record {
+    role = role;
+    herself = is_number user maker;
+    author = at_some (is_author_in t.ties user) paper;
+    conflicted = at_some (is_conflicted_in t.ties user) paper;
+    reviewer = at_some (λ p. is_some (ordinal_in t.seats user p)) paper;
+  }
+
+  -- the facts of the tables ask the same of her
+  target-asked : (paper user : Option ℕ) → asked_at t maker paper user ≡ option_map (asked_for paper user) (option_and_then (role_at t.accounts) user)
+  target-asked paper None = refl
+  target-asked None (Some v) = ap (option_map (asked_for None (Some v))) (role_among-lines_of t.accounts (Some v))
+  target-asked (Some p) (Some v) =
+      let asked : Bool → Role → Target = λ declared role. record {
+        role = role;
+        herself = is_number (Some v) maker;
+        author = is_author_in t.ties (Some v) p;
+        conflicted = is_author_in t.ties (Some v) p || declared;
+        reviewer = is_some (ordinal_in t.seats (Some v) p);
+      } in
+      let declared : Bool = list_any (is_number (Some v)) (users_tied_to p t.ties.conflicts) in
+      ap (λ (now : Option Role). option_map (asked declared) now) (role_among-lines_of t.accounts (Some v))
+      ∙ ap (λ (b : Bool). option_map (asked b) (role_at t.accounts v)) (list_any-others_of ByPaper p v t.ties.conflicts)
+
+  -- what is asked of her with her role is what the rules ask of her, if the second of them is that she isn't there
+  target-judged : {A : Type 0} (at user : Option ℕ) (asked : Option (ℕ × Role) → Result A Rule) (due : Option Target → Result A Rule)
+      → asked None ≡ due None
+      → ((v : ℕ) (role : Role) → user ≡ Some v → asked (Some (v, role)) ≡ due (Some (asked_for at (Some v) role)))
+      → asked (target_with t.accounts user) ≡ due (asked_at t maker at user)
+  target-judged at user asked due none some = by user some ∙ sym (ap due (target-asked at user))
+    where
+      by : (o : Option ℕ) → ((v : ℕ) (role : Role) → o ≡ Some v → asked (Some (v, role)) ≡ due (Some (asked_for at (Some v) role)))
+          → asked (target_with t.accounts o) ≡ due (option_map (asked_for at o) (option_and_then (role_at t.accounts) o))
+      by None told = none
+      by (Some v) told = of_role (role_at t.accounts v)
+        where
+          of_role : (r : Option Role) → asked (option_map (λ (role : Role). (v, role)) r) ≡ due (option_map (asked_for at (Some v)) r)
+          of_role None = none
+          of_role (Some role) = told v role refl
+
+  -- as the rules ask of a paper that is there, and of one that may not be
+  abbrev paper_told : Bool → Option ℕ → NamedPaper
+  paper_told there at = record { there = there; withdrawn = at_some (is_withdrawn_at t.papers) at }
+
+  abbrev standing_here : Option ℕ → Standing
+  standing_here at = standing_at t (Some maker) at
+
+  -- ---- what is drawn
+
+  module _ (paper user : Option ℕ) (named : Named) (given : named ≡ named_at t maker (there_in t.papers paper))
+      (target : Option (ℕ × Role)) (has : target ≡ target_with t.accounts user) where
+    abbrev told : NamedPaper
+    told = record { there = is_some named.paper; withdrawn = named.withdrawn }
+
+    abbrev mine : Option (ℕ × Role)
+    mine = target_with t.accounts user
+
+    -- a conflict: no rule reads whether she reviews the paper
+    pub conflict-drawn : (on : Bool) (seen : TiesState) → seen ≡ t.ties → (kept : Result (Unit {0}) Rule)
+        → kept ≡ judged (conflict_checks named.by told (ties.target_of seen maker named.paper target) on) tt
+        → made_of (λ (done : Unit {0}). conflict_drawn maker (unwrap_or named.paper 0) (unwrap_or user 0) on) kept ≡ conflict_at t maker paper user on
+    conflict-drawn on seen same kept judges =
+        judged-made (conflict_checks named.by told (ties.target_of seen maker named.paper target) on)
+        (λ (done : Unit {0}). made named.paper) tt kept judges
+        ∙ ap (λ (x : TiesState). judged (conflict_checks named.by told (ties.target_of x maker named.paper target) on) (made named.paper)) same
+        ∙ ap (λ (o : Option (ℕ × Role)). judged (conflict_checks named.by told (ties.target_of t.ties maker named.paper o) on) (made named.paper)) has
+        ∙ ap (λ (n : Named). judged (conflict_checks n.by (record { there = is_some n.paper; withdrawn = n.withdrawn }) (ties.target_of t.ties maker n.paper mine) on) (made n.paper)) given
+        ∙ there-judged t.papers asked due refl (λ (at : Option ℕ). refl) some paper
+      where
+        made : Option ℕ → Drawn
+        made at = conflict_drawn maker (unwrap_or at 0) (unwrap_or user 0) on
+
+        asked : Option ℕ → Result Drawn Rule
+        asked at = judged (conflict_checks (standing_here at) (paper_told (is_some at) at) (ties.target_of t.ties maker at mine) on) (made at)
+
+        due : Bool → Option ℕ → Result Drawn Rule
+        due there at = judged (conflict_checks (standing_here at) (paper_told there at) (asked_at t maker at user) on) (made at)
+
+        alike : (p v : ℕ) (role : Role) (reviews turned bidding late : Bool)
+            → conflict_case turned bidding late (standing_here (Some p)) (is_withdrawn_at t.papers p) (ties.target_in t.ties maker (Some p) v role)
+            ≡ conflict_case turned bidding late (standing_here (Some p)) (is_withdrawn_at t.papers p)
+            (record (ties.target_in t.ties maker (Some p) v role) { reviewer = reviews })
+        alike p v role reviews false bidding late = refl
+        alike p v role reviews true false late = refl
+        alike p v role reviews true true true = refl
+        alike p v role reviews true true false = refl
+
+        some : (p : ℕ) → asked (Some p) ≡ due true (Some p)
+        some p =
+            target-judged (Some p) user
+            (λ (o : Option (ℕ × Role)). judged (conflict_checks (standing_here (Some p)) (paper_told true (Some p)) (ties.target_of t.ties maker (Some p) o) on) (made (Some p)))
+            (λ (o : Option Target). judged (conflict_checks (standing_here (Some p)) (paper_told true (Some p)) o on) (made (Some p)))
+            refl
+            (λ (v : ℕ) (role : Role) is.
+            ap (λ (checks : List Check). judged (false breaks rules.NoPaper ∷ false breaks rules.NoUser ∷ checks) (made (Some p)))
+            (alike p v role (is_some (ordinal_in t.seats (Some v) p)) on (authors_have_declared (standing_here (Some p)).phase)
+            (conflicts_are_final (standing_here (Some p)).phase)))
+
+    -- an assignment: no rule reads whether she is the caller, or an author
+    pub assignment-drawn : (kind : Kind) (seen : SeatsState) → seen ≡ t.seats → (conflicted : Bool)
+        → conflicted ≡ at_some (is_conflicted_in t.ties user) named.paper → (r : Result ℕ Rule)
+        → r ≡ judged (assign_checks named.by told (seats.target_of seen conflicted named.paper target) (seats.labels_at seen named.paper)) (seats.labels_at seen named.paper + 1)
+        → made_of (assignment_drawn maker (unwrap_or named.paper 0) (unwrap_or user 0) kind) r ≡ assignment_at t maker paper user kind
+    assignment-drawn kind seen same conflicted clear r judges =
+        judged-made (assign_checks named.by told (seats.target_of seen conflicted named.paper target) (seats.labels_at seen named.paper))
+        (assignment_drawn maker (unwrap_or named.paper 0) (unwrap_or user 0) kind) (seats.labels_at seen named.paper + 1) r judges
+        ∙ ap (λ (x : SeatsState). judged (assign_checks named.by told (seats.target_of x conflicted named.paper target) (seats.labels_at x named.paper))
+        (made named.paper (seats.labels_at x named.paper + 1))) same
+        ∙ ap (λ (o : Option (ℕ × Role)). judged (assign_checks named.by told (seats.target_of t.seats conflicted named.paper o) (labels named.paper)) (made named.paper (labels named.paper + 1))) has
+        ∙ ap (λ (c : Bool). judged (assign_checks named.by told (seats.target_of t.seats c named.paper mine) (labels named.paper)) (made named.paper (labels named.paper + 1))) clear
+        ∙ ap (λ (n : Named). judged (assign_checks n.by (record { there = is_some n.paper; withdrawn = n.withdrawn })
+        (seats.target_of t.seats (at_some (is_conflicted_in t.ties user) n.paper) n.paper mine) (labels n.paper)) (made n.paper (labels n.paper + 1))) given
+        ∙ there-judged t.papers asked due refl (λ (at : Option ℕ). refl) some paper
+      where
+        made : Option ℕ → ℕ → Drawn
+        made at = assignment_drawn maker (unwrap_or at 0) (unwrap_or user 0) kind
+
+        labels : Option ℕ → ℕ
+        labels at = seats.labels_at t.seats at
+
+        asked : Option ℕ → Result Drawn Rule
+        asked at =
+            judged (assign_checks (standing_here at) (paper_told (is_some at) at) (seats.target_of t.seats (at_some (is_conflicted_in t.ties user) at) at mine) (labels at)) (made at (labels at + 1))
+
+        due : Bool → Option ℕ → Result Drawn Rule
+        due there at = judged (assign_checks (standing_here at) (paper_told there at) (asked_at t maker at user) (labels at)) (made at (labels at + 1))
+
+        some : (p : ℕ) → asked (Some p) ≡ due true (Some p)
+        some p =
+            target-judged (Some p) user
+            (λ (o : Option (ℕ × Role)). judged (assign_checks (standing_here (Some p)) (paper_told true (Some p))
+            (seats.target_of t.seats (is_conflicted_in t.ties user p) (Some p) o) (labels (Some p))) (made (Some p) (labels (Some p) + 1)))
+            (λ (o : Option Target). judged (assign_checks (standing_here (Some p)) (paper_told true (Some p)) o (labels (Some p))) (made (Some p) (labels (Some p) + 1)))
+            refl
+            (λ (v : ℕ) (role : Role) is.
+            ap (λ (u : Option ℕ). judged (assign_checks (standing_here (Some p)) (paper_told true (Some p))
+            (seats.target_of t.seats (is_conflicted_in t.ties u p) (Some p) (Some (v, role))) (labels (Some p))) (made (Some p) (labels (Some p) + 1))) is)
+
+    -- and its end: nor whether she is in conflict with the paper
+    pub unassignment-drawn : (seen : SeatsState) → seen ≡ t.seats → (written : Bool) → written ≡ written_at t user named.paper → (r : Result ℕ Rule)
+        → r ≡ judged (unassign_checks named.by told (seats.target_of seen false named.paper target) written) (seats.held_at seen named.paper target)
+        → made_of (unassignment_drawn maker (unwrap_or named.paper 0) (unwrap_or user 0)) r ≡ unassignment_at t maker paper user
+    unassignment-drawn seen same written is r judges =
+        judged-made (unassign_checks named.by told (seats.target_of seen false named.paper target) written)
+        (unassignment_drawn maker (unwrap_or named.paper 0) (unwrap_or user 0)) (seats.held_at seen named.paper target) r judges
+        ∙ ap (λ (x : SeatsState). judged (unassign_checks named.by told (seats.target_of x false named.paper target) written) (made named.paper (seats.held_at x named.paper target))) same
+        ∙ ap (λ (o : Option (ℕ × Role)). judged (unassign_checks named.by told (seats.target_of t.seats false named.paper o) written) (made named.paper (seats.held_at t.seats named.paper o))) has
+        ∙ ap (λ (w : Bool). judged (unassign_checks named.by told (seats.target_of t.seats false named.paper mine) w) (made named.paper (seats.held_at t.seats named.paper mine))) is
+        ∙ ap (λ (n : Named). judged (unassign_checks n.by (record { there = is_some n.paper; withdrawn = n.withdrawn })
+        (seats.target_of t.seats false n.paper mine) (written_at t user n.paper)) (made n.paper (seats.held_at t.seats n.paper mine))) given
+        ∙ there-judged t.papers asked due refl (λ (at : Option ℕ). refl) some paper
+      where
+        made : Option ℕ → ℕ → Drawn
+        made at = unassignment_drawn maker (unwrap_or at 0) (unwrap_or user 0)
+
+        seat : Option ℕ → ℕ
+        seat at = unwrap_or (ordinal_in t.seats user (unwrap_or at 0)) 0
+
+        asked : Option ℕ → Result Drawn Rule
+        asked at = judged (unassign_checks (standing_here at) (paper_told (is_some at) at) (seats.target_of t.seats false at mine) (written_at t user at)) (made at (seats.held_at t.seats at mine))
+
+        due : Bool → Option ℕ → Result Drawn Rule
+        due there at =
+            judged (unassign_checks (standing_here at) (paper_told there at) (asked_at t maker at user) (written_at t user (Some (unwrap_or at 0)))) (made at (seat at))
+
+        some : (p : ℕ) → asked (Some p) ≡ due true (Some p)
+        some p =
+            target-judged (Some p) user
+            (λ (o : Option (ℕ × Role)). judged (unassign_checks (standing_here (Some p)) (paper_told true (Some p)) (seats.target_of t.seats false (Some p) o) (written_at t user (Some p)))
+            (made (Some p) (seats.held_at t.seats (Some p) o)))
+            (λ (o : Option Target). judged (unassign_checks (standing_here (Some p)) (paper_told true (Some p)) o (written_at t user (Some p))) (made (Some p) (seat (Some p))))
+            refl
+            (λ (v : ℕ) (role : Role) is.
+            ap (λ (u : Option ℕ). judged (unassign_checks (standing_here (Some p)) (paper_told true (Some p)) (seats.target_of t.seats false (Some p) (Some (v, role)))
+            (written_at t user (Some p))) (made (Some p) (unwrap_or (ordinal_in t.seats u p) 0))) (sym is))

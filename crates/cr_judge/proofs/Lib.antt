@@ -1,0 +1,10 @@
+pub mod AssigningLaws
+pub mod CommandLaws
+pub mod GroupLaws
+pub mod JudgedLaws
+pub mod NameLaws
+pub mod NamedLaws
+pub mod RowEntryLaws
+pub mod RowLaws
+pub mod TargetLaws
+pub mod WritingLaws

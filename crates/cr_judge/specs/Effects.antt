@@ -1,0 +1,55 @@
+-- What an accepted command comes to.
+use Rattle.std.specs.Prelude.{ℕ, List, [], ◌∷◌, map, Option, None, Result, Ok, Err, unwrap_or}
+use Rattle.std.specs.Option.{option_map}
+use Rattle.cr_base.specs.declared.entry.Account.{Account}
+use Rattle.cr_base.specs.declared.entry.Entry.{Entry}
+use Rattle.cr_base.specs.declared.entry.Entry.TheVariants.{Named, Coauthor}
+use Rattle.cr_base.specs.declared.reply.Rule.{Rule}
+use Rattle.cr_base.specs.declared.words.Role.TheVariants.{Chair}
+use Rattle.cr_base.specs.Accounts.{account_at}
+use Rattle.cr_base.specs.Drawn.{Drawn, grouped, receipt_of}
+use Rattle.cr_base.specs.History.{History}
+use Rattle.cr_judge.specs.declared.effect.Effect.{Effect}
+use Rattle.cr_judge.specs.declared.effect.Rest.{Rest}
+use Rattle.cr_judge.specs.declared.effect.Rest.TheVariants as rests
+
+-- the entries behind the first
+abbrev pub behind : Rest → List Entry
+behind rests.Nothing = []
+behind (rests.FirstChair user) = Named user Chair ∷ []
+behind (rests.Coauthors paper users) = map (λ (user : ℕ). Coauthor paper user) users
+
+abbrev pub group_of : Effect → History
+group_of effect = grouped effect.stamp.maker (effect.first ∷ behind effect.rest)
+
+-- the name of the user to whom the entry gives a role
+abbrev pub name_for : List Account → Entry → Option (List ℕ)
+name_for accounts (Named user role) = option_map (λ a. a.name) (account_at accounts user)
+name_for accounts entry = None
+
+-- what it adds, and its receipt
+abbrev pub drawn_by : List Account → Effect → Drawn
+drawn_by accounts effect = record {
+  group = group_of effect;
+  receipt = receipt_of (unwrap_or (name_for accounts effect.first) []) effect.first;
+}
+
+-- the same of a judgement: what it comes to, or the broken rule
+abbrev pub drawn_or_rule : List Account → Result Effect Rule → Result Drawn Rule
+drawn_or_rule accounts (Ok effect) = Ok (drawn_by accounts effect)
+drawn_or_rule accounts (Err rule) = Err rule
+
+-- ---- one entry
+
+-- this entry of this maker, and nothing behind it
+abbrev pub alone : ℕ → Entry → Effect
+alone maker entry = record { stamp = record { maker = maker }; first = entry; rest = rests.Nothing }
+
+-- of a judgement of such a command
+abbrev pub alone_or_rule : ℕ → Result Entry Rule → Result Effect Rule
+alone_or_rule maker (Ok entry) = Ok (alone maker entry)
+alone_or_rule maker (Err rule) = Err rule
+
+abbrev pub entry_or_rule : List Account → ℕ → Result Entry Rule → Result Drawn Rule
+entry_or_rule accounts maker (Ok entry) = Ok (drawn_by accounts (alone maker entry))
+entry_or_rule accounts maker (Err rule) = Err rule

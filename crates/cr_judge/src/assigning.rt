@@ -1,0 +1,145 @@
+//! What is judged of a paper, and of a user who is named with it: conflicts, bids and assignments.
+ghost use Rattle.std.specs.Prelude.{◌≡◌, Some};
+ghost use Rattle.cr_base.specs.Judging.{judge_by_role};
+ghost use Rattle.cr_base.specs.Tables.{tables_from};
+ghost use Rattle.cr_base.specs.declared.command.Command.TheVariants as commands;
+ghost use Rattle.cr_judge.specs.Effects.{drawn_or_rule, entry_or_rule};
+ghost use Rattle.cr_judge.specs.Named.{conflict_at, written_at};
+ghost use Rattle.cr_judge.specs.Rows.{AreEarlier};
+
+use crate::effect::{Effect, alone};
+use crate::named::{held, is_conflicted, named_paper, ordinal_of, target_of, user_of};
+use cr_base::{Bid, Entry, Kind, PaperNo, Rule, Short, Stamped, UserNo};
+use cr_view::Live;
+
+pub(crate) fn bid(
+    live: &Live,
+    maker: UserNo,
+    paper: &Option<PaperNo>,
+    value: Bid,
+) -> Result<Effect, Rule>
+    ensures { drawn_or_rule live.now.tables.accounts result
+        ≡ judge_by_role live.now.tables (Some maker) (commands.Bid paper.now value) }
+{
+    let named = named_paper(live, maker, paper, &[]);
+    live.tie_table()
+        .judge_bid(&named.by, &named.paper, named.withdrawn)?;
+    let paper = held(&named.paper);
+    Ok(alone(maker, Entry::Bid { paper, value }))
+}
+
+/// The entry that turns on or off the conflict of the user who was found for a name, behind earlier entries of the
+/// same bulk.
+pub(crate) fn conflict(
+    live: &Live,
+    maker: UserNo,
+    paper: &Option<PaperNo>,
+    user: &Option<UserNo>,
+    on: bool,
+    earlier: &[Stamped],
+) -> Result<Entry, Rule>
+    requires { AreEarlier live.now.tables earlier.now }
+    ensures { entry_or_rule live.now.tables.accounts maker result
+        ≡ conflict_at (tables_from live.now.tables earlier.now) maker paper.now user.now on }
+{
+    let named = named_paper(live, maker, paper, earlier);
+    let target = target_of(live, user);
+    live.tie_table().judge_conflict(
+        &named.by,
+        maker,
+        &named.paper,
+        &target,
+        on,
+        named.withdrawn,
+        earlier,
+    )?;
+    let paper = held(&named.paper);
+    let user = held(user);
+    Ok(Entry::Conflict { paper, user, on })
+}
+
+/// The entry that assigns the user of a name, behind earlier entries of the same bulk.
+pub(crate) fn assignment(
+    live: &Live,
+    maker: UserNo,
+    paper: &Option<PaperNo>,
+    name: &Option<Short>,
+    kind: Kind,
+    earlier: &[Stamped],
+) -> Result<Entry, Rule>
+    requires { AreEarlier live.now.tables earlier.now }
+    ensures { entry_or_rule live.now.tables.accounts maker result
+        ≡ judge_by_role (tables_from live.now.tables earlier.now) (Some maker)
+        (commands.Assign paper.now name.now kind) }
+{
+    let named = named_paper(live, maker, paper, earlier);
+    let user = user_of(live, name);
+    let ordinal = live.seat_table().judge_assign(
+        &named.by,
+        &named.paper,
+        &target_of(live, &user),
+        named.withdrawn,
+        is_conflicted(live, &user, &named.paper, earlier),
+        earlier,
+    )?;
+    let paper = held(&named.paper);
+    let user = held(&user);
+    Ok(Entry::Assigned {
+        paper,
+        user,
+        kind,
+        ordinal,
+    })
+}
+
+/// The entry that takes the user of a name off the paper, behind earlier entries of the same bulk.
+pub(crate) fn unassignment(
+    live: &Live,
+    maker: UserNo,
+    paper: &Option<PaperNo>,
+    name: &Option<Short>,
+    earlier: &[Stamped],
+) -> Result<Entry, Rule>
+    requires { AreEarlier live.now.tables earlier.now }
+    ensures { entry_or_rule live.now.tables.accounts maker result
+        ≡ judge_by_role (tables_from live.now.tables earlier.now) (Some maker) (commands.Unassign paper.now name.now) }
+{
+    let named = named_paper(live, maker, paper, earlier);
+    let user = user_of(live, name);
+    let ordinal = live.seat_table().judge_unassign(
+        &named.by,
+        &named.paper,
+        &target_of(live, &user),
+        named.withdrawn,
+        has_written(live, &user, &named.paper, earlier),
+        earlier,
+    )?;
+    let paper = held(&named.paper);
+    let user = held(&user);
+    Ok(Entry::Unassigned {
+        paper,
+        user,
+        ordinal,
+    })
+}
+
+/// Whether a form is written under the label under which the user reviews the paper behind the earlier entries; false
+/// where she doesn't. One binary search and a walk over these entries, and where she does a walk over the paper's
+/// forms.
+fn has_written(
+    live: &Live,
+    user: &Option<UserNo>,
+    paper: &Option<PaperNo>,
+    earlier: &[Stamped],
+) -> bool
+    requires { AreEarlier live.now.tables earlier.now }
+    ensures { result ≡ written_at (tables_from live.now.tables earlier.now) user.now paper.now }
+{
+    let Some(number) = paper else {
+        return false;
+    };
+    match ordinal_of(live, user, paper, earlier) {
+        Some(ordinal) => live.review_table().has_form(*number, ordinal),
+        None => false,
+    }
+}

@@ -1,0 +1,226 @@
+//! What is judged by the tables.
+ghost use Rattle.std.specs.Prelude.{◌≡◌, ◌≤◌, ◌==◌, IfOk, Some, length, if◌then◌else◌};
+ghost use Rattle.cr_base.specs.Judging.{judge_by_role};
+ghost use Rattle.cr_base.specs.Tables.{FitInTurn};
+ghost use Rattle.cr_base.specs.declared.command.Command.TheVariants as commands;
+ghost use Rattle.cr_judge.specs.Callers.{HasCaller, HasFewAuthors};
+ghost use Rattle.cr_judge.specs.Effects.{drawn_or_rule, group_of};
+ghost use Rattle.cr_judge.specs.Named.{registration_at, submission_at, naming_at};
+ghost use Rattle.cr_judge.specs.declared.effect.Rest.TheVariants as rests;
+
+use crate::assigning::{assignment, bid, conflict, unassignment};
+use crate::coauthors::coauthors;
+use crate::effect::{Effect, Rest, alone, alone_or_rule};
+use crate::named::{held, user_of};
+use crate::writing::{comment, decision, review, tag};
+use cr_base::{
+    Blob, Command, Digest, Entry, Mode, PaperNo, Phase, Role, Rule, Short, Stamp, Text, ToldNames,
+    UserNo,
+};
+use cr_view::Live;
+
+/// What the caller's command comes to, or the first broken rule of its kind. There is a caller, but for
+/// a registration; a submission tells at most 19 co-authors. The entries may be applied in their
+/// turn.
+///
+/// The rules and their order stand at the table that has each list: `register_check` and `judge_name` of the
+/// accounts, `judge_phase` and `judge_mode` of the phase and the mode, `judge_submit`, `judge_revise`,
+/// `judge_upload` and `judge_withdraw` of the papers, `judge_conflict` and `judge_bid` of the ties, `judge_assign`
+/// and `judge_unassign` of the seats, and `judge_review`, `judge_comment`, `judge_tag` and `judge_decide`.
+///
+/// Takes no memory: the command's texts and its content are moved. A registration, a naming, a
+/// conflict, an assignment and the end of one take one look-up by name, a submission one for each
+/// co-author told. Where a paper is named, how the caller stands to it takes four binary searches of
+/// ties and seats; a conflict takes three more at most, an assignment five, its end four and a walk over
+/// the paper's forms, a review three and such a walk, and a comment three. All else is a few reads by
+/// number.
+pub fn judge(live: &Live, caller: &Option<UserNo>, command: Command) -> Result<Effect, Rule>
+    requires caller { HasCaller caller.now command }
+    requires few { HasFewAuthors command }
+    ensures drawn { drawn_or_rule live.now.tables.accounts result ≡ judge_by_role live.now.tables caller.now command }
+    ensures fits { IfOk result (λ effect. FitInTurn live.now.tables (group_of effect)) }
+{
+    live.law_within();
+    match command {
+        Command::Register { name, digest } => registration(live, name, digest),
+        Command::SetPhase { phase: to } => phase(live, held(caller), to),
+        Command::Submit {
+            title,
+            abstract_,
+            authors,
+        } => submission(live, held(caller), title, abstract_, &authors),
+        Command::Revise {
+            paper,
+            title,
+            abstract_,
+        } => revision(live, held(caller), &paper, title, abstract_),
+        Command::Upload { paper, content } => upload(live, held(caller), &paper, content),
+        Command::Withdraw { paper } => withdrawal(live, held(caller), &paper),
+        Command::Name { user, role } => naming(live, held(caller), &user, role),
+        Command::SetMode { mode: to } => mode(live, held(caller), to),
+        Command::SetConflict { paper, user, on } => {
+            let maker = held(caller);
+            let user = user_of(live, &user);
+            alone_or_rule(maker, conflict(live, maker, &paper, &user, on, &[]))
+        }
+        Command::Bid { paper, value } => bid(live, held(caller), &paper, value),
+        Command::Assign { paper, user, kind } => {
+            let maker = held(caller);
+            alone_or_rule(maker, assignment(live, maker, &paper, &user, kind, &[]))
+        }
+        Command::Unassign { paper, user } => {
+            let maker = held(caller);
+            alone_or_rule(maker, unassignment(live, maker, &paper, &user, &[]))
+        }
+        Command::Review { paper, form } => review(live, held(caller), &paper, form),
+        Command::Comment { paper, text } => comment(live, held(caller), &paper, text),
+        Command::Tag {
+            paper,
+            tag: text,
+            on,
+        } => {
+            let maker = held(caller);
+            alone_or_rule(maker, tag(live, maker, &paper, text, on, &[]))
+        }
+        Command::Decide {
+            paper,
+            decision: made,
+        } => { decision(live, held(caller), &paper, made) }
+    }
+}
+
+fn registration(live: &Live, name: Short, digest: Digest) -> Result<Effect, Rule>
+    ensures { drawn_or_rule live.now.tables.accounts result ≡ registration_at live.now.tables name digest }
+{
+    let user = live.account_table().register_check(&name)?;
+    Ok(Effect {
+        stamp: Stamp { maker: user },
+        first: Entry::Registered { user, name, digest },
+        rest: behind_registration(user),
+    })
+}
+
+/// The first user becomes a chair.
+fn behind_registration(user: UserNo) -> Rest
+    ensures { result ≡ (if user == 1 then rests.FirstChair user else rests.Nothing) }
+{
+    if user.number() == 1 {
+        Rest::FirstChair { user }
+    } else {
+        Rest::Nothing
+    }
+}
+
+fn phase(live: &Live, maker: UserNo, to: Phase) -> Result<Effect, Rule>
+    ensures { drawn_or_rule live.now.tables.accounts result
+        ≡ judge_by_role live.now.tables (Some maker) (commands.SetPhase to) }
+{
+    let by = live.standing(&Some(maker), &None);
+    live.stage_table().judge_phase(&by, to)?;
+    Ok(alone(maker, Entry::PhaseSet { phase: to }))
+}
+
+fn submission(
+    live: &Live,
+    maker: UserNo,
+    title: Text,
+    abstract_: Text,
+    authors: &ToldNames,
+) -> Result<Effect, Rule>
+    requires { length authors.now ≤ 19 }
+    ensures { drawn_or_rule live.now.tables.accounts result
+        ≡ submission_at live.now.tables maker title abstract_ authors.now }
+{
+    let users = coauthors(live, maker, authors.as_slice());
+    let by = live.standing(&Some(maker), &None);
+    let paper = live
+        .paper_table()
+        .judge_submit(&by, maker, users.is_some())?;
+    Ok(Effect {
+        stamp: Stamp { maker },
+        first: Entry::Submitted {
+            paper,
+            title,
+            abstract_,
+        },
+        rest: Rest::Coauthors {
+            paper,
+            users: users.unwrap(),
+        },
+    })
+}
+
+fn naming(live: &Live, maker: UserNo, name: &Option<Short>, role: Role) -> Result<Effect, Rule>
+    ensures { drawn_or_rule live.now.tables.accounts result ≡ naming_at live.now.tables maker name.now role }
+{
+    let user = user_of(live, name);
+    let by = live.standing(&Some(maker), &None);
+    live.account_table().judge_name(&by, &user, role)?;
+    let user = held(&user);
+    Ok(alone(maker, Entry::Named { user, role }))
+}
+
+fn mode(live: &Live, maker: UserNo, to: Mode) -> Result<Effect, Rule>
+    ensures { drawn_or_rule live.now.tables.accounts result
+        ≡ judge_by_role live.now.tables (Some maker) (commands.SetMode to) }
+{
+    let by = live.standing(&Some(maker), &None);
+    live.stage_table().judge_mode(&by)?;
+    Ok(alone(maker, Entry::ModeSet { mode: to }))
+}
+
+fn revision(
+    live: &Live,
+    maker: UserNo,
+    paper: &Option<PaperNo>,
+    title: Text,
+    abstract_: Text,
+) -> Result<Effect, Rule>
+    ensures { drawn_or_rule live.now.tables.accounts result
+        ≡ judge_by_role live.now.tables (Some maker) (commands.Revise paper.now title abstract_) }
+{
+    let by = live.standing(&Some(maker), paper);
+    live.paper_table().judge_revise(&by, paper)?;
+    let paper = held(paper);
+    Ok(alone(
+        maker,
+        Entry::Revised {
+            paper,
+            title,
+            abstract_,
+        },
+    ))
+}
+
+fn upload(
+    live: &Live,
+    maker: UserNo,
+    paper: &Option<PaperNo>,
+    content: Blob,
+) -> Result<Effect, Rule>
+    ensures { drawn_or_rule live.now.tables.accounts result
+        ≡ judge_by_role live.now.tables (Some maker) (commands.Upload paper.now content) }
+{
+    let by = live.standing(&Some(maker), paper);
+    let bytes = content.as_slice().len() as u64;
+    let version = live.paper_table().judge_upload(&by, maker, paper, bytes)?;
+    let paper = held(paper);
+    Ok(alone(
+        maker,
+        Entry::Uploaded {
+            paper,
+            version,
+            content,
+        },
+    ))
+}
+
+fn withdrawal(live: &Live, maker: UserNo, paper: &Option<PaperNo>) -> Result<Effect, Rule>
+    ensures { drawn_or_rule live.now.tables.accounts result
+        ≡ judge_by_role live.now.tables (Some maker) (commands.Withdraw paper.now) }
+{
+    let by = live.standing(&Some(maker), paper);
+    live.paper_table().judge_withdraw(&by, paper)?;
+    let paper = held(paper);
+    Ok(alone(maker, Entry::Withdrawn { paper }))
+}

@@ -1,0 +1,175 @@
+//! What an accepted command comes to.
+ghost use Rattle.std.specs.Prelude.{◌≡◌, ◌≤◌, ◌<◌, [], IfOk, Some, length, slice_get, unwrap_or};
+ghost use Rattle.cr_base.specs.Drawn.{receipt_of};
+ghost use Rattle.cr_judge.specs.Effects.{alone, alone_or_rule, behind, drawn_by, group_of, name_for};
+
+use cr_base::{Coauthors, Entry, PaperNo, Receipt, Role, Rule, Short, Stamp, Stamped, UserNo};
+use cr_view::Live;
+use std::alloc::{AllocError, Global};
+
+/// What an accepted command comes to: its entries, of which the first has taken its texts. So its receipt and its
+/// group come from here, and nothing is judged again.
+#[derive(Drop)]
+pub struct Effect {
+    /// What its entries have alike.
+    pub(crate) stamp: Stamp,
+    /// The first of them.
+    pub(crate) first: Entry,
+    /// The others.
+    pub(crate) rest: Rest,
+}
+
+/// The entries behind the first.
+#[derive(Drop)]
+pub(crate) enum Rest {
+    /// None.
+    Nothing,
+    /// The first user becomes a chair.
+    FirstChair {
+        /// Her number.
+        user: UserNo,
+    },
+    /// Each co-author of a new paper.
+    Coauthors {
+        /// The paper.
+        paper: PaperNo,
+        /// Its authors beside the submitter, each once, in the order told.
+        users: Coauthors,
+    },
+}
+
+impl Rest {
+    /// How many there are.
+    fn count(&self) -> usize
+        ensures value { result ≡ length (behind self.now) }
+        ensures few { result ≤ 19 }
+    {
+        match self {
+            Rest::Nothing => 0,
+            Rest::FirstChair { .. } => 1,
+            Rest::Coauthors { users, .. } => users.as_slice().len(),
+        }
+    }
+
+    /// The one at this index.
+    fn entry(&self, index: usize) -> Entry
+        requires { index < length (behind self.now) }
+        ensures { slice_get (behind self.now) index ≡ Some result }
+    {
+        match self {
+            Rest::Nothing => unreachable!(),
+            Rest::FirstChair { user } => Entry::Named {
+                user: *user,
+                role: Role::Chair,
+            },
+            Rest::Coauthors { paper, users } => Entry::Coauthor {
+                paper: *paper,
+                user: users.as_slice()[index],
+            },
+        }
+    }
+}
+
+impl Effect {
+    /// What the command is answered. Takes no memory; where it gives a role one read by number.
+    pub fn receipt(&self, live: &Live) -> Receipt
+        ensures { result ≡ (drawn_by live.now.tables.accounts self.now).receipt }
+    {
+        receipt_of(&self.first, &name_for(live, &self.first))
+    }
+
+    /// The entries that the command adds, which have its texts and its content whole. An error only for lack of
+    /// memory.
+    pub fn group(self, alloc: Global) -> Result<Vec<Stamped>, AllocError>
+        ensures { IfOk result (λ group. group.items ≡ group_of self) }
+    {
+        let Effect { stamp, first, rest } = self;
+        let others = rest.count();
+        let mut group = Vec::with_capacity(alloc, others + 1)?;
+        group.push_reserved(stamped(&stamp, 0 < others, first));
+        for index in 0..others {
+            group.push_reserved(stamped(&stamp, index + 1 < others, rest.entry(index)));
+        }
+        Ok(group)
+    }
+}
+
+/// The effect of one entry of this maker.
+pub(crate) fn alone(maker: UserNo, entry: Entry) -> Effect
+    ensures { result ≡ alone maker entry }
+{
+    Effect {
+        stamp: Stamp { maker },
+        first: entry,
+        rest: Rest::Nothing,
+    }
+}
+
+/// The same of a judgement, which may tell a broken rule.
+pub(crate) fn alone_or_rule(maker: UserNo, judged: Result<Entry, Rule>) -> Result<Effect, Rule>
+    ensures { result ≡ alone_or_rule maker judged }
+{
+    match judged {
+        Ok(entry) => Ok(alone(maker, entry)),
+        Err(rule) => Err(rule),
+    }
+}
+
+/// An entry with its stamp, and whether another follows it.
+fn stamped(stamp: &Stamp, more: bool, entry: Entry) -> Stamped
+    ensures { result ≡ record { stamp = stamp.now; more = more; entry = entry } }
+{
+    Stamped {
+        stamp: *stamp,
+        more,
+        entry,
+    }
+}
+
+/// The name of the user to whom the entry gives a role.
+fn name_for(live: &Live, first: &Entry) -> Option<Short>
+    ensures { result ≡ name_for live.now.tables.accounts first.now }
+{
+    match first {
+        Entry::Named { user, .. } => live.name_of(*user),
+        _ => None,
+    }
+}
+
+/// What a command is answered whose first entry this is; `name` is that of the user to whom it gives a role.
+pub fn receipt_of(first: &Entry, name: &Option<Short>) -> Receipt
+    ensures { result ≡ receipt_of (unwrap_or name.now []) first.now }
+{
+    match first {
+        Entry::Registered { user, .. } => Receipt::User { user: *user },
+        Entry::Named { role, .. } => Receipt::Named {
+            name: given(name),
+            role: *role,
+        },
+        Entry::PhaseSet { phase } => Receipt::Phase { phase: *phase },
+        Entry::ModeSet { mode } => Receipt::Mode { mode: *mode },
+        Entry::Submitted { paper, .. } => Receipt::Paper { paper: *paper },
+        Entry::Coauthor { paper, .. } => Receipt::Changed { paper: *paper },
+        Entry::Revised { paper, .. } => Receipt::Changed { paper: *paper },
+        Entry::Uploaded { version, .. } => Receipt::Version { version: *version },
+        Entry::Withdrawn { paper } => Receipt::Changed { paper: *paper },
+        Entry::Conflict { paper, .. } => Receipt::Changed { paper: *paper },
+        Entry::Bid { value, .. } => Receipt::Bid { bid: *value },
+        Entry::Assigned { ordinal, .. } => Receipt::Label { ordinal: *ordinal },
+        Entry::Unassigned { paper, .. } => Receipt::Changed { paper: *paper },
+        Entry::Reviewed { version, .. } => Receipt::Version { version: *version },
+        Entry::Commented { n, .. } => Receipt::Comment { n: *n },
+        Entry::Tagged { paper, .. } => Receipt::Changed { paper: *paper },
+        Entry::Decided { paper, .. } => Receipt::Changed { paper: *paper },
+    }
+}
+
+/// The name; no bytes where there is none.
+fn given(name: &Option<Short>) -> Short
+    ensures { result ≡ unwrap_or name.now [] }
+{
+    match name {
+        Some(name) => *name,
+        None => Short::from_slice(b""),
+    }
+}

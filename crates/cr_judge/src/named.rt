@@ -1,0 +1,165 @@
+//! What a command names, as the rules ask of it: a paper, and a user, by the tables behind earlier entries of the same
+//! bulk, none of which makes a paper, a user or an author, or changes a role or the phase. Where there is no such
+//! paper or no such user, none goes on in its place, and the rules tell that.
+ghost use Rattle.std.specs.Prelude.{◌≡◌, IsSome, Some};
+ghost use Rattle.std.specs.Option.{option_and_then};
+ghost use Rattle.cr_base.specs.Lists.{at_some};
+ghost use Rattle.cr_base.specs.Papers.{is_withdrawn_at};
+ghost use Rattle.cr_base.specs.Seats.{ordinal_in};
+ghost use Rattle.cr_base.specs.Sources.{standing_at};
+ghost use Rattle.cr_base.specs.Tables.{tables_from};
+ghost use Rattle.cr_base.specs.Ties.{is_conflicted_in};
+ghost use Rattle.cr_judge.specs.Named.{named_at, there_in, target_with};
+ghost use Rattle.cr_judge.specs.Rows.{AreEarlier};
+ghost use Rattle.cr_judge.specs.Targets.{target_at};
+
+use cr_base::{Ordinal, PaperNo, Role, Short, Stamped, Standing, UserNo};
+use cr_view::Live;
+
+/// What is there, where something is.
+pub(crate) fn held<T: Copy>(option: &Option<T>) -> T
+    requires { IsSome option.now }
+    ensures { option.now ≡ Some result }
+{
+    match option {
+        Some(value) => *value,
+        None => unreachable!(),
+    }
+}
+
+/// The paper that a command names.
+#[derive(Clone, Copy)]
+pub(crate) struct Named {
+    /// How the caller stands to it.
+    pub(crate) by: Standing,
+    /// Its number, where it is there.
+    pub(crate) paper: Option<PaperNo>,
+    /// Whether it was withdrawn.
+    pub(crate) withdrawn: bool,
+}
+
+/// The paper of this number, where it is there.
+pub(crate) fn named_paper(
+    live: &Live,
+    maker: UserNo,
+    paper: &Option<PaperNo>,
+    earlier: &[Stamped],
+) -> Named
+    requires { AreEarlier live.now.tables earlier.now }
+    ensures { let t = tables_from live.now.tables earlier.now in result ≡ named_at t maker (there_in t.papers paper.now) }
+{
+    let paper = there(live, paper);
+    Named {
+        by: standing_behind(live, &Some(maker), &paper, earlier),
+        withdrawn: is_withdrawn(live, &paper),
+        paper,
+    }
+}
+
+/// The number, where there is a paper of it.
+fn there(live: &Live, paper: &Option<PaperNo>) -> Option<PaperNo>
+    ensures { result ≡ there_in live.now.tables.papers paper.now }
+{
+    let Some(number) = paper else {
+        return None;
+    };
+    if !live.paper_table().has(*number) {
+        return None;
+    }
+    Some(*number)
+}
+
+/// Whether it was withdrawn; false for none.
+fn is_withdrawn(live: &Live, paper: &Option<PaperNo>) -> bool
+    ensures { result ≡ at_some (is_withdrawn_at live.now.tables.papers) paper.now }
+{
+    match paper {
+        Some(paper) => live.paper_table().is_withdrawn(*paper),
+        None => false,
+    }
+}
+
+/// What a user is to the conference and to the paper. Takes no memory; a few reads by number, four binary searches of
+/// ties and seats, and three walks over the earlier entries.
+fn standing_behind(
+    live: &Live,
+    user: &Option<UserNo>,
+    paper: &Option<PaperNo>,
+    earlier: &[Stamped],
+) -> Standing
+    requires { AreEarlier live.now.tables earlier.now }
+    ensures { result ≡ standing_at (tables_from live.now.tables earlier.now) user.now paper.now }
+{
+    let stage = live.stage_table();
+    Standing {
+        phase: stage.phase(),
+        mode: stage.mode(),
+        role: live.account_table().standing_for(user),
+        author: live.is_author(user, paper),
+        conflicted: is_conflicted(live, user, paper, earlier),
+        reviewer: ordinal_of(live, user, paper, earlier).is_some(),
+    }
+}
+
+/// Whether the user is in conflict with the paper; false for nobody, and for none.
+pub(crate) fn is_conflicted(
+    live: &Live,
+    user: &Option<UserNo>,
+    paper: &Option<PaperNo>,
+    earlier: &[Stamped],
+) -> bool
+    requires { AreEarlier live.now.tables earlier.now }
+    ensures { result
+        ≡ at_some (is_conflicted_in (tables_from live.now.tables earlier.now).ties user.now) paper.now }
+{
+    let Some(user) = user else {
+        return false;
+    };
+    match paper {
+        Some(paper) => live.tie_table().is_conflicted(*user, *paper, earlier),
+        None => false,
+    }
+}
+
+/// The ordinal of the label under which the user reviews the paper; none for nobody, and for none.
+pub(crate) fn ordinal_of(
+    live: &Live,
+    user: &Option<UserNo>,
+    paper: &Option<PaperNo>,
+    earlier: &[Stamped],
+) -> Option<Ordinal>
+    requires { AreEarlier live.now.tables earlier.now }
+    ensures { result
+        ≡ option_and_then (ordinal_in (tables_from live.now.tables earlier.now).seats user.now) paper.now }
+{
+    let Some(user) = user else {
+        return None;
+    };
+    match paper {
+        Some(paper) => live.seat_table().ordinal_behind(*user, *paper, earlier),
+        None => None,
+    }
+}
+
+/// The user of a name that may be none, if somebody registered it. One look-up by name.
+pub(crate) fn user_of(live: &Live, name: &Option<Short>) -> Option<UserNo>
+    ensures { result ≡ target_at live.now.tables.accounts name.now }
+{
+    match name {
+        Some(name) => live.number_of(name),
+        None => None,
+    }
+}
+
+/// The user who was found for a name, with her role. One read by number.
+pub(crate) fn target_of(live: &Live, user: &Option<UserNo>) -> Option<(UserNo, Role)>
+    ensures { result ≡ target_with live.now.tables.accounts user.now }
+{
+    let Some(user) = user else {
+        return None;
+    };
+    match live.account_table().role_given(*user) {
+        Some(role) => Some((*user, role)),
+        None => None,
+    }
+}

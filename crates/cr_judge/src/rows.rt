@@ -1,0 +1,122 @@
+//! What is judged of a bulk: whether its caller may send one, and of each row behind those before it.
+ghost use Rattle.std.specs.Prelude.{◌≡◌, [], ◌∷◌, ◌++◌, Bool, IfOk, Some, None};
+ghost use Rattle.cr_base.specs.Bulk.{bulk_checks, IsRowCommand};
+ghost use Rattle.cr_base.specs.Checks.{judged};
+ghost use Rattle.cr_base.specs.Drawn.{grouped};
+ghost use Rattle.cr_base.specs.Lists.{is_number};
+ghost use Rattle.cr_base.specs.Sources.{standing_at};
+ghost use Rattle.cr_base.specs.Tables.{FitInTurn, tables_from};
+ghost use Rattle.cr_base.specs.declared.command.Command.TheVariants as commands;
+ghost use Rattle.cr_judge.specs.Effects.{entry_or_rule};
+ghost use Rattle.cr_judge.specs.Rows.{AreEarlier, group_or_rule, row_group, row_judged_at};
+
+use crate::assigning::{assignment, conflict, unassignment};
+use crate::named::user_of;
+use crate::writing::tag;
+use cr_base::{Command, Entry, PaperNo, Rule, Short, Stamped, UserNo};
+use cr_view::Live;
+
+/// Whether a user may send a bulk, or the first broken rule: `NotChair`, else `WrongPhase` before the
+/// bidding and from the notification on. Takes no memory; a few reads by number.
+pub fn may_bulk(live: &Live, caller: UserNo) -> Result<(), Rule>
+    ensures { result ≡ judged (bulk_checks (standing_at live.now.tables (Some caller) None)) tt }
+{
+    let by = live.standing(&Some(caller), &None);
+    if !by.role.is_chair() {
+        return Err(Rule::NotChair);
+    }
+    if !by.phase.committee_works() {
+        return Err(Rule::WrongPhase);
+    }
+    Ok(())
+}
+
+/// The entry that a row of the caller's bulk comes to, or the first broken rule, behind the `earlier` entries
+/// of the same bulk, which no table knows yet: each is of a kind that a row adds, and may come next in its
+/// turn. So may this one. The command is one that a row tells. No table is changed.
+///
+/// First comes `BulkSelf`, where it turns a conflict of the caller's own on or off; then the rules of the
+/// command, as `judge` tells them.
+///
+/// Takes no memory. The cost is that of the command in `judge`, and walks over the earlier entries, at most
+/// 511: three for how the caller stands to the paper, and four more at most for how the user named does.
+pub fn judge_row(
+    live: &Live,
+    caller: UserNo,
+    command: Command,
+    earlier: &[Stamped],
+) -> Result<Entry, Rule>
+    requires row { IsRowCommand command }
+    requires earlier { AreEarlier live.now.tables earlier.now }
+    ensures judged { row_group caller result
+        ≡ group_or_rule (row_judged_at (tables_from live.now.tables earlier.now) caller command) }
+    ensures fits { IfOk result
+        (λ entry. FitInTurn (tables_from live.now.tables earlier.now) (grouped caller (entry ∷ []))) }
+    ensures next { IfOk result (λ entry. (more : Bool)
+        → AreEarlier live.now.tables
+        (earlier.now ++ record { stamp = record { maker = caller }; more = more; entry = entry } ∷ [])) }
+{
+    live.law_within();
+    row_entry(live, caller, command, earlier)
+}
+
+/// The same by the function of its kind.
+fn row_entry(
+    live: &Live,
+    caller: UserNo,
+    command: Command,
+    earlier: &[Stamped],
+) -> Result<Entry, Rule>
+    requires row { IsRowCommand command }
+    requires earlier { AreEarlier live.now.tables earlier.now }
+    ensures { entry_or_rule live.now.tables.accounts caller result
+        ≡ row_judged_at (tables_from live.now.tables earlier.now) caller command }
+{
+    match command {
+        Command::SetConflict { paper, user, on } => {
+            row_conflict(live, caller, &paper, &user, on, earlier)
+        }
+        Command::Assign { paper, user, kind } => {
+            assignment(live, caller, &paper, &user, kind, earlier)
+        }
+        Command::Unassign { paper, user } => unassignment(live, caller, &paper, &user, earlier),
+        Command::Tag {
+            paper,
+            tag: text,
+            on,
+        } => tag(live, caller, &paper, text, on, earlier),
+        _ => unreachable!(),
+    }
+}
+
+/// The entry of a row that turns a conflict on or off: `BulkSelf` where it is the caller's own, and else what
+/// `conflict` tells. One look-up by name.
+fn row_conflict(
+    live: &Live,
+    caller: UserNo,
+    paper: &Option<PaperNo>,
+    name: &Option<Short>,
+    on: bool,
+    earlier: &[Stamped],
+) -> Result<Entry, Rule>
+    requires { AreEarlier live.now.tables earlier.now }
+    ensures { entry_or_rule live.now.tables.accounts caller result
+        ≡ row_judged_at (tables_from live.now.tables earlier.now) caller
+        (commands.SetConflict paper.now name.now on) }
+{
+    let user = user_of(live, name);
+    if is_user(&user, caller) {
+        return Err(Rule::BulkSelf);
+    }
+    conflict(live, caller, paper, &user, on, earlier)
+}
+
+/// Whether the user found, if there is one, is this one.
+fn is_user(found: &Option<UserNo>, user: UserNo) -> bool
+    ensures { result ≡ is_number found.now user }
+{
+    match found {
+        Some(found) => found.number() == user.number(),
+        None => false,
+    }
+}

@@ -1,0 +1,101 @@
+//! What is judged of what members write on a paper, reviews, comments and tags, and of what is decided of it.
+ghost use Rattle.std.specs.Prelude.{◌≡◌, Some};
+ghost use Rattle.cr_base.specs.Judging.{judge_by_role};
+ghost use Rattle.cr_base.specs.Tables.{tables_from};
+ghost use Rattle.cr_base.specs.declared.command.Command.TheVariants as commands;
+ghost use Rattle.cr_judge.specs.Effects.{drawn_or_rule, entry_or_rule};
+ghost use Rattle.cr_judge.specs.Rows.{AreEarlier};
+
+use crate::effect::{Effect, alone};
+use crate::named::{held, named_paper, ordinal_of};
+use cr_base::{Decision, Entry, Form, PaperNo, Rule, Stamped, Tag, Text, UserNo};
+use cr_view::Live;
+
+pub(crate) fn review(
+    live: &Live,
+    maker: UserNo,
+    paper: &Option<PaperNo>,
+    form: Form,
+) -> Result<Effect, Rule>
+    ensures { drawn_or_rule live.now.tables.accounts result
+        ≡ judge_by_role live.now.tables (Some maker) (commands.Review paper.now form) }
+{
+    let named = named_paper(live, maker, paper, &[]);
+    let ordinal = ordinal_of(live, &Some(maker), &named.paper, &[]);
+    let version = live
+        .review_table()
+        .judge_review(&named.by, &named.paper, &ordinal, named.withdrawn)?;
+    let paper = held(&named.paper);
+    let ordinal = held(&ordinal);
+    Ok(alone(
+        maker,
+        Entry::Reviewed {
+            paper,
+            ordinal,
+            version,
+            form,
+        },
+    ))
+}
+
+pub(crate) fn comment(
+    live: &Live,
+    maker: UserNo,
+    paper: &Option<PaperNo>,
+    text: Text,
+) -> Result<Effect, Rule>
+    ensures { drawn_or_rule live.now.tables.accounts result
+        ≡ judge_by_role live.now.tables (Some maker) (commands.Comment paper.now text) }
+{
+    let named = named_paper(live, maker, paper, &[]);
+    let n = live
+        .comment_table()
+        .judge_comment(&named.by, maker, &named.paper, named.withdrawn)?;
+    let ordinal = ordinal_of(live, &Some(maker), &named.paper, &[]);
+    let paper = held(&named.paper);
+    Ok(alone(
+        maker,
+        Entry::Commented {
+            paper,
+            n,
+            ordinal,
+            text,
+        },
+    ))
+}
+
+/// The entry that turns a tag on or off, behind earlier entries of the same bulk.
+pub(crate) fn tag(
+    live: &Live,
+    maker: UserNo,
+    paper: &Option<PaperNo>,
+    tag: Tag,
+    on: bool,
+    earlier: &[Stamped],
+) -> Result<Entry, Rule>
+    requires { AreEarlier live.now.tables earlier.now }
+    ensures { entry_or_rule live.now.tables.accounts maker result
+        ≡ judge_by_role (tables_from live.now.tables earlier.now) (Some maker) (commands.Tag paper.now tag on) }
+{
+    let named = named_paper(live, maker, paper, earlier);
+    live.tag_table()
+        .judge_tag(&named.by, &named.paper, &tag, named.withdrawn)?;
+    let paper = held(&named.paper);
+    Ok(Entry::Tagged { paper, tag, on })
+}
+
+pub(crate) fn decision(
+    live: &Live,
+    maker: UserNo,
+    paper: &Option<PaperNo>,
+    decision: Decision,
+) -> Result<Effect, Rule>
+    ensures { drawn_or_rule live.now.tables.accounts result
+        ≡ judge_by_role live.now.tables (Some maker) (commands.Decide paper.now decision) }
+{
+    let named = named_paper(live, maker, paper, &[]);
+    live.decision_table()
+        .judge_decide(&named.by, &named.paper, named.withdrawn)?;
+    let paper = held(&named.paper);
+    Ok(alone(maker, Entry::Decided { paper, decision }))
+}
