@@ -10,6 +10,7 @@ use Rattle.std.proofs.lemmas.Iterator.Adapters.{position_from-zero}
 use Rattle.cr_base.specs.Accounts.{number_at, lines_of, lines_from, with_role, AccountsFit}
 use Rattle.cr_base.specs.Checks.{judged, register_checks}
 use Rattle.cr_base.specs.Drawn.{Drawn, registration_drawn}
+use Rattle.cr_base.specs.Calls.{call_of, stamp_of}
 use Rattle.cr_base.specs.Judging.{judge_by_role}
 use Rattle.cr_base.specs.Sources.{number_in}
 use Rattle.cr_base.specs.Tables.{Tables}
@@ -124,7 +125,9 @@ registration-fits accounts name digest user h = by (number_at accounts name) (na
 -- ---- registrations
 
 -- a registration is judged by the users of names and the number of accounts
-pub judge_by_role-register : (t : Tables) (caller : Option ℕ) (name digest : List ℕ) → judge_by_role t caller (Register name digest) ≡ judged (register_checks (is_some (number_at t.accounts name)) (length t.accounts)) (registration_drawn (length t.accounts + 1) name digest)
+pub judge_by_role-register : (t : Tables) (caller : Option ℕ) (name digest : List ℕ) →
+    let call = call_of caller (Register name digest) in
+    judge_by_role t call ≡ judged (register_checks (is_some (number_at t.accounts name)) (length t.accounts)) (registration_drawn (stamp_of call) (length t.accounts + 1) name digest)
 judge_by_role-register t caller name digest =
-    let by : Option ℕ → ℕ → Result Drawn Rule = λ found count. judged (register_checks (is_some found) count) (registration_drawn (count + 1) name digest) in
+    let by : Option ℕ → ℕ → Result Drawn Rule = λ found count. judged (register_checks (is_some found) count) (registration_drawn (stamp_of (call_of caller (Register name digest))) (count + 1) name digest) in
     ap (λ found. by found (length (lines_of t.accounts))) (number_in-lines_of t.accounts name) ∙ ap (by (number_at t.accounts name)) (length-lines_of t.accounts)

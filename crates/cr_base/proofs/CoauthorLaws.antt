@@ -10,9 +10,10 @@ use Rattle.std.proofs.lemmas.List.Folds.{list_any-append}
 use Rattle.cr_base.specs.declared.entry.Account.{Account}
 use Rattle.cr_base.specs.declared.entry.Entry.{Entry}
 use Rattle.cr_base.specs.declared.entry.Entry.TheVariants.{Submitted, Coauthor}
+use Rattle.cr_base.specs.declared.entry.Stamp.{Stamp}
 use Rattle.cr_base.specs.declared.reply.AccountLine.{AccountLine}
 use Rattle.cr_base.specs.Accounts.{number_at, lines_of}
-use Rattle.cr_base.specs.Drawn.{grouped, besides, submission}
+use Rattle.cr_base.specs.Drawn.{stamped, grouped, besides, submission}
 use Rattle.cr_base.specs.Lists.{listed}
 use Rattle.cr_base.specs.Pairs.{has_pair}
 use Rattle.cr_base.specs.Papers.{paper_count, new_paper, PapersFit}
@@ -68,12 +69,12 @@ pub users-within : (accounts : List Account) (names : List (Option (List ℕ)))
     → AllByRecursion (HasAccount accounts) (flat_map listed (users_among (lines_of accounts) names))
 users-within accounts names = users-each (HasAccount accounts) (lines_of accounts) (λ name user at. number-within accounts name user (sym (number_in-lines_of accounts name) ∙ at)) names
 
--- ---- entries by one maker, each in its turn
+-- ---- entries under one stamp, each in its turn
 
-pub grouped-fits : (t : Tables) (maker : ℕ) (e : Entry) (es : List Entry) → Fits t (record { stamp = record { maker = maker }; more = false; entry = e })
-    → FitInTurn (tables_after t (record { stamp = record { maker = maker }; more = false; entry = e })) (grouped maker es) → FitInTurn t (grouped maker (e ∷ es))
-grouped-fits t maker e [] fit rest = (fit, tt)
-grouped-fits t maker e (next ∷ es) fit rest = (record { accounts = fit.accounts; papers = fit.papers; ties = fit.ties; seats = fit.seats; reviews = fit.reviews; talk = fit.talk }, rest)
+pub grouped-fits : (t : Tables) (stamp : Stamp) (e : Entry) (es : List Entry) → Fits t (stamped stamp false e)
+    → FitInTurn (tables_after t (stamped stamp false e)) (grouped stamp es) → FitInTurn t (grouped stamp (e ∷ es))
+grouped-fits t stamp e [] fit rest = (fit, tt)
+grouped-fits t stamp e (next ∷ es) fit rest = (record { accounts = fit.accounts; papers = fit.papers; ties = fit.ties; seats = fit.seats; reviews = fit.reviews; talk = fit.talk }, rest)
 
 -- these are the paper's authors
 abbrev AreAuthors : BareTies → ℕ → List ℕ → Type 0
@@ -97,18 +98,18 @@ authors-push authors paper user these are v =
     swap a b = grind arith
 
 -- the co-authors of the last paper
-coauthors-fit : (t : Tables) (maker paper : ℕ) (these users : List ℕ) → 1 ≤ paper → paper ≡ paper_count t.papers → are_up_to paper t.ties.authors ≡ true
+coauthors-fit : (t : Tables) (stamp : Stamp) (paper : ℕ) (these users : List ℕ) → 1 ≤ paper → paper ≡ paper_count t.papers → are_up_to paper t.ties.authors ≡ true
     → AreAuthors t.ties.authors paper these
-    → AllByRecursion (HasAccount t.accounts) users → FitInTurn t (grouped maker (map (λ (user : ℕ). Coauthor paper user) (besides these users)))
-coauthors-fit t maker paper these [] low last up are within = tt
-coauthors-fit t maker paper these (user ∷ users) low last up are within =
+    → AllByRecursion (HasAccount t.accounts) users → FitInTurn t (grouped stamp (map (λ (user : ℕ). Coauthor paper user) (besides these users)))
+coauthors-fit t stamp paper these [] low last up are within = tt
+coauthors-fit t stamp paper these (user ∷ users) low last up are within =
     by (list_any (λ v. eqb v user) these) refl
-    (coauthors-fit t maker paper these users low last up are within.1)
-    (coauthors-fit after maker paper (these ++ user ∷ []) users low last
+    (coauthors-fit t stamp paper these users low last up are within.1)
+    (coauthors-fit after stamp paper (these ++ user ∷ []) users low last
     (all-push _ t.ties.authors (bare_tie paper user) up (at_most paper)) (authors-push t.ties.authors paper user these are) within.1)
   where
     after : Tables
-    after = tables_after t (record { stamp = record { maker = maker }; more = false; entry = Coauthor paper user })
+    after = tables_after t (stamped stamp false (Coauthor paper user))
 
     added : List ℕ → List Entry
     added us = map (λ (u : ℕ). Coauthor paper u) us
@@ -116,12 +117,12 @@ coauthors-fit t maker paper these (user ∷ users) low last up are within =
     at_most : (n : ℕ) → nat_le n n ≡ true
     at_most n = grind (arith, nat_tests)
 
-    by : (told : Bool) → list_any (λ v. eqb v user) these ≡ told → FitInTurn t (grouped maker (added (besides these users)))
-        → FitInTurn after (grouped maker (added (besides (these ++ user ∷ []) users)))
-        → FitInTurn t (grouped maker (added (cond told (besides these users) (user ∷ besides (these ++ user ∷ []) users))))
+    by : (told : Bool) → list_any (λ v. eqb v user) these ≡ told → FitInTurn t (grouped stamp (added (besides these users)))
+        → FitInTurn after (grouped stamp (added (besides (these ++ user ∷ []) users)))
+        → FitInTurn t (grouped stamp (added (cond told (besides these users) (user ∷ besides (these ++ user ∷ []) users))))
     by true is same more = same
     by false is same more =
-        grouped-fits t maker (Coauthor paper user) (added (besides (these ++ user ∷ []) users))
+        grouped-fits t stamp (Coauthor paper user) (added (besides (these ++ user ∷ []) users))
         (record { accounts = within.0; papers = (low, last); ties = (up, are user ∙ is); seats = tt; reviews = tt; talk = tt }) more
 
 -- ---- a submission
@@ -148,17 +149,17 @@ up-to paper (t ∷ authors) before =
     both : (a b : Bool) → a ≡ true → b ≡ true → (a && b) ≡ true
     both a b ha hb = grind (arith, ha, hb)
 
-pub submission-fits : (t : Tables) (maker paper : ℕ) (title abstract users : List ℕ) → PapersFit t.papers maker (Submitted paper title abstract)
+pub submission-fits : (t : Tables) (stamp : Stamp) (paper : ℕ) (title abstract users : List ℕ) → PapersFit t.papers stamp.maker (Submitted paper title abstract)
     → are_before paper t.ties.authors ≡ true
-    → AllByRecursion (HasAccount t.accounts) users → FitInTurn t (grouped maker (submission maker paper title abstract users))
-submission-fits t maker paper title abstract users fits before within =
+    → AllByRecursion (HasAccount t.accounts) users → FitInTurn t (grouped stamp (submission stamp.maker paper title abstract users))
+submission-fits t stamp paper title abstract users fits before within =
     let next = fits.0 in
     let n = length-append t.papers.papers (new_paper title abstract ∷ []) in
-    grouped-fits t maker (Submitted paper title abstract) (map (λ (user : ℕ). Coauthor paper user) (besides (maker ∷ []) users))
+    grouped-fits t stamp (Submitted paper title abstract) (map (λ (user : ℕ). Coauthor paper user) (besides (stamp.maker ∷ []) users))
     (record { accounts = tt; papers = fits; ties = before; seats = tt; reviews = tt; talk = tt })
-    (coauthors-fit (tables_after t (record { stamp = record { maker = maker }; more = false; entry = Submitted paper title abstract })) maker paper (maker ∷ []) users (omega (arith, next)) (omega (arith, n, next))
-    (all-push _ t.ties.authors (bare_tie paper maker) (up-to paper t.ties.authors before) (at_most paper))
-    (authors-push t.ties.authors paper maker [] (λ v. none-before paper v t.ties.authors before)) within)
+    (coauthors-fit (tables_after t (stamped stamp false (Submitted paper title abstract))) stamp paper (stamp.maker ∷ []) users (omega (arith, next)) (omega (arith, n, next))
+    (all-push _ t.ties.authors (bare_tie paper stamp.maker) (up-to paper t.ties.authors before) (at_most paper))
+    (authors-push t.ties.authors paper stamp.maker [] (λ v. none-before paper v t.ties.authors before)) within)
   where
     at_most : (n : ℕ) → nat_le n n ≡ true
     at_most n = grind (arith, nat_tests)

@@ -11,17 +11,19 @@ use Rattle.cr_base.specs.declared.command.Command.{Command}
 use Rattle.cr_base.specs.declared.command.Command.TheVariants.{Register, SetPhase, Submit, Revise, Upload, Withdraw, Name, SetMode, SetConflict, Bid, Assign, Unassign, Review, Comment, Tag, Decide}
 use Rattle.cr_base.specs.declared.entry.Account.{Account}
 use Rattle.cr_base.specs.declared.entry.Entry.TheVariants.{Registered, Named}
+use Rattle.cr_base.specs.declared.entry.Stamp.{Stamp}
 use Rattle.cr_base.specs.declared.target.Target.{Target}
 use Rattle.cr_base.specs.declared.words.Role.{Role}
 use Rattle.cr_base.specs.declared.words.Role.TheVariants as roles
 use Rattle.cr_base.specs.Accounts.{number_at, lines_of}
+use Rattle.cr_base.specs.Calls.{call_by, maker_of}
 use Rattle.cr_base.specs.Checks.{NamedPaper, of_role, register_checks, phase_checks, submit_checks, revise_checks, upload_checks}
 use Rattle.cr_base.specs.Checks.{name_checks, mode_checks, conflict_checks, bid_checks, assign_checks, unassign_checks, target_is}
 use Rattle.cr_base.specs.Checks.{review_checks, comment_checks, tag_checks, decide_checks}
 use Rattle.cr_base.specs.Drawn.{Drawn, grouped, registration, registration_drawn, phase_drawn, submission_drawn, revision_drawn, upload_drawn}
 use Rattle.cr_base.specs.Drawn.{withdrawal_drawn, naming_drawn, mode_drawn, conflict_drawn, bid_drawn, assignment_drawn, unassignment_drawn, review_drawn, comment_drawn, tag_drawn, decision_drawn}
 use Rattle.cr_base.specs.Judging.{judge_by_role}
-use Rattle.cr_base.specs.Sources.{Facts, own_forms_in, standing_at, facts_of_tables, shown_in_tables, user_among, users_among, role_among, has_paper, maker_of, paper_named, target_named}
+use Rattle.cr_base.specs.Sources.{Facts, own_forms_in, standing_at, facts_of_tables, shown_in_tables, user_among, users_among, role_among, has_paper, paper_named, target_named}
 use Rattle.cr_base.specs.Papers.{paper_count, paper_numbers, uploads_at, own_count, own_bytes}
 use Rattle.cr_base.specs.Lists.{listed, is_number, at_some}
 use Rattle.cr_base.specs.Pairs.{users_tied_to}
@@ -39,11 +41,11 @@ use Rattle.cr_base.proofs.TargetLaws.{is_none-asked, target_within, paper_within
 use Rattle.cr_base.proofs.TieLaws.{within-before}
 
 -- a registration's entries, each in its turn
-registration-in_turn : (t : Tables) (user : ℕ) (name digest : List ℕ) → (user ≡ length t.accounts + 1) × (user ≤ 9999) × (number_at t.accounts name ≡ None)
-    → FitInTurn t (grouped user (registration user name digest))
-registration-in_turn t user name digest fits = by (user == 1)
+registration-in_turn : (t : Tables) (stamp : Stamp) (user : ℕ) (name digest : List ℕ) → (user ≡ length t.accounts + 1) × (user ≤ 9999) × (number_at t.accounts name ≡ None)
+    → FitInTurn t (grouped (record stamp { maker = user }) (registration user name digest))
+registration-in_turn t stamp user name digest fits = by (user == 1)
   where
-    by : (first : Bool) → FitInTurn t (grouped user (cond first (Registered user name digest ∷ Named user roles.Chair ∷ []) (Registered user name digest ∷ [])))
+    by : (first : Bool) → FitInTurn t (grouped (record stamp { maker = user }) (cond first (Registered user name digest ∷ Named user roles.Chair ∷ []) (Registered user name digest ∷ [])))
     by true =
         let added : Account = record { name = name; digest = digest; role = roles.Account } in
         let n = length-append t.accounts (added ∷ []) in
@@ -120,67 +122,70 @@ own-seat t user (Some p) there reviews = some-where (ordinal_in t.seats user p) 
     by false h = absurd (true≢false h)
 
 -- where the papers that have ties are there
-module _ (t : Tables) (within : AreWithin (paper_count t.papers) t.ties) (maker : ℕ) where
+module _ (t : Tables) (within : AreWithin (paper_count t.papers) t.ties) (stamp : Stamp) where
+  abbrev maker : ℕ
+  maker = stamp.maker
+
   -- the paper that is named, as the rules ask of it
   abbrev named : Option ℕ → NamedPaper
   named paper = paper_named (facts_of_tables t (Some maker)) (shown_in_tables t) paper
 
   -- what a user's command draws fits; a registration's is the same for all
-  pub judged-fits : (command : Command) (drawn : Drawn) → judge_by_role t (Some maker) command ≡ Ok drawn → FitInTurn t drawn.group
+  pub judged-fits : (command : Command) (drawn : Drawn) → judge_by_role t (call_by stamp command) ≡ Ok drawn → FitInTurn t drawn.group
   judged-fits (Register name digest) drawn accepted =
       let n : ℕ = length t.accounts in
       let checks = register_checks (is_some (number_at t.accounts name)) n in
-      let k = judged-Ok checks (registration_drawn (n + 1) name digest) drawn (sym (judge_by_role-register t (Some maker) name digest) ∙ accepted) in
-      subst (λ (d : Drawn). FitInTurn t d.group) k.1 (registration-in_turn t (n + 1) name digest (registration-fits t.accounts name digest (n + 1) (sym (judged-none checks (n + 1) k.0))))
+      let k = judged-Ok checks (registration_drawn stamp (n + 1) name digest) drawn (sym (judge_by_role-register t (Some maker) name digest) ∙ accepted) in
+      subst (λ (d : Drawn). FitInTurn t d.group) k.1 (registration-in_turn t stamp (n + 1) name digest (registration-fits t.accounts name digest (n + 1) (sym (judged-none checks (n + 1) k.0))))
   judged-fits (SetPhase to) drawn accepted =
-      let k = judged-Ok (phase_checks (standing_at t (Some maker) None) t.stage.phase to) (phase_drawn maker to) drawn accepted in
+      let k = judged-Ok (phase_checks (standing_at t (Some maker) None) t.stage.phase to) (phase_drawn stamp to) drawn accepted in
       subst (λ (d : Drawn). FitInTurn t d.group) k.1 (record { accounts = tt; papers = tt; ties = tt; seats = tt; reviews = tt; talk = tt }, tt)
   judged-fits (Submit title abstract authors) drawn accepted =
       let n : ℕ = length (paper_numbers t.papers) in
       let users : List (Option ℕ) = users_among (lines_of t.accounts) authors in
       let k = judged-Ok
       (submit_checks (list_any is_none users) (standing_at t (Some maker) None) n (own_count t.papers (Some maker)))
-      (submission_drawn maker (n + 1) title abstract (flat_map listed users)) drawn accepted in
+      (submission_drawn stamp (n + 1) title abstract (flat_map listed users)) drawn accepted in
       let same : n ≡ paper_count t.papers = length-numbers_from 1 t.papers.papers in
       let few : n < 9999 = leb-false 9999 n k.0.1.1.0 in
       let own : own_count t.papers (Some maker) < 20 = leb-false 20 (own_count t.papers (Some maker)) k.0.1.1.1.0 in
       subst (λ (d : Drawn). FitInTurn t d.group) k.1
-      (submission-fits t maker (n + 1) title abstract (flat_map listed users) (omega (arith, same), omega (arith, few), own)
+      (submission-fits t stamp (n + 1) title abstract (flat_map listed users) (omega (arith, same), omega (arith, few), own)
       (within-before (paper_count t.papers) (n + 1) (ap (λ m. m + 1) same) t.ties.authors within.authors) (users-within t.accounts authors))
   judged-fits (Revise paper title abstract) drawn accepted =
-      let k = judged-Ok (revise_checks (standing_at t (Some maker) paper) (named paper)) (revision_drawn maker (unwrap_or paper 0) title abstract) drawn accepted in
+      let k = judged-Ok (revise_checks (standing_at t (Some maker) paper) (named paper)) (revision_drawn stamp (unwrap_or paper 0) title abstract) drawn accepted in
       subst (λ (d : Drawn). FitInTurn t d.group) k.1 (record { accounts = tt; papers = paper_within t.papers.papers paper k.0.0; ties = tt; seats = tt; reviews = tt; talk = tt }, tt)
   judged-fits (Upload paper content) drawn accepted =
       let own : ℕ = own_bytes t.papers (Some maker) in
       let p : ℕ = unwrap_or paper 0 in
       let k = judged-Ok
       (upload_checks (standing_at t (Some maker) paper) (named paper) own (length content))
-      (upload_drawn maker p (length (uploads_at t.papers p) + 1) content) drawn accepted in
+      (upload_drawn stamp p (length (uploads_at t.papers p) + 1) content) drawn accepted in
       subst (λ (d : Drawn). FitInTurn t d.group) k.1
       (record { accounts = tt; papers = (paper_within t.papers.papers paper k.0.0, refl, not-past 67108864 (own + length content) k.0.1.1.1.1.0); ties = tt; seats = tt; reviews = tt; talk = tt }, tt)
     where
       not-past : (most n : ℕ) → nat_lt most n ≡ false → n ≤ most
       not-past most n h = grind (arith, nat_tests, h)
   judged-fits (Withdraw paper) drawn accepted =
-      let k = judged-Ok (revise_checks (standing_at t (Some maker) paper) (named paper)) (withdrawal_drawn maker (unwrap_or paper 0)) drawn accepted in
+      let k = judged-Ok (revise_checks (standing_at t (Some maker) paper) (named paper)) (withdrawal_drawn stamp (unwrap_or paper 0)) drawn accepted in
       subst (λ (d : Drawn). FitInTurn t d.group) k.1 (record { accounts = tt; papers = paper_within t.papers.papers paper k.0.0; ties = tt; seats = tt; reviews = tt; talk = tt }, tt)
   judged-fits (Name name role) drawn accepted =
       let target : Option ℕ = user_among (lines_of t.accounts) name in
-      let k = judged-Ok (name_checks (standing_at t (Some maker) None) (option_map of_role (role_among (lines_of t.accounts) target)) role) (naming_drawn maker (unwrap_or target 0) (unwrap_or name []) role) drawn accepted in
+      let k = judged-Ok (name_checks (standing_at t (Some maker) None) (option_map of_role (role_among (lines_of t.accounts) target)) role) (naming_drawn stamp (unwrap_or target 0) (unwrap_or name []) role) drawn accepted in
       subst (λ (d : Drawn). FitInTurn t d.group) k.1 (record { accounts = target-in t target of_role k.0.0; papers = tt; ties = tt; seats = tt; reviews = tt; talk = tt }, tt)
   judged-fits (SetMode to) drawn accepted =
-      let k = judged-Ok (mode_checks (standing_at t (Some maker) None) t.stage.phase) (mode_drawn maker to) drawn accepted in
+      let k = judged-Ok (mode_checks (standing_at t (Some maker) None) t.stage.phase) (mode_drawn stamp to) drawn accepted in
       subst (λ (d : Drawn). FitInTurn t d.group) k.1 (record { accounts = tt; papers = tt; ties = tt; seats = tt; reviews = tt; talk = tt }, tt)
   judged-fits (SetConflict paper name on) drawn accepted =
       let facts : Facts = facts_of_tables t (Some maker) in
       let target : Option ℕ = user_among (lines_of t.accounts) name in
       let k = judged-Ok
       (conflict_checks (standing_at t (Some maker) paper) (paper_named facts (shown_in_tables t) paper) (target_named facts (shown_in_tables t) (Some maker) paper target) on)
-      (conflict_drawn maker (unwrap_or paper 0) (unwrap_or target 0) on) drawn accepted in
+      (conflict_drawn stamp (unwrap_or paper 0) (unwrap_or target 0) on) drawn accepted in
       let there = paper_within t.papers.papers paper k.0.0 in
       subst (λ (d : Drawn). FitInTurn t d.group) k.1 (record { accounts = target-in t target _ k.0.1.0; papers = there; ties = tt; seats = tt; reviews = tt; talk = tt }, tt)
   judged-fits (Bid paper value) drawn accepted =
-      let k = judged-Ok (bid_checks (standing_at t (Some maker) paper) (named paper)) (bid_drawn maker (unwrap_or paper 0) value) drawn accepted in
+      let k = judged-Ok (bid_checks (standing_at t (Some maker) paper) (named paper)) (bid_drawn stamp (unwrap_or paper 0) value) drawn accepted in
       subst (λ (d : Drawn). FitInTurn t d.group) k.1 (record { accounts = tt; papers = paper_within t.papers.papers paper k.0.0; ties = tt; seats = tt; reviews = tt; talk = tt }, tt)
   judged-fits (Assign paper name kind) drawn accepted =
       let target : Option ℕ = user_among (lines_of t.accounts) name in
@@ -188,7 +193,7 @@ module _ (t : Tables) (within : AreWithin (paper_count t.papers) t.ties) (maker 
       let labels : ℕ = labels_in t.seats p in
       let k = judged-Ok
       (assign_checks (standing_at t (Some maker) paper) (named paper) (target_named (facts_of_tables t (Some maker)) (shown_in_tables t) (Some maker) paper target) labels)
-      (assignment_drawn maker p (unwrap_or target 0) kind (labels + 1)) drawn accepted in
+      (assignment_drawn stamp p (unwrap_or target 0) kind (labels + 1)) drawn accepted in
       let there = paper_within t.papers.papers paper k.0.0 in
       let user = target-in t target _ k.0.1.0 in
       let free = none-where (ordinal_in t.seats (Some (unwrap_or target 0)) p) (seat-named t (Some maker) paper target false k.0.1.0 k.0.0 k.0.1.1.1.1.1.1.1.1.0) in
@@ -203,7 +208,7 @@ module _ (t : Tables) (within : AreWithin (paper_count t.papers) t.ties) (maker 
       let k = judged-Ok
       (unassign_checks (standing_at t (Some maker) paper) (named paper) (target_named (facts_of_tables t (Some maker)) (shown_in_tables t) (Some maker) paper target)
       (at_some (is_written_in t.reviews p) (ordinal_in t.seats target p)))
-      (unassignment_drawn maker p (unwrap_or target 0) (unwrap_or (ordinal_in t.seats target p) 0)) drawn accepted in
+      (unassignment_drawn stamp p (unwrap_or target 0) (unwrap_or (ordinal_in t.seats target p) 0)) drawn accepted in
       let there = paper_within t.papers.papers paper k.0.0 in
       let user = target-in t target _ k.0.1.0 in
       let taken = seat-there t target p (seat-named t (Some maker) paper target true k.0.1.0 k.0.0 (not-false _ k.0.1.1.1.1.1.1.0)) _ k.0.1.0 in
@@ -217,7 +222,7 @@ module _ (t : Tables) (within : AreWithin (paper_count t.papers) t.ties) (maker 
       let ordinal : ℕ = unwrap_or (ordinal_in t.seats (Some maker) p) 0 in
       let k = judged-Ok
       (review_checks (standing_at t (Some maker) paper) (named paper))
-      (review_drawn maker p ordinal (length (own_forms_in t (Some maker) p) + 1) form) drawn accepted in
+      (review_drawn stamp p ordinal (length (own_forms_in t (Some maker) p) + 1) form) drawn accepted in
       let there = paper_within t.papers.papers paper k.0.0 in
       let next = ap (λ (n : ℕ). n + 1) (own_forms-count t (Some maker) p ordinal (own-seat t (Some maker) paper k.0.0 k.0.1.1.1.0)) in
       subst (λ (d : Drawn). FitInTurn t d.group) k.1 (record { accounts = tt; papers = there; ties = tt; seats = tt; reviews = next; talk = tt }, tt)
@@ -226,16 +231,16 @@ module _ (t : Tables) (within : AreWithin (paper_count t.papers) t.ties) (maker 
       let own : ℕ = own_comments_in t.talk (Some maker) in
       let k = judged-Ok
       (comment_checks (standing_at t (Some maker) paper) (named paper) own)
-      (comment_drawn maker p (length (map comment_as_told (comments_in t.talk p)) + 1) (ordinal_in t.seats (Some maker) p) text) drawn accepted in
+      (comment_drawn stamp p (length (map comment_as_told (comments_in t.talk p)) + 1) (ordinal_in t.seats (Some maker) p) text) drawn accepted in
       let there = paper_within t.papers.papers paper k.0.0 in
       let next = ap (λ (n : ℕ). n + 1) (length-map (comments_in t.talk p) comment_as_told) in
       subst (λ (d : Drawn). FitInTurn t d.group) k.1
       (record { accounts = tt; papers = there; ties = tt; seats = tt; reviews = tt; talk = (next, leb-false 1000 own k.0.1.1.1.1.1.0) }, tt)
   judged-fits (Tag paper tag on) drawn accepted =
-      let k = judged-Ok (tag_checks (standing_at t (Some maker) paper) (named paper) (is_for_chairs tag)) (tag_drawn maker (unwrap_or paper 0) tag on) drawn accepted in
+      let k = judged-Ok (tag_checks (standing_at t (Some maker) paper) (named paper) (is_for_chairs tag)) (tag_drawn stamp (unwrap_or paper 0) tag on) drawn accepted in
       let there = paper_within t.papers.papers paper k.0.0 in
       subst (λ (d : Drawn). FitInTurn t d.group) k.1 (record { accounts = tt; papers = there; ties = tt; seats = tt; reviews = tt; talk = tt }, tt)
   judged-fits (Decide paper decision) drawn accepted =
-      let k = judged-Ok (decide_checks (standing_at t (Some maker) paper) (named paper)) (decision_drawn maker (unwrap_or paper 0) decision) drawn accepted in
+      let k = judged-Ok (decide_checks (standing_at t (Some maker) paper) (named paper)) (decision_drawn stamp (unwrap_or paper 0) decision) drawn accepted in
       let there = paper_within t.papers.papers paper k.0.0 in
       subst (λ (d : Drawn). FitInTurn t d.group) k.1 (record { accounts = tt; papers = there; ties = tt; seats = tt; reviews = tt; talk = tt }, tt)

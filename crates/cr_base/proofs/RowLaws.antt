@@ -9,8 +9,8 @@ use Rattle.cr_base.specs.Words.{phase_number, phase_numbered, mode_number, mode_
 use Rattle.std.specs.Option.{option_map}
 use Rattle.std.specs.Prelude.{find}
 use Rattle.cr_base.specs.Words.{phases, modes, named_roles, review_kinds, decisions}
-use Rattle.cr_base.specs.Shapes.{FitsShape, HasText, InRange, IsAtMost, unused, some_ordinal_range}
-use Rattle.cr_base.specs.Rows.{kind_number, label_number, label_numbered, shape_of, kind_of, row_of, built, stamp_in, stamped, stamped_by}
+use Rattle.cr_base.specs.Shapes.{stamp_in, FitsShape, HasText, InRange, IsAtMost, unused, some_ordinal_range}
+use Rattle.cr_base.specs.Rows.{kind_number, label_number, label_numbered, shape_of, kind_of, row_of, built, restored, stamped_by}
 use Rattle.cr_base.specs.Rows.{IsBoundedEntry}
 use Rattle.cr_base.specs.declared.entry.EntryKind.{EntryKind}
 use Rattle.cr_base.specs.declared.entry.EntryKind.TheVariants as kind
@@ -163,15 +163,15 @@ row_of-built k r e hk f = λ is.
     (same_row r k _ _ _ _ _ _ _ hk f (plain-is s.n4 r.n4 f.n4) (plain-is s.n5 r.n5 f.n5) (plain-is s.n1 r.n1 f.n1) (plain-is s.n2 r.n2 f.n2) (plain-is s.n3 r.n3 f.n3) (plain_text-is s.b1 r.b1 f.b1) (plain_text-is s.b2 r.b2 f.b2))
 
 -- the entry of a stamped one that a row spells
-spelled : (k : EntryKind) (r : Row) (s : Stamped) → stamped k r ≡ Some s → (e : Entry) × (built k r ≡ Some e) × (s ≡ stamped_by r e)
+spelled : (k : EntryKind) (r : Row) (s : Stamped) → restored k r ≡ Some s → (e : Entry) × (built k r ≡ Some e) × (s ≡ stamped_by r e)
 spelled k r s is = by (built k r) refl is
   where
     by : (found : Option Entry) → built k r ≡ found → option_map (stamped_by r) found ≡ Some s → (e : Entry) × (built k r ≡ Some e) × (s ≡ stamped_by r e)
     by None same is = absurd (none-some s is)
     by (Some e) same is = (e, same, sym (same_Some (stamped_by r e) s is))
 
-pub row_of-stamped : (k : EntryKind) (r : Row) (s : Stamped) → kind_number k ≡ r.kind → FitsShape (shape_of k) r → stamped k r ≡ Some s → row_of s ≡ r
-row_of-stamped k r s hk f is = let e = spelled k r s is in ap row_of e.2 ∙ row_of-built k r e.0 hk f e.1
+pub row_of-restored : (k : EntryKind) (r : Row) (s : Stamped) → kind_number k ≡ r.kind → FitsShape (shape_of k) r → restored k r ≡ Some s → row_of s ≡ r
+row_of-restored k r s hk f is = let e = spelled k r s is in ap row_of e.2 ∙ row_of-built k r e.0 hk f e.1
 
 built-row_of : (e : Entry) (m : Stamp) (o : Bool) → IsBoundedEntry (record { stamp = m; more = o; entry = e })
     → built (kind_of e) (row_of (record { stamp = m; more = o; entry = e })) ≡ Some e
@@ -189,8 +189,8 @@ restamp : (s : Stamped) (p : Bool) → p ≡ s.more → ◌≡◌ {A = Stamped} 
 restamp s p hp = let e : ◌≡◌ {A = Stamped} (record { stamp = s.stamp; more = p; entry = s.entry }) (record { stamp = s.stamp; more = s.more; entry = s.entry }) = cc in e
 
 -- an entry within its bounds is what its row spells
-pub stamped-row_of : (s : Stamped) → IsBoundedEntry s → stamped (kind_of s.entry) (row_of s) ≡ Some s
-stamped-row_of s h = ap (option_map (stamped_by (row_of s))) (built-row_of s.entry s.stamp s.more h) ∙ ap Some (restamp s _ (bit-back s.more))
+pub restored-row_of : (s : Stamped) → IsBoundedEntry s → restored (kind_of s.entry) (row_of s) ≡ Some s
+restored-row_of s h = ap (option_map (stamped_by (row_of s))) (built-row_of s.entry s.stamp s.more h) ∙ ap Some (restamp s _ (bit-back s.more))
 
 -- ---- the kind of a row
 
@@ -213,12 +213,12 @@ kind_of-row k r s only e = only (kind_of s.entry) (ap (λ (q : Row). q.kind) e)
 -- ---- which rows are an entry's
 
 -- what a row that fits its kind's shape spells is an entry within its bounds
-pub bounded-stamped : (k : EntryKind) (r : Row) (s : Stamped) → kind_number k ≡ r.kind → FitsShape (shape_of k) r → stamped k r ≡ Some s → IsBoundedEntry s
-bounded-stamped k r s hk f is =
+pub bounded-restored : (k : EntryKind) (r : Row) (s : Stamped) → kind_number k ≡ r.kind → FitsShape (shape_of k) r → restored k r ≡ Some s → IsBoundedEntry s
+bounded-restored k r s hk f is =
     let P : EntryKind → Row → Type 0 = λ j q. FitsShape (shape_of j) q in
     let e = spelled k r s is in
     let same : kind_of s.entry ≡ k = ap (λ (x : Stamped). kind_of x.entry) e.2 ∙ kind_of-built k r e.0 e.1 in
-    subst (λ (q : Row). P (kind_of s.entry) q) (sym (row_of-stamped k r s hk f is)) (subst (λ (j : EntryKind). P j r) (sym same) f)
+    subst (λ (q : Row). P (kind_of s.entry) q) (sym (row_of-restored k r s hk f is)) (subst (λ (j : EntryKind). P j r) (sym same) f)
 
 -- the row of an entry within its bounds fits its kind's shape
 pub row_fits : (k : EntryKind) (r : Row) (s : Stamped) → ((j : EntryKind) → kind_number j ≡ r.kind → j ≡ k) → IsBoundedEntry s → row_of s ≡ r
@@ -226,9 +226,9 @@ pub row_fits : (k : EntryKind) (r : Row) (s : Stamped) → ((j : EntryKind) → 
 row_fits k r s only h e = subst (λ (j : EntryKind). FitsShape (shape_of j) r) (kind_of-row k r s only e) (subst (λ (q : Row). FitsShape (shape_of (kind_of s.entry)) q) e h)
 
 -- a row spells no other entry
-pub only_one : (k : EntryKind) (r : Row) (s : Stamped) → ((j : EntryKind) → kind_number j ≡ r.kind → j ≡ k) → IsBoundedEntry s → row_of s ≡ r → stamped k r ≡ Some s
-only_one k r s only h e = subst (λ (j : EntryKind). stamped j r
-    ≡ Some s) (kind_of-row k r s only e) (subst (λ (q : Row). stamped (kind_of s.entry) q ≡ Some s) e (stamped-row_of s h))
+pub only_one : (k : EntryKind) (r : Row) (s : Stamped) → ((j : EntryKind) → kind_number j ≡ r.kind → j ≡ k) → IsBoundedEntry s → row_of s ≡ r → restored k r ≡ Some s
+only_one k r s only h e = subst (λ (j : EntryKind). restored j r
+    ≡ Some s) (kind_of-row k r s only e) (subst (λ (q : Row). restored (kind_of s.entry) q ≡ Some s) e (restored-row_of s h))
 
 -- entries within their bounds that have the same row are the same
 pub same_entry : (s s' : Stamped) → IsBoundedEntry s → IsBoundedEntry s' → row_of s ≡ row_of s' → s ≡ s'
@@ -237,12 +237,12 @@ same_entry s s' b b' e =
     same_Some s s' (sym (only_one (kind_of s'.entry) (row_of s') s only b e) ∙ only_one (kind_of s'.entry) (row_of s') s' only b' refl)
 
 -- the entry that a row spells, from its parts
-pub stamped-parts : (k : EntryKind) (r : Row) (stamp : Stamp) (e : Entry) → stamp ≡ stamp_in r → Some e ≡ built k r
-    → stamped k r ≡ Some (record { stamp = stamp; more = r.more == 1; entry = e })
-stamped-parts k r stamp e hs he = ap (option_map (stamped_by r)) (sym he) ∙ ap (λ (s : Stamp). Some (record { stamp = s; more = r.more == 1; entry = e })) (sym hs)
+pub restored-parts : (k : EntryKind) (r : Row) (stamp : Stamp) (e : Entry) → stamp ≡ stamp_in r → Some e ≡ built k r
+    → restored k r ≡ Some (record { stamp = stamp; more = r.more == 1; entry = e })
+restored-parts k r stamp e hs he = ap (option_map (stamped_by r)) (sym he) ∙ ap (λ (s : Stamp). Some (record { stamp = s; more = r.more == 1; entry = e })) (sym hs)
 
 -- where no entry is built, none is spelled
-pub unspelled : (k : EntryKind) (r : Row) (s : Stamped) → None ≡ built k r → stamped k r ≡ Some s → ⊥
+pub unspelled : (k : EntryKind) (r : Row) (s : Stamped) → None ≡ built k r → restored k r ≡ Some s → ⊥
 unspelled k r s none is = none-some s (ap (option_map (stamped_by r)) none ∙ is)
 
 -- ---- short texts

@@ -1,6 +1,6 @@
 -- The one answer to queries: filled with the facts of a view it is Answer, filled with those
 -- of the tables it is RoleAnswer.
-use Rattle.std.specs.Prelude.{ℕ, Bool, true, false, not, ◌&&◌, ◌==◌, List, [], ◌++◌, length, map, Option}
+use Rattle.std.specs.Prelude.{ℕ, Bool, true, false, not, ◌&&◌, ◌==◌, List, [], length, map, Option}
 use Rattle.std.specs.Prelude.{Some, None, is_some, filter, find, unwrap_or, Result, Ok, Err, if◌then◌else◌}
 use Rattle.std.specs.Option.{option_map, option_and_then}
 use Rattle.std.specs.List.{flat_map}
@@ -31,7 +31,8 @@ use Rattle.cr_base.specs.Phases.{members_read_reviews}
 use Rattle.cr_base.specs.Reports.{report_checks, report_told}
 use Rattle.cr_base.specs.Searching.{PaperTold, is_found, found_paper}
 use Rattle.cr_base.specs.Sources.{Facts, Shown, decision_by, names_in, name_in}
-use Rattle.cr_base.specs.Sources.{has_paper, maker_of, facts_of_tables, shown_in_tables}
+use Rattle.cr_base.specs.Sources.{has_paper, facts_of_tables, shown_in_tables}
+use Rattle.cr_base.specs.Calls.{maker_of}
 use Rattle.cr_base.specs.Tables.{Tables}
 use Rattle.cr_base.specs.Words.{is_chair}
 

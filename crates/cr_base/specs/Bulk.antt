@@ -1,6 +1,6 @@
 -- Bulk assignment: what a row asks for, and how the rows of a file are judged, each behind those before it (the HotCRP
 -- manual's bulk assignment files; their actions and columns here are the server's own).
-use Rattle.std.specs.Prelude.{ℕ, Bool, true, false, not, ◌+◌, ◌==◌, ◌≤◌, ◌&&◌, List, [], ◌∷◌, ◌++◌}
+use Rattle.std.specs.Prelude.{ℕ, Bool, true, false, not, ◌+◌, ◌≤◌, List, [], ◌∷◌, ◌++◌}
 use Rattle.std.specs.Prelude.{map, length, Option, Some, None, Result, Ok, Err, if◌then◌else◌, codes}
 use Rattle.std.specs.Str.{bytes_eq}
 use Rattle.cr_base.specs.declared.bulk.Broken.{Broken}
@@ -10,6 +10,7 @@ use Rattle.cr_base.specs.declared.command.Command.{Command}
 use Rattle.cr_base.specs.declared.command.Command.TheVariants as commands
 use Rattle.cr_base.specs.declared.entry.Entry.{Entry}
 use Rattle.cr_base.specs.declared.entry.Entry.TheVariants.{Conflict, Assigned, Unassigned, Tagged}
+use Rattle.cr_base.specs.declared.entry.Stamp.{Stamp}
 use Rattle.cr_base.specs.declared.entry.Stamped.{Stamped}
 use Rattle.cr_base.specs.declared.reply.Receipt.TheVariants as receipts
 use Rattle.cr_base.specs.declared.reply.Rule.{Rule}
@@ -17,6 +18,7 @@ use Rattle.cr_base.specs.declared.reply.Rule.TheVariants as rules
 use Rattle.cr_base.specs.declared.standing.Standing.{Standing}
 use Rattle.cr_base.specs.declared.words.Kind.{Kind}
 use Rattle.cr_base.specs.declared.words.Kind.TheVariants.{Primary, Secondary, Pc}
+use Rattle.cr_base.specs.Calls.{BulkCall}
 use Rattle.cr_base.specs.Checks.{Check, ◌breaks◌, judged}
 use Rattle.cr_base.specs.Drawn.{Drawn, grouped}
 use Rattle.cr_base.specs.History.{History}
@@ -91,18 +93,18 @@ abbrev pub turns_own_conflict : Facts → ℕ → Command → Bool
 turns_own_conflict facts user (commands.SetConflict paper name on) = is_number (user_among facts.accounts name) user
 turns_own_conflict facts user _ = false
 
--- what the command of a row draws
-abbrev pub row_judged_by : Facts → Shown → ℕ → Command → Result Drawn Rule
-row_judged_by facts shown user command =
-    if turns_own_conflict facts user command then Err rules.BulkSelf else judge_by facts shown (Some user) command
+-- what the command of a row draws, under the stamp of its bulk
+abbrev pub row_judged_by : Facts → Shown → Stamp → Command → Result Drawn Rule
+row_judged_by facts shown stamp command =
+    if turns_own_conflict facts stamp.maker command then Err rules.BulkSelf else judge_by facts shown stamp command
 
-abbrev pub row_told_judged : Facts → Shown → ℕ → Result Command Rule → Result Drawn Rule
-row_told_judged facts shown user (Err rule) = Err rule
-row_told_judged facts shown user (Ok command) = row_judged_by facts shown user command
+abbrev pub row_told_judged : Facts → Shown → Stamp → Result Command Rule → Result Drawn Rule
+row_told_judged facts shown stamp (Err rule) = Err rule
+row_told_judged facts shown stamp (Ok command) = row_judged_by facts shown stamp command
 
 -- what a row draws: BadAction, BadTag, BulkSelf, then the rules of its command
-abbrev pub row_judged : Facts → Shown → ℕ → BulkRow → Result Drawn Rule
-row_judged facts shown user row = row_told_judged facts shown user (row_command row)
+abbrev pub row_judged : Facts → Shown → Stamp → BulkRow → Result Drawn Rule
+row_judged facts shown stamp row = row_told_judged facts shown stamp (row_command row)
 
 -- ---- all rows
 
@@ -128,11 +130,11 @@ and_behind n (Ok drawn) behind = and_rows (entries_of drawn.group) (behind drawn
 
 -- the entries that the rows add, each judged behind those before it, or the first row that breaks a rule, where
 -- the first of them has this number
-abbrev pub rows_judged : {S : Type 0} → Basis S → ℕ → S → ℕ → List BulkRow → Result (List Entry) Broken
-rows_judged basis user s n [] = Ok []
-rows_judged basis user s n (row ∷ rows) =
-    and_behind n (row_judged (basis.facts s) (basis.shown s) user row)
-    (λ group. rows_judged basis user (basis.behind s group) (n + 1) rows)
+abbrev pub rows_judged : {S : Type 0} → Basis S → Stamp → S → ℕ → List BulkRow → Result (List Entry) Broken
+rows_judged basis stamp s n [] = Ok []
+rows_judged basis stamp s n (row ∷ rows) =
+    and_behind n (row_judged (basis.facts s) (basis.shown s) stamp row)
+    (λ group. rows_judged basis stamp (basis.behind s group) (n + 1) rows)
 
 -- ---- the bulk
 
@@ -144,20 +146,21 @@ bulk_checks by =
     ∷ []
 
 -- the group of a bulk's entries, one for each of so many rows
-abbrev pub bulk_drawn : ℕ → ℕ → List Entry → Drawn
-bulk_drawn user count entries = record { group = grouped user entries; receipt = receipts.Rows count }
+abbrev pub bulk_drawn : Stamp → ℕ → List Entry → Drawn
+bulk_drawn stamp count entries = record { group = grouped stamp entries; receipt = receipts.Rows count }
 
-abbrev pub bulk_of_rows : ℕ → ℕ → Result (List Entry) Broken → Result Drawn Broken
-bulk_of_rows user count (Ok entries) = Ok (bulk_drawn user count entries)
-bulk_of_rows user count (Err refusal) = Err refusal
+abbrev pub bulk_of_rows : Stamp → ℕ → Result (List Entry) Broken → Result Drawn Broken
+bulk_of_rows stamp count (Ok entries) = Ok (bulk_drawn stamp count entries)
+bulk_of_rows stamp count (Err refusal) = Err refusal
 
-abbrev pub bulk_behind : {S : Type 0} → Basis S → ℕ → S → List BulkRow → Result (Unit {0}) Rule → Result Drawn Broken
-bulk_behind basis user s rows (Err rule) = Err (broken.Rule rule)
-bulk_behind basis user s rows (Ok done) = bulk_of_rows user (length rows) (rows_judged basis user s 1 rows)
+abbrev pub bulk_behind : {S : Type 0} → Basis S → S → BulkCall → Result (Unit {0}) Rule → Result Drawn Broken
+bulk_behind basis s bulk (Err rule) = Err (broken.Rule rule)
+bulk_behind basis s bulk (Ok done) =
+    bulk_of_rows bulk.stamp (length bulk.rows) (rows_judged basis bulk.stamp s 1 bulk.rows)
 
 -- what a bulk adds and its receipt, or the first rule that it breaks as a whole, or the first row that breaks one
-abbrev pub bulk_judged : {S : Type 0} → Basis S → ℕ → S → List BulkRow → Result Drawn Broken
-bulk_judged basis user s rows = bulk_behind basis user s rows (judged (bulk_checks ((basis.facts s).standing None)) tt)
+abbrev pub bulk_judged : {S : Type 0} → Basis S → S → BulkCall → Result Drawn Broken
+bulk_judged basis s bulk = bulk_behind basis s bulk (judged (bulk_checks ((basis.facts s).standing None)) tt)
 
 -- by the tables
 abbrev pub tables_basis : ℕ → Basis Tables
@@ -168,8 +171,8 @@ tables_basis user = record {
 }
 
 -- RoleAnswer of a bulk: the same by checks on the tables
-abbrev pub bulk_by_role : Tables → ℕ → List BulkRow → Result Drawn Broken
-bulk_by_role t user rows = bulk_judged (tables_basis user) user t rows
+abbrev pub bulk_by_role : Tables → BulkCall → Result Drawn Broken
+bulk_by_role t bulk = bulk_judged (tables_basis bulk.stamp.maker) t bulk
 
 -- ---- the bounds of a bulk
 

@@ -6,6 +6,8 @@ use Rattle.cr_base.specs.declared.entry.Entry.TheVariants.{Registered, Named, Ph
 use Rattle.cr_base.specs.declared.entry.Entry.TheVariants.{Coauthor, Revised, Uploaded, Withdrawn, Conflict}
 use Rattle.cr_base.specs.declared.entry.Entry.TheVariants.{Bid, Assigned, Unassigned, Reviewed}
 use Rattle.cr_base.specs.declared.entry.Entry.TheVariants.{Commented, Tagged, Decided}
+use Rattle.cr_base.specs.declared.entry.Stamp.{Stamp}
+use Rattle.cr_base.specs.declared.entry.Stamped.{Stamped}
 use Rattle.cr_base.specs.declared.reply.Receipt.{Receipt}
 use Rattle.cr_base.specs.declared.reply.Receipt.TheVariants as receipts
 use Rattle.cr_base.specs.declared.form.Form.{Form}
@@ -22,11 +24,15 @@ pub record Drawn : Type 0 where
   pub group : History
   pub receipt : Receipt
 
--- the entries of one command by their maker; all but the last have the mark that another follows
-abbrev pub grouped : ℕ → List Entry → History
-grouped maker [] = []
-grouped maker (e ∷ []) = record { stamp = record { maker = maker }; more = false; entry = e } ∷ []
-grouped maker (e ∷ next ∷ es) = record { stamp = record { maker = maker }; more = true; entry = e } ∷ grouped maker (next ∷ es)
+-- an entry under its command's stamp, and whether another entry of the command follows
+abbrev pub stamped : Stamp → Bool → Entry → Stamped
+stamped stamp more entry = record { stamp = stamp; more = more; entry = entry }
+
+-- the entries of one command, under one stamp; all but the last have the mark that another follows
+abbrev pub grouped : Stamp → List Entry → History
+grouped stamp [] = []
+grouped stamp (e ∷ []) = stamped stamp false e ∷ []
+grouped stamp (e ∷ next ∷ es) = stamped stamp true e ∷ grouped stamp (next ∷ es)
 
 -- ReceiptOf: what a command is answered, by the first entry that it adds; `name` is that of the user who is given a
 -- role. A co-author never comes first.
@@ -50,8 +56,8 @@ receipt_of name (Tagged paper tag on) = receipts.Changed paper
 receipt_of name (Decided paper decision) = receipts.Changed paper
 
 -- what a command draws that adds one entry, and gives nobody a role
-abbrev pub alone : ℕ → Entry → Drawn
-alone maker entry = record { group = grouped maker (entry ∷ []); receipt = receipt_of [] entry }
+abbrev pub alone : Stamp → Entry → Drawn
+alone stamp entry = record { group = grouped stamp (entry ∷ []); receipt = receipt_of [] entry }
 
 -- ---- what each command draws
 
@@ -60,14 +66,15 @@ abbrev pub registration : ℕ → List ℕ → List ℕ → List Entry
 registration user name digest =
     if user == 1 then Registered user name digest ∷ Named user Chair ∷ [] else Registered user name digest ∷ []
 
-abbrev pub registration_drawn : ℕ → List ℕ → List ℕ → Drawn
-registration_drawn user name digest = record {
-  group = grouped user (registration user name digest);
+-- under this stamp, but for its maker, who is the new user
+abbrev pub registration_drawn : Stamp → ℕ → List ℕ → List ℕ → Drawn
+registration_drawn stamp user name digest = record {
+  group = grouped (record stamp { maker = user }) (registration user name digest);
   receipt = receipt_of [] (Registered user name digest);
 }
 
-abbrev pub phase_drawn : ℕ → Phase → Drawn
-phase_drawn maker to = alone maker (PhaseSet to)
+abbrev pub phase_drawn : Stamp → Phase → Drawn
+phase_drawn stamp to = alone stamp (PhaseSet to)
 
 -- those of the users who are none of these, each where she comes first
 abbrev pub besides : List ℕ → List ℕ → List ℕ
@@ -80,48 +87,48 @@ abbrev pub submission : ℕ → ℕ → List ℕ → List ℕ → List ℕ → L
 submission maker paper title abstract users =
     Submitted paper title abstract ∷ map (λ (user : ℕ). Coauthor paper user) (besides (maker ∷ []) users)
 
-abbrev pub submission_drawn : ℕ → ℕ → List ℕ → List ℕ → List ℕ → Drawn
-submission_drawn maker paper title abstract users = record {
-  group = grouped maker (submission maker paper title abstract users);
+abbrev pub submission_drawn : Stamp → ℕ → List ℕ → List ℕ → List ℕ → Drawn
+submission_drawn stamp paper title abstract users = record {
+  group = grouped stamp (submission stamp.maker paper title abstract users);
   receipt = receipt_of [] (Submitted paper title abstract);
 }
 
-abbrev pub revision_drawn : ℕ → ℕ → List ℕ → List ℕ → Drawn
-revision_drawn maker paper title abstract = alone maker (Revised paper title abstract)
+abbrev pub revision_drawn : Stamp → ℕ → List ℕ → List ℕ → Drawn
+revision_drawn stamp paper title abstract = alone stamp (Revised paper title abstract)
 
-abbrev pub upload_drawn : ℕ → ℕ → ℕ → List ℕ → Drawn
-upload_drawn maker paper version content = alone maker (Uploaded paper version content)
+abbrev pub upload_drawn : Stamp → ℕ → ℕ → List ℕ → Drawn
+upload_drawn stamp paper version content = alone stamp (Uploaded paper version content)
 
-abbrev pub withdrawal_drawn : ℕ → ℕ → Drawn
-withdrawal_drawn maker paper = alone maker (Withdrawn paper)
+abbrev pub withdrawal_drawn : Stamp → ℕ → Drawn
+withdrawal_drawn stamp paper = alone stamp (Withdrawn paper)
 
-abbrev pub naming_drawn : ℕ → ℕ → List ℕ → Role → Drawn
-naming_drawn maker user name role =
-    record { group = grouped maker (Named user role ∷ []); receipt = receipt_of name (Named user role) }
+abbrev pub naming_drawn : Stamp → ℕ → List ℕ → Role → Drawn
+naming_drawn stamp user name role =
+    record { group = grouped stamp (Named user role ∷ []); receipt = receipt_of name (Named user role) }
 
-abbrev pub mode_drawn : ℕ → Mode → Drawn
-mode_drawn maker to = alone maker (ModeSet to)
+abbrev pub mode_drawn : Stamp → Mode → Drawn
+mode_drawn stamp to = alone stamp (ModeSet to)
 
-abbrev pub conflict_drawn : ℕ → ℕ → ℕ → Bool → Drawn
-conflict_drawn maker paper user on = alone maker (Conflict paper user on)
+abbrev pub conflict_drawn : Stamp → ℕ → ℕ → Bool → Drawn
+conflict_drawn stamp paper user on = alone stamp (Conflict paper user on)
 
-abbrev pub bid_drawn : ℕ → ℕ → ℕ → Drawn
-bid_drawn maker paper value = alone maker (Bid paper value)
+abbrev pub bid_drawn : Stamp → ℕ → ℕ → Drawn
+bid_drawn stamp paper value = alone stamp (Bid paper value)
 
-abbrev pub assignment_drawn : ℕ → ℕ → ℕ → Kind → ℕ → Drawn
-assignment_drawn maker paper user kind ordinal = alone maker (Assigned paper user kind ordinal)
+abbrev pub assignment_drawn : Stamp → ℕ → ℕ → Kind → ℕ → Drawn
+assignment_drawn stamp paper user kind ordinal = alone stamp (Assigned paper user kind ordinal)
 
-abbrev pub unassignment_drawn : ℕ → ℕ → ℕ → ℕ → Drawn
-unassignment_drawn maker paper user ordinal = alone maker (Unassigned paper user ordinal)
+abbrev pub unassignment_drawn : Stamp → ℕ → ℕ → ℕ → Drawn
+unassignment_drawn stamp paper user ordinal = alone stamp (Unassigned paper user ordinal)
 
-abbrev pub review_drawn : ℕ → ℕ → ℕ → ℕ → Form → Drawn
-review_drawn maker paper ordinal version form = alone maker (Reviewed paper ordinal version form)
+abbrev pub review_drawn : Stamp → ℕ → ℕ → ℕ → Form → Drawn
+review_drawn stamp paper ordinal version form = alone stamp (Reviewed paper ordinal version form)
 
-abbrev pub comment_drawn : ℕ → ℕ → ℕ → Option ℕ → List ℕ → Drawn
-comment_drawn maker paper n ordinal text = alone maker (Commented paper n ordinal text)
+abbrev pub comment_drawn : Stamp → ℕ → ℕ → Option ℕ → List ℕ → Drawn
+comment_drawn stamp paper n ordinal text = alone stamp (Commented paper n ordinal text)
 
-abbrev pub tag_drawn : ℕ → ℕ → List ℕ → Bool → Drawn
-tag_drawn maker paper tag on = alone maker (Tagged paper tag on)
+abbrev pub tag_drawn : Stamp → ℕ → List ℕ → Bool → Drawn
+tag_drawn stamp paper tag on = alone stamp (Tagged paper tag on)
 
-abbrev pub decision_drawn : ℕ → ℕ → Decision → Drawn
-decision_drawn maker paper decision = alone maker (Decided paper decision)
+abbrev pub decision_drawn : Stamp → ℕ → Decision → Drawn
+decision_drawn stamp paper decision = alone stamp (Decided paper decision)

@@ -2,6 +2,7 @@ pub mod Accounts
 pub mod Answering
 pub mod Bounds
 pub mod Bulk
+pub mod Calls
 pub mod Checks
 pub mod Decisions
 pub mod Decoding

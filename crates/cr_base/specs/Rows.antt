@@ -8,7 +8,6 @@ use Rattle.cr_base.specs.declared.entry.Entry.TheVariants.{Registered, Named, Ph
 use Rattle.cr_base.specs.declared.entry.Entry.TheVariants.{Coauthor, Revised, Uploaded, Withdrawn, Conflict}
 use Rattle.cr_base.specs.declared.entry.Entry.TheVariants.{Bid, Assigned, Unassigned, Reviewed}
 use Rattle.cr_base.specs.declared.entry.Entry.TheVariants.{Commented, Tagged, Decided}
-use Rattle.cr_base.specs.declared.entry.Stamp.{Stamp}
 use Rattle.cr_base.specs.declared.entry.Stamped.{Stamped}
 use Rattle.cr_base.specs.declared.row.Row.{Row}
 use Rattle.std.specs.Option.{option_map}
@@ -25,7 +24,7 @@ use Rattle.cr_base.specs.declared.shape.TextKind.TheVariants.{Content, ReviewTex
 use Rattle.cr_base.specs.Shapes.{user_range, paper_range, phase_range, mode_range, bit}
 use Rattle.cr_base.specs.Shapes.{role_range, version_range, bid_range, review_kind_range}
 use Rattle.cr_base.specs.Shapes.{ordinal_range, some_ordinal_range, grade_range, decision_range}
-use Rattle.cr_base.specs.Shapes.{unused, shape, with_fourth, with_fifth, FitsShape}
+use Rattle.cr_base.specs.Shapes.{unused, shape, with_fourth, with_fifth, stamp_in, FitsShape}
 
 -- the number by which rows tell the kind
 abbrev pub kind_number : EntryKind → ℕ
@@ -206,12 +205,9 @@ built kind.Commented r = Some (Commented r.n1 r.n2 (label_numbered r.n3) r.b1)
 built kind.Tagged r = Some (Tagged r.n1 r.b1 (r.n2 == 1))
 built kind.Decided r = option_map (λ (decision : Decision). Decided r.n1 decision) (decision_numbered r.n2)
 
--- the stamp that a row's fields spell, and an entry with it and the row's mark
-abbrev pub stamp_in : Row → Stamp
-stamp_in r = record { maker = r.maker }
-
+-- an entry with the stamp that a row's fields spell and the row's mark
 abbrev pub stamped_by : Row → Entry → Stamped
 stamped_by r e = record { stamp = stamp_in r; more = r.more == 1; entry = e }
 
-abbrev pub stamped : EntryKind → Row → Option Stamped
-stamped k r = option_map (stamped_by r) (built k r)
+abbrev pub restored : EntryKind → Row → Option Stamped
+restored k r = option_map (stamped_by r) (built k r)

@@ -6,6 +6,7 @@ use Rattle.cr_base.specs.declared.shape.Shape.{Shape}
 use Rattle.cr_base.specs.declared.shape.TextKind.{TextKind}
 use Rattle.cr_base.specs.declared.shape.TextKind.TheVariants.{Nothing, Name, Digest, Title, Abstract}
 use Rattle.cr_base.specs.declared.shape.TextKind.TheVariants.{Content, ReviewText, CommentText, Tag}
+use Rattle.cr_base.specs.declared.entry.Stamp.{Stamp}
 use Rattle.cr_base.specs.declared.row.Row.{Row}
 use Rattle.cr_base.specs.TagTexts.{is_tag}
 use Rattle.cr_base.specs.Texts.{IsName, IsTitle, IsAbstract, IsContent, IsReviewText, IsCommentText}
@@ -100,9 +101,16 @@ HasText ReviewText bytes = IsReviewText bytes
 HasText CommentText bytes = IsCommentText bytes
 HasText Tag bytes = IsTrue (is_tag bytes)
 
--- the row's fields are as the shape wants them; who made it, and the mark, are alike in every kind
+-- the stamp that a row's fields spell, and that its fields are as they may be in every kind
+abbrev pub stamp_in : Row → Stamp
+stamp_in r = record { maker = r.maker }
+
+pub record FitsStamp (stamp : Stamp) : Type 0 where
+  pub maker : InRange user_range stamp.maker
+
+-- the row's fields are as the shape wants them
 pub record FitsShape (s : Shape) (r : Row) : Type 0 where
-  pub maker : InRange user_range r.maker
+  pub stamp : FitsStamp (stamp_in r)
   pub more : r.more ≤ 1
   pub n1 : InRange s.n1 r.n1
   pub n2 : InRange s.n2 r.n2

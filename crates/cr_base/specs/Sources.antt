@@ -1,6 +1,6 @@
 -- What rules and answers read, over a record of facts and one of what is shown of a paper: filled by a view they make
 -- Judge and Answer, filled by the tables they make RoleAnswer.
-use Rattle.std.specs.Prelude.{ℕ, Bool, ◌||◌, ◌==◌, List, Option, Some, is_some, find, map, unwrap_or, if◌then◌else◌}
+use Rattle.std.specs.Prelude.{ℕ, Bool, ◌||◌, ◌==◌, List, Option, Some, is_some, find, map, if◌then◌else◌}
 use Rattle.std.specs.Option.{option_map, option_and_then}
 use Rattle.std.specs.List.{flat_map, list_any}
 use Rattle.std.specs.Str.{bytes_eq}
@@ -11,6 +11,7 @@ use Rattle.cr_base.specs.declared.words.Decision.{Decision}
 use Rattle.cr_base.specs.declared.words.Decision.TheVariants.{Accept}
 use Rattle.cr_base.specs.declared.words.Role.{Role}
 use Rattle.cr_base.specs.Accounts.{lines_of, role_in}
+use Rattle.cr_base.specs.Calls.{maker_of}
 use Rattle.cr_base.specs.Checks.{NamedPaper}
 use Rattle.cr_base.specs.Decisions.{decision_in, is_accepted_when}
 use Rattle.cr_base.specs.Lists.{listed, is_number, at_some}
@@ -124,10 +125,6 @@ shown_in_tables t = record {
   tags = tags_in t.tags;
   decision = decision_in t.decisions;
 }
-
--- who makes the entries of a caller's command: nobody makes any but a registration
-abbrev pub maker_of : Option ℕ → ℕ
-maker_of caller = unwrap_or caller 0
 
 -- the user of this name among the accounts, and the name of a user
 abbrev pub number_in : List AccountLine → List ℕ → Option ℕ

@@ -6,7 +6,7 @@ use crate::ask::Ask;
 use crate::bid::Bid;
 use crate::entry::Digest;
 use crate::form::Form;
-use crate::numbers::PaperNo;
+use crate::numbers::{PaperNo, UserNo};
 use crate::report::Report;
 use crate::search::Search;
 use crate::tag::Tag;
@@ -133,6 +133,15 @@ pub enum Command {
         /// What it decides.
         decision: Decision,
     },
+}
+
+/// A command and who gives it.
+#[derive(Drop)]
+pub struct Call {
+    /// Who gives it; nobody registers, and every other command is a user's.
+    pub caller: Option<UserNo>,
+    /// What is to change.
+    pub command: Command,
 }
 
 /// What a request may ask.

@@ -41,7 +41,7 @@ pub use accepted::{AcceptedPaper, AcceptedPapers};
 pub use ask::Ask;
 pub use bid::Bid;
 pub use bulk::{Broken, BulkRow, BulkRows, MOST_ROWS};
-pub use command::{Command, Query};
+pub use command::{Call, Command, Query};
 pub use comment::{Comment, CommentLine, CommentLines};
 pub use decode::DecodeError;
 pub use digits::{all_digits, decimal_value};

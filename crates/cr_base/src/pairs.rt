@@ -1,5 +1,5 @@
 //! Ties of papers and users: the pair that is tied, and what is kept of it.
-ghost use Rattle.std.specs.Prelude.{◌≡◌};
+ghost use Rattle.std.specs.Prelude.{◌≡◌, ◌≤◌};
 ghost use Rattle.cr_base.specs.Pairs.{major, minor};
 
 use crate::numbers::{PaperNo, UserNo};
@@ -34,7 +34,8 @@ pub enum Order {
 impl Pair {
     /// The number by which the pair is found in this order, 1 to 9,999.
     pub fn major(&self, order: Order) -> u64
-        ensures { result ≡ major order self.now }
+        ensures value { result ≡ major order self.now }
+        ensures few { result ≤ 9999 }
     {
         match order {
             Order::ByPaper => self.paper.number(),

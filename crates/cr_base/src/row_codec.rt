@@ -1,9 +1,9 @@
 //! The row of an entry, and the entry of a row, kind by kind.
 ghost use Rattle.std.specs.Prelude.{◌≡◌, ◌≢◌, ◌≤◌, [], length, IfOk, IfSome, IfNone, Some, IsTrue};
 ghost use Rattle.cr_base.specs.TagTexts.{is_tag};
-ghost use Rattle.cr_base.specs.Shapes.{FitsShape, InRange, user_range};
+ghost use Rattle.cr_base.specs.Shapes.{FitsShape, FitsStamp, stamp_in};
 ghost use Rattle.cr_base.specs.Rows.{kind_name, kind_number, shape_of, row_of, fields_of};
-ghost use Rattle.cr_base.specs.Rows.{label_number, label_numbered, built, stamp_in, IsBoundedEntry};
+ghost use Rattle.cr_base.specs.Rows.{label_number, label_numbered, built, IsBoundedEntry};
 ghost use Rattle.cr_base.specs.declared.entry.EntryKind.{EntryKind};
 ghost use Rattle.cr_base.specs.declared.entry.Stamped.{Stamped};
 
@@ -514,7 +514,7 @@ fn entry_from(kind: EntryKind, row: &Row) -> Result<Option<Entry>, AllocError>
 impl Stamp {
     /// The stamp that the fields of a row spell.
     fn of_row(row: &Row) -> Stamp
-        requires { InRange user_range row.now.maker }
+        requires { FitsStamp (stamp_in row.now) }
         ensures { result ≡ stamp_in row.now }
     {
         Stamp {

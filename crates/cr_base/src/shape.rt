@@ -1,6 +1,6 @@
 //! What may stand in the fields of a row: ranges of numbers and grammars of bytes.
 ghost use Rattle.std.specs.Prelude.{◌≡◌, ◌↔◌, IsTrue};
-ghost use Rattle.cr_base.specs.Shapes.{FitsShape, HasText, InRange, IsAtMost};
+ghost use Rattle.cr_base.specs.Shapes.{FitsShape, FitsStamp, stamp_in, HasText, InRange, IsAtMost};
 
 use crate::bid::HIGHEST_RAISED;
 use crate::numbers::{HIGHEST_GRADE, LAST_NUMBER, MOST_LABELS};
@@ -220,11 +220,11 @@ impl Shape {
         }
     }
 
-    /// Whether a row has a maker, a mark and fields as they may be.
+    /// Whether a row has a stamp, a mark and fields as they may be.
     pub(crate) fn fits(&self, row: &Row) -> bool
         ensures { IsTrue result ↔ FitsShape self.now row.now }
     {
-        USERS.holds(row.maker)
+        fits_stamp(row)
             && BIT.holds(row.more)
             && self.n1.holds(row.n1)
             && self.n2.holds(row.n2)
@@ -234,4 +234,11 @@ impl Shape {
             && self.b1.holds(row.b1.as_slice())
             && self.b2.holds(row.b2.as_slice())
     }
+}
+
+/// Whether the fields of a row's stamp are as they may be.
+fn fits_stamp(row: &Row) -> bool
+    ensures { IsTrue result ↔ FitsStamp (stamp_in row.now) }
+{
+    USERS.holds(row.maker)
 }

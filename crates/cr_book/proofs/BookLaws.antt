@@ -1,8 +1,7 @@
 -- What stays true of a book when its history grows.
 use Rattle.std.proofs.Common.{ℕ, ◌≡◌, ◌≢◌, Bool, true, false, List, ◌++◌, refl, sym, ap, subst, ◌∙◌, length, Option, Some, None, Result, Ok, IfSome, IsSome, IsOk, Err}
-use Rattle.cr_base.specs.declared.command.Command.{Command}
+use Rattle.cr_base.specs.declared.command.Call.{Call}
 use Rattle.cr_base.specs.declared.bulk.Broken.{Broken}
-use Rattle.cr_base.specs.declared.bulk.BulkRow.{BulkRow}
 use Rattle.cr_base.specs.declared.reply.Receipt.TheVariants as receipts
 use Rattle.cr_base.specs.declared.reply.Rule.{Rule}
 use Rattle.cr_base.specs.declared.row.Row.{Row}
@@ -16,6 +15,7 @@ use Rattle.cr_base.specs.declared.report.Report.TheVariants as reports
 use Rattle.cr_base.specs.declared.search.Step.{Step}
 use Rattle.cr_base.specs.Bulk.{bulk_by_role, bulk_drawn, entries_of}
 use Rattle.cr_base.specs.Answering.{answer_by_role, login_wanted}
+use Rattle.cr_base.specs.Calls.{BulkCall}
 use Rattle.cr_base.specs.Drawn.{Drawn, grouped}
 use Rattle.cr_base.specs.Judging.{judge_by_role}
 use Rattle.cr_base.specs.Rows.{rows_of}
@@ -76,29 +76,31 @@ searched-no_refusal t caller search false = λ rule e. absurd (cc)
 -- ---- one judgement, by the tables and by the view
 
 -- what the tables judge is Judge's on the caller's view
-pub judged-by_view : {K : Type 0} (rows : K → Option (List Row)) (h log : History) (t : Tables) (keeper : K) (caller : Option ℕ) (command : Command) (judgement : Result Drawn Rule)
-    → h ≡ log → IsSound rows h t keeper → judgement ≡ judge_by_role t caller command → judge caller (view caller log) command ≡ judgement
-judged-by_view rows h log t keeper caller command judgement same sound is =
-    sym (ap (λ (x : History). judge caller (view caller x) command) same)
-    ∙ Legal-judge caller h command sound.legal
-    ∙ ap (λ (x : Tables). judge_by_role x caller command) (sym sound.same)
+pub judged-by_view : {K : Type 0} (rows : K → Option (List Row)) (h log : History) (t : Tables) (keeper : K) (call : Call) (judgement : Result Drawn Rule)
+    → h ≡ log → IsSound rows h t keeper → judgement ≡ judge_by_role t call → judge (view call.caller log) call ≡ judgement
+judged-by_view rows h log t keeper call judgement same sound is =
+    sym (ap (λ (x : History). judge (view call.caller x) call) same)
+    ∙ Legal-judge h call sound.legal
+    ∙ ap (λ (x : Tables). judge_by_role x call) (sym sound.same)
     ∙ sym is
 
 -- and so it is of a bulk, where its caller has registered
-pub bulk-by_view : {K : Type 0} (rows : K → Option (List Row)) (h log : History) (t : Tables) (keeper : K) (user : ℕ) (of : List BulkRow) (judgement : Result Drawn Broken)
-    → h ≡ log → IsSound rows h t keeper → IsRegistered log user → bulk_by_role t user of ≡ judgement → judge_bulk user (view (Some user) log) of ≡ judgement
-bulk-by_view rows h log t keeper user of judgement same sound registered is =
-    sym (ap (λ (x : History). judge_bulk user (view (Some user) x) of) same)
-    ∙ Legal-judge_bulk user h of sound.legal (subst (λ (x : History). IsRegistered x user) (sym same) registered)
-    ∙ ap (λ (x : Tables). bulk_by_role x user of) (sym sound.same)
+pub bulk-by_view : {K : Type 0} (rows : K → Option (List Row)) (h log : History) (t : Tables) (keeper : K) (bulk : BulkCall) (judgement : Result Drawn Broken)
+    → h ≡ log → IsSound rows h t keeper → IsRegistered log bulk.stamp.maker → bulk_by_role t bulk ≡ judgement
+    → judge_bulk (view (Some bulk.stamp.maker) log) bulk ≡ judgement
+bulk-by_view rows h log t keeper bulk judgement same sound registered is =
+    sym (ap (λ (x : History). judge_bulk (view (Some bulk.stamp.maker) x) bulk) same)
+    ∙ Legal-judge_bulk h bulk sound.legal (subst (λ (x : History). IsRegistered x bulk.stamp.maker) (sym same) registered)
+    ∙ ap (λ (x : Tables). bulk_by_role x bulk) (sym sound.same)
     ∙ is
 
 -- what it adds
-pub bulk-drawn : {K : Type 0} (rows : K → Option (List Row)) (h log : History) (t : Tables) (keeper : K) (user : ℕ) (of : List BulkRow) (group : History)
-    → h ≡ log → IsSound rows h t keeper → IsRegistered log user → group ≡ grouped user (entries_of group) → bulk_by_role t user of ≡ Ok (bulk_drawn user (length group) (entries_of group))
-    → judge_bulk user (view (Some user) log) of ≡ Ok (record { group = group; receipt = receipts.Rows (length group) })
-bulk-drawn rows h log t keeper user of group same sound registered grouped is =
-    bulk-by_view rows h log t keeper user of _ same sound registered is
+pub bulk-drawn : {K : Type 0} (rows : K → Option (List Row)) (h log : History) (t : Tables) (keeper : K) (bulk : BulkCall) (group : History)
+    → h ≡ log → IsSound rows h t keeper → IsRegistered log bulk.stamp.maker → group ≡ grouped bulk.stamp (entries_of group)
+    → bulk_by_role t bulk ≡ Ok (bulk_drawn bulk.stamp (length group) (entries_of group))
+    → judge_bulk (view (Some bulk.stamp.maker) log) bulk ≡ Ok (record { group = group; receipt = receipts.Rows (length group) })
+bulk-drawn rows h log t keeper bulk group same sound registered grouped is =
+    bulk-by_view rows h log t keeper bulk _ same sound registered is
     ∙ ap (λ (g : History). let drawn : Drawn = record { group = g; receipt = receipts.Rows (length group) } in Ok drawn) (sym grouped)
 
 -- where something is drawn, no error is told

@@ -6,10 +6,11 @@ use Rattle.std.specs.Option.{option_and_then, option_map_or}
 use Rattle.std.proofs.lemmas.Bool.Decides.{nat_tests}
 use Rattle.cr_base.specs.declared.entry.Entry.{Entry}
 use Rattle.cr_base.specs.declared.entry.Entry.TheVariants.{Coauthor}
+use Rattle.cr_base.specs.declared.entry.Stamp.{Stamp}
 use Rattle.cr_base.specs.declared.entry.Stamped.{Stamped}
 use Rattle.cr_base.specs.declared.row.Row.{Row}
 use Rattle.cr_base.specs.Accounts.{lines_of}
-use Rattle.cr_base.specs.Drawn.{besides, grouped}
+use Rattle.cr_base.specs.Drawn.{besides, stamped, grouped}
 use Rattle.cr_base.specs.History.{History}
 use Rattle.cr_base.specs.Lists.{given, is_nothing, listed}
 use Rattle.cr_base.specs.Rows.{row_of, rows_of, IsBoundedEntry}
@@ -134,12 +135,12 @@ abbrev pub coauthors : ℕ → List ℕ → List Entry
 coauthors paper users = map (λ (user : ℕ). Coauthor paper user) users
 
 -- the first entry of a group
-abbrev first_of : ℕ → Entry → List Entry → Stamped
-first_of maker e es = record { stamp = record { maker = maker }; more = not (is_nothing es); entry = e }
+abbrev first_of : Stamp → Entry → List Entry → Stamped
+first_of stamp e es = stamped stamp (not (is_nothing es)) e
 
-pub grouped-cons : (maker : ℕ) (e : Entry) (es : List Entry) → grouped maker (e ∷ es) ≡ first_of maker e es ∷ grouped maker es
-grouped-cons maker e [] = refl
-grouped-cons maker e (next ∷ es) = refl
+pub grouped-cons : (stamp : Stamp) (e : Entry) (es : List Entry) → grouped stamp (e ∷ es) ≡ first_of stamp e es ∷ grouped stamp es
+grouped-cons stamp e [] = refl
+grouped-cons stamp e (next ∷ es) = refl
 
 -- the users whom rows tell
 abbrev pub numbers : List Row → List ℕ
@@ -149,21 +150,21 @@ numbers rows = map (λ (r : Row). r.n2) rows
 abbrev BeginRows : List Row → History → Type 0
 BeginRows rows group = take (length rows) (rows_of group) ≡ rows
 
-module _ (maker paper : ℕ) where
+module _ (stamp : Stamp) (paper : ℕ) where
   -- the first row, and those behind it
-  pub begin-first : (e : Entry) (es : List Entry) (r : Row) (behind : List Row) → BeginRows (r ∷ behind) (grouped maker (e ∷ es)) → (row_of (first_of maker e es) ≡ r) × BeginRows behind (grouped maker es)
+  pub begin-first : (e : Entry) (es : List Entry) (r : Row) (behind : List Row) → BeginRows (r ∷ behind) (grouped stamp (e ∷ es)) → (row_of (first_of stamp e es) ≡ r) × BeginRows behind (grouped stamp es)
   begin-first e es r behind begins =
-      let split : row_of (first_of maker e es) ∷ take (length behind) (rows_of (grouped maker es)) ≡ r ∷ behind = ap (λ (g : History). take (length (r ∷ behind)) (rows_of g)) (sym (grouped-cons maker e es)) ∙ begins in
-      (head_is (row_of (first_of maker e es)) r (take (length behind) (rows_of (grouped maker es))) behind split, tail_is (row_of (first_of maker e es)) r (take (length behind) (rows_of (grouped maker es))) behind split)
+      let split : row_of (first_of stamp e es) ∷ take (length behind) (rows_of (grouped stamp es)) ≡ r ∷ behind = ap (λ (g : History). take (length (r ∷ behind)) (rows_of g)) (sym (grouped-cons stamp e es)) ∙ begins in
+      (head_is (row_of (first_of stamp e es)) r (take (length behind) (rows_of (grouped stamp es))) behind split, tail_is (row_of (first_of stamp e es)) r (take (length behind) (rows_of (grouped stamp es))) behind split)
 
-  begin-both : (e : Entry) (es : List Entry) (r : Row) (behind : List Row) → row_of (first_of maker e es) ≡ r → BeginRows behind (grouped maker es) → BeginRows (r ∷ behind) (grouped maker (e ∷ es))
+  begin-both : (e : Entry) (es : List Entry) (r : Row) (behind : List Row) → row_of (first_of stamp e es) ≡ r → BeginRows behind (grouped stamp es) → BeginRows (r ∷ behind) (grouped stamp (e ∷ es))
   begin-both e es r behind first rest =
-      ap (λ (g : History). take (length (r ∷ behind)) (rows_of g)) (grouped-cons maker e es)
-      ∙ ap (λ (x : Row). x ∷ take (length behind) (rows_of (grouped maker es))) first
+      ap (λ (g : History). take (length (r ∷ behind)) (rows_of g)) (grouped-cons stamp e es)
+      ∙ ap (λ (x : Row). x ∷ take (length behind) (rows_of (grouped stamp es))) first
       ∙ ap (λ (xs : List Row). r ∷ xs) rest
 
   -- rows that begin co-authors tell the first of them
-  pub told-first : (users : List ℕ) (behind : List Row) → BeginRows behind (grouped maker (coauthors paper users)) → (rest : List ℕ) × (users ≡ numbers behind ++ rest)
+  pub told-first : (users : List ℕ) (behind : List Row) → BeginRows behind (grouped stamp (coauthors paper users)) → (rest : List ℕ) × (users ≡ numbers behind ++ rest)
   told-first users [] begins = (users, refl)
   told-first [] (b ∷ behind) begins = absurd (no_rows b behind begins)
     where
@@ -190,7 +191,7 @@ module _ (maker paper : ℕ) where
   bit-back false = refl
 
   -- they are open exactly where co-authors are left to be told
-  pub open-rest : (e : Entry) (users : List ℕ) (r : Row) (behind : List Row) (rest : List ℕ) → BeginRows (r ∷ behind) (grouped maker (e ∷ coauthors paper users)) → users ≡ numbers behind ++ rest → are_open (r ∷ behind) ≡ not (is_nothing rest)
+  pub open-rest : (e : Entry) (users : List ℕ) (r : Row) (behind : List Row) (rest : List ℕ) → BeginRows (r ∷ behind) (grouped stamp (e ∷ coauthors paper users)) → users ≡ numbers behind ++ rest → are_open (r ∷ behind) ≡ not (is_nothing rest)
   open-rest e users r [] rest begins is =
       let split = begin-first e (coauthors paper users) r [] begins in
       ap (λ (x : Row). eqb x.more 1) (sym split.0) ∙ bit-back (not (is_nothing (coauthors paper users))) ∙ ap not (nothing-mapped users) ∙ ap (λ (us : List ℕ). not (is_nothing us)) is
@@ -203,12 +204,12 @@ module _ (maker paper : ℕ) where
       open-cons r b behind ∙ open-rest (Coauthor paper u) users b behind rest split.1 (tail_is u b.n2 users (numbers behind ++ rest) is)
 
   -- they begin any group that goes on, or ends, like it
-  pub same-begin : (e : Entry) (users : List ℕ) (r : Row) (behind : List Row) (rest more : List ℕ) → BeginRows (r ∷ behind) (grouped maker (e ∷ coauthors paper users)) → users ≡ numbers behind ++ rest → is_nothing more ≡ is_nothing rest
-      → BeginRows (r ∷ behind) (grouped maker (e ∷ coauthors paper (numbers behind ++ more)))
+  pub same-begin : (e : Entry) (users : List ℕ) (r : Row) (behind : List Row) (rest more : List ℕ) → BeginRows (r ∷ behind) (grouped stamp (e ∷ coauthors paper users)) → users ≡ numbers behind ++ rest → is_nothing more ≡ is_nothing rest
+      → BeginRows (r ∷ behind) (grouped stamp (e ∷ coauthors paper (numbers behind ++ more)))
   same-begin e users r [] rest more begins is alike =
       let split = begin-first e (coauthors paper users) r [] begins in
       begin-both e (coauthors paper more) r []
-      (ap (λ b. row_of (record { stamp = record { maker = maker }; more = not b; entry = e })) (nothing-mapped more ∙ alike ∙ ap is_nothing (sym is) ∙ sym (nothing-mapped users)) ∙ split.0) refl
+      (ap (λ b. row_of (stamped stamp (not b) e)) (nothing-mapped more ∙ alike ∙ ap is_nothing (sym is) ∙ sym (nothing-mapped users)) ∙ split.0) refl
   same-begin e [] r (b ∷ behind) rest more begins is alike = absurd (no_users b.n2 (numbers behind ++ rest) is)
     where
       no_users : (u : ℕ) (us : List ℕ) → [] ≡ u ∷ us → ⊥
@@ -217,13 +218,13 @@ module _ (maker paper : ℕ) where
       let split = begin-first e (coauthors paper (u ∷ users)) r (b ∷ behind) begins in
       let next = same-begin (Coauthor paper u) users b behind rest more split.1 (tail_is u b.n2 users (numbers behind ++ rest) is) alike in
       begin-both e (coauthors paper (b.n2 ∷ numbers behind ++ more)) r (b ∷ behind) split.0
-      (subst (λ (n : ℕ). BeginRows (b ∷ behind) (grouped maker (Coauthor paper n ∷ coauthors paper (numbers behind ++ more)))) (head_is u b.n2 users (numbers behind ++ rest) is) next)
+      (subst (λ (n : ℕ). BeginRows (b ∷ behind) (grouped stamp (Coauthor paper n ∷ coauthors paper (numbers behind ++ more)))) (head_is u b.n2 users (numbers behind ++ rest) is) next)
 
   -- co-authors whose entries have rows have numbers
-  pub bounded-numbers : (users : List ℕ) → AllByRecursion IsBoundedEntry (grouped maker (coauthors paper users)) → AllByRecursion IsNumber users
+  pub bounded-numbers : (users : List ℕ) → AllByRecursion IsBoundedEntry (grouped stamp (coauthors paper users)) → AllByRecursion IsNumber users
   bounded-numbers [] all = tt
   bounded-numbers (u ∷ users) all =
-      let split = subst (λ (g : History). AllByRecursion IsBoundedEntry g) (grouped-cons maker (Coauthor paper u) (coauthors paper users)) all in
+      let split = subst (λ (g : History). AllByRecursion IsBoundedEntry g) (grouped-cons stamp (Coauthor paper u) (coauthors paper users)) all in
       ((split.0.n2.0, split.0.n2.1), bounded-numbers users split.1)
 
 -- ---- what is rebuilt

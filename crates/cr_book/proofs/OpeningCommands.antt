@@ -8,6 +8,7 @@ use Rattle.std.specs.Result.{result_ok}
 use Rattle.std.proofs.lemmas.Bool.{true≢false}
 use Rattle.std.proofs.lemmas.Bool.Decides.{nat_tests}
 use Rattle.std.proofs.lemmas.List.{length-map}
+use Rattle.cr_base.specs.declared.command.Call.{Call}
 use Rattle.cr_base.specs.declared.command.Command.{Command}
 use Rattle.cr_base.specs.declared.command.Command.TheVariants as commands
 use Rattle.cr_base.specs.declared.command.Command.TheVariants.{Register, SetPhase, Submit, Revise, Upload, Withdraw, Name, SetMode, SetConflict}
@@ -16,6 +17,7 @@ use Rattle.cr_base.specs.declared.entry.Entry.{Entry}
 use Rattle.cr_base.specs.declared.entry.Entry.TheVariants as entries
 use Rattle.cr_base.specs.declared.entry.Entry.TheVariants.{Registered, Named, PhaseSet, ModeSet, Submitted, Revised, Uploaded, Withdrawn, Conflict}
 use Rattle.cr_base.specs.declared.entry.Entry.TheVariants.{Assigned, Unassigned, Reviewed, Commented, Tagged, Decided}
+use Rattle.cr_base.specs.declared.entry.Stamp.{Stamp}
 use Rattle.cr_base.specs.declared.entry.Stamped.{Stamped}
 use Rattle.cr_base.specs.declared.form.Form.{Form}
 use Rattle.cr_base.specs.declared.reply.AccountLine.{AccountLine}
@@ -34,7 +36,8 @@ use Rattle.cr_base.specs.Bulk.{entries_of}
 use Rattle.cr_base.specs.HistoryFacts.{role_of}
 use Rattle.cr_base.specs.History.{History, Registration, all_told, registration_told}
 use Rattle.cr_base.specs.Judging.{judge_by_role}
-use Rattle.cr_base.specs.Drawn.{Drawn, besides, grouped, registration_drawn, phase_drawn, submission_drawn, revision_drawn, upload_drawn, withdrawal_drawn, naming_drawn, mode_drawn}
+use Rattle.cr_base.specs.Calls.{call_by, call_of, stamp_by}
+use Rattle.cr_base.specs.Drawn.{Drawn, besides, stamped, grouped, registration_drawn, phase_drawn, submission_drawn, revision_drawn, upload_drawn, withdrawal_drawn, naming_drawn, mode_drawn}
 use Rattle.cr_base.specs.Drawn.{bid_drawn, review_drawn, comment_drawn, decision_drawn}
 use Rattle.cr_base.specs.Lists.{is_nothing, listed}
 use Rattle.cr_base.specs.Logins.{command_wants_login}
@@ -57,7 +60,7 @@ use Rattle.cr_base.specs.Words.{role_number, is_member}
 use Rattle.cr_base.proofs.AccountLaws.{number_in-lines_of}
 use Rattle.cr_base.proofs.ListLaws.{name_in-lines_of}
 use Rattle.cr_policy.specs.Judge.{judge}
-use Rattle.cr_policy.specs.Legal.{Call, IsUser, CallsAs, IsCaller, IsAllowed, Legal}
+use Rattle.cr_policy.specs.Legal.{IsUser, CallsAs, IsCaller, IsAllowed, Legal}
 use Rattle.cr_history.specs.Invariants.{IsRegistered}
 use Rattle.cr_policy.specs.View.{view}
 use Rattle.cr_policy.proofs.LegalLaws.{Legal-fits, Legal-judge}
@@ -65,7 +68,7 @@ use Rattle.cr_history.proofs.LineAgreement.{accounts_of-tables}
 use Rattle.cr_base.specs.Bulk.{IsRowCommand}
 use Rattle.cr_book.proofs.OpeningRowCommands.{row-adds}
 use Rattle.cr_book.specs.BulkRebuilding.{is_of_row, IsDrawn}
-use Rattle.cr_book.specs.Rebuilding.{name_told, giver_told, command_told, paper_command_told, user_command_told, is_known, authors_told, drawn_told, drawn_by_rows}
+use Rattle.cr_book.specs.Rebuilding.{name_told, giver_told, command_told, paper_command_told, user_command_told, is_known, authors_told, call_told, drawn_of, drawn_told, drawn_by_rows}
 
 -- ---- who is known
 
@@ -110,21 +113,19 @@ pub record ToldByRows (t : Tables) (rows : List Row) (drawn : Drawn) : Type 0 wh
   pub begins : take (length rows) (rows_of given.group) ≡ rows
 
 -- where the call of an entry is known, what is drawn is what its judgement draws
-pub told-judged : (t : Tables) (authors : List (Option (List ℕ))) (first : Stamped) (caller : Option ℕ) (command : Command) (judged : Result Drawn Rule)
-    → giver_told first.stamp.maker first.entry ≡ caller → is_known t caller ≡ true → command_told t authors first.entry ≡ Some command
-    → judge_by_role t caller command ≡ judged → drawn_told t authors first ≡ result_ok judged
-told-judged t authors first caller command judged given known told is =
-    let drawn : Option ℕ → Option Command → Option Drawn = λ by o. option_and_then (λ c. result_ok (judge_by_role t by c)) o in
-    ap (λ (by : Option ℕ). cond (is_known t by) (drawn by (command_told t authors first.entry)) None) given
-    ∙ ap (λ (b : Bool). cond b (drawn caller (command_told t authors first.entry)) None) known
-    ∙ ap (drawn caller) told
+pub told-judged : (t : Tables) (authors : List (Option (List ℕ))) (first : Stamped) (call : Call) (judged : Result Drawn Rule)
+    → call_told t authors first ≡ Some call → is_known t call.caller ≡ true → judge_by_role t call ≡ judged
+    → drawn_told t authors first ≡ result_ok judged
+told-judged t authors first call judged told known is =
+    ap (option_and_then (drawn_of t)) told
+    ∙ ap (λ (b : Bool). cond b (result_ok (judge_by_role t call)) None) known
     ∙ ap result_ok is
 
 -- ---- a submission and its co-authors
 
-module _ (t : Tables) (once : AreNamedOnce t.accounts) (user : ℕ) (known : is_known t (Some user) ≡ true) (drawn : Drawn) where
+module _ (t : Tables) (once : AreNamedOnce t.accounts) (stamp : Stamp) (known : is_known t (Some stamp.maker) ≡ true) (drawn : Drawn) where
   abbrev facts : Facts
-  facts = facts_of_tables t (Some user)
+  facts = facts_of_tables t (Some stamp.maker)
 
   abbrev next_paper : ℕ
   next_paper = length facts.papers + 1
@@ -132,67 +133,67 @@ module _ (t : Tables) (once : AreNamedOnce t.accounts) (user : ℕ) (known : is_
   -- what is judged of a submission whose co-authors these users are
   abbrev judged_of : List ℕ → List ℕ → List (Option ℕ) → Result Drawn Rule
   judged_of title abstract users =
-      judged (submit_checks (list_any is_none users) (facts.standing None) (length facts.papers) facts.own_papers) (submission_drawn user next_paper title abstract (flat_map listed users))
+      judged (submit_checks (list_any is_none users) (facts.standing None) (length facts.papers) facts.own_papers) (submission_drawn stamp next_paper title abstract (flat_map listed users))
 
   -- where it is accepted with some, it is with any who are there
   accepted-with : (title abstract : List ℕ) (users : List (Option ℕ)) (others : List ℕ) → judged_of title abstract users ≡ Ok drawn
-      → judged_of title abstract (map (λ (u : ℕ). Some u) others) ≡ Ok (submission_drawn user next_paper title abstract others)
+      → judged_of title abstract (map (λ (u : ℕ). Some u) others) ≡ Ok (submission_drawn stamp next_paper title abstract others)
   accepted-with title abstract users others accepted =
-      let k = judged-Ok (submit_checks (list_any is_none users) (facts.standing None) (length facts.papers) facts.own_papers) (submission_drawn user next_paper title abstract (flat_map listed users)) drawn accepted in
+      let k = judged-Ok (submit_checks (list_any is_none users) (facts.standing None) (length facts.papers) facts.own_papers) (submission_drawn stamp next_paper title abstract (flat_map listed users)) drawn accepted in
       let some : List (Option ℕ) = map (λ (u : ℕ). Some u) others in
-      ap (λ (us : List ℕ). judged (submit_checks (list_any is_none some) (facts.standing None) (length facts.papers) facts.own_papers) (submission_drawn user next_paper title abstract us)) (all-listed others)
-      ∙ judged-none (submit_checks (list_any is_none some) (facts.standing None) (length facts.papers) facts.own_papers) (submission_drawn user next_paper title abstract others) (none-missing others, k.0.1)
+      ap (λ (us : List ℕ). judged (submit_checks (list_any is_none some) (facts.standing None) (length facts.papers) facts.own_papers) (submission_drawn stamp next_paper title abstract us)) (all-listed others)
+      ∙ judged-none (submit_checks (list_any is_none some) (facts.standing None) (length facts.papers) facts.own_papers) (submission_drawn stamp next_paper title abstract others) (none-missing others, k.0.1)
 
   submission-told : (r : Row) (behind : List Row) (title abstract : List ℕ) (authors : List (Option (List ℕ))) → length authors ≤ 19
-      → judge_by_role t (Some user) (Submit title abstract authors) ≡ Ok drawn
+      → judge_by_role t (call_by stamp (Submit title abstract authors)) ≡ Ok drawn
       → take (length (r ∷ behind)) (rows_of drawn.group) ≡ r ∷ behind → AllByRecursion IsBoundedEntry drawn.group → ToldByRows t (r ∷ behind) drawn
   submission-told r behind title abstract authors few accepted begins bounded = record {
     first = first;
-    rest = grouped user (coauthors next_paper users);
-    group_is = group ∙ grouped-cons user e (coauthors next_paper users);
-    given = submission_drawn user next_paper title abstract others;
-    told = told-judged t names first (Some user) (Submit title abstract names) (Ok (submission_drawn user next_paper title abstract others)) refl known
-        (ap (λ b. cond b (Some (Submit title abstract names)) None) enough)
+    rest = grouped stamp (coauthors next_paper users);
+    group_is = group ∙ grouped-cons stamp e (coauthors next_paper users);
+    given = submission_drawn stamp next_paper title abstract others;
+    told = told-judged t names first (call_by stamp (Submit title abstract names)) (Ok (submission_drawn stamp next_paper title abstract others))
+        (ap (λ b. option_map (call_by stamp) (cond b (Some (Submit title abstract names)) None)) enough) known
         (ap (judged_of title abstract) (ap (users_among (lines_of t.accounts)) back.names ∙ found-back t others back.found)
         ∙ accepted-with title abstract (users_among (lines_of t.accounts) authors) others accepted);
-    begins = ap (λ (us : List ℕ). take (length (r ∷ behind)) (rows_of (grouped user (e ∷ coauthors next_paper us)))) (new-besides (user ∷ []) others back.new)
-        ∙ same-begin user next_paper e users r behind rest.0 back.more begun rest.1 back.alike;
+    begins = ap (λ (us : List ℕ). take (length (r ∷ behind)) (rows_of (grouped stamp (e ∷ coauthors next_paper us)))) (new-besides (stamp.maker ∷ []) others back.new)
+        ∙ same-begin stamp next_paper e users r behind rest.0 back.more begun rest.1 back.alike;
   }
     where
       e : Entry
       e = Submitted next_paper title abstract
 
       users : List ℕ
-      users = besides (user ∷ []) (flat_map listed (users_among (lines_of t.accounts) authors))
+      users = besides (stamp.maker ∷ []) (flat_map listed (users_among (lines_of t.accounts) authors))
 
       first : Stamped
-      first = record { stamp = record { maker = user }; more = not (is_nothing (coauthors next_paper users)); entry = e }
+      first = stamped stamp (not (is_nothing (coauthors next_paper users))) e
 
-      group : drawn.group ≡ grouped user (e ∷ coauthors next_paper users)
+      group : drawn.group ≡ grouped stamp (e ∷ coauthors next_paper users)
       group = sym (ap (λ (d : Drawn). d.group) (judged-Ok (submit_checks (list_any is_none (users_among (lines_of t.accounts) authors)) (facts.standing None) (length facts.papers) facts.own_papers)
-          (submission_drawn user next_paper title abstract (flat_map listed (users_among (lines_of t.accounts) authors))) drawn accepted).1)
+          (submission_drawn stamp next_paper title abstract (flat_map listed (users_among (lines_of t.accounts) authors))) drawn accepted).1)
 
-      begun : take (length (r ∷ behind)) (rows_of (grouped user (e ∷ coauthors next_paper users))) ≡ r ∷ behind
+      begun : take (length (r ∷ behind)) (rows_of (grouped stamp (e ∷ coauthors next_paper users))) ≡ r ∷ behind
       begun = ap (λ (g : History). take (length (r ∷ behind)) (rows_of g)) (sym group) ∙ begins
 
       rest : (rest : List ℕ) × (users ≡ numbers behind ++ rest)
-      rest = told-first user next_paper users behind (begin-first user next_paper e (coauthors next_paper users) r behind begun).1
+      rest = told-first stamp next_paper users behind (begin-first stamp next_paper e (coauthors next_paper users) r behind begun).1
 
       numbered : AllByRecursion IsNumber users
-      numbered = bounded-numbers user next_paper users (subst (λ (g : History). AllByRecursion IsBoundedEntry g) (group
-          ∙ grouped-cons user e (coauthors next_paper users)) bounded).1
+      numbered = bounded-numbers stamp next_paper users (subst (λ (g : History). AllByRecursion IsBoundedEntry g) (group
+          ∙ grouped-cons stamp e (coauthors next_paper users)) bounded).1
 
-      become_them : Become t user authors users
-      become_them = become t user authors
+      become_them : Become t stamp.maker authors users
+      become_them = become t stamp.maker authors
 
-      back : Rebuilt t user (r ∷ behind) behind users rest.0
-      back = rebuilt t once user r behind users rest.0 rest.1 (open-rest user next_paper e users r behind rest.0 begun rest.1) become_them.found numbered become_them.new
+      back : Rebuilt t stamp.maker (r ∷ behind) behind users rest.0
+      back = rebuilt t once stamp.maker r behind users rest.0 rest.1 (open-rest stamp next_paper e users r behind rest.0 begun rest.1) become_them.found numbered become_them.new
 
       others : List ℕ
       others = numbers behind ++ back.more
 
       names : List (Option (List ℕ))
-      names = authors_told t user (r ∷ behind)
+      names = authors_told t stamp.maker (r ∷ behind)
 
       enough : nat_le (length names) 19 ≡ true
       enough = at-most (length names) (ap length back.names ∙ length-map others (name_told t))
@@ -206,162 +207,157 @@ module _ (t : Tables) (once : AreNamedOnce t.accounts) (user : ℕ) (known : is_
 
 -- ---- all other groups
 
--- the command of an entry that a row of a bulk adds as well is its maker's, and tells no co-authors
-row-giver : (user : ℕ) (e : Entry) → is_of_row e ≡ true → giver_told user e ≡ Some user
-row-giver user (Conflict paper v on) of_row = refl
-row-giver user (Assigned paper v kind ordinal) of_row = refl
-row-giver user (Unassigned paper v ordinal) of_row = refl
-row-giver user (Tagged paper tag on) of_row = refl
-row-giver user e of_row = absurd (true≢false (sym of_row))
-
-row-command : (t : Tables) (authors : List (Option (List ℕ))) (e : Entry) → is_of_row e ≡ true → command_told t authors e ≡ paper_command_told t e
-row-command t authors (Conflict paper v on) of_row = refl
-row-command t authors (Assigned paper v kind ordinal) of_row = refl
-row-command t authors (Unassigned paper v ordinal) of_row = refl
-row-command t authors (Tagged paper tag on) of_row = refl
-row-command t authors e of_row = absurd (true≢false (sym of_row))
+-- the call of an entry that a row of a bulk adds as well is its maker's, and tells no co-authors
+row-call : (t : Tables) (authors : List (Option (List ℕ))) (first : Stamped) (command : Command) → is_of_row first.entry ≡ true
+    → paper_command_told t first.entry ≡ Some command → call_told t authors first ≡ Some (call_by first.stamp command)
+row-call t authors first command of_row told = by first.entry of_row ∙ ap (option_map (call_by first.stamp)) told
+  where
+    by : (e : Entry) → is_of_row e ≡ true → call_told t authors (record first { entry = e }) ≡ option_map (call_by first.stamp) (paper_command_told t e)
+    by (Conflict paper v on) of_row = refl
+    by (Assigned paper v kind ordinal) of_row = refl
+    by (Unassigned paper v ordinal) of_row = refl
+    by (Tagged paper tag on) of_row = refl
+    by e of_row = absurd (true≢false (sym of_row))
 
 module _ (t : Tables) (rows : List Row) (drawn : Drawn) (begins : take (length rows) (rows_of drawn.group) ≡ rows) where
   -- a group of one entry
-  told-single : (user : ℕ) (e : Entry) (command : Command) (given : Drawn) → given.group ≡ grouped user (e ∷ []) → given ≡ drawn → giver_told user e
-      ≡ Some user → is_known t (Some user) ≡ true
-      → command_told t (authors_told t user rows) e ≡ Some command → judge_by_role t (Some user) command ≡ Ok drawn → ToldByRows t rows drawn
-  told-single user e command given group is caller known told accepted =
-      let first : Stamped = record { stamp = record { maker = user }; more = false; entry = e } in
-      record {
-        first = first;
-        rest = [];
-        group_is = ap (λ (d : Drawn). d.group) (sym is) ∙ group;
-        given = drawn;
-        told = told-judged t (authors_told t user rows) first (Some user) command (Ok drawn) caller known told accepted;
-        begins = begins;
-      }
+  told-single : (stamp : Stamp) (e : Entry) (command : Command) (given : Drawn) → given.group ≡ grouped stamp (e ∷ []) → given ≡ drawn
+      → is_known t (Some stamp.maker) ≡ true → call_told t (authors_told t stamp.maker rows) (stamped stamp false e) ≡ Some (call_by stamp command)
+      → judge_by_role t (call_by stamp command) ≡ Ok drawn → ToldByRows t rows drawn
+  told-single stamp e command given group is known told accepted = record {
+    first = stamped stamp false e;
+    rest = [];
+    group_is = ap (λ (d : Drawn). d.group) (sym is) ∙ group;
+    given = drawn;
+    told = told-judged t (authors_told t stamp.maker rows) (stamped stamp false e) (call_by stamp command) (Ok drawn) told known accepted;
+    begins = begins;
+  }
 
-  register-told : (name digest : List ℕ) → judge_by_role t None (Register name digest) ≡ Ok drawn → ToldByRows t rows drawn
+  register-told : (name digest : List ℕ) → judge_by_role t (call_of None (Register name digest)) ≡ Ok drawn → ToldByRows t rows drawn
   register-told name digest accepted =
       let n : ℕ = length (lines_of t.accounts) in
-      let k = judged-Ok (register_checks (is_some (number_in (lines_of t.accounts) name)) n) (registration_drawn (n + 1) name digest) drawn accepted in
+      let k = judged-Ok (register_checks (is_some (number_in (lines_of t.accounts) name)) n) (registration_drawn (stamp_by 0) (n + 1) name digest) drawn accepted in
       by (eqb (n + 1) 1) (n + 1) (sym (ap (λ (d : Drawn). d.group) k.1))
     where
       begun : (user : ℕ) (more : Bool) (rest : History)
-          → drawn.group ≡ record { stamp = record { maker = user }; more = more; entry = Registered user name digest } ∷ rest → ToldByRows t rows drawn
+          → drawn.group ≡ stamped (stamp_by user) more (Registered user name digest) ∷ rest → ToldByRows t rows drawn
       begun user more rest is =
-          let first : Stamped = record { stamp = record { maker = user }; more = more; entry = Registered user name digest } in
+          let first : Stamped = stamped (stamp_by user) more (Registered user name digest) in
           record {
             first = first;
             rest = rest;
             group_is = is;
             given = drawn;
-            told = told-judged t (authors_told t user rows) first None (Register name digest) (Ok drawn) refl refl refl accepted;
+            told = told-judged t (authors_told t user rows) first (call_of None (Register name digest)) (Ok drawn) refl refl accepted;
             begins = begins;
           }
 
       by : (b : Bool) (user : ℕ) → drawn.group
-          ≡ grouped user (cond b (Registered user name digest ∷ Named user roles.Chair ∷ []) (Registered user name digest ∷ [])) → ToldByRows t rows drawn
-      by true user is = begun user true (record { stamp = record { maker = user }; more = false; entry = Named user roles.Chair } ∷ []) is
+          ≡ grouped (stamp_by user) (cond b (Registered user name digest ∷ Named user roles.Chair ∷ []) (Registered user name digest ∷ [])) → ToldByRows t rows drawn
+      by true user is = begun user true (stamped (stamp_by user) false (Named user roles.Chair) ∷ []) is
       by false user is = begun user false [] is
 
-  module _ (user : ℕ) (known : is_known t (Some user) ≡ true) where
-    name-told : (name : Option (List ℕ)) (role : Role) → judge_by_role t (Some user) (Name name role) ≡ Ok drawn → ToldByRows t rows drawn
-    name-told None role accepted = absurd (true≢false (judged-Ok (name_checks (standing_at t (Some user) None) None role) (naming_drawn user 0 [] role) drawn accepted).0.0)
+  module _ (stamp : Stamp) (known : is_known t (Some stamp.maker) ≡ true) where
+    name-told : (name : Option (List ℕ)) (role : Role) → judge_by_role t (call_by stamp (Name name role)) ≡ Ok drawn → ToldByRows t rows drawn
+    name-told None role accepted = absurd (true≢false (judged-Ok (name_checks (standing_at t (Some stamp.maker) None) None role) (naming_drawn stamp 0 [] role) drawn accepted).0.0)
     name-told (Some name) role accepted = by (number_in (lines_of t.accounts) name) refl
       where
         by : (target : Option ℕ) → number_in (lines_of t.accounts) name ≡ target → ToldByRows t rows drawn
         by None is =
-            let k = judged-Ok (name_checks (standing_at t (Some user) None) (option_map of_role (role_among (lines_of t.accounts) (number_in (lines_of t.accounts) name))) role) (naming_drawn user (unwrap_or (number_in (lines_of t.accounts) name) 0) name role) drawn accepted in
+            let k = judged-Ok (name_checks (standing_at t (Some stamp.maker) None) (option_map of_role (role_among (lines_of t.accounts) (number_in (lines_of t.accounts) name))) role) (naming_drawn stamp (unwrap_or (number_in (lines_of t.accounts) name) 0) name role) drawn accepted in
             absurd (true≢false (ap (λ (o : Option ℕ). is_none (option_map of_role (role_among (lines_of t.accounts) o))) (sym is) ∙ k.0.0))
         by (Some v) is =
-            let k = judged-Ok (name_checks (standing_at t (Some user) None) (option_map of_role (role_among (lines_of t.accounts) (number_in (lines_of t.accounts) name))) role) (naming_drawn user (unwrap_or (number_in (lines_of t.accounts) name) 0) name role) drawn accepted in
-            told-single user (Named v role) (Name (Some name) role) (naming_drawn user v name role) refl (ap (λ (o : Option ℕ). naming_drawn user (unwrap_or o 0) name role) (sym is) ∙ k.1) refl known
-            (ap (option_map (λ (n : List ℕ). Name (Some n) role)) (named t name v (sym (number_in-lines_of t.accounts name) ∙ is))) accepted
+            let k = judged-Ok (name_checks (standing_at t (Some stamp.maker) None) (option_map of_role (role_among (lines_of t.accounts) (number_in (lines_of t.accounts) name))) role) (naming_drawn stamp (unwrap_or (number_in (lines_of t.accounts) name) 0) name role) drawn accepted in
+            told-single stamp (Named v role) (Name (Some name) role) (naming_drawn stamp v name role) refl (ap (λ (o : Option ℕ). naming_drawn stamp (unwrap_or o 0) name role) (sym is) ∙ k.1) known
+            (ap (λ (o : Option (List ℕ)). option_map (call_by stamp) (option_map (λ (n : List ℕ). Name (Some n) role) o)) (named t name v (sym (number_in-lines_of t.accounts name) ∙ is))) accepted
 
     -- a command that a row of a bulk may tell as well
-    row-told : (command : Command) → IsRowCommand command → judge_by_role t (Some user) command ≡ Ok drawn → ToldByRows t rows drawn
+    row-told : (command : Command) → IsRowCommand command → judge_by_role t (call_by stamp command) ≡ Ok drawn → ToldByRows t rows drawn
     row-told command of_row accepted =
-        let one = row-adds t user drawn command of_row accepted in
-        told-single user one.entry command drawn one.group_is refl (row-giver user one.entry one.of_row) known
-        (row-command t (authors_told t user rows) one.entry one.of_row ∙ one.told) accepted
+        let one = row-adds t stamp drawn command of_row accepted in
+        told-single stamp one.entry command drawn one.group_is refl known
+        (row-call t (authors_told t stamp.maker rows) (stamped stamp false one.entry) command one.of_row one.told) accepted
 
     abbrev named_paper : Option ℕ → NamedPaper
-    named_paper paper = paper_named (facts_of_tables t (Some user)) (shown_in_tables t) paper
+    named_paper paper = paper_named (facts_of_tables t (Some stamp.maker)) (shown_in_tables t) paper
 
     -- What is done to a paper without naming a user wants the paper to be there. It adds one entry, which tells the command.
     paper-told : (paper : Option ℕ) (made : Option ℕ → Command) (entry : ℕ → Entry) (checks : ℕ → List Check) (draws : ℕ → Drawn)
-        → judge_by_role t (Some user) (made None) ≡ Err rules.NoPaper
-        → ((p : ℕ) → (judge_by_role t (Some user) (made (Some p)) ≡ judged (checks p) (draws p))
-        × ((draws p).group ≡ grouped user (entry p ∷ [])) × (giver_told user (entry p) ≡ Some user)
-        × (command_told t (authors_told t user rows) (entry p) ≡ Some (made (Some p))))
-        → judge_by_role t (Some user) (made paper) ≡ Ok drawn → ToldByRows t rows drawn
+        → judge_by_role t (call_by stamp (made None)) ≡ Err rules.NoPaper
+        → ((p : ℕ) → (judge_by_role t (call_by stamp (made (Some p))) ≡ judged (checks p) (draws p))
+        × ((draws p).group ≡ grouped stamp (entry p ∷ []))
+        × (call_told t (authors_told t stamp.maker rows) (stamped stamp false (entry p)) ≡ Some (call_by stamp (made (Some p)))))
+        → judge_by_role t (call_by stamp (made paper)) ≡ Ok drawn → ToldByRows t rows drawn
     paper-told None made entry checks draws none is accepted = absurd (no_paper (sym none ∙ accepted))
       where
         no_paper : ◌≡◌ {A = Result Drawn Rule} (Err rules.NoPaper) (Ok drawn) → ⊥
         no_paper e = cc (e)
     paper-told (Some p) made entry checks draws none is accepted =
         let one = is p in
-        told-single user (entry p) (made (Some p)) (draws p) one.1 (judged-Ok (checks p) (draws p) drawn (sym one.0 ∙ accepted)).1 one.2 known one.3 accepted
+        told-single stamp (entry p) (made (Some p)) (draws p) one.1 (judged-Ok (checks p) (draws p) drawn (sym one.0 ∙ accepted)).1 known one.2 accepted
 
     -- how the user stands to a paper
     abbrev standing : ℕ → Standing
-    standing p = standing_at t (Some user) (Some p)
+    standing p = standing_at t (Some stamp.maker) (Some p)
 
-    revision-told : (paper : Option ℕ) (title abstract : List ℕ) → judge_by_role t (Some user) (Revise paper title abstract) ≡ Ok drawn → ToldByRows t rows drawn
+    revision-told : (paper : Option ℕ) (title abstract : List ℕ) → judge_by_role t (call_by stamp (Revise paper title abstract)) ≡ Ok drawn → ToldByRows t rows drawn
     revision-told paper title abstract =
         paper-told paper (λ paper. Revise paper title abstract) (λ p. Revised p title abstract) (λ p. revise_checks (standing p) (named_paper (Some p)))
-        (λ p. revision_drawn user p title abstract) refl (λ p. (refl, refl, refl, refl))
+        (λ p. revision_drawn stamp p title abstract) refl (λ p. (refl, refl, refl))
 
-    upload-told : (paper : Option ℕ) (content : List ℕ) → judge_by_role t (Some user) (Upload paper content) ≡ Ok drawn → ToldByRows t rows drawn
+    upload-told : (paper : Option ℕ) (content : List ℕ) → judge_by_role t (call_by stamp (Upload paper content)) ≡ Ok drawn → ToldByRows t rows drawn
     upload-told paper content =
         paper-told paper (λ paper. Upload paper content) (λ p. Uploaded p (version p) content)
-        (λ p. upload_checks (standing p) (named_paper (Some p)) (own_bytes t.papers (Some user)) (length content))
-        (λ p. upload_drawn user p (version p) content) refl (λ p. (refl, refl, refl, refl))
+        (λ p. upload_checks (standing p) (named_paper (Some p)) (own_bytes t.papers (Some stamp.maker)) (length content))
+        (λ p. upload_drawn stamp p (version p) content) refl (λ p. (refl, refl, refl))
       where
         version : ℕ → ℕ
         version p = length (uploads_at t.papers p) + 1
 
-    withdrawal-told : (paper : Option ℕ) → judge_by_role t (Some user) (Withdraw paper) ≡ Ok drawn → ToldByRows t rows drawn
+    withdrawal-told : (paper : Option ℕ) → judge_by_role t (call_by stamp (Withdraw paper)) ≡ Ok drawn → ToldByRows t rows drawn
     withdrawal-told paper =
         paper-told paper Withdraw Withdrawn (λ p. revise_checks (standing p) (named_paper (Some p)))
-        (withdrawal_drawn user) refl (λ p. (refl, refl, refl, refl))
+        (withdrawal_drawn stamp) refl (λ p. (refl, refl, refl))
 
-    bid-told : (paper : Option ℕ) (value : ℕ) → judge_by_role t (Some user) (commands.Bid paper value) ≡ Ok drawn → ToldByRows t rows drawn
+    bid-told : (paper : Option ℕ) (value : ℕ) → judge_by_role t (call_by stamp (commands.Bid paper value)) ≡ Ok drawn → ToldByRows t rows drawn
     bid-told paper value =
         paper-told paper (λ paper. commands.Bid paper value) (λ p. entries.Bid p value) (λ p. bid_checks (standing p) (named_paper (Some p)))
-        (λ p. bid_drawn user p value) refl (λ p. (refl, refl, refl, refl))
+        (λ p. bid_drawn stamp p value) refl (λ p. (refl, refl, refl))
 
-    review-told : (paper : Option ℕ) (form : Form) → judge_by_role t (Some user) (Review paper form) ≡ Ok drawn → ToldByRows t rows drawn
+    review-told : (paper : Option ℕ) (form : Form) → judge_by_role t (call_by stamp (Review paper form)) ≡ Ok drawn → ToldByRows t rows drawn
     review-told paper form =
         paper-told paper (λ paper. Review paper form) (λ p. Reviewed p (ordinal p) (version p) form) (λ p. review_checks (standing p) (named_paper (Some p)))
-        (λ p. review_drawn user p (ordinal p) (version p) form) refl (λ p. (refl, refl, refl, refl))
+        (λ p. review_drawn stamp p (ordinal p) (version p) form) refl (λ p. (refl, refl, refl))
       where
         ordinal : ℕ → ℕ
-        ordinal p = unwrap_or (ordinal_in t.seats (Some user) p) 0
+        ordinal p = unwrap_or (ordinal_in t.seats (Some stamp.maker) p) 0
 
         version : ℕ → ℕ
-        version p = length (own_forms_in t (Some user) p) + 1
+        version p = length (own_forms_in t (Some stamp.maker) p) + 1
 
-    comment-told : (paper : Option ℕ) (text : List ℕ) → judge_by_role t (Some user) (Comment paper text) ≡ Ok drawn → ToldByRows t rows drawn
+    comment-told : (paper : Option ℕ) (text : List ℕ) → judge_by_role t (call_by stamp (Comment paper text)) ≡ Ok drawn → ToldByRows t rows drawn
     comment-told paper text =
-        paper-told paper (λ paper. Comment paper text) (λ p. Commented p (n p) (ordinal_in t.seats (Some user) p) text)
-        (λ p. comment_checks (standing p) (named_paper (Some p)) (own_comments_in t.talk (Some user)))
-        (λ p. comment_drawn user p (n p) (ordinal_in t.seats (Some user) p) text) refl (λ p. (refl, refl, refl, refl))
+        paper-told paper (λ paper. Comment paper text) (λ p. Commented p (n p) (ordinal_in t.seats (Some stamp.maker) p) text)
+        (λ p. comment_checks (standing p) (named_paper (Some p)) (own_comments_in t.talk (Some stamp.maker)))
+        (λ p. comment_drawn stamp p (n p) (ordinal_in t.seats (Some stamp.maker) p) text) refl (λ p. (refl, refl, refl))
       where
         n : ℕ → ℕ
         n p = length (map comment_as_told (comments_in t.talk p)) + 1
 
-    decision-told : (paper : Option ℕ) (decision : Decision) → judge_by_role t (Some user) (Decide paper decision) ≡ Ok drawn → ToldByRows t rows drawn
+    decision-told : (paper : Option ℕ) (decision : Decision) → judge_by_role t (call_by stamp (Decide paper decision)) ≡ Ok drawn → ToldByRows t rows drawn
     decision-told paper decision =
         paper-told paper (λ paper. Decide paper decision) (λ p. Decided p decision) (λ p. decide_checks (standing p) (named_paper (Some p)))
-        (λ p. decision_drawn user p decision) refl (λ p. (refl, refl, refl, refl))
+        (λ p. decision_drawn stamp p decision) refl (λ p. (refl, refl, refl))
 
-    stage-told : (to : Phase) → judge_by_role t (Some user) (SetPhase to) ≡ Ok drawn → ToldByRows t rows drawn
+    stage-told : (to : Phase) → judge_by_role t (call_by stamp (SetPhase to)) ≡ Ok drawn → ToldByRows t rows drawn
     stage-told to accepted =
-        let by = standing_at t (Some user) None in
-        told-single user (PhaseSet to) (SetPhase to) (phase_drawn user to) refl (judged-Ok (phase_checks by by.phase to) (phase_drawn user to) drawn accepted).1 refl known refl accepted
+        let by = standing_at t (Some stamp.maker) None in
+        told-single stamp (PhaseSet to) (SetPhase to) (phase_drawn stamp to) refl (judged-Ok (phase_checks by by.phase to) (phase_drawn stamp to) drawn accepted).1 known refl accepted
 
-    mode-told : (to : Mode) → judge_by_role t (Some user) (SetMode to) ≡ Ok drawn → ToldByRows t rows drawn
+    mode-told : (to : Mode) → judge_by_role t (call_by stamp (SetMode to)) ≡ Ok drawn → ToldByRows t rows drawn
     mode-told to accepted =
-        let by = standing_at t (Some user) None in
-        told-single user (ModeSet to) (SetMode to) (mode_drawn user to) refl (judged-Ok (mode_checks by by.phase) (mode_drawn user to) drawn accepted).1 refl known refl accepted
+        let by = standing_at t (Some stamp.maker) None in
+        told-single stamp (ModeSet to) (SetMode to) (mode_drawn stamp to) refl (judged-Ok (mode_checks by by.phase) (mode_drawn stamp to) drawn accepted).1 known refl accepted
 
 -- a tag is turned on, and off, by whoever is logged in
 tags-login : (paper : Option ℕ) (tag : List ℕ) (on : Bool) → command_wants_login (Tag paper tag on) ≡ true
@@ -370,9 +366,9 @@ tags-login paper tag false = refl
 
 -- rows that begin the group that an allowed call adds begin with an entry whose call draws one that they begin
 pub accepted-told : (H : History) (call : Call) (drawn : Drawn) (r : Row) (behind : List Row) → Legal H → IsAllowed H call
-    → judge call.caller (view call.caller H) call.command ≡ Ok drawn
+    → judge (view call.caller H) call ≡ Ok drawn
     → take (length (r ∷ behind)) (rows_of drawn.group) ≡ r ∷ behind → AllByRecursion IsBoundedEntry drawn.group → ToldByRows (tables_of H) (r ∷ behind) drawn
-accepted-told H call drawn r behind legal allowed accepted begins bounded = by call.caller call.command allowed.caller allowed.bounded (sym (Legal-judge call.caller H call.command legal) ∙ accepted)
+accepted-told H call drawn r behind legal allowed accepted begins bounded = by call.caller call.command allowed.caller allowed.bounded (sym (Legal-judge H call legal) ∙ accepted)
   where
     t : Tables
     t = tables_of H
@@ -383,58 +379,58 @@ accepted-told H call drawn r behind legal allowed accepted begins bounded = by c
     registered : (user : ℕ) → IsUser H (Some user) → is_known t (Some user) ≡ true
     registered user is = sym (registered-known H user legal) ∙ is
 
-    by : (caller : Option ℕ) (command : Command) → IsCaller H caller command → IsBoundedCommand command → judge_by_role t caller command ≡ Ok drawn
+    by : (caller : Option ℕ) (command : Command) → IsCaller H caller command → IsBoundedCommand command → judge_by_role t (call_of caller command) ≡ Ok drawn
         → ToldByRows t rows drawn
-    by caller (Register name digest) is within judges = register-told t rows drawn begins name digest (ap (λ (c : Option ℕ). judge_by_role t c (Register name digest)) (sym is) ∙ judges)
+    by caller (Register name digest) is within judges = register-told t rows drawn begins name digest (ap (λ (c : Option ℕ). judge_by_role t (call_of c (Register name digest))) (sym is) ∙ judges)
     by None (Tag paper tag on) is within judges = absurd (subst (λ (login : Bool). CallsAs H login None) (tags-login paper tag on) is)
     by None command is within judges = absurd is
-    by (Some user) (SetPhase to) is within judges = stage-told t rows drawn begins user (registered user is) to judges
-    by (Some user) (SetMode to) is within judges = mode-told t rows drawn begins user (registered user is) to judges
-    by (Some user) (Submit title abstract authors) is within judges = submission-told t (found_by_name H legal) user (registered user is) drawn r behind title abstract authors within.2 judges begins bounded
-    by (Some user) (Revise paper title abstract) is within judges = revision-told t rows drawn begins user (registered user is) paper title abstract judges
-    by (Some user) (Upload paper content) is within judges = upload-told t rows drawn begins user (registered user is) paper content judges
-    by (Some user) (Withdraw paper) is within judges = withdrawal-told t rows drawn begins user (registered user is) paper judges
-    by (Some user) (Name name role) is within judges = name-told t rows drawn begins user (registered user is) name role judges
+    by (Some user) (SetPhase to) is within judges = stage-told t rows drawn begins (stamp_by user) (registered user is) to judges
+    by (Some user) (SetMode to) is within judges = mode-told t rows drawn begins (stamp_by user) (registered user is) to judges
+    by (Some user) (Submit title abstract authors) is within judges = submission-told t (found_by_name H legal) (stamp_by user) (registered user is) drawn r behind title abstract authors within.2 judges begins bounded
+    by (Some user) (Revise paper title abstract) is within judges = revision-told t rows drawn begins (stamp_by user) (registered user is) paper title abstract judges
+    by (Some user) (Upload paper content) is within judges = upload-told t rows drawn begins (stamp_by user) (registered user is) paper content judges
+    by (Some user) (Withdraw paper) is within judges = withdrawal-told t rows drawn begins (stamp_by user) (registered user is) paper judges
+    by (Some user) (Name name role) is within judges = name-told t rows drawn begins (stamp_by user) (registered user is) name role judges
     by (Some user) (SetConflict paper name on) is within judges =
-        row-told t rows drawn begins user (registered user is) (SetConflict paper name on) tt judges
-    by (Some user) (commands.Bid paper value) is within judges = bid-told t rows drawn begins user (registered user is) paper value judges
+        row-told t rows drawn begins (stamp_by user) (registered user is) (SetConflict paper name on) tt judges
+    by (Some user) (commands.Bid paper value) is within judges = bid-told t rows drawn begins (stamp_by user) (registered user is) paper value judges
     by (Some user) (Assign paper name kind) is within judges =
-        row-told t rows drawn begins user (registered user is) (Assign paper name kind) tt judges
+        row-told t rows drawn begins (stamp_by user) (registered user is) (Assign paper name kind) tt judges
     by (Some user) (Unassign paper name) is within judges =
-        row-told t rows drawn begins user (registered user is) (Unassign paper name) tt judges
-    by (Some user) (Review paper form) is within judges = review-told t rows drawn begins user (registered user is) paper form judges
-    by (Some user) (Comment paper text) is within judges = comment-told t rows drawn begins user (registered user is) paper text judges
+        row-told t rows drawn begins (stamp_by user) (registered user is) (Unassign paper name) tt judges
+    by (Some user) (Review paper form) is within judges = review-told t rows drawn begins (stamp_by user) (registered user is) paper form judges
+    by (Some user) (Comment paper text) is within judges = comment-told t rows drawn begins (stamp_by user) (registered user is) paper text judges
     by (Some user) (Tag paper tag on) is within judges =
         let made = subst (λ (login : Bool). CallsAs H login (Some user)) (tags-login paper tag on) is in
-        row-told t rows drawn begins user (registered user made) (Tag paper tag on) tt judges
-    by (Some user) (Decide paper decision) is within judges = decision-told t rows drawn begins user (registered user is) paper decision judges
+        row-told t rows drawn begins (stamp_by user) (registered user made) (Tag paper tag on) tt judges
+    by (Some user) (Decide paper decision) is within judges = decision-told t rows drawn begins (stamp_by user) (registered user is) paper decision judges
 
 -- ---- the call of an entry
 
--- what the call of an entry draws, it draws as a command of its caller
+-- what the call of an entry draws, it draws as a call of its caller
 record Judges (t : Tables) (authors : List (Option (List ℕ))) (first : Stamped) (drawn : Drawn) : Type 0 where
-  known : is_known t (giver_told first.stamp.maker first.entry) ≡ true
   command : Command
   told : command_told t authors first.entry ≡ Some command
-  judged : judge_by_role t (giver_told first.stamp.maker first.entry) command ≡ Ok drawn
+  known : is_known t (giver_told first.stamp.maker first.entry) ≡ true
+  judged : judge_by_role t (call_of (giver_told first.stamp.maker first.entry) command) ≡ Ok drawn
 
 told-judges : (t : Tables) (authors : List (Option (List ℕ))) (first : Stamped) (drawn : Drawn) → drawn_told t authors first ≡ Some drawn
     → Judges t authors first drawn
-told-judges t authors first drawn told = by (is_known t (giver_told first.stamp.maker first.entry)) (command_told t authors first.entry) refl refl told
+told-judges t authors first drawn told = by (command_told t authors first.entry) refl told
   where
     caller : Option ℕ
     caller = giver_told first.stamp.maker first.entry
 
-    of_command : (known : is_known t caller ≡ true) (command : Command) → command_told t authors first.entry ≡ Some command → (r : Result Drawn Rule)
-        → judge_by_role t caller command ≡ r → result_ok r ≡ Some drawn → Judges t authors first drawn
-    of_command known command is (Ok d) judges same = record { known = known; command = command; told = is; judged = judges ∙ ap Ok (some_is d drawn same) }
-    of_command known command is (Err rule) judges same = absurd (none_some drawn same)
+    of_command : (command : Command) → command_told t authors first.entry ≡ Some command → (known : Bool) (r : Result Drawn Rule)
+        → is_known t caller ≡ known → judge_by_role t (call_of caller command) ≡ r → cond known (result_ok r) None ≡ Some drawn → Judges t authors first drawn
+    of_command command is true (Ok d) known judges same = record { command = command; told = is; known = known; judged = judges ∙ ap Ok (some_is d drawn same) }
+    of_command command is true (Err rule) known judges same = absurd (none_some drawn same)
+    of_command command is false r known judges same = absurd (none_some drawn same)
 
-    by : (b : Bool) (o : Option Command) → is_known t caller ≡ b → command_told t authors first.entry ≡ o
-        → cond b (option_and_then (λ c. result_ok (judge_by_role t caller c)) o) None ≡ Some drawn → Judges t authors first drawn
-    by false o known is same = absurd (none_some drawn same)
-    by true None known is same = absurd (none_some drawn same)
-    by true (Some command) known is same = of_command known command is (judge_by_role t caller command) refl same
+    by : (o : Option Command) → command_told t authors first.entry ≡ o → option_and_then (drawn_of t) (option_map (call_of caller) o) ≡ Some drawn
+        → Judges t authors first drawn
+    by None is same = absurd (none_some drawn same)
+    by (Some command) is same = of_command command is (is_known t caller) (judge_by_role t (call_of caller command)) refl refl same
 
 member_named : (role : Role) → 1 ≤ role_number role → is_member role ≡ true
 member_named roles.Account h = absurd (omega (arith, h))
@@ -449,19 +445,19 @@ module _ (H : History) (legal : Legal H) where
   registered user known = registered-known H user legal ∙ known
 
   -- the command that an entry tells is allowed, where it is known
-  same-allowed : (caller : Option ℕ) (told command : Command) → Some told ≡ Some command → IsAllowed H (record { caller = caller; command = told })
-      → IsAllowed H (record { caller = caller; command = command })
+  same-allowed : (caller : Option ℕ) (told command : Command) → Some told ≡ Some command → IsAllowed H (call_of caller told)
+      → IsAllowed H (call_of caller command)
   same-allowed caller told command is allowed =
-      subst (λ (c : Command). IsAllowed H (record { caller = caller; command = c })) (some_is told command is) allowed
+      subst (λ (c : Command). IsAllowed H (call_of caller c)) (some_is told command is) allowed
 
   -- a submission is allowed, where it has no more co-authors than there may be
   submission-allowed : (maker : ℕ) (title abstract : List ℕ) (authors : List (Option (List ℕ))) (command : Command) → IsTitle title → IsAbstract abstract
       → IsRegistered H maker → cond (nat_le (length authors) 19) (Some (Submit title abstract authors)) None ≡ Some command
-      → IsAllowed H (record { caller = Some maker; command = command })
+      → IsAllowed H (call_of (Some maker) command)
   submission-allowed maker title abstract authors command is_title is_abstract made told = by (nat_le (length authors) 19) refl told
     where
       by : (b : Bool) → nat_le (length authors) 19 ≡ b → cond b (Some (Submit title abstract authors)) None ≡ Some command
-          → IsAllowed H (record { caller = Some maker; command = command })
+          → IsAllowed H (call_of (Some maker) command)
       by true few told =
           let le : length authors ≤ 19 = few_of (length authors) few in
           same-allowed (Some maker) (Submit title abstract authors) command told (record { caller = made; bounded = (is_title, is_abstract, le) })
@@ -472,56 +468,56 @@ module _ (H : History) (legal : Legal H) where
 
   -- a command that names a user is allowed, where it is with every name
   target-allowed : (maker user : ℕ) (command : Command) (aimed : List ℕ → Command)
-      → ((name : List ℕ) → IsAllowed H (record { caller = Some maker; command = aimed name })) → option_map aimed (name_told t user) ≡ Some command
-      → IsAllowed H (record { caller = Some maker; command = command })
+      → ((name : List ℕ) → IsAllowed H (call_of (Some maker) (aimed name))) → option_map aimed (name_told t user) ≡ Some command
+      → IsAllowed H (call_of (Some maker) command)
   target-allowed maker user command aimed allowed told =
       let name = with-name (name_told t user) aimed command told in
-      subst (λ (c : Command). IsAllowed H (record { caller = Some maker; command = c })) name.2 (allowed name.0)
+      subst (λ (c : Command). IsAllowed H (call_of (Some maker) c)) name.2 (allowed name.0)
 
   -- a user's is allowed, where the entry is within its bounds
-  user-allowed : (authors : List (Option (List ℕ))) (maker : ℕ) (more : Bool) (e : Entry) (command : Command)
-      → IsBoundedEntry (record { stamp = record { maker = maker }; more = more; entry = e }) → IsRegistered H maker → user_command_told t authors e ≡ Some command
-      → IsAllowed H (record { caller = Some maker; command = command })
-  user-allowed authors maker more (PhaseSet to) command bounded made told =
-      same-allowed (Some maker) (SetPhase to) command told (record { caller = made; bounded = tt })
-  user-allowed authors maker more (ModeSet to) command bounded made told =
-      same-allowed (Some maker) (SetMode to) command told (record { caller = made; bounded = tt })
-  user-allowed authors maker more (Submitted paper title abstract) command bounded made told = submission-allowed maker title abstract authors command bounded.b1 bounded.b2 made told
-  user-allowed authors maker more (Revised paper title abstract) command bounded made told =
-      same-allowed (Some maker) (Revise (Some paper) title abstract) command told (record { caller = made; bounded = (bounded.b1, bounded.b2) })
-  user-allowed authors maker more (Uploaded paper version content) command bounded made told =
-      same-allowed (Some maker) (Upload (Some paper) content) command told (record { caller = made; bounded = bounded.b1 })
-  user-allowed authors maker more (Withdrawn paper) command bounded made told =
-      same-allowed (Some maker) (Withdraw (Some paper)) command told (record { caller = made; bounded = tt })
-  user-allowed authors maker more (entries.Bid paper value) command bounded made told =
-      same-allowed (Some maker) (commands.Bid (Some paper) value) command told (record { caller = made; bounded = bounded.n2.1 })
-  user-allowed authors maker more (Reviewed paper ordinal version form) command bounded made told =
+  user-allowed : (authors : List (Option (List ℕ))) (stamp : Stamp) (more : Bool) (e : Entry) (command : Command)
+      → IsBoundedEntry (stamped stamp more e) → IsRegistered H stamp.maker → user_command_told t authors e ≡ Some command
+      → IsAllowed H (call_of (Some stamp.maker) command)
+  user-allowed authors stamp more (PhaseSet to) command bounded made told =
+      same-allowed (Some stamp.maker) (SetPhase to) command told (record { caller = made; bounded = tt })
+  user-allowed authors stamp more (ModeSet to) command bounded made told =
+      same-allowed (Some stamp.maker) (SetMode to) command told (record { caller = made; bounded = tt })
+  user-allowed authors stamp more (Submitted paper title abstract) command bounded made told = submission-allowed stamp.maker title abstract authors command bounded.b1 bounded.b2 made told
+  user-allowed authors stamp more (Revised paper title abstract) command bounded made told =
+      same-allowed (Some stamp.maker) (Revise (Some paper) title abstract) command told (record { caller = made; bounded = (bounded.b1, bounded.b2) })
+  user-allowed authors stamp more (Uploaded paper version content) command bounded made told =
+      same-allowed (Some stamp.maker) (Upload (Some paper) content) command told (record { caller = made; bounded = bounded.b1 })
+  user-allowed authors stamp more (Withdrawn paper) command bounded made told =
+      same-allowed (Some stamp.maker) (Withdraw (Some paper)) command told (record { caller = made; bounded = tt })
+  user-allowed authors stamp more (entries.Bid paper value) command bounded made told =
+      same-allowed (Some stamp.maker) (commands.Bid (Some paper) value) command told (record { caller = made; bounded = bounded.n2.1 })
+  user-allowed authors stamp more (Reviewed paper ordinal version form) command bounded made told =
       let within : IsForm form = record { score = bounded.n4; confidence = bounded.n5; to_authors = bounded.b1; to_pc = bounded.b2 } in
-      same-allowed (Some maker) (Review (Some paper) form) command told (record { caller = made; bounded = within })
-  user-allowed authors maker more (Commented paper n ordinal text) command bounded made told =
-      same-allowed (Some maker) (Comment (Some paper) text) command told (record { caller = made; bounded = bounded.b1 })
-  user-allowed authors maker more (Tagged paper tag on) command bounded made told =
-      let caller = subst (λ (login : Bool). CallsAs H login (Some maker)) (sym (tags-login (Some paper) tag on)) made in
-      same-allowed (Some maker) (Tag (Some paper) tag on) command told (record { caller = caller; bounded = bounded.b1 })
-  user-allowed authors maker more (Decided paper decision) command bounded made told =
-      same-allowed (Some maker) (Decide (Some paper) decision) command told (record { caller = made; bounded = tt })
-  user-allowed authors maker more (Named user role) command bounded made told =
-      target-allowed maker user command (λ name. Name (Some name) role) (λ name. record { caller = made; bounded = member_named role bounded.n2.0 }) told
-  user-allowed authors maker more (Conflict paper user on) command bounded made told =
-      target-allowed maker user command (λ name. SetConflict (Some paper) (Some name) on) (λ name. record { caller = made; bounded = tt }) told
-  user-allowed authors maker more (Assigned paper user kind ordinal) command bounded made told =
-      target-allowed maker user command (λ name. Assign (Some paper) (Some name) kind) (λ name. record { caller = made; bounded = tt }) told
-  user-allowed authors maker more (Unassigned paper user ordinal) command bounded made told =
-      target-allowed maker user command (λ name. Unassign (Some paper) (Some name)) (λ name. record { caller = made; bounded = tt }) told
-  user-allowed authors maker more e command bounded made told = absurd (none_some command told)
+      same-allowed (Some stamp.maker) (Review (Some paper) form) command told (record { caller = made; bounded = within })
+  user-allowed authors stamp more (Commented paper n ordinal text) command bounded made told =
+      same-allowed (Some stamp.maker) (Comment (Some paper) text) command told (record { caller = made; bounded = bounded.b1 })
+  user-allowed authors stamp more (Tagged paper tag on) command bounded made told =
+      let caller = subst (λ (login : Bool). CallsAs H login (Some stamp.maker)) (sym (tags-login (Some paper) tag on)) made in
+      same-allowed (Some stamp.maker) (Tag (Some paper) tag on) command told (record { caller = caller; bounded = bounded.b1 })
+  user-allowed authors stamp more (Decided paper decision) command bounded made told =
+      same-allowed (Some stamp.maker) (Decide (Some paper) decision) command told (record { caller = made; bounded = tt })
+  user-allowed authors stamp more (Named user role) command bounded made told =
+      target-allowed stamp.maker user command (λ name. Name (Some name) role) (λ name. record { caller = made; bounded = member_named role bounded.n2.0 }) told
+  user-allowed authors stamp more (Conflict paper user on) command bounded made told =
+      target-allowed stamp.maker user command (λ name. SetConflict (Some paper) (Some name) on) (λ name. record { caller = made; bounded = tt }) told
+  user-allowed authors stamp more (Assigned paper user kind ordinal) command bounded made told =
+      target-allowed stamp.maker user command (λ name. Assign (Some paper) (Some name) kind) (λ name. record { caller = made; bounded = tt }) told
+  user-allowed authors stamp more (Unassigned paper user ordinal) command bounded made told =
+      target-allowed stamp.maker user command (λ name. Unassign (Some paper) (Some name)) (λ name. record { caller = made; bounded = tt }) told
+  user-allowed authors stamp more e command bounded made told = absurd (none_some command told)
 
   -- and so is any
-  told-allowed : (authors : List (Option (List ℕ))) (maker : ℕ) (more : Bool) (e : Entry) (command : Command)
-      → IsBoundedEntry (record { stamp = record { maker = maker }; more = more; entry = e }) → is_known t (giver_told maker e) ≡ true → command_told t authors e ≡ Some command
-      → IsAllowed H (record { caller = giver_told maker e; command = command })
-  told-allowed authors maker more (Registered user name digest) command bounded known told =
+  told-allowed : (authors : List (Option (List ℕ))) (stamp : Stamp) (more : Bool) (e : Entry) (command : Command)
+      → IsBoundedEntry (stamped stamp more e) → is_known t (giver_told stamp.maker e) ≡ true → command_told t authors e ≡ Some command
+      → IsAllowed H (call_of (giver_told stamp.maker e) command)
+  told-allowed authors stamp more (Registered user name digest) command bounded known told =
       same-allowed None (Register name digest) command told (record { caller = refl; bounded = (bounded.b1, bounded.b2) })
-  told-allowed authors maker more e command bounded known told = user-allowed authors maker more e command bounded (registered maker known) told
+  told-allowed authors stamp more e command bounded known told = user-allowed authors stamp more e command bounded (registered stamp.maker known) told
 
   -- so an allowed call adds what the call of such an entry draws
   pub told-adds : (authors : List (Option (List ℕ))) (first : Stamped) (drawn : Drawn) → IsBoundedEntry first → drawn_told t authors first ≡ Some drawn
@@ -530,21 +526,21 @@ module _ (H : History) (legal : Legal H) where
       let j = told-judges t authors first drawn told in
       let caller = giver_told first.stamp.maker first.entry in
       record {
-        call = record { caller = caller; command = j.command };
-        allowed = told-allowed authors first.stamp.maker first.more first.entry j.command bounded j.known j.told;
+        call = call_of caller j.command;
+        allowed = told-allowed authors first.stamp first.more first.entry j.command bounded j.known j.told;
         drawn = drawn;
-        accepted = Legal-judge caller H j.command legal ∙ j.judged;
+        accepted = Legal-judge H (call_of caller j.command) legal ∙ j.judged;
         group_is = refl;
       }
 
   -- and what one row of a bulk adds, its command does
-  pub drawn-adds : (user : ℕ) (e : Entry) → IsBoundedEntry (record { stamp = record { maker = user }; more = false; entry = e }) → is_known t (Some user) ≡ true → IsDrawn t user e
-      → MayAdd H (grouped user (e ∷ []))
-  drawn-adds user e bounded known d =
-      let first : Stamped = record { stamp = record { maker = user }; more = false; entry = e } in
+  pub drawn-adds : (stamp : Stamp) (e : Entry) → IsBoundedEntry (stamped stamp false e) → is_known t (Some stamp.maker) ≡ true → IsDrawn t stamp e
+      → MayAdd H (grouped stamp (e ∷ []))
+  drawn-adds stamp e bounded known d =
+      let first : Stamped = stamped stamp false e in
       let of_row = told-of_row t e d.command d.told in
       let told : paper_command_told t e ≡ Some d.command = ap (λ (b : Bool). cond b (paper_command_told t e) None) (sym of_row) ∙ d.told in
-      let judges = (row-judges t user d.command d.drawn d.accepted).1 in
-      let added = told-adds [] first d.drawn bounded (told-judged t [] first (Some user) d.command (Ok d.drawn) (row-giver user e of_row) known (row-command t [] e of_row ∙ told) judges) in
-      let one = row-adds t user d.drawn d.command (drawn-of_row t e d.command d.told) judges in
-      subst (λ (g : History). MayAdd H g) (one.group_is ∙ ap (λ (x : Entry). grouped user (x ∷ [])) (one_is one.entry e (ap entries_of (sym one.group_is) ∙ d.adds))) added
+      let judges = (row-judges t stamp d.command d.drawn d.accepted).1 in
+      let added = told-adds [] first d.drawn bounded (told-judged t [] first (call_by stamp d.command) (Ok d.drawn) (row-call t [] first d.command of_row told) known judges) in
+      let one = row-adds t stamp d.drawn d.command (drawn-of_row t e d.command d.told) judges in
+      subst (λ (g : History). MayAdd H g) (one.group_is ∙ ap (λ (x : Entry). grouped stamp (x ∷ [])) (one_is one.entry e (ap entries_of (sym one.group_is) ∙ d.adds))) added

@@ -12,7 +12,7 @@ use Rattle.cr_base.specs.declared.reply.Rule.{Rule}
 use Rattle.cr_base.specs.declared.row.Row.{Row}
 use Rattle.cr_base.specs.Accounts.{account_at}
 use Rattle.cr_base.specs.Bulk.{entries_of}
-use Rattle.cr_base.specs.Drawn.{Drawn}
+use Rattle.cr_base.specs.Drawn.{Drawn, stamped}
 use Rattle.cr_base.specs.History.{History}
 use Rattle.cr_base.specs.Rows.{kind_number, kind_of, row_of, shape_of, IsBoundedEntry}
 use Rattle.cr_base.specs.Shapes.{FitsShape}
@@ -27,10 +27,10 @@ use Rattle.cr_book.proofs.OpeningBulks.{none_some, some_is, one_is, err_ok, ok_i
 -- ---- the tables behind the entries that are begun
 
 same-accounts : (t : Tables) (s : Stamped) (e : Entry) → s.entry ≡ e → IsRowEntry e → (tables_after t s).accounts ≡ t.accounts
-same-accounts t s (Conflict p v on) is row = ap (λ (e : Entry). (tables_after t (record { stamp = s.stamp; more = s.more; entry = e })).accounts) is
-same-accounts t s (Assigned p v kind ordinal) is row = ap (λ (e : Entry). (tables_after t (record { stamp = s.stamp; more = s.more; entry = e })).accounts) is
-same-accounts t s (Unassigned p v ordinal) is row = ap (λ (e : Entry). (tables_after t (record { stamp = s.stamp; more = s.more; entry = e })).accounts) is
-same-accounts t s (Tagged p tag on) is row = ap (λ (e : Entry). (tables_after t (record { stamp = s.stamp; more = s.more; entry = e })).accounts) is
+same-accounts t s (Conflict p v on) is row = ap (λ (e : Entry). (tables_after t (stamped s.stamp s.more e)).accounts) is
+same-accounts t s (Assigned p v kind ordinal) is row = ap (λ (e : Entry). (tables_after t (stamped s.stamp s.more e)).accounts) is
+same-accounts t s (Unassigned p v ordinal) is row = ap (λ (e : Entry). (tables_after t (stamped s.stamp s.more e)).accounts) is
+same-accounts t s (Tagged p tag on) is row = ap (λ (e : Entry). (tables_after t (stamped s.stamp s.more e)).accounts) is
 same-accounts t s e is row = absurd row
 
 accounts-from : (t : Tables) (begun : History) → AreRowEntries begun → (tables_from t begun).accounts ≡ t.accounts
@@ -68,7 +68,7 @@ bounded-same s s' same bounded =
 
 module _ (t : Tables) (begun : History) (next : Stamped) (row : Row) (tried : IsTried t begun next row) where
   abbrev Draws : Type 0
-  Draws = IsDrawn (tables_from t begun) next.stamp.maker next.entry
+  Draws = IsDrawn (tables_from t begun) next.stamp next.entry
 
   -- where no command is told, none draws the entry
   pub none-drawn : None ≡ row_command_told t next.entry → Draws → ⊥
@@ -79,26 +79,26 @@ module _ (t : Tables) (begun : History) (next : Stamped) (row : Row) (tried : Is
     command-is : (d : Draws) → d.command ≡ command
     command-is d = some_is d.command command (sym d.told ∙ told-behind t begun next.entry tried.earlier ∙ sym told)
 
-    accepted : (d : Draws) → row_judged_at (tables_from t begun) next.stamp.maker command ≡ Ok d.drawn
-    accepted d = ap (λ (c : Command). row_judged_at (tables_from t begun) next.stamp.maker c) (sym (command-is d)) ∙ d.accepted
+    accepted : (d : Draws) → row_judged_at (tables_from t begun) next.stamp command ≡ Ok d.drawn
+    accepted d = ap (λ (c : Command). row_judged_at (tables_from t begun) next.stamp c) (sym (command-is d)) ∙ d.accepted
 
-    pub ruled-drawn : (rule : Rule) → row_group next.stamp.maker (Err rule) ≡ group_or_rule (row_judged_at (tables_from t begun) next.stamp.maker command) → Draws → ⊥
+    pub ruled-drawn : (rule : Rule) → row_group next.stamp (Err rule) ≡ group_or_rule (row_judged_at (tables_from t begun) next.stamp command) → Draws → ⊥
     ruled-drawn rule judged d =
-        err_ok rule d.drawn (sym (drawn-rule next.stamp.maker rule (row_judged_at (tables_from t begun) next.stamp.maker command) judged) ∙ accepted d)
+        err_ok rule d.drawn (sym (drawn-rule next.stamp rule (row_judged_at (tables_from t begun) next.stamp command) judged) ∙ accepted d)
 
-    module _ (drawn : Entry) (judged : row_group next.stamp.maker (Ok drawn) ≡ group_or_rule (row_judged_at (tables_from t begun) next.stamp.maker command)) where
+    module _ (drawn : Entry) (judged : row_group next.stamp (Ok drawn) ≡ group_or_rule (row_judged_at (tables_from t begun) next.stamp command)) where
       abbrev spelled : Row
-      spelled = row_of (record { stamp = next.stamp; more = next.more; entry = drawn })
+      spelled = row_of (stamped next.stamp next.more drawn)
 
       same-is : spelled ≡ row → drawn ≡ next.entry
       same-is same =
-          let s : Stamped = record { stamp = next.stamp; more = next.more; entry = drawn } in
+          let s : Stamped = stamped next.stamp next.more drawn in
           let rows = same ∙ sym tried.spells in
           ap (λ (x : Stamped). x.entry) (same_entry s next (bounded-same s next rows tried.bounded) tried.bounded rows)
 
       pub row-drawn : spelled ≡ row → Draws
       row-drawn same =
-          let d = drawn-group next.stamp.maker drawn (row_judged_at (tables_from t begun) next.stamp.maker command) judged in
+          let d = drawn-group next.stamp drawn (row_judged_at (tables_from t begun) next.stamp command) judged in
           record {
             command = command;
             told = told-behind t begun next.entry tried.earlier ∙ sym told;
@@ -109,11 +109,11 @@ module _ (t : Tables) (begun : History) (next : Stamped) (row : Row) (tried : Is
 
       pub drawn-row : Draws → spelled ≡ row
       drawn-row d =
-          let g = drawn-group next.stamp.maker drawn (row_judged_at (tables_from t begun) next.stamp.maker command) judged in
+          let g = drawn-group next.stamp drawn (row_judged_at (tables_from t begun) next.stamp command) judged in
           let same : g.0 ≡ d.drawn = ok_is g.0 d.drawn (sym g.1 ∙ accepted d) in
           let entry : drawn ≡ next.entry = one_is drawn next.entry (ap entries_of (sym g.2) ∙ ap (λ (x : Drawn). entries_of x.group) same ∙ d.adds) in
-          ap (λ (e : Entry). row_of (record { stamp = next.stamp; more = next.more; entry = e })) entry ∙ tried.spells
+          ap (λ (e : Entry). row_of (stamped next.stamp next.more e)) entry ∙ tried.spells
 
       -- so those that are begun and it may stand before another
-      pub row-earlier : ((more : Bool) → AreEarlier t (begun ++ record { stamp = next.stamp; more = more; entry = drawn } ∷ [])) → spelled ≡ row → AreEarlier t (begun ++ next ∷ [])
-      row-earlier all same = subst (λ (e : Entry). AreEarlier t (begun ++ record { stamp = next.stamp; more = next.more; entry = e } ∷ [])) (same-is same) (all next.more)
+      pub row-earlier : ((more : Bool) → AreEarlier t (begun ++ stamped next.stamp more drawn ∷ [])) → spelled ≡ row → AreEarlier t (begun ++ next ∷ [])
+      row-earlier all same = subst (λ (e : Entry). AreEarlier t (begun ++ stamped next.stamp next.more e ∷ [])) (same-is same) (all next.more)

@@ -4,6 +4,7 @@ use Rattle.std.specs.Prelude.{Bool, slice_get, IsTrue, ◌↔◌}
 use Rattle.std.proofs.lemmas.Bool.{true≢false}
 use Rattle.std.specs.List.{AllByRecursion}
 use Rattle.std.proofs.lemmas.List.{take_all, take-append-drop}
+use Rattle.cr_base.specs.declared.command.Call.{Call}
 use Rattle.cr_base.specs.declared.entry.Stamped.{Stamped}
 use Rattle.cr_base.specs.declared.row.Row.{Row}
 use Rattle.cr_base.specs.History.{History}
@@ -19,7 +20,7 @@ use Rattle.cr_book.specs.declared.reading.ReadError.{ReadError}
 use Rattle.cr_book.specs.declared.reading.ReadError.TheVariants as errors
 use Rattle.cr_base.specs.Drawn.{Drawn}
 use Rattle.cr_policy.specs.Judge.{judge}
-use Rattle.cr_policy.specs.Legal.{Call, IsAllowed}
+use Rattle.cr_policy.specs.Legal.{IsAllowed}
 use Rattle.cr_policy.specs.View.{view}
 use Rattle.cr_book.specs.Rebuilding.{authors_told, drawn_by_rows, IsBegun, NoneBegun}
 use Rattle.cr_book.proofs.OpeningRows.{head_is, tail_is, rows-split, group-covers}
@@ -47,7 +48,7 @@ one_history G H first then same =
 -- ---- rows that begin a group
 
 may_add-legal : (log group : History) → Legal log → MayAdd log group → Legal (log ++ group)
-may_add-legal log group legal add = subst (λ (g : History). Legal (log ++ g)) (sym add.group_is) (Legal-accepted log add.call.caller add.call.command add.drawn legal add.allowed add.accepted)
+may_add-legal log group legal add = subst (λ (g : History). Legal (log ++ g)) (sym add.group_is) (Legal-accepted log add.call add.drawn legal add.allowed add.accepted)
 
 -- a group that is begun goes on the history
 pub begun-going : (log : History) (t : Tables) (pending rows : List Row) (group : History) → IsReading log t pending [] → IsBegun t rows group → IsGoing log t rows group
@@ -110,7 +111,7 @@ none-begun log t pending row reading no_bulk none goes =
     bounded : AllByRecursion IsBoundedEntry add.drawn.group
     bounded = subst (λ (g : History). AllByRecursion IsBoundedEntry g) add.group_is group_bounded
 
-    begun-told : (pending : List Row) (log : History) (call : Call) (drawn : Drawn) → Legal log → IsAllowed log call → judge call.caller (view call.caller log) call.command ≡ Ok drawn
+    begun-told : (pending : List Row) (log : History) (call : Call) (drawn : Drawn) → Legal log → IsAllowed log call → judge (view call.caller log) call ≡ Ok drawn
         → take (length (pending ++ row ∷ [])) (rows_of drawn.group) ≡ pending ++ row ∷ [] → AllByRecursion IsBoundedEntry drawn.group → ToldByRows (tables_of log) (pending ++ row ∷ []) drawn
     begun-told [] log call drawn legal allowed accepted begins bounded = accepted-told log call drawn row [] legal allowed accepted begins bounded
     begun-told (p ∷ ps) log call drawn legal allowed accepted begins bounded = accepted-told log call drawn p (ps ++ row ∷ []) legal allowed accepted begins bounded

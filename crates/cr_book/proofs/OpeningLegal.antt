@@ -1,14 +1,17 @@
 -- Legal histories that begin alike: where a legal history goes on from another, moves lead from that one on.
-use Rattle.std.proofs.Common.{ℕ, ◌≡◌, ◌⊎◌, inl, inr, List, [], ◌∷◌, ◌++◌, length, refl, sym, ap, subst, ◌∙◌, arith, append_assoc, append-nil, length-append, Some, Result, Ok, Err}
+use Rattle.std.proofs.Common.{◌≡◌, ◌⊎◌, inl, inr, List, [], ◌∷◌, ◌++◌, length, refl, sym, ap, subst, ◌∙◌, arith, append_assoc, append-nil, length-append, Some, Result, Ok, Err}
 use Rattle.std.proofs.lemmas.List.{append_cancel_left}
 use Rattle.cr_base.specs.declared.bulk.Broken.{Broken}
+use Rattle.cr_base.specs.declared.command.Call.{Call}
 use Rattle.cr_base.specs.declared.entry.Entry.{Entry}
 use Rattle.cr_base.specs.declared.entry.Entry.TheVariants.{Submitted}
+use Rattle.cr_base.specs.declared.entry.Stamp.{Stamp}
 use Rattle.cr_base.specs.declared.reply.Rule.{Rule}
+use Rattle.cr_base.specs.Calls.{BulkCall}
 use Rattle.cr_base.specs.History.{History}
 use Rattle.cr_base.specs.Drawn.{Drawn, grouped}
 use Rattle.cr_policy.specs.Judge.{judge, judge_bulk, view_basis}
-use Rattle.cr_policy.specs.Legal.{Call, IsAllowed, BulkCall, IsBulkAllowed, Move, calls, bulks, IsMoveAllowed, moved, followed_by, LeadsTo, Legal}
+use Rattle.cr_policy.specs.Legal.{IsAllowed, IsBulkAllowed, Move, calls, bulks, IsMoveAllowed, moved, followed_by, LeadsTo, Legal}
 use Rattle.cr_policy.specs.View.{view}
 use Rattle.cr_history.specs.Groups.{Adds, single, submitted, first_user}
 use Rattle.cr_policy.proofs.AcceptedLaws.{accepted-adds}
@@ -20,30 +23,30 @@ use Rattle.cr_book.proofs.OpeningRows.{group-first}
 
 -- what is judged of a call
 abbrev judgement : History → Call → Result Drawn Rule
-judgement H call = judge call.caller (view call.caller H) call.command
+judgement H call = judge (view call.caller H) call
 
 -- an allowed call adds the group
 pub record MayAdd (H group : History) : Type 0 where
   pub call : Call
   pub allowed : IsAllowed H call
   pub drawn : Drawn
-  pub accepted : judge call.caller (view call.caller H) call.command ≡ Ok drawn
+  pub accepted : judge (view call.caller H) call ≡ Ok drawn
   pub group_is : group ≡ drawn.group
 
 -- the entries of one command are a group
-pub grouped-group : (maker : ℕ) (e : Entry) (es : List Entry) → IsGroup (grouped maker (e ∷ es))
-grouped-group maker e [] = refl
-grouped-group maker e (next ∷ []) = (refl, refl)
-grouped-group maker e (next ∷ more ∷ es) = (refl, grouped-group maker next (more ∷ es))
+pub grouped-group : (stamp : Stamp) (e : Entry) (es : List Entry) → IsGroup (grouped stamp (e ∷ es))
+grouped-group stamp e [] = refl
+grouped-group stamp e (next ∷ []) = (refl, refl)
+grouped-group stamp e (next ∷ more ∷ es) = (refl, grouped-group stamp next (more ∷ es))
 
 adds-group : (H g : History) → Adds H g → IsGroup g
-adds-group H g (single maker e made marked ruled) = refl
-adds-group H g (submitted maker paper title abstract users made ruled registered) = grouped-group maker (Submitted paper title abstract) _
-adds-group H g (first_user user name digest is texts) = (refl, refl)
+adds-group H g (single stamp e made marked ruled) = refl
+adds-group H g (submitted stamp paper title abstract users made ruled registered) = grouped-group stamp (Submitted paper title abstract) _
+adds-group H g (first_user stamp name digest is texts) = (refl, refl)
 
 -- what is added is a group
 pub may_add-group : (H g : History) → MayAdd H g → IsGroup g
-may_add-group H g add = subst (λ (x : History). IsGroup x) (sym add.group_is) (adds-group H add.drawn.group (accepted-adds H add.call.caller add.call.command add.drawn add.allowed.bounded add.allowed.caller add.accepted))
+may_add-group H g add = subst (λ (x : History). IsGroup x) (sym add.group_is) (adds-group H add.drawn.group (accepted-adds H add.call add.drawn add.allowed.bounded add.allowed.caller add.accepted))
 
 -- ---- one bulk that adds
 
@@ -52,7 +55,7 @@ pub record MayAddRows (H group : History) : Type 0 where
   pub bulk : BulkCall
   pub allowed : IsBulkAllowed H bulk
   pub drawn : Drawn
-  pub accepted : judge_bulk bulk.user (view (Some bulk.user) H) bulk.rows ≡ Ok drawn
+  pub accepted : judge_bulk (view (Some bulk.stamp.maker) H) bulk ≡ Ok drawn
   pub group_is : group ≡ drawn.group
   pub some : IsGroup group
 
@@ -79,10 +82,10 @@ moved-or H (calls call) allowed = by (judgement H call) refl
     by : (r : Result Drawn Rule) → judgement H call ≡ r → (followed_by H r ≡ H) ⊎ Moved H (followed_by H r)
     by (Ok drawn) is = inr (record { group = drawn.group; move = inl (record { call = call; allowed = allowed; drawn = drawn; accepted = is; group_is = refl }); to_is = refl })
     by (Err rule) is = inl refl
-moved-or H (bulks bulk) allowed = by (judge_bulk bulk.user (view (Some bulk.user) H) bulk.rows) refl
+moved-or H (bulks bulk) allowed = by (judge_bulk (view (Some bulk.stamp.maker) H) bulk) refl
   where
-    of_rows : (drawn : Drawn) (entries : List Entry) → grouped bulk.user entries ≡ drawn.group
-        → judge_bulk bulk.user (view (Some bulk.user) H) bulk.rows ≡ Ok drawn → (H ++ drawn.group ≡ H) ⊎ Moved H (H ++ drawn.group)
+    of_rows : (drawn : Drawn) (entries : List Entry) → grouped bulk.stamp entries ≡ drawn.group
+        → judge_bulk (view (Some bulk.stamp.maker) H) bulk ≡ Ok drawn → (H ++ drawn.group ≡ H) ⊎ Moved H (H ++ drawn.group)
     of_rows drawn [] same is = inl (ap (λ (g : History). H ++ g) (sym same) ∙ append-nil H)
     of_rows drawn (e ∷ entries) same is = inr (record {
       group = drawn.group;
@@ -92,15 +95,15 @@ moved-or H (bulks bulk) allowed = by (judge_bulk bulk.user (view (Some bulk.user
         drawn = drawn;
         accepted = is;
         group_is = refl;
-        some = subst (λ (g : History). IsGroup g) same (grouped-group bulk.user e entries);
+        some = subst (λ (g : History). IsGroup g) same (grouped-group bulk.stamp e entries);
       });
       to_is = refl;
     })
 
-    by : (r : Result Drawn Broken) → judge_bulk bulk.user (view (Some bulk.user) H) bulk.rows ≡ r → (followed_by H r ≡ H) ⊎ Moved H (followed_by H r)
+    by : (r : Result Drawn Broken) → judge_bulk (view (Some bulk.stamp.maker) H) bulk ≡ r → (followed_by H r ≡ H) ⊎ Moved H (followed_by H r)
     by (Err refusal) is = inl refl
     by (Ok drawn) is =
-        let parts = bulk-parts (view_basis bulk.user) bulk.user (view (Some bulk.user) H) bulk.rows drawn is in
+        let parts = bulk-parts (view_basis bulk.stamp.maker) (view (Some bulk.stamp.maker) H) bulk drawn is in
         of_rows drawn parts.entries (ap (λ (d : Drawn). d.group) parts.drawn_is) is
 
 -- ---- many moves

@@ -1,5 +1,5 @@
 -- Users and their names, by the tables: a user has the name by which she is found, and is found by the name that she has.
-use Rattle.std.proofs.Common.{ℕ, Bool, true, false, cond, ◌≡◌, ◌≤◌, ◌<◌, ◌+◌, ◌-◌, List, [], ◌∷◌, ◌++◌, length, eqb, zero, suc, refl, sym, ap, subst, ◌∙◌, arith, Option, Some, None}
+use Rattle.std.proofs.Common.{ℕ, Bool, true, false, cond, ◌≡◌, ◌≤◌, ◌<◌, ◌+◌, ◌-◌, List, [], ◌∷◌, ◌++◌, length, eqb, zero, suc, refl, sym, ap, ◌∙◌, arith, Option, Some, None}
 use Rattle.std.specs.Prelude.{nat_le, ◌&&◌}
 use Rattle.std.specs.List.{AllByRecursion, list_all, slice_get}
 use Rattle.std.specs.Option.{option_map, option_and_then}
@@ -11,9 +11,11 @@ use Rattle.std.proofs.lemmas.Slice.Eq.{bytes_eq-Decides}
 use Rattle.cr_base.specs.declared.entry.Account.{Account}
 use Rattle.cr_base.specs.declared.entry.Entry.{Entry}
 use Rattle.cr_base.specs.declared.entry.Entry.TheVariants.{Registered, Named}
+use Rattle.cr_base.specs.declared.entry.Stamp.{Stamp}
 use Rattle.cr_base.specs.declared.row.Row.{Row}
 use Rattle.cr_base.specs.declared.words.Role.{Role}
 use Rattle.cr_base.specs.Accounts.{number_at, account_at, accounts_after, with_role, AccountsFit}
+use Rattle.cr_base.specs.Drawn.{stamped}
 use Rattle.cr_base.specs.History.{History}
 use Rattle.cr_base.specs.Tables.{Tables, no_tables, tables_after, tables_from, tables_of, FitInTurn}
 use Rattle.cr_base.proofs.AccountLaws.{number_at-push, number_at-with_role}
@@ -108,15 +110,15 @@ names-push accounts a one names v name told = by (eqb v (length accounts + 1)) (
     by true h = ap is_name (sym (some_is a.name name h)) ∙ one
     by false h = names v name h
 
-names-after : (accounts : List Account) (maker : ℕ) (more : Bool) (e : Entry) → IsBoundedEntry (record { stamp = record { maker = maker }; more = more; entry = e }) → AreNames accounts
+names-after : (accounts : List Account) (stamp : Stamp) (more : Bool) (e : Entry) → IsBoundedEntry (stamped stamp more e) → AreNames accounts
     → AreNames (accounts_after accounts e)
-names-after accounts maker more (Registered user name digest) bounded names = names-push accounts _ (name-tested name bounded.b1) names
-names-after accounts maker more (Named user role) bounded names = λ v name told. names v name (sym (name_at-with_role accounts user role v bounded.n1.0) ∙ told)
-names-after accounts maker more e bounded names = names
+names-after accounts stamp more (Registered user name digest) bounded names = names-push accounts _ (name-tested name bounded.b1) names
+names-after accounts stamp more (Named user role) bounded names = λ v name told. names v name (sym (name_at-with_role accounts user role v bounded.n1.0) ∙ told)
+names-after accounts stamp more e bounded names = names
 
 names-from : (t : Tables) (H : History) → AllByRecursion IsBoundedEntry H → AreNames t.accounts → AreNames (tables_from t H).accounts
 names-from t [] bounded names = names
-names-from t (s ∷ H) bounded names = names-from (tables_after t s) H bounded.1 (names-after t.accounts s.stamp.maker s.more s.entry bounded.0 names)
+names-from t (s ∷ H) bounded names = names-from (tables_after t s) H bounded.1 (names-after t.accounts s.stamp s.more s.entry bounded.0 names)
 
 none-names : AreNames []
 none-names zero name told = absurd (none_some name told)

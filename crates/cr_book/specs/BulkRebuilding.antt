@@ -1,23 +1,24 @@
 -- Which rows of a bulk the entries of its group come of, by the tables of the history before it.
-use Rattle.std.specs.Prelude.{ℕ, Bool, true, false, not, ◌≡◌, ◌<◌, ◌==◌, ◌&&◌, ◌||◌, nat_lt, List, []}
+use Rattle.std.specs.Prelude.{ℕ, Bool, true, false, not, ◌≡◌, ◌<◌, ◌&&◌, ◌||◌, nat_lt, List, []}
 use Rattle.std.specs.Prelude.{◌∷◌, length, map, Option, Some, None, Result, Ok, is_ok, if◌then◌else◌}
 use Rattle.std.specs.List.{AllByRecursion}
 use Rattle.cr_base.specs.declared.bulk.BulkRow.{BulkRow}
 use Rattle.cr_base.specs.declared.command.Command.{Command}
 use Rattle.cr_base.specs.declared.entry.Entry.{Entry}
 use Rattle.cr_base.specs.declared.entry.Entry.TheVariants.{Conflict, Assigned, Unassigned, Tagged}
+use Rattle.cr_base.specs.declared.entry.Stamp.{Stamp}
 use Rattle.cr_base.specs.declared.entry.Stamped.{Stamped}
 use Rattle.cr_base.specs.declared.reply.Rule.{Rule}
 use Rattle.cr_base.specs.declared.row.Row.{Row}
-use Rattle.cr_base.specs.Bulk.{row_judged, row_judged_by, bulk_checks, entries_of}
+use Rattle.cr_base.specs.Bulk.{row_judged, bulk_checks, entries_of}
 use Rattle.cr_base.specs.Checks.{judged}
-use Rattle.cr_base.specs.Drawn.{Drawn}
+use Rattle.cr_base.specs.Drawn.{Drawn, stamped}
 use Rattle.cr_base.specs.History.{History}
 use Rattle.cr_base.specs.Lists.{is_nothing}
 use Rattle.cr_base.specs.Rows.{row_of, rows_of, IsBoundedEntry}
 use Rattle.cr_base.specs.Sources.{facts_of_tables, shown_in_tables, standing_at}
 use Rattle.cr_base.specs.Tables.{Tables, tables_after, tables_from}
-use Rattle.cr_judge.specs.Rows.{AreEarlier}
+use Rattle.cr_judge.specs.Rows.{AreEarlier, row_judged_at}
 use Rattle.cr_book.specs.Rebuilding.{paper_command_told, is_known}
 
 -- ---- one row
@@ -39,23 +40,23 @@ abbrev pub row_command_told : Tables → Entry → Option Command
 row_command_told t e = if is_of_row e then paper_command_told t e else None
 
 -- an entry of a bulk, where another of it follows
-abbrev pub unfinished : ℕ → Entry → Stamped
-unfinished user e = record { stamp = record { maker = user }; more = true; entry = e }
+abbrev pub unfinished : Stamp → Entry → Stamped
+unfinished stamp e = stamped stamp true e
 
--- the row that the entry tells, given by this user on these tables, adds the entry
-pub record IsDrawn (t : Tables) (user : ℕ) (e : Entry) : Type 0 where
+-- the row that the entry tells, under this stamp on these tables, adds the entry
+pub record IsDrawn (t : Tables) (stamp : Stamp) (e : Entry) : Type 0 where
   pub command : Command
   pub told : row_command_told t e ≡ Some command
   pub drawn : Drawn
-  pub accepted : row_judged_by (facts_of_tables t (Some user)) (shown_in_tables t) user command ≡ Ok drawn
+  pub accepted : row_judged_at t stamp command ≡ Ok drawn
   pub adds : entries_of drawn.group ≡ e ∷ []
 
 -- ---- all rows
 
 -- each of the entries, behind those before it
-abbrev pub AreDrawn : Tables → ℕ → List Entry → Type 0
-AreDrawn t user [] = Unit {0}
-AreDrawn t user (e ∷ entries) = IsDrawn t user e × AreDrawn (tables_after t (unfinished user e)) user entries
+abbrev pub AreDrawn : Tables → Stamp → List Entry → Type 0
+AreDrawn t stamp [] = Unit {0}
+AreDrawn t stamp (e ∷ entries) = IsDrawn t stamp e × AreDrawn (tables_after t (unfinished stamp e)) stamp entries
 
 -- whether the user may give a bulk, by the rules on it as a whole
 abbrev pub caller_judged : Tables → ℕ → Result (Unit {0}) Rule
@@ -68,13 +69,13 @@ may_bulk t user = is_known t (Some user) && is_ok (caller_judged t user)
 -- the entries of a bulk, behind which another of the same bulk is to come: they have these
 -- rows, none of which is the 512th
 pub record IsOpenBulk (t : Tables) (rows : List Row) (begun : History) : Type 0 where
-  pub user : ℕ
+  pub stamp : Stamp
   pub entries : List Entry
-  pub begun_is : begun ≡ map (unfinished user) entries
+  pub begun_is : begun ≡ map (unfinished stamp) entries
   pub rows_are : rows ≡ rows_of begun
   pub bounded : AllByRecursion IsBoundedEntry begun
-  pub may : may_bulk t user ≡ true
-  pub drawn : AreDrawn t user entries
+  pub may : may_bulk t stamp.maker ≡ true
+  pub drawn : AreDrawn t stamp entries
   pub earlier : AreEarlier t begun
   pub few : length entries < 512
 
@@ -84,14 +85,14 @@ pub record IsOpenBulk (t : Tables) (rows : List Row) (begun : History) : Type 0 
 abbrev pub has_room : History → Bool → Bool
 has_room begun more = not more || nat_lt (length begun) 511
 
--- those before it are the same user's
-abbrev pub is_makers : History → ℕ → Bool
-is_makers [] user = true
-is_makers (s ∷ begun) user = s.stamp.maker == user
-
--- the entry's maker may give a bulk of so many rows, the first of which are hers
+-- the entry's maker may give a bulk of so many rows
 abbrev pub may_go_on : Tables → History → Stamped → Bool
-may_go_on t begun next = has_room begun next.more && is_makers begun next.stamp.maker && may_bulk t next.stamp.maker
+may_go_on t begun next = has_room begun next.more && may_bulk t next.stamp.maker
+
+-- those before it have the same stamp
+abbrev pub HaveStamp : History → Stamp → Type 0
+HaveStamp [] stamp = Unit {0}
+HaveStamp (s ∷ begun) stamp = s.stamp ≡ stamp
 
 -- what is tried as the next of a bulk: an entry within its bounds and its row, behind
 -- entries that may stand before a row
@@ -103,7 +104,8 @@ pub record IsTried (t : Tables) (begun : History) (next : Stamped) (row : Row) :
 -- the entry comes next in a bulk, behind those that are begun: its row adds it
 pub record GoesOn (t : Tables) (begun : History) (next : Stamped) : Type 0 where
   pub may : may_go_on t begun next ≡ true
-  pub drawn : IsDrawn (tables_from t begun) next.stamp.maker next.entry
+  pub stamp : HaveStamp begun next.stamp
+  pub drawn : IsDrawn (tables_from t begun) next.stamp next.entry
 
 -- ---- rows of a bulk, and others
 
@@ -124,7 +126,7 @@ is_of_bulk rows begun next = not (is_nothing begun) || (is_nothing rows && begin
 -- ---- the rows of a file
 
 -- what a row draws behind the entries of those before it
-abbrev pub row_judged_behind : Tables → History → ℕ → BulkRow → Result Drawn Rule
-row_judged_behind t earlier user row =
+abbrev pub row_judged_behind : Tables → History → Stamp → BulkRow → Result Drawn Rule
+row_judged_behind t earlier stamp row =
     let s = tables_from t earlier in
-    row_judged (facts_of_tables s (Some user)) (shown_in_tables s) user row
+    row_judged (facts_of_tables s (Some stamp.maker)) (shown_in_tables s) stamp row

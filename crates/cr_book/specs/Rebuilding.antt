@@ -5,6 +5,7 @@ use Rattle.std.specs.Prelude.{Option, Some, None, is_some, if◌then◌else◌}
 use Rattle.std.specs.List.{list_any}
 use Rattle.std.specs.Option.{option_map, option_map_or, option_and_then}
 use Rattle.std.specs.Result.{result_ok}
+use Rattle.cr_base.specs.declared.command.Call.{Call}
 use Rattle.cr_base.specs.declared.command.Command.{Command}
 use Rattle.cr_base.specs.declared.command.Command.TheVariants as commands
 use Rattle.cr_base.specs.declared.entry.Entry.{Entry}
@@ -15,6 +16,7 @@ use Rattle.cr_base.specs.declared.entry.Entry.TheVariants.{Reviewed, Commented, 
 use Rattle.cr_base.specs.declared.entry.Stamped.{Stamped}
 use Rattle.cr_base.specs.declared.row.Row.{Row}
 use Rattle.cr_base.specs.Accounts.{account_at}
+use Rattle.cr_base.specs.Calls.{call_of}
 use Rattle.cr_base.specs.History.{History}
 use Rattle.cr_base.specs.Judging.{judge_by_role}
 use Rattle.cr_base.specs.Lists.{given}
@@ -100,22 +102,26 @@ user_command_told t authors (Submitted paper title abstract) =
     if nat_le (length authors) 19 then Some (commands.Submit title abstract authors) else None
 user_command_told t authors e = paper_command_told t e
 
--- what it was, by whomever it was given
+-- what it was, by whomever it was given; and its call, by the stamp and the entry
 abbrev pub command_told : Tables → List (Option (List ℕ)) → Entry → Option Command
 command_told t authors (Registered user name digest) = Some (commands.Register name digest)
 command_told t authors e = user_command_told t authors e
+
+abbrev pub call_told : Tables → List (Option (List ℕ)) → Stamped → Option Call
+call_told t authors first =
+    option_map (call_of (giver_told first.stamp.maker first.entry)) (command_told t authors first.entry)
 
 -- nobody, or a user who has registered
 abbrev pub is_known : Tables → Option ℕ → Bool
 is_known t None = true
 is_known t (Some user) = is_some (name_told t user)
 
--- what it draws, where its caller is known and no rule is broken
+-- what a call draws, where its caller is known and no rule is broken; and that of such an entry
+abbrev pub drawn_of : Tables → Call → Option Drawn
+drawn_of t call = if is_known t call.caller then result_ok (judge_by_role t call) else None
+
 abbrev pub drawn_told : Tables → List (Option (List ℕ)) → Stamped → Option Drawn
-drawn_told t authors first =
-    let caller = giver_told first.stamp.maker first.entry in
-    if is_known t caller then option_and_then (λ command. result_ok (judge_by_role t caller command))
-    (command_told t authors first.entry) else None
+drawn_told t authors first = option_and_then (drawn_of t) (call_told t authors first)
 
 -- the same of the first entry that these rows spell, with the co-authors that they tell
 abbrev pub drawn_by_rows : Tables → List Row → Stamped → Option Drawn

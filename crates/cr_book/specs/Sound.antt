@@ -4,6 +4,7 @@ use Rattle.cr_base.specs.declared.bulk.BulkRow.{BulkRow}
 use Rattle.cr_base.specs.declared.command.Command.{Command}
 use Rattle.cr_base.specs.declared.row.Row.{Row}
 use Rattle.cr_base.specs.declared.reply.Receipt.{Receipt}
+use Rattle.cr_base.specs.Calls.{call_of, bulk_by}
 use Rattle.cr_base.specs.History.{History}
 use Rattle.cr_base.specs.Drawn.{Drawn}
 use Rattle.cr_base.specs.Rows.{rows_of}
@@ -27,13 +28,13 @@ pub record IsSound {K : Type 0} (rows : K → Option (List Row)) (log : History)
 -- history grew by the group drawn
 pub record Accepts (old new : History) (caller : Option ℕ) (command : Command) (receipt : Receipt) : Type 0 where
   pub drawn : Drawn
-  pub judged : judge caller (view caller old) command ≡ Ok drawn
+  pub judged : judge (view caller old) (call_of caller command) ≡ Ok drawn
   pub receipt_is : receipt ≡ drawn.receipt
   pub added : new ≡ old ++ drawn.group
 
 -- the same of a bulk
 pub record AcceptsBulk (old new : History) (user : ℕ) (rows : List BulkRow) (receipt : Receipt) : Type 0 where
   pub drawn : Drawn
-  pub judged : judge_bulk user (view (Some user) old) rows ≡ Ok drawn
+  pub judged : judge_bulk (view (Some user) old) (bulk_by user rows) ≡ Ok drawn
   pub receipt_is : receipt ≡ drawn.receipt
   pub added : new ≡ old ++ drawn.group

@@ -3,6 +3,7 @@ ghost use Rattle.std.specs.Prelude.{◌≡◌, ◌≢◌, ◌≤◌, ◌++◌, �
 ghost use Rattle.std.specs.Prelude.{IfOk, IfErr, IsOk, OnOk, OnErr, IfSome, Ok, Err, None, Some};
 ghost use Rattle.cr_base.specs.declared.bulk.Broken.{Broken};
 ghost use Rattle.cr_base.specs.declared.reply.Rule.{Rule};
+ghost use Rattle.cr_base.specs.Calls.{call_of, bulk_by};
 ghost use Rattle.cr_base.specs.HistoryFacts.{number_of, caller_of};
 ghost use Rattle.cr_base.specs.Tables.{tables_of, FitInTurn};
 ghost use Rattle.cr_policy.specs.Judge.{judge, judge_bulk, answer, needs_login};
@@ -23,8 +24,8 @@ use crate::kinds::count_of_kind;
 use crate::opening::{OpenError, read_all};
 use crate::rows::{copies_of, rows_of};
 use cr_base::{
-    Broken, BulkRows, Command, Digest, EntryKind, Query, Receipt, Reply, Report, Rule, Search,
-    Short, Stamped, UserNo,
+    Broken, BulkRows, Call, Command, Digest, EntryKind, Query, Receipt, Reply, Report, Rule,
+    Search, Short, Stamp, Stamped, UserNo,
 };
 use cr_judge::judge;
 use cr_lock::Stands;
@@ -126,22 +127,22 @@ impl<K: Keeper> Book<K> {
         caller: &Option<UserNo>,
         command: Command,
     ) -> Result<Receipt, BookError<Rule>>
-        requires { IsAllowed self.old.log (record { caller = caller.now; command = command }) }
+        requires { IsAllowed self.old.log (call_of caller.now command) }
 
         ensures accepted { IfOk result (λ receipt. Accepts self.old.log self.new.log caller.now command receipt) }
 
         // A rule is told exactly where Judge gives it, and then nothing changes.
-        ensures rule { (rule : Rule) → judge caller.now (view caller.now self.old.log) command ≡ Err rule
+        ensures rule { (rule : Rule) → judge (view caller.now self.old.log) (call_of caller.now command) ≡ Err rule
             → result ≡ Err (BookError.Broken rule) }
         ensures only_rule { (rule : Rule) → result ≡ Err (BookError.Broken rule)
-            → judge caller.now (view caller.now self.old.log) command ≡ Err rule }
+            → judge (view caller.now self.old.log) (call_of caller.now command) ≡ Err rule }
         ensures rule_stays { (rule : Rule) → result ≡ Err (BookError.Broken rule) → self.new ≡ self.old }
 
         // The other errors come only where Judge accepts the command.
         ensures memory { result ≡ Err BookError.OutOfMemory
-            → IsOk (judge caller.now (view caller.now self.old.log) command) }
+            → IsOk (judge (view caller.now self.old.log) (call_of caller.now command)) }
         ensures lost { result ≡ Err BookError.KeeperFault
-            → IsOk (judge caller.now (view caller.now self.old.log) command) }
+            → IsOk (judge (view caller.now self.old.log) (call_of caller.now command)) }
 
         ensures log_stays { OnErr result (self.new.log ≡ self.old.log) }
         ensures rows_stay { OnErr result (K.rows self.new.keeper ≡ K.rows self.old.keeper) }
@@ -151,7 +152,11 @@ impl<K: Keeper> Book<K> {
         ensures count { K.faults self.old.keeper ≤ K.faults self.new.keeper }
         ensures legal { Legal self.new.log }
     {
-        let effect = match judge(&self.live, caller, command) {
+        let call = Call {
+            caller: *caller,
+            command,
+        };
+        let effect = match judge(&self.live, call) {
             Ok(effect) => effect,
             Err(rule) => return Err(BookError::Broken(rule)),
         };
@@ -177,22 +182,23 @@ impl<K: Keeper> Book<K> {
     /// Costs one judgement for each row, which walks over the entries of the rows before it, at most
     /// 511; the keeper is asked once.
     pub fn bulk(&mut self, caller: UserNo, rows: BulkRows) -> Result<Receipt, BookError<Broken>>
-        requires { IsBulkAllowed self.old.log (record { user = caller; rows = rows }) }
+        requires { IsBulkAllowed self.old.log (bulk_by caller rows) }
 
         ensures accepted { IfOk result (λ receipt. AcceptsBulk self.old.log self.new.log caller rows receipt) }
 
         // What is broken is told exactly where Judge gives it, and then nothing changes.
-        ensures broken { (broken : Broken) → judge_bulk caller (view (Some caller) self.old.log) rows ≡ Err broken
+        ensures broken { (broken : Broken)
+            → judge_bulk (view (Some caller) self.old.log) (bulk_by caller rows) ≡ Err broken
             → result ≡ Err (BookError.Broken broken) }
         ensures only_broken { (broken : Broken) → result ≡ Err (BookError.Broken broken)
-            → judge_bulk caller (view (Some caller) self.old.log) rows ≡ Err broken }
+            → judge_bulk (view (Some caller) self.old.log) (bulk_by caller rows) ≡ Err broken }
         ensures broken_stays { (broken : Broken) → result ≡ Err (BookError.Broken broken) → self.new ≡ self.old }
 
         // The other errors come only where Judge accepts the bulk.
         ensures memory { result ≡ Err BookError.OutOfMemory
-            → IsOk (judge_bulk caller (view (Some caller) self.old.log) rows) }
+            → IsOk (judge_bulk (view (Some caller) self.old.log) (bulk_by caller rows)) }
         ensures lost { result ≡ Err BookError.KeeperFault
-            → IsOk (judge_bulk caller (view (Some caller) self.old.log) rows) }
+            → IsOk (judge_bulk (view (Some caller) self.old.log) (bulk_by caller rows)) }
 
         ensures log_stays { OnErr result (self.new.log ≡ self.old.log) }
         ensures rows_stay { OnErr result (K.rows self.new.keeper ≡ K.rows self.old.keeper) }
@@ -202,7 +208,8 @@ impl<K: Keeper> Book<K> {
         ensures count { K.faults self.old.keeper ≤ K.faults self.new.keeper }
         ensures legal { Legal self.new.log }
     {
-        let group = match judge_bulk(&self.live, caller, rows) {
+        let stamp = Stamp { maker: caller };
+        let group = match judge_bulk(&self.live, &stamp, rows) {
             Ok(group) => group,
             Err(broken) => return Err(BookError::Broken(broken)),
         };

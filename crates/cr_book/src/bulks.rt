@@ -1,10 +1,11 @@
 //! The rows of a bulk that the entries of its group come of.
 ghost use Rattle.std.specs.Prelude.{◌≡◌, ◌↔◌, ◌++◌, ◌∷◌, [], IfOk, IfSome, IsTrue, length};
+ghost use Rattle.cr_base.specs.Drawn.{stamped};
 ghost use Rattle.cr_base.specs.Rows.{row_of};
 ghost use Rattle.cr_base.specs.Tables.{tables_from};
 ghost use Rattle.cr_base.specs.Bulk.{IsRowCommand};
 ghost use Rattle.cr_judge.specs.Rows.{AreEarlier};
-ghost use Rattle.cr_book.specs.BulkRebuilding.{begins_bulk, has_room, is_makers};
+ghost use Rattle.cr_book.specs.BulkRebuilding.{begins_bulk, has_room, HaveStamp};
 ghost use Rattle.cr_book.specs.BulkRebuilding.{is_of_bulk, is_of_row, may_bulk, may_go_on};
 ghost use Rattle.cr_book.specs.BulkRebuilding.{row_command_told, GoesOn, IsDrawn, IsTried};
 
@@ -48,12 +49,12 @@ fn has_room(begun: &[Stamped], more: bool) -> bool
     !more || begun.len() < MOST_ROWS - 1
 }
 
-/// Whether these entries, of which all have one maker, are this user's.
-fn is_makers(begun: &[Stamped], user: UserNo) -> bool
-    ensures { result ≡ is_makers begun.now user }
+/// Whether these entries, of which all have one stamp, have this one.
+fn have_stamp(begun: &[Stamped], stamp: &Stamp) -> bool
+    ensures { IsTrue result ↔ HaveStamp begun.now stamp.now }
 {
     match begun.first() {
-        Some(first) => first.stamp.maker.number() == user.number(),
+        Some(first) => first.stamp == *stamp,
         None => true,
     }
 }
@@ -65,13 +66,11 @@ fn may_bulk(live: &Live, user: UserNo) -> bool
     is_known(live, &Some(user)) && cr_judge::may_bulk(live, user).is_ok()
 }
 
-/// Whether the entry's maker may give a bulk of so many rows, the first of which are hers.
+/// Whether the entry's maker may give a bulk of so many rows.
 fn may_go_on(live: &Live, begun: &[Stamped], next: &Stamped) -> bool
     ensures { result ≡ may_go_on live.now.tables begun.now next.now }
 {
-    has_room(begun, next.more)
-        && is_makers(begun, next.stamp.maker)
-        && may_bulk(live, next.stamp.maker)
+    has_room(begun, next.more) && may_bulk(live, next.stamp.maker)
 }
 
 /// The command of the row that added the entry; none where no row did, or where it names a user who isn't there.
@@ -94,7 +93,7 @@ fn spells(
     row: &Row,
 ) -> Result<bool, AllocError>
     ensures { IfOk result (λ same. IsTrue same
-        ↔ (row_of (record { stamp = stamp; more = more; entry = entry }) ≡ row.now)) }
+        ↔ (row_of (stamped stamp more entry) ≡ row.now)) }
 {
     let spelled = entry.to_row(alloc, stamp, more)?;
     Ok(spelled.is_same(row))
@@ -111,14 +110,14 @@ fn is_drawn(
 ) -> Result<bool, AllocError>
     requires { IsTried live.now.tables begun.now next.now row.now }
     ensures drawn { IfOk result (λ drawn. IsTrue drawn
-        ↔ IsDrawn (tables_from live.now.tables begun.now) next.now.stamp.maker next.now.entry) }
+        ↔ IsDrawn (tables_from live.now.tables begun.now) next.now.stamp next.now.entry) }
     ensures earlier { IfOk result (λ drawn. IsTrue drawn → AreEarlier live.now.tables (begun.now ++ next.now ∷ [])) }
 {
     let entry = next.entry.copy()?;
     let Some(command) = row_command_of(live, entry) else {
         return Ok(false);
     };
-    match judge_row(live, next.stamp.maker, command, begun) {
+    match judge_row(live, &next.stamp, command, begun) {
         Ok(drawn) => spells(alloc, drawn, next.stamp, next.more, row),
         Err(_) => Ok(false),
     }
@@ -138,6 +137,9 @@ pub(crate) fn goes_on(
     ensures earlier { IfOk result (λ on. IsTrue on → AreEarlier live.now.tables (begun.now ++ next.now ∷ [])) }
 {
     if !may_go_on(live, begun, next) {
+        return Ok(false);
+    }
+    if !have_stamp(begun, &next.stamp) {
         return Ok(false);
     }
     is_drawn(alloc, live, begun, next, row)

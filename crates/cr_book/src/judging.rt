@@ -2,13 +2,13 @@
 ghost use Rattle.std.specs.Prelude.{◌≡◌, ◌≤◌, ◌<◌, ◌+◌, ◌++◌, ◌∷◌, Bool, [], IfOk, IfErr, Ok, Err, length};
 ghost use Rattle.cr_base.specs.declared.bulk.Broken.TheVariants as broken;
 ghost use Rattle.cr_base.specs.Bulk.{bulk_by_role, bulk_drawn, entries_of, row_command, rows_judged, tables_basis};
-ghost use Rattle.cr_base.specs.Drawn.{grouped};
+ghost use Rattle.cr_base.specs.Drawn.{grouped, stamped};
 ghost use Rattle.cr_base.specs.Tables.{tables_from};
 ghost use Rattle.cr_base.specs.Bulk.{IsRowCommand};
 ghost use Rattle.cr_judge.specs.Rows.{AreEarlier, group_or_rule, row_group};
 ghost use Rattle.cr_book.specs.BulkRebuilding.{row_judged_behind};
 
-use cr_base::{Broken, BulkRow, BulkRows, Command, Entry, Rule, Stamp, Stamped, UserNo};
+use cr_base::{Broken, BulkRow, BulkRows, Command, Entry, Rule, Stamp, Stamped};
 use cr_judge::may_bulk;
 use cr_view::Live;
 
@@ -21,15 +21,15 @@ fn command_of(row: &BulkRow) -> Result<Command, Rule>
 }
 
 /// The entry that a row draws behind those of the rows before it, or the first broken rule.
-fn judge_row(live: &Live, caller: UserNo, row: &BulkRow, earlier: &[Stamped]) -> Result<Entry, Rule>
+fn judge_row(live: &Live, stamp: &Stamp, row: &BulkRow, earlier: &[Stamped]) -> Result<Entry, Rule>
     requires { AreEarlier live.now.tables earlier.now }
-    ensures judged { row_group caller result
-        ≡ group_or_rule (row_judged_behind live.now.tables earlier.now caller row.now) }
+    ensures judged { row_group stamp.now result
+        ≡ group_or_rule (row_judged_behind live.now.tables earlier.now stamp.now row.now) }
     ensures next { IfOk result (λ entry. (more : Bool) → AreEarlier live.now.tables
-        (earlier.now ++ record { stamp = record { maker = caller }; more = more; entry = entry } ∷ [])) }
+        (earlier.now ++ stamped stamp.now more entry ∷ [])) }
 {
     match command_of(row) {
-        Ok(command) => cr_judge::judge_row(live, caller, command, earlier),
+        Ok(command) => cr_judge::judge_row(live, stamp, command, earlier),
         Err(rule) => Err(rule),
     }
 }
@@ -49,26 +49,27 @@ fn row_broken(index: usize, rule: Rule) -> Broken
 /// the first row that breaks a rule.
 fn judge_rows(
     live: &Live,
-    caller: UserNo,
+    stamp: &Stamp,
     rows: &[BulkRow],
     mut entries: Vec<Stamped>,
 ) -> Result<Vec<Stamped>, Broken>
     requires few { length rows.now ≤ 512 }
     requires none { entries.items ≡ [] }
     requires room { length rows.now ≤ entries.cap }
-    ensures group { IfOk result (λ group. group.items ≡ grouped caller (entries_of group.items)) }
-    ensures accepted { IfOk result (λ group. rows_judged (tables_basis caller) caller live.now.tables 1 rows.now
+    ensures group { IfOk result (λ group. group.items ≡ grouped stamp.now (entries_of group.items)) }
+    ensures accepted { IfOk result
+        (λ group. rows_judged (tables_basis stamp.now.maker) stamp.now live.now.tables 1 rows.now
         ≡ Ok (entries_of group.items)) }
     ensures broken { IfErr result
-        (λ broken. rows_judged (tables_basis caller) caller live.now.tables 1 rows.now ≡ Err broken) }
+        (λ broken. rows_judged (tables_basis stamp.now.maker) stamp.now live.now.tables 1 rows.now ≡ Err broken) }
 {
     for (i, row) in rows.iter().enumerate() {
-        let entry = match judge_row(live, caller, row, &entries) {
+        let entry = match judge_row(live, stamp, row, &entries) {
             Ok(entry) => entry,
             Err(rule) => return Err(row_broken(i, rule)),
         };
         entries.push_reserved(Stamped {
-            stamp: Stamp { maker: caller },
+            stamp: *stamp,
             more: i + 1 < rows.len(),
             entry,
         });
@@ -76,22 +77,19 @@ fn judge_rows(
     Ok(entries)
 }
 
-/// The group of a bulk of this caller, or what is broken: the rule on the bulk as a whole, or the first row that
+/// The group of a bulk under this stamp, or what is broken: the rule on the bulk as a whole, or the first row that
 /// breaks one. Takes no memory. Costs one judgement for each row, which walks over the entries of the rows before it.
-pub(crate) fn judge_bulk(
-    live: &Live,
-    caller: UserNo,
-    rows: BulkRows,
-) -> Result<Vec<Stamped>, Broken>
-    ensures accepted { IfOk result (λ group. bulk_by_role live.now.tables caller rows
-        ≡ Ok (bulk_drawn caller (length group.items) (entries_of group.items))) }
-    ensures group { IfOk result (λ group. group.items ≡ grouped caller (entries_of group.items)) }
-    ensures broken { IfErr result (λ broken. bulk_by_role live.now.tables caller rows ≡ Err broken) }
+pub(crate) fn judge_bulk(live: &Live, stamp: &Stamp, rows: BulkRows) -> Result<Vec<Stamped>, Broken>
+    ensures accepted { IfOk result (λ group. bulk_by_role live.now.tables (record { stamp = stamp.now; rows = rows })
+        ≡ Ok (bulk_drawn stamp.now (length group.items) (entries_of group.items))) }
+    ensures group { IfOk result (λ group. group.items ≡ grouped stamp.now (entries_of group.items)) }
+    ensures broken { IfErr result
+        (λ broken. bulk_by_role live.now.tables (record { stamp = stamp.now; rows = rows }) ≡ Err broken) }
 {
-    match may_bulk(live, caller) {
+    match may_bulk(live, stamp.maker) {
         Ok(()) => {}
         Err(rule) => return Err(Broken::Rule(rule)),
     }
     let (rows, entries) = rows.into_parts();
-    judge_rows(live, caller, &rows, entries)
+    judge_rows(live, stamp, &rows, entries)
 }

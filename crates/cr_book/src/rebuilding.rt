@@ -5,14 +5,14 @@ ghost use Rattle.std.specs.Option.{option_map};
 ghost use Rattle.cr_base.specs.Tables.{FitInTurn};
 ghost use Rattle.cr_base.specs.declared.command.Command.TheVariants as commands;
 ghost use Rattle.cr_judge.specs.Effects.{drawn_by, group_of};
-ghost use Rattle.cr_book.specs.Rebuilding.{giver_told, command_told, target_command_told};
+ghost use Rattle.cr_book.specs.Rebuilding.{giver_told, call_told, command_told, target_command_told};
 ghost use Rattle.cr_book.specs.Rebuilding.{paper_command_told, user_command_told};
 ghost use Rattle.cr_book.specs.Rebuilding.{drawn_told, is_known, IsBegun, NoneBegun};
 ghost use Rattle.cr_base.specs.declared.row.Row.{Row};
 
 use crate::coauthor_names::authors_told;
 use crate::rows::rows_of;
-use cr_base::{Command, Entry, MOST_COAUTHORS, Row, Stamped, Text, ToldNames, UserNo};
+use cr_base::{Call, Command, Entry, MOST_COAUTHORS, Row, Stamped, Text, ToldNames, UserNo};
 use cr_judge::{Effect, judge};
 use cr_view::Live;
 use std::alloc::{AllocError, Global};
@@ -174,17 +174,25 @@ fn submission_of(title: Text, abstract_: Text, authors: ToldNames) -> Option<Com
     })
 }
 
-/// What that command comes to; none where it has no caller, or breaks a rule.
+/// The call by which the group of this first entry was added; none where `command_of` tells none.
+fn call_of(live: &Live, first: Stamped, authors: ToldNames) -> Option<Call>
+    ensures { result ≡ call_told live.now.tables authors first }
+{
+    let caller = caller_of(&first);
+    let command = command_of(live, first.entry, authors)?;
+    Some(Call { caller, command })
+}
+
+/// What that call comes to; none where its caller isn't known, or it breaks a rule.
 fn effect_of(live: &Live, first: Stamped, authors: ToldNames) -> Option<Effect>
     ensures drawn { option_map (drawn_by live.now.tables.accounts) result ≡ drawn_told live.now.tables authors first }
     ensures fits { IfSome result (λ effect. FitInTurn live.now.tables (group_of effect)) }
 {
-    let caller = caller_of(&first);
-    if !is_known(live, &caller) {
+    let call = call_of(live, first, authors)?;
+    if !is_known(live, &call.caller) {
         return None;
     }
-    let command = command_of(live, first.entry, authors)?;
-    match judge(live, &caller, command) {
+    match judge(live, call) {
         Ok(effect) => Some(effect),
         Err(_) => None,
     }

@@ -4,7 +4,7 @@ use Rattle.std.specs.Prelude.{ℕ, zero, suc, ◌+◌, ◌*◌, ◌/◌, ◌==�
 use Rattle.std.specs.Prelude.{List, [], ◌∷◌, ◌++◌, Some, None, fold, length}
 use Rattle.std.specs.Prelude.{codes, decimal, is_ok, if◌then◌else◌}
 use Rattle.std.specs.List.{flat_map}
-use Rattle.cr_base.specs.declared.command.Command.{Command}
+use Rattle.cr_base.specs.declared.command.Call.{Call}
 use Rattle.cr_base.specs.declared.command.Command.TheVariants.{Register, Name, SetPhase}
 use Rattle.cr_base.specs.declared.entry.EntryKind.{EntryKind}
 use Rattle.cr_base.specs.declared.entry.EntryKind.TheVariants as kinds
@@ -13,12 +13,13 @@ use Rattle.cr_base.specs.declared.words.Phase.TheVariants.{Submission, Bidding, 
 use Rattle.cr_base.specs.declared.words.Phase.TheVariants.{Discussion, Notification, Closed}
 use Rattle.cr_base.specs.declared.words.Role.{Role}
 use Rattle.cr_base.specs.declared.words.Role.TheVariants.{Member, Chair}
+use Rattle.cr_base.specs.Calls.{call_of}
 use Rattle.cr_base.specs.History.{History}
 use Rattle.cr_base.specs.HistoryFacts.{phase_of, papers_of}
 use Rattle.cr_base.specs.Phases.{is_from}
 use Rattle.cr_book.specs.Kinds.{count_of_kind}
 use Rattle.cr_policy.specs.Judge.{judge}
-use Rattle.cr_policy.specs.Legal.{Call, step}
+use Rattle.cr_policy.specs.Legal.{step}
 use Rattle.cr_policy.specs.View.{view}
 use Rattle.cr_drill.specs.Cast.{cast, cast_size, first_chair, second_chair}
 use Rattle.cr_drill.specs.Cast.{first_member, member_count, cast_name, cast_digest}
@@ -27,16 +28,9 @@ use Rattle.cr_drill.specs.Dice.{roll_of, after_roll}
 
 -- ---- calls
 
--- a user's command, and nobody's
-abbrev pub call_by : ℕ → Command → Call
-call_by user command = record { caller = Some user; command = command }
-
-abbrev pub call_of_nobody : Command → Call
-call_of_nobody command = record { caller = None; command = command }
-
 -- Judge accepts the call
 abbrev pub is_accepted : History → Call → Bool
-is_accepted H call = is_ok (judge call.caller (view call.caller H) call.command)
+is_accepted H call = is_ok (judge (view call.caller H) call)
 
 -- ---- phases
 
@@ -49,7 +43,7 @@ abbrev pub is_on_way : Phase → History → Phase → Bool
 is_on_way wanted H phase = not (is_from phase (phase_of H)) && is_from phase wanted
 
 abbrev pub moved_on : Phase → History → Phase → History
-moved_on wanted H phase = if is_on_way wanted H phase then step H (call_by first_chair (SetPhase phase)) else H
+moved_on wanted H phase = if is_on_way wanted H phase then step H (call_of (Some first_chair) (SetPhase phase)) else H
 
 -- the first chair moves the conference on to the phase that is wanted
 abbrev pub moved_through : Phase → History → List Phase → History
@@ -64,11 +58,11 @@ moved_to wanted H = moved_through wanted H later_phases
 abbrev pub registered_first : (ℕ → List ℕ) → ℕ → History
 registered_first digest zero = []
 registered_first digest (suc n) =
-    step (registered_first digest n) (call_of_nobody (Register (cast_name (suc n)) (digest (suc n))))
+    step (registered_first digest n) (call_of None (Register (cast_name (suc n)) (digest (suc n))))
 
 -- the first chair names a user
 abbrev pub named : Role → ℕ → History → History
-named role user H = step H (call_by first_chair (Name (Some (cast_name user)) role))
+named role user H = step H (call_of (Some first_chair) (Name (Some (cast_name user)) role))
 
 -- she names the first n members
 abbrev pub members_named : ℕ → History → History
@@ -103,7 +97,7 @@ abbrev pub call_at : Phase → ℕ → History → ℕ → Call
 call_at phase s H seed =
     let roll = roll_of (length (papers_of H)) seed in
     let operation = operation_in phase roll.operation in
-    call_by (actor_of operation roll.user) (command_of operation s roll)
+    call_of (Some (actor_of operation roll.user)) (command_of operation s roll)
 
 abbrev pub asked : Drilled → Call → Drilled
 asked d call = record {

@@ -1,6 +1,7 @@
 //! A drill: commands that are made up from a seed, given to a book in memory.
-ghost use Rattle.std.specs.Prelude.{◌≡◌, ◌≤◌, ◌<◌, ◌+◌, [], IfOk, IsTrue, OnOk, length, if◌then◌else◌};
+ghost use Rattle.std.specs.Prelude.{◌≡◌, ◌≤◌, ◌<◌, ◌+◌, [], Some, IfOk, IsTrue, OnOk, length, if◌then◌else◌};
 ghost use Rattle.cr_base.specs.Bounds.{IsBoundedCommand};
+ghost use Rattle.cr_base.specs.Calls.{call_of};
 ghost use Rattle.cr_base.specs.declared.command.Command.TheVariants.{SetPhase};
 ghost use Rattle.cr_base.specs.Logins.{command_wants_login};
 ghost use Rattle.cr_base.specs.HistoryFacts.{papers_of, phase_of};
@@ -8,7 +9,7 @@ ghost use Rattle.cr_base.specs.declared.words.Role.TheVariants.{Chair};
 ghost use Rattle.cr_base.specs.Words.{is_member};
 ghost use Rattle.cr_policy.specs.Legal.{Legal, IsAllowed, step};
 ghost use Rattle.cr_drill.specs.Cast.{first_chair, second_chair, member_count};
-ghost use Rattle.cr_drill.specs.Drill.{all_registered, call_by, drilled, drilled_for, is_accepted, is_on_way};
+ghost use Rattle.cr_drill.specs.Drill.{all_registered, drilled, drilled_for, is_accepted, is_on_way};
 ghost use Rattle.cr_drill.specs.Drill.{members_named, moved_on, moved_through, moved_to, named, opened};
 ghost use Rattle.cr_drill.specs.Drill.{phase_at, phase_in_quarter, stepped_in, summary};
 ghost use Rattle.cr_drill.specs.Drilling.{GoesOn, HasCast, drilled_of};
@@ -58,11 +59,11 @@ fn ask(
     caller: Option<UserNo>,
     command: Command,
 ) -> Result<bool, AllocError>
-    requires { IsAllowed book.old.log (record { caller = caller; command = command }) }
+    requires { IsAllowed book.old.log (call_of caller command) }
     ensures stepped { IfOk result (λ yes. book.new.log
-        ≡ step book.old.log (record { caller = caller; command = command })) }
+        ≡ step book.old.log (call_of caller command)) }
     ensures accepted { IfOk result (λ yes. yes
-        ≡ is_accepted book.old.log (record { caller = caller; command = command })) }
+        ≡ is_accepted book.old.log (call_of caller command)) }
     ensures goes_on { GoesOn book.old.log book.new.log }
 {
     match book.command(&caller, command) {
@@ -80,8 +81,8 @@ fn ask_as(book: &mut Book<PlainKeeper>, user: UserNo, command: Command) -> Resul
     requires user { user ≤ 8 }
     requires login { IsTrue (command_wants_login command) }
     requires bounded { IsBoundedCommand command }
-    ensures stepped { IfOk result (λ yes. book.new.log ≡ step book.old.log (call_by user command)) }
-    ensures accepted { IfOk result (λ yes. yes ≡ is_accepted book.old.log (call_by user command)) }
+    ensures stepped { IfOk result (λ yes. book.new.log ≡ step book.old.log (call_of (Some user) command)) }
+    ensures accepted { IfOk result (λ yes. yes ≡ is_accepted book.old.log (call_of (Some user) command)) }
     ensures cast { HasCast book.new.log }
 {
     ask(book, Some(user), command)
@@ -111,7 +112,7 @@ fn is_on_way(book: &Book<PlainKeeper>, wanted: Phase, phase: Phase) -> bool
 /// Sets a phase; an error only for lack of memory.
 fn set_phase(book: &mut Book<PlainKeeper>, phase: Phase) -> Result<(), AllocError>
     requires { HasCast book.old.log }
-    ensures set { OnOk result (book.new.log ≡ step book.old.log (call_by first_chair (SetPhase phase))) }
+    ensures set { OnOk result (book.new.log ≡ step book.old.log (call_of (Some first_chair) (SetPhase phase))) }
     ensures cast { HasCast book.new.log }
 {
     ask_as(book, first_chair(), Command::SetPhase { phase })?;

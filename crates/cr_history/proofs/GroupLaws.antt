@@ -11,6 +11,7 @@ use Rattle.cr_base.specs.declared.entry.Account.{Account}
 use Rattle.cr_base.specs.declared.entry.Entry.{Entry}
 use Rattle.cr_base.specs.declared.entry.Entry.TheVariants.{Registered, Named, PhaseSet, ModeSet, Submitted, Coauthor, Revised, Uploaded, Withdrawn}
 use Rattle.cr_base.specs.declared.entry.Entry.TheVariants.{Conflict, Bid, Assigned, Unassigned, Reviewed, Commented, Tagged, Decided}
+use Rattle.cr_base.specs.declared.entry.Stamp.{Stamp}
 use Rattle.cr_base.specs.declared.entry.Stamped.{Stamped}
 use Rattle.cr_base.specs.declared.reply.AccountLine.{AccountLine}
 use Rattle.cr_base.specs.declared.words.Phase.{Phase}
@@ -24,14 +25,14 @@ use Rattle.cr_base.specs.declared.words.Kind.{Kind}
 use Rattle.cr_base.specs.declared.words.Kind.TheVariants as kind
 use Rattle.cr_base.specs.declared.words.Role.TheVariants as role
 use Rattle.cr_base.specs.Accounts.{lines_from}
-use Rattle.cr_base.specs.Drawn.{grouped, submission}
+use Rattle.cr_base.specs.Drawn.{stamped, grouped, submission}
 use Rattle.cr_base.specs.HistoryFacts.{role_of, accounts_of, ordinal_of}
 use Rattle.cr_base.specs.History.{History, Registration, all_told, registration_told}
 use Rattle.cr_base.specs.Lists.{numbers_from}
 use Rattle.cr_base.specs.Papers.{IsPaper}
 use Rattle.cr_base.specs.Reviews.{forms_in, written_told}
 use Rattle.cr_base.specs.Rows.{label_number, IsBoundedEntry}
-use Rattle.cr_base.specs.Shapes.{InRange, user_range, paper_range, role_range, review_kind_range, decision_range, ordinal_range, some_ordinal_range, unused}
+use Rattle.cr_base.specs.Shapes.{InRange, FitsStamp, user_range, paper_range, role_range, review_kind_range, decision_range, ordinal_range, some_ordinal_range, unused}
 use Rattle.cr_base.specs.Tables.{no_tables, tables_of, Fits, FitInTurn}
 use Rattle.cr_base.specs.Talk.{comments_in, comment_as_told}
 use Rattle.cr_base.specs.Words.{phase_number, mode_number, role_number, review_kind_number, decision_number}
@@ -41,7 +42,7 @@ use Rattle.cr_history.specs.Groups.{IsRuled, Adds, single, submitted, first_user
 use Rattle.cr_history.specs.Invariants.{IsRegistered, IsMadeByUser, HasNextNumber, HasNewName, IsAboutThose, IsSubmitted, InTurn}
 use Rattle.cr_history.proofs.CallerLaws.{registered-from}
 use Rattle.cr_history.proofs.SizeAgreement.{IsSized, sized-tables}
-use Rattle.cr_history.proofs.LineAgreement.{stamp, accounts_of-tables}
+use Rattle.cr_history.proofs.LineAgreement.{accounts_of-tables}
 use Rattle.cr_history.proofs.NumberAgreement.{number_of-tables}
 use Rattle.cr_history.proofs.PaperAgreement.{papers_of-tables, uploads_of-tables}
 use Rattle.cr_history.proofs.ReviewAgreement.{forms_of-tables}
@@ -82,40 +83,40 @@ module _ (H : History) (fits : FitInTurn no_tables H) where
   pub accounts-counted : length (tables_of H).accounts ≡ length (accounts_of H)
   accounts-counted = sym (ap length (accounts_of-tables H fits) ∙ length-lines_of (tables_of H).accounts)
 
-  pub fits-number : (maker : ℕ) (more : Bool) (e : Entry) → Fits (tables_of H) (record { stamp = record { maker = maker }; more = more; entry = e }) → HasNextNumber H e
-  fits-number maker more (Registered user name digest) fit = fit.accounts.0 ∙ ap (λ n. n + 1) accounts-counted
-  fits-number maker more (Submitted paper title abstract) fit = fit.papers.0
+  pub fits-number : (stamp : Stamp) (more : Bool) (e : Entry) → Fits (tables_of H) (stamped stamp more e) → HasNextNumber H e
+  fits-number stamp more (Registered user name digest) fit = fit.accounts.0 ∙ ap (λ n. n + 1) accounts-counted
+  fits-number stamp more (Submitted paper title abstract) fit = fit.papers.0
       ∙ ap (λ n. n + 1) (sym (ap length (papers_of-tables H fits) ∙ length-numbers_from 1 (tables_of H).papers.papers))
-  fits-number maker more (Uploaded paper version content) fit = fit.papers.1 ∙ ap (λ n. n + 1) (sym (ap length (uploads_of-tables paper H)))
-  fits-number maker more (Assigned paper user kind ordinal) fit = fit.seats.0 ∙ ap (λ n. n + 1) (sym (labels-tables paper H))
-  fits-number maker more (Reviewed paper ordinal version form) fit =
+  fits-number stamp more (Uploaded paper version content) fit = fit.papers.1 ∙ ap (λ n. n + 1) (sym (ap length (uploads_of-tables paper H)))
+  fits-number stamp more (Assigned paper user kind ordinal) fit = fit.seats.0 ∙ ap (λ n. n + 1) (sym (labels-tables paper H))
+  fits-number stamp more (Reviewed paper ordinal version form) fit =
       fit.reviews
       ∙ ap (λ n. n + 1) (sym (ap length (forms_of-tables paper ordinal H) ∙ length-map (forms_in (tables_of H).reviews paper ordinal) written_told))
-  fits-number maker more (Commented paper n ordinal text) fit =
+  fits-number stamp more (Commented paper n ordinal text) fit =
       fit.talk.0 ∙ ap (λ n. n + 1) (sym (ap length (comments_of-tables paper H) ∙ length-map (comments_in (tables_of H).talk paper) comment_as_told))
-  fits-number maker more e fit = tt
+  fits-number stamp more e fit = tt
 
-  pub fits-name : (maker : ℕ) (more : Bool) (e : Entry) → Fits (tables_of H) (record { stamp = record { maker = maker }; more = more; entry = e }) → HasNewName H e
-  fits-name maker more (Registered user name digest) fit = number_of-tables name H fits ∙ fit.accounts.2
-  fits-name maker more e fit = tt
+  pub fits-name : (stamp : Stamp) (more : Bool) (e : Entry) → Fits (tables_of H) (stamped stamp more e) → HasNewName H e
+  fits-name stamp more (Registered user name digest) fit = number_of-tables name H fits ∙ fit.accounts.2
+  fits-name stamp more e fit = tt
 
-  pub fits-about : (maker : ℕ) (more : Bool) (e : Entry) → Fits (tables_of H) (record { stamp = record { maker = maker }; more = more; entry = e }) → IsAboutThose H e
-  fits-about maker more (Named user role) fit = registered-within user fit.accounts.0 fit.accounts.1
-  fits-about maker more (Coauthor paper user) fit = (submitted-within paper fit.papers.0 (let last = fit.papers.1 in omega (arith, last)), registered-within user fit.accounts.0 fit.accounts.1)
-  fits-about maker more (Revised paper title abstract) fit = submitted-within paper fit.papers.0 fit.papers.1
-  fits-about maker more (Uploaded paper version content) fit = submitted-within paper fit.papers.0.0 fit.papers.0.1
-  fits-about maker more (Withdrawn paper) fit = submitted-within paper fit.papers.0 fit.papers.1
-  fits-about maker more (Conflict paper user on) fit = (submitted-within paper fit.papers.0 fit.papers.1, registered-within user fit.accounts.0 fit.accounts.1)
-  fits-about maker more (Bid paper value) fit = submitted-within paper fit.papers.0 fit.papers.1
-  fits-about maker more (Assigned paper user kind ordinal) fit =
+  pub fits-about : (stamp : Stamp) (more : Bool) (e : Entry) → Fits (tables_of H) (stamped stamp more e) → IsAboutThose H e
+  fits-about stamp more (Named user role) fit = registered-within user fit.accounts.0 fit.accounts.1
+  fits-about stamp more (Coauthor paper user) fit = (submitted-within paper fit.papers.0 (let last = fit.papers.1 in omega (arith, last)), registered-within user fit.accounts.0 fit.accounts.1)
+  fits-about stamp more (Revised paper title abstract) fit = submitted-within paper fit.papers.0 fit.papers.1
+  fits-about stamp more (Uploaded paper version content) fit = submitted-within paper fit.papers.0.0 fit.papers.0.1
+  fits-about stamp more (Withdrawn paper) fit = submitted-within paper fit.papers.0 fit.papers.1
+  fits-about stamp more (Conflict paper user on) fit = (submitted-within paper fit.papers.0 fit.papers.1, registered-within user fit.accounts.0 fit.accounts.1)
+  fits-about stamp more (Bid paper value) fit = submitted-within paper fit.papers.0 fit.papers.1
+  fits-about stamp more (Assigned paper user kind ordinal) fit =
       (submitted-within paper fit.papers.0 fit.papers.1, registered-within user fit.accounts.0 fit.accounts.1)
-  fits-about maker more (Unassigned paper user ordinal) fit =
+  fits-about stamp more (Unassigned paper user ordinal) fit =
       (submitted-within paper fit.papers.0 fit.papers.1, registered-within user fit.accounts.0 fit.accounts.1)
-  fits-about maker more (Reviewed paper ordinal version form) fit = submitted-within paper fit.papers.0 fit.papers.1
-  fits-about maker more (Commented paper n ordinal text) fit = submitted-within paper fit.papers.0 fit.papers.1
-  fits-about maker more (Tagged paper tag on) fit = submitted-within paper fit.papers.0 fit.papers.1
-  fits-about maker more (Decided paper decision) fit = submitted-within paper fit.papers.0 fit.papers.1
-  fits-about maker more e fit = tt
+  fits-about stamp more (Reviewed paper ordinal version form) fit = submitted-within paper fit.papers.0 fit.papers.1
+  fits-about stamp more (Commented paper n ordinal text) fit = submitted-within paper fit.papers.0 fit.papers.1
+  fits-about stamp more (Tagged paper tag on) fit = submitted-within paper fit.papers.0 fit.papers.1
+  fits-about stamp more (Decided paper decision) fit = submitted-within paper fit.papers.0 fit.papers.1
+  fits-about stamp more e fit = tt
 
 -- ---- numbers of fields
 
@@ -186,70 +187,74 @@ module _ (H : History) (fits : FitInTurn no_tables H) where
   label_drawn : (user paper ordinal : ℕ) → ordinal_of (Some user) paper H ≡ Some ordinal → InRange ordinal_range ordinal
   label_drawn user paper ordinal is = seat-drawn H fits user paper ordinal (sym (ordinal_of-tables (Some user) paper H fits) ∙ is)
 
-  bounded-coauthor : (maker : ℕ) (more : Bool) (paper user : ℕ) → IsRegistered H maker → Fits (tables_of H) (stamp maker more (Coauthor paper user))
-      → IsBoundedEntry (stamp maker more (Coauthor paper user))
-  bounded-coauthor maker more paper user registered fit =
-      let last = fit.papers.1 in
-      record { maker = numbered maker registered; more = bit_few more; n1 = paper_numbered paper (fit.papers.0, omega (arith, last)); n2 = account_numbered user fit.accounts; n3 = zero_in; n4 = zero_in; n5 = zero_in; b1 = refl; b2 = refl }
+  -- the stamp of a user's entry
+  stamp_bounded : (stamp : Stamp) → IsRegistered H stamp.maker → FitsStamp stamp
+  stamp_bounded stamp registered = record { maker = numbered stamp.maker registered }
 
-  bounded-entry : (maker : ℕ) (more : Bool) (e : Entry) → IsMadeByUser H maker e → IsRuled H maker e → Fits (tables_of H) (stamp maker more e)
-      → IsBoundedEntry (stamp maker more e)
-  bounded-entry maker more (Registered user name digest) made ruled fit =
+  bounded-coauthor : (stamp : Stamp) (more : Bool) (paper user : ℕ) → IsRegistered H stamp.maker → Fits (tables_of H) (stamped stamp more (Coauthor paper user))
+      → IsBoundedEntry (stamped stamp more (Coauthor paper user))
+  bounded-coauthor stamp more paper user registered fit =
+      let last = fit.papers.1 in
+      record { stamp = stamp_bounded stamp registered; more = bit_few more; n1 = paper_numbered paper (fit.papers.0, omega (arith, last)); n2 = account_numbered user fit.accounts; n3 = zero_in; n4 = zero_in; n5 = zero_in; b1 = refl; b2 = refl }
+
+  bounded-entry : (stamp : Stamp) (more : Bool) (e : Entry) → IsMadeByUser H stamp.maker e → IsRuled H stamp.maker e → Fits (tables_of H) (stamped stamp more e)
+      → IsBoundedEntry (stamped stamp more e)
+  bounded-entry stamp more (Registered user name digest) made ruled fit =
       let next = fit.accounts.0 in
       let few = fit.accounts.1 in
-      record { maker = (omega (arith, made, next), omega (arith, made, few)); more = bit_few more; n1 = (omega (arith, next), few); n2 = zero_in; n3 = zero_in; n4 = zero_in; n5 = zero_in; b1 = ruled.texts.0; b2 = ruled.texts.1 }
-  bounded-entry maker more (Named user to) made ruled fit =
-      record { maker = numbered maker made; more = bit_few more; n1 = account_numbered user fit.accounts; n2 = raised_number _ to ruled.role; n3 = zero_in; n4 = zero_in; n5 = zero_in; b1 = refl; b2 = refl }
-  bounded-entry maker more (PhaseSet phase) made ruled fit = record { maker = numbered maker made; more = bit_few more; n1 = (omega arith, phase_number-few phase); n2 = zero_in; n3 = zero_in; n4 = zero_in; n5 = zero_in; b1 = refl; b2 = refl }
-  bounded-entry maker more (ModeSet mode) made ruled fit = record { maker = numbered maker made; more = bit_few more; n1 = (omega arith, mode_number-few mode); n2 = zero_in; n3 = zero_in; n4 = zero_in; n5 = zero_in; b1 = refl; b2 = refl }
-  bounded-entry maker more (Submitted paper title abstract) made ruled fit =
+      record { stamp = record { maker = (omega (arith, made, next), omega (arith, made, few)) }; more = bit_few more; n1 = (omega (arith, next), few); n2 = zero_in; n3 = zero_in; n4 = zero_in; n5 = zero_in; b1 = ruled.texts.0; b2 = ruled.texts.1 }
+  bounded-entry stamp more (Named user to) made ruled fit =
+      record { stamp = stamp_bounded stamp made; more = bit_few more; n1 = account_numbered user fit.accounts; n2 = raised_number _ to ruled.role; n3 = zero_in; n4 = zero_in; n5 = zero_in; b1 = refl; b2 = refl }
+  bounded-entry stamp more (PhaseSet phase) made ruled fit = record { stamp = stamp_bounded stamp made; more = bit_few more; n1 = (omega arith, phase_number-few phase); n2 = zero_in; n3 = zero_in; n4 = zero_in; n5 = zero_in; b1 = refl; b2 = refl }
+  bounded-entry stamp more (ModeSet mode) made ruled fit = record { stamp = stamp_bounded stamp made; more = bit_few more; n1 = (omega arith, mode_number-few mode); n2 = zero_in; n3 = zero_in; n4 = zero_in; n5 = zero_in; b1 = refl; b2 = refl }
+  bounded-entry stamp more (Submitted paper title abstract) made ruled fit =
       let next = fit.papers.0 in
-      record { maker = numbered maker made; more = bit_few more; n1 = (omega (arith, next), fit.papers.1); n2 = zero_in; n3 = zero_in; n4 = zero_in; n5 = zero_in; b1 = ruled.texts.0; b2 = ruled.texts.1 }
-  bounded-entry maker more (Coauthor paper user) made ruled fit = bounded-coauthor maker more paper user made fit
-  bounded-entry maker more (Revised paper title abstract) made ruled fit = record { maker = numbered maker made; more = bit_few more; n1 = paper_numbered paper fit.papers; n2 = zero_in; n3 = zero_in; n4 = zero_in; n5 = zero_in; b1 = ruled.texts.0; b2 = ruled.texts.1 }
-  bounded-entry maker more (Uploaded paper version content) made ruled fit =
+      record { stamp = stamp_bounded stamp made; more = bit_few more; n1 = (omega (arith, next), fit.papers.1); n2 = zero_in; n3 = zero_in; n4 = zero_in; n5 = zero_in; b1 = ruled.texts.0; b2 = ruled.texts.1 }
+  bounded-entry stamp more (Coauthor paper user) made ruled fit = bounded-coauthor stamp more paper user made fit
+  bounded-entry stamp more (Revised paper title abstract) made ruled fit = record { stamp = stamp_bounded stamp made; more = bit_few more; n1 = paper_numbered paper fit.papers; n2 = zero_in; n3 = zero_in; n4 = zero_in; n5 = zero_in; b1 = ruled.texts.0; b2 = ruled.texts.1 }
+  bounded-entry stamp more (Uploaded paper version content) made ruled fit =
       let next = fit.papers.1 in
-      record { maker = numbered maker made; more = bit_few more; n1 = paper_numbered paper fit.papers.0; n2 = (omega (arith, next), tt); n3 = zero_in; n4 = zero_in; n5 = zero_in; b1 = ruled.texts; b2 = refl }
-  bounded-entry maker more (Withdrawn paper) made ruled fit = record { maker = numbered maker made; more = bit_few more; n1 = paper_numbered paper fit.papers; n2 = zero_in; n3 = zero_in; n4 = zero_in; n5 = zero_in; b1 = refl; b2 = refl }
-  bounded-entry maker more (Conflict paper user on) made ruled fit =
-      record { maker = numbered maker made; more = bit_few more; n1 = paper_numbered paper fit.papers; n2 = account_numbered user fit.accounts; n3 = (omega arith, bit_few on); n4 = zero_in; n5 = zero_in; b1 = refl; b2 = refl }
-  bounded-entry maker more (Bid paper value) made ruled fit =
-      record { maker = numbered maker made; more = bit_few more; n1 = paper_numbered paper fit.papers; n2 = (omega arith, ruled.texts); n3 = zero_in; n4 = zero_in; n5 = zero_in; b1 = refl; b2 = refl }
-  bounded-entry maker more (Assigned paper user kind' ordinal) made ruled fit =
+      record { stamp = stamp_bounded stamp made; more = bit_few more; n1 = paper_numbered paper fit.papers.0; n2 = (omega (arith, next), tt); n3 = zero_in; n4 = zero_in; n5 = zero_in; b1 = ruled.texts; b2 = refl }
+  bounded-entry stamp more (Withdrawn paper) made ruled fit = record { stamp = stamp_bounded stamp made; more = bit_few more; n1 = paper_numbered paper fit.papers; n2 = zero_in; n3 = zero_in; n4 = zero_in; n5 = zero_in; b1 = refl; b2 = refl }
+  bounded-entry stamp more (Conflict paper user on) made ruled fit =
+      record { stamp = stamp_bounded stamp made; more = bit_few more; n1 = paper_numbered paper fit.papers; n2 = account_numbered user fit.accounts; n3 = (omega arith, bit_few on); n4 = zero_in; n5 = zero_in; b1 = refl; b2 = refl }
+  bounded-entry stamp more (Bid paper value) made ruled fit =
+      record { stamp = stamp_bounded stamp made; more = bit_few more; n1 = paper_numbered paper fit.papers; n2 = (omega arith, ruled.texts); n3 = zero_in; n4 = zero_in; n5 = zero_in; b1 = refl; b2 = refl }
+  bounded-entry stamp more (Assigned paper user kind' ordinal) made ruled fit =
       let next = fit.seats.0 in
-      record { maker = numbered maker made; more = bit_few more; n1 = paper_numbered paper fit.papers; n2 = account_numbered user fit.accounts; n3 = review_kind_number-few kind'; n4 = (omega (arith, next), fit.seats.1); n5 = zero_in; b1 = refl; b2 = refl }
-  bounded-entry maker more (Unassigned paper user ordinal) made ruled fit =
+      record { stamp = stamp_bounded stamp made; more = bit_few more; n1 = paper_numbered paper fit.papers; n2 = account_numbered user fit.accounts; n3 = review_kind_number-few kind'; n4 = (omega (arith, next), fit.seats.1); n5 = zero_in; b1 = refl; b2 = refl }
+  bounded-entry stamp more (Unassigned paper user ordinal) made ruled fit =
       let drawn = seat-drawn H fits user paper ordinal fit.seats in
-      record { maker = numbered maker made; more = bit_few more; n1 = paper_numbered paper fit.papers; n2 = account_numbered user fit.accounts; n3 = drawn; n4 = zero_in; n5 = zero_in; b1 = refl; b2 = refl }
-  bounded-entry maker more (Reviewed paper ordinal version form) made ruled fit =
+      record { stamp = stamp_bounded stamp made; more = bit_few more; n1 = paper_numbered paper fit.papers; n2 = account_numbered user fit.accounts; n3 = drawn; n4 = zero_in; n5 = zero_in; b1 = refl; b2 = refl }
+  bounded-entry stamp more (Reviewed paper ordinal version form) made ruled fit =
       let next = fit.reviews in
       record {
-        maker = numbered maker made;
+        stamp = stamp_bounded stamp made;
         more = bit_few more;
         n1 = paper_numbered paper fit.papers;
-        n2 = label_drawn maker paper ordinal ruled.seat;
+        n2 = label_drawn stamp.maker paper ordinal ruled.seat;
         n3 = (omega (arith, next), tt);
         n4 = ruled.texts.score;
         n5 = ruled.texts.confidence;
         b1 = ruled.texts.to_authors;
         b2 = ruled.texts.to_pc;
       }
-  bounded-entry maker more (Commented paper n ordinal text) made ruled fit =
+  bounded-entry stamp more (Commented paper n ordinal text) made ruled fit =
       let next = fit.talk.0 in
       record {
-        maker = numbered maker made;
+        stamp = stamp_bounded stamp made;
         more = bit_few more;
         n1 = paper_numbered paper fit.papers;
         n2 = (omega (arith, next), tt);
-        n3 = label-few ordinal (λ o is. label_drawn maker paper o (ruled.seat ∙ is));
+        n3 = label-few ordinal (λ o is. label_drawn stamp.maker paper o (ruled.seat ∙ is));
         n4 = zero_in;
         n5 = zero_in;
         b1 = ruled.texts;
         b2 = refl;
       }
-  bounded-entry maker more (Tagged paper tag on) made ruled fit =
+  bounded-entry stamp more (Tagged paper tag on) made ruled fit =
       record {
-        maker = numbered maker made;
+        stamp = stamp_bounded stamp made;
         more = bit_few more;
         n1 = paper_numbered paper fit.papers;
         n2 = (omega arith, bit_few on);
@@ -259,9 +264,9 @@ module _ (H : History) (fits : FitInTurn no_tables H) where
         b1 = ruled.texts;
         b2 = refl;
       }
-  bounded-entry maker more (Decided paper decision) made ruled fit =
+  bounded-entry stamp more (Decided paper decision) made ruled fit =
       record {
-        maker = numbered maker made;
+        stamp = stamp_bounded stamp made;
         more = bit_few more;
         n1 = paper_numbered paper fit.papers;
         n2 = decision_number-few decision;
@@ -272,8 +277,8 @@ module _ (H : History) (fits : FitInTurn no_tables H) where
         b2 = refl;
       }
 
-  bounded_chair : (user : ℕ) → user ≡ 1 → IsBoundedEntry (stamp user false (Named user role.Chair))
-  bounded_chair user is = record { maker = (omega (arith, is), omega (arith, is)); more = omega arith; n1 = (omega (arith, is), omega (arith, is)); n2 = (omega arith, omega arith); n3 = zero_in; n4 = zero_in; n5 = zero_in; b1 = refl; b2 = refl }
+  bounded_chair : (stamp : Stamp) → stamp.maker ≡ 1 → IsBoundedEntry (stamped stamp false (Named stamp.maker role.Chair))
+  bounded_chair stamp is = record { stamp = record { maker = (omega (arith, is), omega (arith, is)) }; more = omega arith; n1 = (omega (arith, is), omega (arith, is)); n2 = (omega arith, omega arith); n3 = zero_in; n4 = zero_in; n5 = zero_in; b1 = refl; b2 = refl }
 
 -- ---- groups
 
@@ -282,18 +287,19 @@ in_turn-all Q before [] all = tt
 in_turn-all Q before (e ∷ g) all = (all.0, in_turn-all Q (before ++ e ∷ []) g all.1)
 
 added-bounded : (H : History) → FitInTurn no_tables H → (g : History) → Adds H g → FitInTurn (tables_of H) g → All IsBoundedEntry g
-added-bounded H fits g (single maker e made alone ruled) fit = All-from_recursion IsBoundedEntry (grouped maker (e ∷ [])) (bounded-entry H fits maker false e made ruled fit.0, tt)
-added-bounded H fits g (submitted maker paper title abstract users made ruled registered) fit =
-    All-from_recursion IsBoundedEntry (grouped maker (submission maker paper title abstract users))
+added-bounded H fits g (single stamp e made alone ruled) fit = All-from_recursion IsBoundedEntry (grouped stamp (e ∷ [])) (bounded-entry H fits stamp false e made ruled fit.0, tt)
+added-bounded H fits g (submitted stamp paper title abstract users made ruled registered) fit =
+    All-from_recursion IsBoundedEntry (grouped stamp (submission stamp.maker paper title abstract users))
     (in_turn-all IsBoundedEntry H _
-    (submission-in_turn maker paper (λ _ e. IsBoundedEntry e) (λ G more user before fit. bounded-coauthor G before.fits maker more paper user before.registered fit)
-    H title abstract users fits made ruled.phase (λ more fit. bounded-entry H fits maker more (Submitted paper title abstract) made ruled fit) fit))
-added-bounded H fits g (first_user user name digest is texts) fit =
+    (submission-in_turn stamp paper (λ _ e. IsBoundedEntry e) (λ G more user before fit. bounded-coauthor G before.fits stamp more paper user before.registered fit)
+    H title abstract users fits made ruled.phase (λ more fit. bounded-entry H fits stamp more (Submitted paper title abstract) made ruled fit) fit))
+added-bounded H fits g (first_user stamp name digest is texts) fit =
+    let user : ℕ = stamp.maker in
     let ruled : IsRuled H user (Registered user name digest) = record { phase = tt; chair = tt; role = tt; member = tt; right = tt; seat = tt; texts = texts } in
-    All-from_recursion IsBoundedEntry (grouped user (Registered user name digest ∷ Named user role.Chair ∷ []))
-    (bounded-entry H fits user true (Registered user name digest) refl ruled fit.0, (bounded_chair H fits user is, tt))
+    All-from_recursion IsBoundedEntry (grouped stamp (Registered user name digest ∷ Named user role.Chair ∷ []))
+    (bounded-entry H fits stamp true (Registered user name digest) refl ruled fit.0, (bounded_chair H fits stamp is, tt))
 
 pub grown-bounded : (H : History) → FitInTurn no_tables H → (g : History) → Grows H g → FitInTurn (tables_of H) g → All IsBoundedEntry g
 grown-bounded H fits g (adds same added) fit = added-bounded H fits g added fit
-grown-bounded H fits g (goes_on maker e made goes ruled) fit =
-    All-from_recursion IsBoundedEntry (stamp maker true e ∷ []) (bounded-entry H fits maker true e made ruled fit.0, tt)
+grown-bounded H fits g (goes_on stamp e made goes ruled) fit =
+    All-from_recursion IsBoundedEntry (stamped stamp true e ∷ []) (bounded-entry H fits stamp true e made ruled fit.0, tt)

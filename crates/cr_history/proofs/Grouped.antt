@@ -4,24 +4,24 @@ use Rattle.std.specs.Prelude.{map}
 use Rattle.std.specs.List.{AllByRecursion, flat_map}
 use Rattle.cr_base.specs.declared.entry.Entry.{Entry}
 use Rattle.cr_base.specs.declared.entry.Entry.TheVariants.{Submitted, Coauthor}
+use Rattle.cr_base.specs.declared.entry.Stamp.{Stamp}
 use Rattle.cr_base.specs.declared.entry.Stamped.{Stamped}
-use Rattle.cr_base.specs.Drawn.{grouped, besides, submission}
+use Rattle.cr_base.specs.Drawn.{stamped, grouped, besides, submission}
 use Rattle.cr_history.specs.Invariants.{IsWhole}
 use Rattle.cr_history.proofs.Folds.{each-silent}
-use Rattle.cr_history.proofs.LineAgreement.{stamp}
 
--- what is so of each entry, with its maker and whatever mark, is so of each in the group
-pub grouped-each : (maker : ℕ) (P : Stamped → Type 0) → (es : List Entry) → AllByRecursion (λ (e : Entry). (more : Bool) → P (stamp maker more e)) es → AllByRecursion P (grouped maker es)
-grouped-each maker P [] all = tt
-grouped-each maker P (e ∷ []) all = (all.0 false, tt)
-grouped-each maker P (e ∷ next ∷ es) all = (all.0 true, grouped-each maker P (next ∷ es) all.1)
+-- what is so of each entry, with its stamp and whatever mark, is so of each in the group
+pub grouped-each : (stamp : Stamp) (P : Stamped → Type 0) → (es : List Entry) → AllByRecursion (λ (e : Entry). (more : Bool) → P (stamped stamp more e)) es → AllByRecursion P (grouped stamp es)
+grouped-each stamp P [] all = tt
+grouped-each stamp P (e ∷ []) all = (all.0 false, tt)
+grouped-each stamp P (e ∷ next ∷ es) all = (all.0 true, grouped-each stamp P (next ∷ es) all.1)
 
 -- none of them is cut off
-pub grouped-whole : (maker : ℕ) (es : List Entry) → IsWhole (grouped maker es)
-grouped-whole maker [] = tt
-grouped-whole maker (e ∷ []) = refl
-grouped-whole maker (e ∷ next ∷ []) = ((λ more. refl), refl)
-grouped-whole maker (e ∷ next ∷ last ∷ es) = ((λ more. refl), grouped-whole maker (next ∷ last ∷ es))
+pub grouped-whole : (stamp : Stamp) (es : List Entry) → IsWhole (grouped stamp es)
+grouped-whole stamp [] = tt
+grouped-whole stamp (e ∷ []) = refl
+grouped-whole stamp (e ∷ next ∷ []) = ((λ more. refl), refl)
+grouped-whole stamp (e ∷ next ∷ last ∷ es) = ((λ more. refl), grouped-whole stamp (next ∷ last ∷ es))
 
 -- what is so of a submission and of each co-author is so of each of its entries
 pub submission-each : (Q : Entry → Type 0) (maker paper : ℕ) (title abstract users : List ℕ) → Q (Submitted paper title abstract) → ((user : ℕ) → Q (Coauthor paper user)) → AllByRecursion Q (submission maker paper title abstract users)

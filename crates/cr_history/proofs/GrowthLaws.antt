@@ -4,7 +4,7 @@ use Rattle.std.specs.List.{All}
 use Rattle.std.proofs.lemmas.List.Elements.{All-nil, All-append}
 use Rattle.cr_base.specs.Rows.{IsBoundedEntry}
 use Rattle.cr_base.specs.Tables.{no_tables}
-use Rattle.cr_base.proofs.RowLaws.{stamped-row_of}
+use Rattle.cr_base.proofs.RowLaws.{restored-row_of}
 use Rattle.cr_history.specs.Laws.{TablesTell, GrowthKeeps}
 use Rattle.cr_history.proofs.BidAgreement.{bid_of-tables}
 use Rattle.cr_history.proofs.ConflictAgreement.{is_conflict_on-tables, declared_by_authors-tables}
@@ -53,12 +53,12 @@ tables_tell H fits first = record {
 
 pub growth_keeps : GrowthKeeps
 growth_keeps = record {
-  first = record { bounded = All-nil IsBoundedEntry; spelled = λ k d within. stamped-row_of _ (All-nil IsBoundedEntry k d within); fits = tt; in_order = tt; in_time = in_time-nil; discussed = refl; stay = All-nil _ };
+  first = record { bounded = All-nil IsBoundedEntry; spelled = λ k d within. restored-row_of _ (All-nil IsBoundedEntry k d within); fits = tt; in_order = tt; in_time = in_time-nil; discussed = refl; stay = All-nil _ };
   more = λ H g kept grows fits.
       let all : All IsBoundedEntry (H ++ g) = All-append IsBoundedEntry H g kept.bounded (grown-bounded H kept.fits g grows fits) in
       record {
         bounded = all;
-        spelled = λ k d within. stamped-row_of _ (all k d within);
+        spelled = λ k d within. restored-row_of _ (all k d within);
         fits = FitInTurn-append no_tables H g kept.fits fits;
         in_order = in_order-append H g kept.fits grows fits kept.in_order;
         in_time = in_time-append H g grows kept.in_time;

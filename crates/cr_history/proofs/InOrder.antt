@@ -3,11 +3,12 @@ use Rattle.std.proofs.Common.{ℕ, Bool, true, false, ◌≡◌, List, [], ◌�
 use Rattle.std.proofs.lemmas.Bool.{false≢true}
 use Rattle.cr_base.specs.declared.entry.Entry.{Entry}
 use Rattle.cr_base.specs.declared.entry.Entry.TheVariants.{Registered, Named, Submitted, Coauthor, Conflict, Assigned, Unassigned, Tagged}
+use Rattle.cr_base.specs.declared.entry.Stamp.{Stamp}
 use Rattle.cr_base.specs.declared.entry.Stamped.{Stamped}
 use Rattle.cr_base.specs.declared.words.Role.TheVariants.{Chair}
 use Rattle.cr_base.specs.HistoryFacts.{accounts_of}
 use Rattle.cr_base.specs.History.{History}
-use Rattle.cr_base.specs.Drawn.{grouped, submission}
+use Rattle.cr_base.specs.Drawn.{stamped, grouped, submission}
 use Rattle.cr_base.specs.Tables.{no_tables, tables_of, Fits, FitInTurn}
 use Rattle.cr_base.specs.Bulk.{IsRowEntry}
 use Rattle.cr_history.specs.Invariants.{IsMadeByUser, IsMarked, ComesFirst, IsInOrder, InTurn, IsWhole}
@@ -15,27 +16,26 @@ use Rattle.cr_history.proofs.GroupLaws.{accounts-counted, fits-number, fits-name
 use Rattle.cr_history.specs.Groups.{IsRuled, StandsAlone, Adds, single, submitted, first_user, Grows, adds, goes_on}
 use Rattle.cr_history.proofs.ConflictAgreement.{TellFirst}
 use Rattle.cr_history.proofs.Grouped.{grouped-whole}
-use Rattle.cr_history.proofs.LineAgreement.{stamp}
 use Rattle.cr_history.proofs.SubmissionLaws.{IsSubmitting, submission-in_turn}
 
 -- ---- the first registration
 
 -- every entry has a registration before it, or is one; so where there is none, there is nothing
-no_entry : (e : Entry) (maker : ℕ) (more : Bool) (after : History) → IsInOrder [] (record { stamp = record { maker = maker }; more = more; entry = e })
-    → length (accounts_of (record { stamp = record { maker = maker }; more = more; entry = e } ∷ after)) ≡ 0 → ⊥
-no_entry (Registered user name digest) maker more after h none = omega (arith, none)
-no_entry e maker more after h none = false≢true h.maker
+no_entry : (e : Entry) (stamp : Stamp) (more : Bool) (after : History) → IsInOrder [] (stamped stamp more e)
+    → length (accounts_of (stamped stamp more e ∷ after)) ≡ 0 → ⊥
+no_entry (Registered user name digest) stamp more after h none = omega (arith, none)
+no_entry e stamp more after h none = false≢true h.maker
 
 nothing_before : (H : History) → InTurn IsInOrder [] H → length (accounts_of H) ≡ 0 → H ≡ []
 nothing_before [] h none = refl
-nothing_before (e ∷ after) h none = absurd (no_entry e.entry e.stamp.maker e.more after h.0 none)
+nothing_before (e ∷ after) h none = absurd (no_entry e.entry e.stamp e.more after h.0 none)
 
 -- it stands at the beginning
-abbrev first_group : ℕ → List ℕ → List ℕ → History
-first_group user name digest = grouped user (Registered user name digest ∷ Named user Chair ∷ [])
+abbrev first_group : Stamp → List ℕ → List ℕ → History
+first_group stamp name digest = grouped stamp (Registered stamp.maker name digest ∷ Named stamp.maker Chair ∷ [])
 
-first-in_order : (name digest : List ℕ) → InTurn IsInOrder [] (first_group 1 name digest)
-first-in_order name digest = (
+first-in_order : (stamp : Stamp) (name digest : List ℕ) → InTurn IsInOrder [] (first_group (record stamp { maker = 1 }) name digest)
+first-in_order stamp name digest = (
   record { maker = refl; mark = refl; number = refl; name = refl; about = tt; phase = tt; chair = tt; role = tt; member = tt; right = tt; seat = tt; first = tt },
   (record { maker = refl; mark = refl; number = tt; name = tt; about = refl; phase = refl; chair = refl; role = omega arith; member = tt; right = tt; seat = tt; first = tt }, tt),
 )
@@ -70,14 +70,14 @@ going-first H (Coauthor paper user) goes = absurd goes
 going-first H e goes = tt
 
 -- a co-author behind her paper
-coauthor-in_order : (maker paper : ℕ) (H : History) (more : Bool) (user : ℕ) → IsSubmitting maker paper H
-    → Fits (tables_of H) (stamp maker more (Coauthor paper user)) → IsInOrder H (stamp maker more (Coauthor paper user))
-coauthor-in_order maker paper H more user before fit = record {
+coauthor-in_order : (stamp : Stamp) (paper : ℕ) (H : History) (more : Bool) (user : ℕ) → IsSubmitting stamp.maker paper H
+    → Fits (tables_of H) (stamped stamp more (Coauthor paper user)) → IsInOrder H (stamped stamp more (Coauthor paper user))
+coauthor-in_order stamp paper H more user before fit = record {
   maker = before.registered;
   mark = tt;
   number = tt;
   name = tt;
-  about = fits-about H before.fits maker more (Coauthor paper user) fit;
+  about = fits-about H before.fits stamp more (Coauthor paper user) fit;
   phase = before.phase;
   chair = tt;
   role = tt;
@@ -88,14 +88,14 @@ coauthor-in_order maker paper H more user before fit = record {
 }
 
 -- an entry that the rules allow and that fits
-ruled-in_order : (H : History) → FitInTurn no_tables H → (maker : ℕ) (more : Bool) (e : Entry) → IsMadeByUser H maker e → IsRuled H maker e
-    → Fits (tables_of H) (stamp maker more e) → IsMarked more e → ComesFirst H e → IsInOrder H (stamp maker more e)
-ruled-in_order H fits maker more e made ruled fit marked first = record {
+ruled-in_order : (H : History) → FitInTurn no_tables H → (stamp : Stamp) (more : Bool) (e : Entry) → IsMadeByUser H stamp.maker e → IsRuled H stamp.maker e
+    → Fits (tables_of H) (stamped stamp more e) → IsMarked more e → ComesFirst H e → IsInOrder H (stamped stamp more e)
+ruled-in_order H fits stamp more e made ruled fit marked first = record {
   maker = made;
   mark = marked;
-  number = fits-number H fits maker more e fit;
-  name = fits-name H fits maker more e fit;
-  about = fits-about H fits maker more e fit;
+  number = fits-number H fits stamp more e fit;
+  name = fits-name H fits stamp more e fit;
+  about = fits-about H fits stamp more e fit;
   phase = ruled.phase;
   chair = ruled.chair;
   role = ruled.role;
@@ -107,14 +107,14 @@ ruled-in_order H fits maker more e made ruled fit marked first = record {
 
 -- what is added to a history in order is in order
 added-in_order : (H g : History) → FitInTurn no_tables H → InTurn IsInOrder [] H → Adds H g → FitInTurn (tables_of H) g → InTurn IsInOrder H g
-added-in_order H g fits kept (single maker e made alone ruled) fit =
-    (ruled-in_order H fits maker false e made ruled fit.0 (alone-marked e alone) (alone-first H e alone), tt)
-added-in_order H g fits kept (submitted maker paper title abstract users made ruled registered) fit =
-    submission-in_turn maker paper IsInOrder (coauthor-in_order maker paper) H title abstract users fits made ruled.phase
+added-in_order H g fits kept (single stamp e made alone ruled) fit =
+    (ruled-in_order H fits stamp false e made ruled fit.0 (alone-marked e alone) (alone-first H e alone), tt)
+added-in_order H g fits kept (submitted stamp paper title abstract users made ruled registered) fit =
+    submission-in_turn stamp paper IsInOrder (coauthor-in_order stamp paper) H title abstract users fits made ruled.phase
     (λ more fit. record {
       maker = made;
       mark = tt;
-      number = fits-number H fits maker more (Submitted paper title abstract) fit;
+      number = fits-number H fits stamp more (Submitted paper title abstract) fit;
       name = tt;
       about = tt;
       phase = ruled.phase;
@@ -125,23 +125,23 @@ added-in_order H g fits kept (submitted maker paper title abstract users made ru
       seat = tt;
       first = tt;
     }) fit
-added-in_order H g fits kept (first_user user name digest is texts) fit =
+added-in_order H g fits kept (first_user stamp name digest is texts) fit =
     let next = fit.0.accounts.0 in
     let count = accounts-counted H fits in
     let none : H ≡ [] = nothing_before H kept (omega (arith, next, count, is)) in
-    subst (λ (G : History). InTurn IsInOrder G (first_group user name digest)) (sym none)
-    (subst (λ (n : ℕ). InTurn IsInOrder [] (first_group n name digest)) (sym is) (first-in_order name digest))
+    subst (λ (G : History). InTurn IsInOrder G (first_group stamp name digest)) (sym none)
+    (subst (λ (n : ℕ). InTurn IsInOrder [] (first_group (record stamp { maker = n }) name digest)) (sym is) (first-in_order stamp name digest))
 
 -- and so is what it grows by
 grown-in_order : (H g : History) → FitInTurn no_tables H → InTurn IsInOrder [] H → Grows H g → FitInTurn (tables_of H) g → InTurn IsInOrder H g
 grown-in_order H g fits kept (adds same added) fit = added-in_order H g fits kept added fit
-grown-in_order H g fits kept (goes_on maker e made goes ruled) fit =
-    (ruled-in_order H fits maker true e made ruled fit.0 (going-marked e goes) (going-first H e goes), tt)
+grown-in_order H g fits kept (goes_on stamp e made goes ruled) fit =
+    (ruled-in_order H fits stamp true e made ruled fit.0 (going-marked e goes) (going-first H e goes), tt)
 
 added-whole : (H g : History) → Adds H g → IsWhole g
-added-whole H g (single maker e made alone ruled) = refl
-added-whole H g (submitted maker paper title abstract users made ruled registered) = grouped-whole maker (submission maker paper title abstract users)
-added-whole H g (first_user user name digest is texts) = ((λ more. refl), refl)
+added-whole H g (single stamp e made alone ruled) = refl
+added-whole H g (submitted stamp paper title abstract users made ruled registered) = grouped-whole stamp (submission stamp.maker paper title abstract users)
+added-whole H g (first_user stamp name digest is texts) = ((λ more. refl), refl)
 
 -- ---- one behind another
 

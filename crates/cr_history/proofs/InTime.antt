@@ -8,6 +8,7 @@ use Rattle.std.proofs.lemmas.List.Concat.{flat_map-append}
 use Rattle.std.proofs.lemmas.List.Folds.{list_any-append}
 use Rattle.cr_base.specs.declared.entry.Entry.{Entry}
 use Rattle.cr_base.specs.declared.entry.Entry.TheVariants.{PhaseSet, Submitted, Coauthor, Conflict}
+use Rattle.cr_base.specs.declared.entry.Stamp.{Stamp}
 use Rattle.cr_base.specs.declared.entry.Stamped.{Stamped}
 use Rattle.cr_base.specs.declared.words.Phase.{Phase}
 use Rattle.cr_base.specs.declared.words.Phase.TheVariants.{Setup, Submission, Bidding, Reviewing, Discussion, Notification, Closed}
@@ -15,13 +16,12 @@ use Rattle.cr_base.specs.Lists.{last_or, is_number, until, since}
 use Rattle.cr_base.specs.History.{History, all_told, opens, phase_told, author_told}
 use Rattle.cr_base.specs.HistoryFacts.{phase_of, authors_of, is_author}
 use Rattle.cr_base.specs.Phases.{phase_rank, is_from, is_phase, authors_have_declared}
-use Rattle.cr_base.specs.Drawn.{submission}
+use Rattle.cr_base.specs.Drawn.{stamped, submission}
 use Rattle.cr_history.proofs.Folds.{last_or-append}
 use Rattle.cr_history.specs.Invariants.{is_opening, ByAuthor, ByHerselfOrOther, Early, Late, DeclaresInTime, IsDiscussedInTime, IsInPhase, IsByRight}
 use Rattle.cr_history.proofs.ListCuts.{AllByRecursion-append, AllByRecursion-map, AllByRecursion-until, until-none, since-none, until-append, since-append, until-before, since-before}
 use Rattle.cr_history.specs.Groups.{IsRuled, Adds, single, submitted, first_user, Grows, adds, goes_on}
 use Rattle.cr_history.proofs.Grouped.{grouped-each, submission-each, all-silent}
-use Rattle.cr_history.proofs.LineAgreement.{stamp}
 
 -- ---- what the rules say of one group
 
@@ -42,37 +42,37 @@ ruled-allowed H maker (Conflict paper user on) ruled = ruled.right
 ruled-allowed H maker e ruled = tt
 
 added-allowed : (H g : History) → Adds H g → AllByRecursion (Allowed H) g
-added-allowed H g (single maker e made marked ruled) = (ruled-allowed H maker e ruled, tt)
-added-allowed H g (submitted maker paper title abstract users made ruled registered) =
-    grouped-each maker (Allowed H) (submission maker paper title abstract users)
-    (submission-each (λ (e : Entry). (more : Bool) → EntryAllowed H maker e) maker paper title abstract users (λ more. ruled.phase) (λ user more. ruled.phase))
-added-allowed H g (first_user user name digest is texts) = (tt, (tt, tt))
+added-allowed H g (single stamp e made marked ruled) = (ruled-allowed H stamp.maker e ruled, tt)
+added-allowed H g (submitted stamp paper title abstract users made ruled registered) =
+    grouped-each stamp (Allowed H) (submission stamp.maker paper title abstract users)
+    (submission-each (λ (e : Entry). (more : Bool) → EntryAllowed H stamp.maker e) stamp.maker paper title abstract users (λ more. ruled.phase) (λ user more. ruled.phase))
+added-allowed H g (first_user stamp name digest is texts) = (tt, (tt, tt))
 
 -- a group moves the phase on and does nothing else, or leaves the phase
 data Moves (H : History) : History → Type 0 where
-  moved : (maker : ℕ) (more : Bool) (to : Phase) → phase_rank to ≡ phase_rank (phase_of H) + 1 → Moves H (stamp maker more (PhaseSet to) ∷ [])
+  moved : (stamp : Stamp) (more : Bool) (to : Phase) → phase_rank to ≡ phase_rank (phase_of H) + 1 → Moves H (stamped stamp more (PhaseSet to) ∷ [])
   stayed : (g : History) → all_told phase_told g ≡ [] → Moves H g
 
-ruled-moves : (H : History) (maker : ℕ) (more : Bool) (e : Entry) → IsRuled H maker e → Moves H (stamp maker more e ∷ [])
-ruled-moves H maker more (PhaseSet to) ruled = moved maker more to (eqb-true (phase_rank to) (phase_rank (phase_of H) + 1) ruled.phase)
-ruled-moves H maker more e ruled = stayed _ refl
+ruled-moves : (H : History) (stamp : Stamp) (more : Bool) (e : Entry) → IsRuled H stamp.maker e → Moves H (stamped stamp more e ∷ [])
+ruled-moves H stamp more (PhaseSet to) ruled = moved stamp more to (eqb-true (phase_rank to) (phase_rank (phase_of H) + 1) ruled.phase)
+ruled-moves H stamp more e ruled = stayed _ refl
 
 added-moves : (H g : History) → Adds H g → Moves H g
-added-moves H g (single maker e made marked ruled) = ruled-moves H maker false e ruled
-added-moves H g (submitted maker paper title abstract users made ruled registered) =
+added-moves H g (single stamp e made marked ruled) = ruled-moves H stamp false e ruled
+added-moves H g (submitted stamp paper title abstract users made ruled registered) =
     stayed _ (all-silent (λ (e : Stamped). phase_told e.entry) _
-    (grouped-each maker (λ (e : Stamped). phase_told e.entry ≡ []) (submission maker paper title abstract users)
-    (submission-each (λ (e : Entry). (more : Bool) → phase_told e ≡ []) maker paper title abstract users (λ more. refl) (λ user more. refl))))
-added-moves H g (first_user user name digest is texts) = stayed _ refl
+    (grouped-each stamp (λ (e : Stamped). phase_told e.entry ≡ []) (submission stamp.maker paper title abstract users)
+    (submission-each (λ (e : Entry). (more : Bool) → phase_told e ≡ []) stamp.maker paper title abstract users (λ more. refl) (λ user more. refl))))
+added-moves H g (first_user stamp name digest is texts) = stayed _ refl
 
 -- and so of all by which a history grows
 grown-allowed : (H g : History) → Grows H g → AllByRecursion (Allowed H) g
 grown-allowed H g (adds same added) = added-allowed H g added
-grown-allowed H g (goes_on maker e made goes ruled) = (ruled-allowed H maker e ruled, tt)
+grown-allowed H g (goes_on stamp e made goes ruled) = (ruled-allowed H stamp.maker e ruled, tt)
 
 grown-moves : (H g : History) → Grows H g → Moves H g
 grown-moves H g (adds same added) = added-moves H g added
-grown-moves H g (goes_on maker e made goes ruled) = ruled-moves H maker true e ruled
+grown-moves H g (goes_on stamp e made goes ruled) = ruled-moves H stamp true e ruled
 
 -- ---- authors of more entries
 
@@ -139,8 +139,8 @@ phase-append H g =
 pub phase_stays : (H g : History) → all_told phase_told g ≡ [] → phase_of (H ++ g) ≡ phase_of H
 phase_stays H g h = phase-append H g ∙ ap (last_or (phase_of H)) h
 
-phase_moves : (H : History) (maker : ℕ) (more : Bool) (to : Phase) → phase_of (H ++ stamp maker more (PhaseSet to) ∷ []) ≡ to
-phase_moves H maker more to = phase-append H (stamp maker more (PhaseSet to) ∷ [])
+phase_moves : (H : History) (stamp : Stamp) (more : Bool) (to : Phase) → phase_of (H ++ stamped stamp more (PhaseSet to) ∷ []) ≡ to
+phase_moves H stamp more to = phase-append H (stamped stamp more (PhaseSet to) ∷ [])
 
 empty_parts : {A : Type 0} (xs ys : List A) → xs ++ ys ≡ [] → (xs ≡ []) × (ys ≡ [])
 empty_parts [] ys h = (refl, h)
@@ -176,7 +176,7 @@ module _ (first : Phase) where
 
   -- nothing stands behind the opening in its group
   group_since : (H g : History) → Moves H g → since opens_first g ≡ []
-  group_since H g (moved maker more to h) = by (is_phase to first)
+  group_since H g (moved stamp more to h) = by (is_phase to first)
     where
       by : (b : Bool) → cond {A = History} b [] [] ≡ []
       by true = refl
@@ -194,10 +194,10 @@ module _ (first : Phase) where
     where
       by : (H g : History) → Moves H g → (opened : Bool) → is_from first (phase_of H) ≡ opened
           → (opened || list_any opens_first g) ≡ is_from first (phase_of (H ++ g))
-      by H g (moved maker more to e) true h =
-          still_open (phase_rank first) (phase_rank (phase_of H)) (phase_rank to) e h ∙ ap (is_from first) (sym (phase_moves H maker more to))
-      by H g (moved maker more to e) false h =
-          opens_now (phase_rank first) (phase_rank (phase_of H)) (phase_rank to) e h ∙ ap (is_from first) (sym (phase_moves H maker more to))
+      by H g (moved stamp more to e) true h =
+          still_open (phase_rank first) (phase_rank (phase_of H)) (phase_rank to) e h ∙ ap (is_from first) (sym (phase_moves H stamp more to))
+      by H g (moved stamp more to e) false h =
+          opens_now (phase_rank first) (phase_rank (phase_of H)) (phase_rank to) e h ∙ ap (is_from first) (sym (phase_moves H stamp more to))
       by H g (stayed k e) true h = sym (ap (is_from first) (phase_stays H g e) ∙ h)
       by H g (stayed k e) false h = no_opening g e ∙ sym (ap (is_from first) (phase_stays H g e) ∙ h)
 

@@ -7,21 +7,19 @@ use Rattle.std.proofs.lemmas.List.{map-append}
 use Rattle.cr_base.specs.declared.entry.Account.{Account}
 use Rattle.cr_base.specs.declared.entry.Entry.{Entry}
 use Rattle.cr_base.specs.declared.entry.Entry.TheVariants.{Registered, Named}
+use Rattle.cr_base.specs.declared.entry.Stamp.{Stamp}
 use Rattle.cr_base.specs.declared.entry.Stamped.{Stamped}
 use Rattle.cr_base.specs.declared.words.Role.{Role}
 use Rattle.cr_base.specs.declared.words.Role.TheVariants as role
 use Rattle.cr_base.specs.declared.reply.AccountLine.{AccountLine}
 use Rattle.cr_base.specs.Lists.{given, last_or}
+use Rattle.cr_base.specs.Drawn.{stamped}
 use Rattle.cr_base.specs.History.{History, Registration, all_told, registration_told, role_told}
 use Rattle.cr_base.specs.HistoryFacts.{accounts_of, role_of}
 use Rattle.cr_base.specs.Accounts.{with_role, accounts_after, lines_from, lines_of, AccountsFit}
 use Rattle.cr_base.specs.Tables.{Tables, no_tables, tables_after, tables_from, tables_of, FitInTurn}
 use Rattle.cr_base.proofs.AccountLaws.{length-with_role, with_role-suc}
 use Rattle.cr_base.proofs.LastLaws.{last_or-cons}
-
--- an entry with its maker and its mark
-abbrev pub stamp : ℕ → Bool → Entry → Stamped
-stamp maker more entry = record { stamp = record { maker = maker }; more = more; entry = entry }
 
 -- ---- accounts as they stand after more entries
 
@@ -51,9 +49,9 @@ lines_from-push n user (x ∷ accounts) a is =
 
 -- ---- an entry that names a user
 
-module _ (H : History) (maker : ℕ) (more : Bool) (user : ℕ) (role' : Role) where
+module _ (H : History) (stamp : Stamp) (more : Bool) (user : ℕ) (role' : Role) where
   abbrev naming : Stamped
-  naming = stamp maker more (Named user role')
+  naming = stamped stamp more (Named user role')
 
   -- the line of another user
   after-other : (line : AccountLine) → (line.user ≡ user → ⊥) → after (naming ∷ H) line ≡ after H line
@@ -94,22 +92,22 @@ module _ (H : History) (maker : ℕ) (more : Bool) (user : ℕ) (role' : Role) w
 -- ---- one entry, and then all
 
 -- what an entry does to the accounts is what it tells of them
-lines-entry : (accounts : List Account) (maker : ℕ) (more : Bool) (e : Entry) (H : History) (rs : List Registration) → AccountsFit accounts e → AllByRecursion (λ (r : Registration). length accounts < r.user) rs
-    → map (after H) (lines_of (accounts_after accounts e) ++ map new_line rs) ≡ map (after (stamp maker more e ∷ H)) (lines_of accounts ++ map new_line (registration_told e ++ rs))
-lines-entry accounts maker more (Registered user name digest) H rs fits later =
+lines-entry : (accounts : List Account) (stamp : Stamp) (more : Bool) (e : Entry) (H : History) (rs : List Registration) → AccountsFit accounts e → AllByRecursion (λ (r : Registration). length accounts < r.user) rs
+    → map (after H) (lines_of (accounts_after accounts e) ++ map new_line rs) ≡ map (after (stamped stamp more e ∷ H)) (lines_of accounts ++ map new_line (registration_told e ++ rs))
+lines-entry accounts stamp more (Registered user name digest) H rs fits later =
     let a : Account = record { name = name; digest = digest; role = role.Account } in
     let r : Registration = record { user = user; name = name } in
     let is : user ≡ 1 + length accounts = let n = fits.0 in omega (arith, n) in
     ap (λ ls. map (after H) (ls ++ map new_line rs)) (lines_from-push 1 user accounts a is)
     ∙ ap (map (after H)) (append_assoc (lines_of accounts) (new_line r ∷ []) (map new_line rs))
-lines-entry accounts maker more (Named user role') H rs fits later =
+lines-entry accounts stamp more (Named user role') H rs fits later =
     let now : List Account = with_role accounts (user - 1) role' in
     let is : user ≡ 1 + (user - 1) = let n = fits.0 in omega (arith, n) in
     map-append (after H) (lines_of now) (map new_line rs)
-    ∙ ap (λ ls. ls ++ map (after H) (map new_line rs)) (lines-named H maker more user role' 1 (user - 1) accounts is)
-    ∙ ap (λ ls. map (after (stamp maker more (Named user role') ∷ H)) (lines_of accounts) ++ ls) (sym (after-others H maker more user role' (map new_line rs) (new_lines H maker more user role' (length accounts) rs fits.1 later)))
-    ∙ sym (map-append (after (stamp maker more (Named user role') ∷ H)) (lines_of accounts) (map new_line rs))
-lines-entry accounts maker more e H rs fits later = refl
+    ∙ ap (λ ls. ls ++ map (after H) (map new_line rs)) (lines-named H stamp more user role' 1 (user - 1) accounts is)
+    ∙ ap (λ ls. map (after (stamped stamp more (Named user role') ∷ H)) (lines_of accounts) ++ ls) (sym (after-others H stamp more user role' (map new_line rs) (new_lines H stamp more user role' (length accounts) rs fits.1 later)))
+    ∙ sym (map-append (after (stamped stamp more (Named user role') ∷ H)) (lines_of accounts) (map new_line rs))
+lines-entry accounts stamp more e H rs fits later = refl
 
 -- there are never fewer accounts than before
 pub length-after : (accounts : List Account) (e : Entry) → length accounts ≤ length (accounts_after accounts e)
@@ -136,7 +134,7 @@ lines-tables t (s ∷ H) fits =
     let grown = length-after t.accounts s.entry in
     let later = later_users (length t.accounts) (tables_after t s) H fits.1 (omega (arith, grown)) in
     lines-tables (tables_after t s) H fits.1
-    ∙ lines-entry t.accounts s.stamp.maker s.more s.entry H (all_told registration_told H) fits.0.accounts later
+    ∙ lines-entry t.accounts s.stamp s.more s.entry H (all_told registration_told H) fits.0.accounts later
 
 -- the accounts that a history tells are those of its tables
 pub accounts_of-tables : (H : History) → FitInTurn no_tables H → accounts_of H ≡ lines_of (tables_of H).accounts

@@ -10,6 +10,7 @@ use Rattle.cr_base.specs.declared.command.Command.{Command}
 use Rattle.cr_base.specs.declared.command.Command.TheVariants.{Register, SetPhase, Submit, Revise, Upload, Withdraw, Name, SetMode, SetConflict}
 use Rattle.cr_base.specs.declared.command.Command.TheVariants.{Bid, Assign, Unassign, Review, Comment, Tag, Decide}
 use Rattle.cr_base.specs.declared.entry.Entry.TheVariants as entries
+use Rattle.cr_base.specs.declared.entry.Stamp.{Stamp}
 use Rattle.cr_base.specs.declared.entry.Entry.TheVariants.{Registered, Named, PhaseSet, ModeSet, Revised, Uploaded, Withdrawn, Conflict, Assigned, Unassigned}
 use Rattle.cr_base.specs.declared.entry.Entry.TheVariants.{Reviewed, Commented, Tagged, Decided}
 use Rattle.cr_base.specs.declared.form.Form.{Form}
@@ -215,19 +216,22 @@ pub record TellsSeats (H : History) (maker : ℕ) (shown : Shown) : Type 0 where
 
 -- ---- all commands
 
-pub registration-adds : (H : History) (caller : Option ℕ) (facts : Facts) (shown : Shown) (name digest : List ℕ) (drawn : Drawn)
-    → IsName name × (length digest ≡ 32) → judge_by facts shown caller (Register name digest) ≡ Ok drawn → Adds H drawn.group
-registration-adds H caller facts shown name digest drawn bounded accepted =
+pub registration-adds : (H : History) (stamp : Stamp) (facts : Facts) (shown : Shown) (name digest : List ℕ) (drawn : Drawn)
+    → IsName name × (length digest ≡ 32) → judge_by facts shown stamp (Register name digest) ≡ Ok drawn → Adds H drawn.group
+registration-adds H stamp facts shown name digest drawn bounded accepted =
     let n : ℕ = length facts.accounts in
-    let k = judged-Ok (register_checks (is_some (number_in facts.accounts name)) n) (registration_drawn (n + 1) name digest) drawn accepted in
+    let k = judged-Ok (register_checks (is_some (number_in facts.accounts name)) n) (registration_drawn stamp (n + 1) name digest) drawn accepted in
     subst (λ (d : Drawn). Adds H d.group) k.1 (by (n + 1) (eqb (n + 1) 1) refl)
   where
     by : (user : ℕ) (b : Bool) → eqb user 1 ≡ b
-        → Adds H (grouped user (cond b (Registered user name digest ∷ Named user Chair ∷ []) (Registered user name digest ∷ [])))
-    by user true is = first_user user name digest (eqb-true user 1 is) bounded
-    by user false is = single user (Registered user name digest) refl is (record { phase = tt; chair = tt; role = tt; member = tt; right = tt; seat = tt; texts = bounded })
+        → Adds H (grouped (record stamp { maker = user }) (cond b (Registered user name digest ∷ Named user Chair ∷ []) (Registered user name digest ∷ [])))
+    by user true is = first_user (record stamp { maker = user }) name digest (eqb-true user 1 is) bounded
+    by user false is = single (record stamp { maker = user }) (Registered user name digest) refl is (record { phase = tt; chair = tt; role = tt; member = tt; right = tt; seat = tt; texts = bounded })
 
-module _ (H : History) (maker : ℕ) (shown : Shown) (registered : IsRegistered H maker) (tells : TellsSeats H maker shown) where
+module _ (H : History) (stamp : Stamp) (shown : Shown) (registered : IsRegistered H stamp.maker) (tells : TellsSeats H stamp.maker shown) where
+  abbrev maker : ℕ
+  maker = stamp.maker
+
   abbrev facts : Facts
   facts = facts_of (Some maker) H
 
@@ -428,41 +432,41 @@ module _ (H : History) (maker : ℕ) (shown : Shown) (registered : IsRegistered 
         texts = tt;
       }
 
-  pub command-adds : (command : Command) (drawn : Drawn) → IsBoundedCommand command → judge_by facts shown (Some maker) command ≡ Ok drawn → Adds H drawn.group
-  command-adds (Register name digest) drawn bounded accepted = registration-adds H (Some maker) facts shown name digest drawn bounded accepted
+  pub command-adds : (command : Command) (drawn : Drawn) → IsBoundedCommand command → judge_by facts shown stamp command ≡ Ok drawn → Adds H drawn.group
+  command-adds (Register name digest) drawn bounded accepted = registration-adds H stamp facts shown name digest drawn bounded accepted
   command-adds (SetPhase to) drawn bounded accepted =
-      let k = judged-Ok (phase_checks standing (phase_of H) to) (phase_drawn maker to) drawn accepted in
+      let k = judged-Ok (phase_checks standing (phase_of H) to) (phase_drawn stamp to) drawn accepted in
       subst (λ (d : Drawn). Adds H d.group) k.1
-      (single maker (PhaseSet to) registered tt (record { phase = not-false (is_next (phase_of H) to) k.0.1.0; chair = not-false (is_chair standing.role) k.0.0; role = tt; member = tt; right = tt; seat = tt; texts = tt }))
+      (single stamp (PhaseSet to) registered tt (record { phase = not-false (is_next (phase_of H) to) k.0.1.0; chair = not-false (is_chair standing.role) k.0.0; role = tt; member = tt; right = tt; seat = tt; texts = tt }))
   command-adds (Submit title abstract names) drawn bounded accepted =
       let n : ℕ = length facts.papers in
       let users : List (Option ℕ) = users_among facts.accounts names in
       let others : List ℕ = flat_map listed users in
-      let k = judged-Ok (submit_checks (list_any is_none users) standing n facts.own_papers) (submission_drawn maker (n + 1) title abstract others) drawn accepted in
+      let k = judged-Ok (submit_checks (list_any is_none users) standing n facts.own_papers) (submission_drawn stamp (n + 1) title abstract others) drawn accepted in
       subst (λ (d : Drawn). Adds H d.group) k.1
-      (submitted maker (n + 1) title abstract others registered (record { phase = submitting H maker k.0.1.0; chair = tt; role = tt; member = tt; right = tt; seat = tt; texts = (bounded.0, bounded.1) }) (users-registered H names))
+      (submitted stamp (n + 1) title abstract others registered (record { phase = submitting H maker k.0.1.0; chair = tt; role = tt; member = tt; right = tt; seat = tt; texts = (bounded.0, bounded.1) }) (users-registered H names))
   command-adds (Revise paper title abstract) drawn bounded accepted =
-      let k = judged-Ok (revise_checks (standing_of (Some maker) paper H) (paper_named facts shown paper)) (revision_drawn maker (unwrap_or paper 0) title abstract) drawn accepted in
+      let k = judged-Ok (revise_checks (standing_of (Some maker) paper H) (paper_named facts shown paper)) (revision_drawn stamp (unwrap_or paper 0) title abstract) drawn accepted in
       subst (λ (d : Drawn). Adds H d.group) k.1
-      (single maker (Revised (unwrap_or paper 0) title abstract) registered tt (record { phase = submitting H maker k.0.1.1.0; chair = tt; role = tt; member = tt; right = author-named H maker paper k.0.1.0; seat = tt; texts = bounded }))
+      (single stamp (Revised (unwrap_or paper 0) title abstract) registered tt (record { phase = submitting H maker k.0.1.1.0; chair = tt; role = tt; member = tt; right = author-named H maker paper k.0.1.0; seat = tt; texts = bounded }))
   command-adds (Upload paper content) drawn bounded accepted =
       let version : ℕ = length (shown.uploads (unwrap_or paper 0)) + 1 in
-      let k = judged-Ok (upload_checks (standing_of (Some maker) paper H) (paper_named facts shown paper) facts.own_bytes (length content)) (upload_drawn maker (unwrap_or paper 0) version content) drawn accepted in
+      let k = judged-Ok (upload_checks (standing_of (Some maker) paper H) (paper_named facts shown paper) facts.own_bytes (length content)) (upload_drawn stamp (unwrap_or paper 0) version content) drawn accepted in
       subst (λ (d : Drawn). Adds H d.group) k.1
-      (single maker (Uploaded (unwrap_or paper 0) version content) registered tt (record { phase = submitting H maker k.0.1.1.0; chair = tt; role = tt; member = tt; right = author-named H maker paper k.0.1.0; seat = tt; texts = bounded }))
+      (single stamp (Uploaded (unwrap_or paper 0) version content) registered tt (record { phase = submitting H maker k.0.1.1.0; chair = tt; role = tt; member = tt; right = author-named H maker paper k.0.1.0; seat = tt; texts = bounded }))
   command-adds (Withdraw paper) drawn bounded accepted =
-      let k = judged-Ok (revise_checks (standing_of (Some maker) paper H) (paper_named facts shown paper)) (withdrawal_drawn maker (unwrap_or paper 0)) drawn accepted in
+      let k = judged-Ok (revise_checks (standing_of (Some maker) paper H) (paper_named facts shown paper)) (withdrawal_drawn stamp (unwrap_or paper 0)) drawn accepted in
       subst (λ (d : Drawn). Adds H d.group) k.1
-      (single maker (Withdrawn (unwrap_or paper 0)) registered tt (record { phase = submitting H maker k.0.1.1.0; chair = tt; role = tt; member = tt; right = author-named H maker paper k.0.1.0; seat = tt; texts = tt }))
+      (single stamp (Withdrawn (unwrap_or paper 0)) registered tt (record { phase = submitting H maker k.0.1.1.0; chair = tt; role = tt; member = tt; right = author-named H maker paper k.0.1.0; seat = tt; texts = tt }))
   command-adds (Name name role) drawn bounded accepted =
       let target : Option ℕ = user_among facts.accounts name in
       let before : Option Role = role_among facts.accounts target in
       let asked : Option Target = option_map of_role before in
-      let k = judged-Ok (name_checks standing asked role) (naming_drawn maker (unwrap_or target 0) (unwrap_or name []) role) drawn accepted in
+      let k = judged-Ok (name_checks standing asked role) (naming_drawn stamp (unwrap_or target 0) (unwrap_or name []) role) drawn accepted in
       let rises : role_number (target_role asked) < role_number role = leb-false (role_number role) (role_number (target_role asked)) k.0.1.1.1.0 in
       let there : is_none before ≡ false = sym (is_none-asked of_role before) ∙ k.0.0 in
       subst (λ (d : Drawn). Adds H d.group) k.1
-      (single maker (Named (unwrap_or target 0) role) registered tt (record {
+      (single stamp (Named (unwrap_or target 0) role) registered tt (record {
         phase = k.0.1.1.0;
         chair = or_left (is_chair standing.role) (eqb (length H) 1) (not-false (is_chair standing.role) k.0.1.0);
         role = subst (λ (r : Role). role_number r < role_number role) (target_role-of before ∙ (role-among H target there).0) rises;
@@ -472,54 +476,54 @@ module _ (H : History) (maker : ℕ) (shown : Shown) (registered : IsRegistered 
         texts = tt;
       }))
   command-adds (SetMode to) drawn bounded accepted =
-      let k = judged-Ok (mode_checks standing (phase_of H)) (mode_drawn maker to) drawn accepted in
+      let k = judged-Ok (mode_checks standing (phase_of H)) (mode_drawn stamp to) drawn accepted in
       subst (λ (d : Drawn). Adds H d.group) k.1
-      (single maker (ModeSet to) registered tt (record { phase = not-false (mode_may_be_set (phase_of H)) k.0.1.0; chair = not-false (is_chair standing.role) k.0.0; role = tt; member = tt; right = tt; seat = tt; texts = tt }))
+      (single stamp (ModeSet to) registered tt (record { phase = not-false (mode_may_be_set (phase_of H)) k.0.1.0; chair = not-false (is_chair standing.role) k.0.0; role = tt; member = tt; right = tt; seat = tt; texts = tt }))
   command-adds (SetConflict paper name on) drawn bounded accepted =
       let target : Option ℕ = user_among facts.accounts name in
-      let k = judged-Ok (checks paper target on) (conflict_drawn maker (unwrap_or paper 0) (unwrap_or target 0) on) drawn accepted in
-      subst (λ (d : Drawn). Adds H d.group) k.1 (single maker (Conflict (unwrap_or paper 0) (unwrap_or target 0) on) registered tt (conflict-ruled_for paper target on k.0))
+      let k = judged-Ok (checks paper target on) (conflict_drawn stamp (unwrap_or paper 0) (unwrap_or target 0) on) drawn accepted in
+      subst (λ (d : Drawn). Adds H d.group) k.1 (single stamp (Conflict (unwrap_or paper 0) (unwrap_or target 0) on) registered tt (conflict-ruled_for paper target on k.0))
   command-adds (Bid paper value) drawn bounded accepted =
       let k = judged-Ok (bid_checks (standing_of (Some maker) paper H) (paper_named facts shown paper))
-      (bid_drawn maker (unwrap_or paper 0) value) drawn accepted in
-      subst (λ (d : Drawn). Adds H d.group) k.1 (single maker (entries.Bid (unwrap_or paper 0) value) registered tt (bid-ruled paper value bounded k.0))
+      (bid_drawn stamp (unwrap_or paper 0) value) drawn accepted in
+      subst (λ (d : Drawn). Adds H d.group) k.1 (single stamp (entries.Bid (unwrap_or paper 0) value) registered tt (bid-ruled paper value bounded k.0))
   command-adds (Assign paper name kind) drawn bounded accepted =
       let target : Option ℕ = user_among facts.accounts name in
       let labels : ℕ = shown.labels (unwrap_or paper 0) in
       let k = judged-Ok (assign_checks (standing_of (Some maker) paper H) (paper_named facts shown paper) (asked paper target) labels)
-      (assignment_drawn maker (unwrap_or paper 0) (unwrap_or target 0) kind (labels + 1)) drawn accepted in
+      (assignment_drawn stamp (unwrap_or paper 0) (unwrap_or target 0) kind (labels + 1)) drawn accepted in
       subst (λ (d : Drawn). Adds H d.group) k.1
-      (single maker (Assigned (unwrap_or paper 0) (unwrap_or target 0) kind (labels + 1)) registered tt (assigned-ruled paper target kind (labels + 1) k.0))
+      (single stamp (Assigned (unwrap_or paper 0) (unwrap_or target 0) kind (labels + 1)) registered tt (assigned-ruled paper target kind (labels + 1) k.0))
   command-adds (Unassign paper name) drawn bounded accepted =
       let target : Option ℕ = user_among facts.accounts name in
       let p : ℕ = unwrap_or paper 0 in
       let ordinal : ℕ = unwrap_or (shown.ordinal target p) 0 in
       let k = judged-Ok (unassign_checks (standing_of (Some maker) paper H) (paper_named facts shown paper) (asked paper target) (under_label paper target))
-      (unassignment_drawn maker p (unwrap_or target 0) ordinal) drawn accepted in
+      (unassignment_drawn stamp p (unwrap_or target 0) ordinal) drawn accepted in
       subst (λ (d : Drawn). Adds H d.group) k.1
-      (single maker (Unassigned p (unwrap_or target 0) ordinal) registered tt (unassigned-ruled paper target k.0))
+      (single stamp (Unassigned p (unwrap_or target 0) ordinal) registered tt (unassigned-ruled paper target k.0))
   command-adds (Review paper form) drawn bounded accepted =
       let p : ℕ = unwrap_or paper 0 in
       let ordinal : ℕ = unwrap_or (facts.own_ordinal p) 0 in
       let version : ℕ = length (facts.own_forms p) + 1 in
       let k = judged-Ok (review_checks (standing_of (Some maker) paper H) (paper_named facts shown paper))
-      (review_drawn maker p ordinal version form) drawn accepted in
+      (review_drawn stamp p ordinal version form) drawn accepted in
       subst (λ (d : Drawn). Adds H d.group) k.1
-      (single maker (Reviewed p ordinal version form) registered tt (reviewed-ruled paper version form bounded k.0))
+      (single stamp (Reviewed p ordinal version form) registered tt (reviewed-ruled paper version form bounded k.0))
   command-adds (Comment paper text) drawn bounded accepted =
       let p : ℕ = unwrap_or paper 0 in
       let n : ℕ = length (shown.comments p) + 1 in
       let k = judged-Ok (comment_checks (standing_of (Some maker) paper H) (paper_named facts shown paper) facts.own_comments)
-      (comment_drawn maker p n (facts.own_ordinal p) text) drawn accepted in
+      (comment_drawn stamp p n (facts.own_ordinal p) text) drawn accepted in
       subst (λ (d : Drawn). Adds H d.group) k.1
-      (single maker (Commented p n (facts.own_ordinal p) text) registered tt (commented-ruled paper n facts.own_comments text bounded k.0))
+      (single stamp (Commented p n (facts.own_ordinal p) text) registered tt (commented-ruled paper n facts.own_comments text bounded k.0))
   command-adds (Tag paper tag on) drawn bounded accepted =
       let k = judged-Ok (tag_checks (standing_of (Some maker) paper H) (paper_named facts shown paper) (is_for_chairs tag))
-      (tag_drawn maker (unwrap_or paper 0) tag on) drawn accepted in
+      (tag_drawn stamp (unwrap_or paper 0) tag on) drawn accepted in
       subst (λ (d : Drawn). Adds H d.group) k.1
-      (single maker (Tagged (unwrap_or paper 0) tag on) registered tt (tagged-ruled paper tag on bounded k.0))
+      (single stamp (Tagged (unwrap_or paper 0) tag on) registered tt (tagged-ruled paper tag on bounded k.0))
   command-adds (Decide paper decision) drawn bounded accepted =
       let k = judged-Ok (decide_checks (standing_of (Some maker) paper H) (paper_named facts shown paper))
-      (decision_drawn maker (unwrap_or paper 0) decision) drawn accepted in
+      (decision_drawn stamp (unwrap_or paper 0) decision) drawn accepted in
       subst (λ (d : Drawn). Adds H d.group) k.1
-      (single maker (Decided (unwrap_or paper 0) decision) registered tt (decided-ruled paper decision k.0))
+      (single stamp (Decided (unwrap_or paper 0) decision) registered tt (decided-ruled paper decision k.0))

@@ -7,8 +7,9 @@ use Rattle.std.proofs.lemmas.List.Concat.{flat_map-append}
 use Rattle.std.proofs.lemmas.List.Elements.{All-from_recursion, recursion_from_All}
 use Rattle.cr_base.specs.declared.entry.Entry.{Entry}
 use Rattle.cr_base.specs.declared.entry.Entry.TheVariants.{Assigned, Unassigned, Reviewed}
+use Rattle.cr_base.specs.declared.entry.Stamp.{Stamp}
 use Rattle.cr_base.specs.declared.entry.Stamped.{Stamped}
-use Rattle.cr_base.specs.Drawn.{submission}
+use Rattle.cr_base.specs.Drawn.{stamped, submission}
 use Rattle.cr_base.specs.History.{History, all_told, ordinal_told, form_told, whole_form}
 use Rattle.cr_base.specs.HistoryFacts.{ordinal_of, forms_of, is_written}
 use Rattle.cr_base.specs.Lists.{given, is_nothing, last_or}
@@ -16,7 +17,6 @@ use Rattle.cr_history.specs.Groups.{IsRuled, Adds, single, submitted, first_user
 use Rattle.cr_history.specs.Invariants.{IsHeld, ReviewersStay}
 use Rattle.cr_history.proofs.Folds.{last_or-append}
 use Rattle.cr_history.proofs.Grouped.{grouped-each, submission-each, all-silent}
-use Rattle.cr_history.proofs.LineAgreement.{stamp}
 use Rattle.cr_history.proofs.ListCuts.{AllByRecursion-append, AllByRecursion-map, AllByRecursion-both}
 
 -- ---- labels with forms
@@ -34,21 +34,21 @@ has_form-more : (s : Stamped) (H : History) (e : Entry) → HasForm H e → HasF
 has_form-more s H (Reviewed paper ordinal version form) h = some-more (form_told paper ordinal s.entry) (forms_of paper ordinal H) h
 has_form-more s H e h = tt
 
-has_form-first : (maker : ℕ) (more : Bool) (e : Entry) (H : History) → HasForm (record { stamp = record { maker = maker }; more = more; entry = e } ∷ H) e
-has_form-first maker more (Reviewed paper ordinal version form) H =
+has_form-first : (stamp : Stamp) (more : Bool) (e : Entry) (H : History) → HasForm (stamped stamp more e ∷ H) e
+has_form-first stamp more (Reviewed paper ordinal version form) H =
     by (eqb paper paper) (eqb ordinal ordinal) (eq-eqb paper paper refl) (eq-eqb ordinal ordinal refl)
   where
     by : (b c : Bool) → b ≡ true → c ≡ true → not (is_nothing (given (b && c) (whole_form version form) ++ forms_of paper ordinal H)) ≡ true
     by true true hb hc = refl
     by true false hb hc = absurd (true≢false (sym hc))
     by false c hb hc = absurd (true≢false (sym hb))
-has_form-first maker more e H = tt
+has_form-first stamp more e H = tt
 
 -- each form of a history is one
 has_forms : (H : History) → AllByRecursion (λ (s : Stamped). HasForm H s.entry) H
 has_forms [] = tt
 has_forms (s ∷ H) = (
-  has_form-first s.stamp.maker s.more s.entry H,
+  has_form-first s.stamp s.more s.entry H,
   AllByRecursion-map (λ (e : Stamped). HasForm H e.entry) (λ (e : Stamped). HasForm (s ∷ H) e.entry) (λ e h. has_form-more s H e.entry h) H (has_forms H),
 )
 
@@ -59,8 +59,8 @@ abbrev LeavesSeats : History → History → Type 0
 LeavesSeats H g = (user paper ordinal : ℕ) → ordinal_of (Some user) paper H ≡ Some ordinal → is_written paper ordinal H ≡ true
     → all_told (ordinal_told (Some user) paper) g ≡ []
 
-ruled-leaves : (H : History) (maker : ℕ) (more : Bool) (e : Entry) → IsRuled H maker e → LeavesSeats H (stamp maker more e ∷ [])
-ruled-leaves H maker more (Assigned paper' user' kind ordinal') ruled user paper ordinal held written = by (eqb paper' paper) (eqb user user') refl refl
+ruled-leaves : (H : History) (stamp : Stamp) (more : Bool) (e : Entry) → IsRuled H stamp.maker e → LeavesSeats H (stamped stamp more e ∷ [])
+ruled-leaves H stamp more (Assigned paper' user' kind ordinal') ruled user paper ordinal held written = by (eqb paper' paper) (eqb user user') refl refl
   where
     by : (b c : Bool) → eqb paper' paper ≡ b → eqb user user' ≡ c → given (b && c) (Some ordinal') ++ [] ≡ []
     by true true same is =
@@ -72,7 +72,7 @@ ruled-leaves H maker more (Assigned paper' user' kind ordinal') ruled user paper
         filled h = cc
     by true false same is = refl
     by false c same is = refl
-ruled-leaves H maker more (Unassigned paper' user' ordinal') ruled user paper ordinal held written = by (eqb paper' paper) (eqb user user') refl refl
+ruled-leaves H stamp more (Unassigned paper' user' ordinal') ruled user paper ordinal held written = by (eqb paper' paper) (eqb user user') refl refl
   where
     by : (b c : Bool) → eqb paper' paper ≡ b → eqb user user' ≡ c → given {A = Option ℕ} (b && c) None ++ [] ≡ []
     by true true same is =
@@ -87,19 +87,19 @@ ruled-leaves H maker more (Unassigned paper' user' ordinal') ruled user paper or
         same_some h = cc
     by true false same is = refl
     by false c same is = refl
-ruled-leaves H maker more e ruled user paper ordinal held written = refl
+ruled-leaves H stamp more e ruled user paper ordinal held written = refl
 
 added-leaves : (H g : History) → Adds H g → LeavesSeats H g
-added-leaves H g (single maker e made alone ruled) user paper ordinal held written = ruled-leaves H maker false e ruled user paper ordinal held written
-added-leaves H g (submitted maker p title abstract users made ruled registered) user paper ordinal held written =
+added-leaves H g (single stamp e made alone ruled) user paper ordinal held written = ruled-leaves H stamp false e ruled user paper ordinal held written
+added-leaves H g (submitted stamp p title abstract users made ruled registered) user paper ordinal held written =
     all-silent (λ (e : Stamped). ordinal_told (Some user) paper e.entry) _
-    (grouped-each maker (λ (e : Stamped). ordinal_told (Some user) paper e.entry ≡ []) (submission maker p title abstract users)
-    (submission-each (λ (e : Entry). (more : Bool) → ordinal_told (Some user) paper e ≡ []) maker p title abstract users (λ more. refl) (λ user more. refl)))
-added-leaves H g (first_user n name digest is texts) user paper ordinal held written = refl
+    (grouped-each stamp (λ (e : Stamped). ordinal_told (Some user) paper e.entry ≡ []) (submission stamp.maker p title abstract users)
+    (submission-each (λ (e : Entry). (more : Bool) → ordinal_told (Some user) paper e ≡ []) stamp.maker p title abstract users (λ more. refl) (λ user more. refl)))
+added-leaves H g (first_user stamp name digest is texts) user paper ordinal held written = refl
 
 grown-leaves : (H g : History) → Grows H g → LeavesSeats H g
 grown-leaves H g (adds same added) = added-leaves H g added
-grown-leaves H g (goes_on maker e made goes ruled) = ruled-leaves H maker true e ruled
+grown-leaves H g (goes_on stamp e made goes ruled) = ruled-leaves H stamp true e ruled
 
 -- a group that tells of no seat of hers leaves it
 seat-stays : (u : Option ℕ) (p : ℕ) (H g : History) → all_told (ordinal_told u p) g ≡ [] → ordinal_of u p (H ++ g) ≡ ordinal_of u p H
@@ -109,21 +109,21 @@ seat-stays u p H g none =
     ∙ ap (last_or (ordinal_of u p H)) none
 
 -- a form in it is under its maker's own label
-ruled-held : (H : History) (maker : ℕ) (more : Bool) (e : Entry) → IsRuled H maker e → IsHeld (H ++ stamp maker more e ∷ []) maker e
-ruled-held H maker more (Reviewed paper ordinal version form) ruled =
-    seat-stays (Some maker) paper H (stamp maker more (Reviewed paper ordinal version form) ∷ []) refl ∙ ruled.seat
-ruled-held H maker more e ruled = tt
+ruled-held : (H : History) (stamp : Stamp) (more : Bool) (e : Entry) → IsRuled H stamp.maker e → IsHeld (H ++ stamped stamp more e ∷ []) stamp.maker e
+ruled-held H stamp more (Reviewed paper ordinal version form) ruled =
+    seat-stays (Some stamp.maker) paper H (stamped stamp more (Reviewed paper ordinal version form) ∷ []) refl ∙ ruled.seat
+ruled-held H stamp more e ruled = tt
 
 added-held : (H g : History) → Adds H g → AllByRecursion (λ (e : Stamped). IsHeld (H ++ g) e.stamp.maker e.entry) g
-added-held H g (single maker e made alone ruled) = (ruled-held H maker false e ruled, tt)
-added-held H g (submitted maker p title abstract users made ruled registered) =
-    grouped-each maker (λ (e : Stamped). IsHeld (H ++ g) e.stamp.maker e.entry) (submission maker p title abstract users)
-    (submission-each (λ (e : Entry). (more : Bool) → IsHeld (H ++ g) maker e) maker p title abstract users (λ more. tt) (λ user more. tt))
-added-held H g (first_user n name digest is texts) = (tt, (tt, tt))
+added-held H g (single stamp e made alone ruled) = (ruled-held H stamp false e ruled, tt)
+added-held H g (submitted stamp p title abstract users made ruled registered) =
+    grouped-each stamp (λ (e : Stamped). IsHeld (H ++ g) e.stamp.maker e.entry) (submission stamp.maker p title abstract users)
+    (submission-each (λ (e : Entry). (more : Bool) → IsHeld (H ++ g) stamp.maker e) stamp.maker p title abstract users (λ more. tt) (λ user more. tt))
+added-held H g (first_user stamp name digest is texts) = (tt, (tt, tt))
 
 grown-held : (H g : History) → Grows H g → AllByRecursion (λ (e : Stamped). IsHeld (H ++ g) e.stamp.maker e.entry) g
 grown-held H g (adds same added) = added-held H g added
-grown-held H g (goes_on maker e made goes ruled) = (ruled-held H maker true e ruled, tt)
+grown-held H g (goes_on stamp e made goes ruled) = (ruled-held H stamp true e ruled, tt)
 
 -- ---- the step
 

@@ -8,8 +8,9 @@ use Rattle.std.proofs.lemmas.List.Concat.{flat_map-append}
 use Rattle.std.proofs.lemmas.List.Folds.{list_any-append}
 use Rattle.cr_base.specs.declared.entry.Entry.{Entry}
 use Rattle.cr_base.specs.declared.entry.Entry.TheVariants.{Submitted, Coauthor, Revised, Withdrawn, Conflict}
+use Rattle.cr_base.specs.declared.entry.Stamp.{Stamp}
 use Rattle.cr_base.specs.declared.entry.Stamped.{Stamped}
-use Rattle.cr_base.specs.Drawn.{grouped, besides, submission}
+use Rattle.cr_base.specs.Drawn.{stamped, grouped, besides, submission}
 use Rattle.cr_base.specs.History.{History, Registration, all_told, registration_told}
 use Rattle.cr_base.specs.HistoryFacts.{phase_of, is_author}
 use Rattle.cr_base.specs.Lists.{given, is_number}
@@ -20,7 +21,6 @@ use Rattle.cr_base.proofs.PaperLaws.{length-with_paper}
 use Rattle.cr_history.specs.Invariants.{IsRegistered, InTurn, is_conflict_with}
 use Rattle.cr_history.proofs.ConflictAgreement.{has_conflict}
 use Rattle.cr_history.proofs.InTime.{author-append, phase_stays}
-use Rattle.cr_history.proofs.LineAgreement.{stamp}
 use Rattle.cr_history.proofs.TableAgreement.{tables_of-append, FitInTurn-append}
 
 -- ---- a paper that isn't there yet
@@ -73,37 +73,37 @@ pub record IsSubmitting (maker paper : ℕ) (H : History) : Type 0 where
   pub author : IsTrue (is_author (Some maker) paper H)
   pub first : has_conflict paper H ≡ false
 
-module _ (maker paper : ℕ) where
-  submitting-first : (H : History) (more : Bool) (title abstract : List ℕ) → FitInTurn no_tables H → IsRegistered H maker → accepts_submissions (phase_of H) ≡ true
-      → Fits (tables_of H) (stamp maker more (Submitted paper title abstract)) → IsSubmitting maker paper (H ++ stamp maker more (Submitted paper title abstract) ∷ [])
+module _ (stamp : Stamp) (paper : ℕ) where
+  submitting-first : (H : History) (more : Bool) (title abstract : List ℕ) → FitInTurn no_tables H → IsRegistered H stamp.maker → accepts_submissions (phase_of H) ≡ true
+      → Fits (tables_of H) (stamped stamp more (Submitted paper title abstract)) → IsSubmitting stamp.maker paper (H ++ stamped stamp more (Submitted paper title abstract) ∷ [])
   submitting-first H more title abstract fits registered phase fit = record {
     fits = FitInTurn-append no_tables H g fits (fit, tt);
-    registered = registered-append H g maker registered;
+    registered = registered-append H g stamp.maker registered;
     phase = ap (λ now. accepts_submissions now) (phase_stays H g refl) ∙ phase;
-    author = author-append (Some maker) paper H g ∙ made (is_author (Some maker) paper H) (eqb paper paper) (eq-eqb paper paper refl);
+    author = author-append (Some stamp.maker) paper H g ∙ made (is_author (Some stamp.maker) paper H) (eqb paper paper) (eq-eqb paper paper refl);
     first = list_any-append (λ (e : Stamped). is_conflict_with paper e.entry) H g
         ∙ ap (λ b. b || (false || false)) (no_conflict-from paper no_tables H fits (let next = fit.papers.0 in omega (arith, next)));
   }
     where
       g : History
-      g = stamp maker more (Submitted paper title abstract) ∷ []
+      g = stamped stamp more (Submitted paper title abstract) ∷ []
 
-      made : (before same : Bool) → same ≡ true → (before || list_any (is_number (Some maker)) (given same maker ++ [])) ≡ true
+      made : (before same : Bool) → same ≡ true → (before || list_any (is_number (Some stamp.maker)) (given same stamp.maker ++ [])) ≡ true
       made true same h = refl
       made false same h =
-          ap (λ b. list_any (is_number (Some maker)) (given b maker ++ [])) h ∙ ap (λ b. b || false) (eq-eqb maker maker refl)
+          ap (λ b. list_any (is_number (Some stamp.maker)) (given b stamp.maker ++ [])) h ∙ ap (λ b. b || false) (eq-eqb stamp.maker stamp.maker refl)
 
-  submitting-more : (H : History) (more : Bool) (user : ℕ) → IsSubmitting maker paper H → Fits (tables_of H) (stamp maker more (Coauthor paper user)) → IsSubmitting maker paper (H ++ stamp maker more (Coauthor paper user) ∷ [])
+  submitting-more : (H : History) (more : Bool) (user : ℕ) → IsSubmitting stamp.maker paper H → Fits (tables_of H) (stamped stamp more (Coauthor paper user)) → IsSubmitting stamp.maker paper (H ++ stamped stamp more (Coauthor paper user) ∷ [])
   submitting-more H more user before fit = record {
     fits = FitInTurn-append no_tables H g before.fits (fit, tt);
-    registered = registered-append H g maker before.registered;
+    registered = registered-append H g stamp.maker before.registered;
     phase = ap (λ now. accepts_submissions now) (phase_stays H g refl) ∙ before.phase;
-    author = author-append (Some maker) paper H g ∙ ap (λ b. b || is_author (Some maker) paper g) before.author;
+    author = author-append (Some stamp.maker) paper H g ∙ ap (λ b. b || is_author (Some stamp.maker) paper g) before.author;
     first = list_any-append (λ (e : Stamped). is_conflict_with paper e.entry) H g ∙ ap (λ b. b || (false || false)) before.first;
   }
     where
       g : History
-      g = stamp maker more (Coauthor paper user) ∷ []
+      g = stamped stamp more (Coauthor paper user) ∷ []
 
   -- ---- the entries in their turn
 
@@ -112,21 +112,21 @@ module _ (maker paper : ℕ) where
 
   -- what is so of a submission, and of each co-author behind it, is so of each entry in its turn
   module _ (P : History → Stamped → Type 0)
-      (each : (H : History) (more : Bool) (user : ℕ) → IsSubmitting maker paper H → Fits (tables_of H) (stamp maker more (Coauthor paper user)) → P H (stamp maker more (Coauthor paper user))) where
-    coauthors-in_turn : (H : History) (users : List ℕ) → IsSubmitting maker paper H → FitInTurn (tables_of H) (grouped maker (told users)) → InTurn P H (grouped maker (told users))
+      (each : (H : History) (more : Bool) (user : ℕ) → IsSubmitting stamp.maker paper H → Fits (tables_of H) (stamped stamp more (Coauthor paper user)) → P H (stamped stamp more (Coauthor paper user))) where
+    coauthors-in_turn : (H : History) (users : List ℕ) → IsSubmitting stamp.maker paper H → FitInTurn (tables_of H) (grouped stamp (told users)) → InTurn P H (grouped stamp (told users))
     coauthors-in_turn H [] before fits = tt
     coauthors-in_turn H (u ∷ []) before fits = (each H false u before fits.0, tt)
     coauthors-in_turn H (u ∷ v ∷ us) before fits =
-        let s = stamp maker true (Coauthor paper u) in
-        (each H true u before fits.0, coauthors-in_turn (H ++ s ∷ []) (v ∷ us) (submitting-more H true u before fits.0) (fits-behind H s (grouped maker (told (v ∷ us))) fits.1))
+        let s = stamped stamp true (Coauthor paper u) in
+        (each H true u before fits.0, coauthors-in_turn (H ++ s ∷ []) (v ∷ us) (submitting-more H true u before fits.0) (fits-behind H s (grouped stamp (told (v ∷ us))) fits.1))
 
-    pub submission-in_turn : (H : History) (title abstract users : List ℕ) → FitInTurn no_tables H → IsRegistered H maker → accepts_submissions (phase_of H) ≡ true
-        → ((more : Bool) → Fits (tables_of H) (stamp maker more (Submitted paper title abstract)) → P H (stamp maker more (Submitted paper title abstract)))
-        → FitInTurn (tables_of H) (grouped maker (submission maker paper title abstract users)) → InTurn P H (grouped maker (submission maker paper title abstract users))
-    submission-in_turn H title abstract users before registered phase one fits = by (besides (maker ∷ []) users) fits
+    pub submission-in_turn : (H : History) (title abstract users : List ℕ) → FitInTurn no_tables H → IsRegistered H stamp.maker → accepts_submissions (phase_of H) ≡ true
+        → ((more : Bool) → Fits (tables_of H) (stamped stamp more (Submitted paper title abstract)) → P H (stamped stamp more (Submitted paper title abstract)))
+        → FitInTurn (tables_of H) (grouped stamp (submission stamp.maker paper title abstract users)) → InTurn P H (grouped stamp (submission stamp.maker paper title abstract users))
+    submission-in_turn H title abstract users before registered phase one fits = by (besides (stamp.maker ∷ []) users) fits
       where
-        by : (us : List ℕ) → FitInTurn (tables_of H) (grouped maker (Submitted paper title abstract ∷ told us)) → InTurn P H (grouped maker (Submitted paper title abstract ∷ told us))
+        by : (us : List ℕ) → FitInTurn (tables_of H) (grouped stamp (Submitted paper title abstract ∷ told us)) → InTurn P H (grouped stamp (Submitted paper title abstract ∷ told us))
         by [] fits = (one false fits.0, tt)
         by (u ∷ us) fits =
-            let s = stamp maker true (Submitted paper title abstract) in
-            (one true fits.0, coauthors-in_turn (H ++ s ∷ []) (u ∷ us) (submitting-first H true title abstract before registered phase fits.0) (fits-behind H s (grouped maker (told (u ∷ us))) fits.1))
+            let s = stamped stamp true (Submitted paper title abstract) in
+            (one true fits.0, coauthors-in_turn (H ++ s ∷ []) (u ∷ us) (submitting-first H true title abstract before registered phase fits.0) (fits-behind H s (grouped stamp (told (u ∷ us))) fits.1))

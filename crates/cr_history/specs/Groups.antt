@@ -4,10 +4,11 @@ use Rattle.std.specs.List.{AllByRecursion}
 use Rattle.cr_base.specs.declared.entry.Entry.{Entry}
 use Rattle.cr_base.specs.declared.entry.Entry.TheVariants.{Registered, Named, Submitted}
 use Rattle.cr_base.specs.declared.entry.Entry.TheVariants.{Coauthor, Revised, Uploaded, Bid}
-use Rattle.cr_base.specs.declared.entry.Entry.TheVariants.{Conflict, Assigned, Unassigned, Reviewed, Commented, Tagged}
+use Rattle.cr_base.specs.declared.entry.Entry.TheVariants.{Reviewed, Commented, Tagged}
+use Rattle.cr_base.specs.declared.entry.Stamp.{Stamp}
 use Rattle.cr_base.specs.declared.words.Role.TheVariants.{Chair}
 use Rattle.cr_base.specs.History.{History}
-use Rattle.cr_base.specs.Drawn.{grouped, submission}
+use Rattle.cr_base.specs.Drawn.{stamped, grouped, submission}
 use Rattle.cr_base.specs.Bounds.{IsForm}
 use Rattle.cr_base.specs.Bulk.{IsRowEntry}
 use Rattle.cr_base.specs.TagTexts.{is_tag}
@@ -46,18 +47,18 @@ StandsAlone _ = Unit {0}
 -- one entry; a submission with those of these users who become co-authors; or the registration of the first user
 -- and the role that comes with it
 pub data Adds (H : History) : History → Type 0 where
-  single : (maker : ℕ) (e : Entry) → IsMadeByUser H maker e → StandsAlone e → IsRuled H maker e
-      → Adds H (grouped maker (e ∷ []))
-  submitted : (maker paper : ℕ) (title abstract : List ℕ) (users : List ℕ)
-      → IsMadeByUser H maker (Submitted paper title abstract) → IsRuled H maker (Submitted paper title abstract)
-      → AllByRecursion (IsRegistered H) users
-      → Adds H (grouped maker (submission maker paper title abstract users))
-  first_user : (user : ℕ) (name digest : List ℕ) → user ≡ 1 → HasTexts (Registered user name digest)
-      → Adds H (grouped user (Registered user name digest ∷ Named user Chair ∷ []))
+  single : (stamp : Stamp) (e : Entry) → IsMadeByUser H stamp.maker e → StandsAlone e → IsRuled H stamp.maker e
+      → Adds H (grouped stamp (e ∷ []))
+  submitted : (stamp : Stamp) (paper : ℕ) (title abstract : List ℕ) (users : List ℕ)
+      → IsMadeByUser H stamp.maker (Submitted paper title abstract)
+      → IsRuled H stamp.maker (Submitted paper title abstract) → AllByRecursion (IsRegistered H) users
+      → Adds H (grouped stamp (submission stamp.maker paper title abstract users))
+  first_user : (stamp : Stamp) (name digest : List ℕ) → stamp.maker ≡ 1 → HasTexts (Registered stamp.maker name digest)
+      → Adds H (grouped stamp (Registered stamp.maker name digest ∷ Named stamp.maker Chair ∷ []))
 
 -- how a history grows: by all that a command adds, or by the entry of a bulk's row with
 -- the mark that another's follows
 pub data Grows (H : History) : History → Type 0 where
   adds : (g : History) → Adds H g → Grows H g
-  goes_on : (maker : ℕ) (e : Entry) → IsMadeByUser H maker e → IsRowEntry e → IsRuled H maker e
-      → Grows H (record { stamp = record { maker = maker }; more = true; entry = e } ∷ [])
+  goes_on : (stamp : Stamp) (e : Entry) → IsMadeByUser H stamp.maker e → IsRowEntry e → IsRuled H stamp.maker e
+      → Grows H (stamped stamp true e ∷ [])

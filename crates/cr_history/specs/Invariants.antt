@@ -17,7 +17,7 @@ use Rattle.cr_base.specs.Lists.{until, since}
 use Rattle.cr_base.specs.Phases.{is_from, is_next, mode_may_be_set, accepts_submissions, papers_may_change}
 use Rattle.cr_base.specs.Phases.{authors_have_declared, conflicts_are_final, roles_are_final, committee_works}
 use Rattle.cr_base.specs.Phases.{bids_are_taken, reviews_are_written, comments_are_written, decisions_are_made}
-use Rattle.cr_base.specs.Rows.{kind_of, row_of, stamped, IsBoundedEntry}
+use Rattle.cr_base.specs.Rows.{kind_of, row_of, restored, IsBoundedEntry}
 use Rattle.cr_base.specs.Tables.{no_tables, FitInTurn}
 use Rattle.cr_base.specs.TagTexts.{is_for_chairs}
 use Rattle.cr_base.specs.Words.{role_number, is_member, is_chair}
@@ -269,7 +269,7 @@ ReviewersStay H = All (λ (e : Stamped). IsHeld H e.stamp.maker e.entry) H
 
 -- the row of the entry spells the entry
 abbrev pub IsSpelled : Stamped → Type 0
-IsSpelled e = stamped (kind_of e.entry) (row_of e) ≡ Some e
+IsSpelled e = restored (kind_of e.entry) (row_of e) ≡ Some e
 
 -- what every legal history keeps, and what of a bulk's entries stands behind one. Each entry is within its bounds, so
 -- that its row spells it; it fits the tables of what stands before it; and it is in order there. Conflicts are

@@ -1,15 +1,13 @@
 -- A body that is read beside the buffer, into a block of its own.
-use Rattle.std.proofs.Common.{◌≡◌, ◌∙◌, ℕ, ◌+◌, ◌<◌, ◌≤◌, List, [], ◌++◌, length, take, drop, Option, refl, sym, ap, subst, inl, inr, arith, append_assoc}
+use Rattle.std.proofs.Common.{◌≡◌, ◌∙◌, ℕ, ◌+◌, ◌<◌, ◌≤◌, List, [], ◌++◌, length, take, drop, Option, refl, sym, ap, inl, inr, arith, append_assoc}
 use Rattle.std.proofs.Common.{append-nil, length-append, length-drop}
 use Rattle.std.specs.Prelude.{replicate}
 use Rattle.std.proofs.lemmas.List.{drop-append-le, take-append-le, take-append-drop, length-replicate}
 use Rattle.std.proofs.Math.Seq.{drop-append_seam}
-use Rattle.cr_ports.specs.Stream.{and_left}
 use Rattle.cr_http.specs.declared.fill_body.BodyFill.{BodyFill}
 use Rattle.cr_http.specs.declared.fill_body.BodyFill.TheVariants as fills
 use Rattle.cr_http.specs.BodyFill.{FillsBody, HoldsBody, KeepsBlock}
 use Rattle.cr_http.specs.Filling.{Moves, ReadsWhile}
-use Rattle.cr_http.proofs.Moving.{stays}
 
 cancel : (xs a b : List ℕ) → xs ++ a ≡ xs ++ b → a ≡ b
 cancel xs a b e = sym (drop-append_seam xs a) ∙ ap (drop (length xs)) e ∙ drop-append_seam xs b

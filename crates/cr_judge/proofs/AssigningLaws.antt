@@ -1,9 +1,10 @@
 -- What a command draws that names a paper and a user, by reads of the tables; `user` is whom they have for the name.
-use Rattle.std.proofs.Common.{ℕ, Bool, true, false, ◌≡◌, ◌+◌, List, ◌∷◌, refl, sym, ap, subst, ◌∙◌, ◌||◌, Option, Some, None, Result, Ok, Err}
-use Rattle.std.specs.Prelude.{IsSome, is_some, is_none, not, unwrap_or}
+use Rattle.std.proofs.Common.{ℕ, Bool, true, false, ◌≡◌, ◌+◌, List, ◌∷◌, refl, sym, ap, subst, ◌∙◌, ◌||◌, Option, Some, None, Result, Ok}
+use Rattle.std.specs.Prelude.{IsSome, is_some, not, unwrap_or}
 use Rattle.std.specs.List.{list_any}
 use Rattle.std.specs.Option.{option_map, option_and_then}
 use Rattle.cr_base.specs.declared.entry.Account.{Account}
+use Rattle.cr_base.specs.declared.entry.Stamp.{Stamp}
 use Rattle.cr_base.specs.declared.pairs.Order.TheVariants.{ByPaper}
 use Rattle.cr_base.specs.declared.reply.Rule.{Rule}
 use Rattle.cr_base.specs.declared.reply.Rule.TheVariants as rules
@@ -18,7 +19,7 @@ use Rattle.cr_base.specs.Lists.{at_some, is_number}
 use Rattle.cr_base.specs.Pairs.{users_tied_to}
 use Rattle.cr_base.specs.Papers.{is_withdrawn_at}
 use Rattle.cr_base.specs.Phases.{authors_have_declared, conflicts_are_final}
-use Rattle.cr_base.specs.Seats.{SeatsState, labels_in, ordinal_in}
+use Rattle.cr_base.specs.Seats.{SeatsState, ordinal_in}
 use Rattle.cr_base.specs.Sources.{standing_at}
 use Rattle.cr_base.specs.Tables.{Tables}
 use Rattle.cr_base.specs.Ties.{TiesState, is_author_in, is_conflicted_in}
@@ -54,7 +55,10 @@ target-some accounts seen same user v role is told =
 
 -- ---- what the rules ask of her
 
-module _ (t : Tables) (maker : ℕ) where
+module _ (t : Tables) (stamp : Stamp) where
+  abbrev maker : ℕ
+  maker = stamp.maker
+
   -- what the rules ask of a user of this role
   abbrev asked_for : Option ℕ → Option ℕ → Role → Target
   asked_for paper user role = record {
@@ -117,7 +121,7 @@ module _ (t : Tables) (maker : ℕ) where
     -- a conflict: no rule reads whether she reviews the paper
     pub conflict-drawn : (on : Bool) (seen : TiesState) → seen ≡ t.ties → (kept : Result (Unit {0}) Rule)
         → kept ≡ judged (conflict_checks named.by told (ties.target_of seen maker named.paper target) on) tt
-        → made_of (λ (done : Unit {0}). conflict_drawn maker (unwrap_or named.paper 0) (unwrap_or user 0) on) kept ≡ conflict_at t maker paper user on
+        → made_of (λ (done : Unit {0}). conflict_drawn stamp (unwrap_or named.paper 0) (unwrap_or user 0) on) kept ≡ conflict_at t stamp paper user on
     conflict-drawn on seen same kept judges =
         judged-made (conflict_checks named.by told (ties.target_of seen maker named.paper target) on)
         (λ (done : Unit {0}). made named.paper) tt kept judges
@@ -127,7 +131,7 @@ module _ (t : Tables) (maker : ℕ) where
         ∙ there-judged t.papers asked due refl (λ (at : Option ℕ). refl) some paper
       where
         made : Option ℕ → Drawn
-        made at = conflict_drawn maker (unwrap_or at 0) (unwrap_or user 0) on
+        made at = conflict_drawn stamp (unwrap_or at 0) (unwrap_or user 0) on
 
         asked : Option ℕ → Result Drawn Rule
         asked at = judged (conflict_checks (standing_here at) (paper_told (is_some at) at) (ties.target_of t.ties maker at mine) on) (made at)
@@ -159,10 +163,10 @@ module _ (t : Tables) (maker : ℕ) where
     pub assignment-drawn : (kind : Kind) (seen : SeatsState) → seen ≡ t.seats → (conflicted : Bool)
         → conflicted ≡ at_some (is_conflicted_in t.ties user) named.paper → (r : Result ℕ Rule)
         → r ≡ judged (assign_checks named.by told (seats.target_of seen conflicted named.paper target) (seats.labels_at seen named.paper)) (seats.labels_at seen named.paper + 1)
-        → made_of (assignment_drawn maker (unwrap_or named.paper 0) (unwrap_or user 0) kind) r ≡ assignment_at t maker paper user kind
+        → made_of (assignment_drawn stamp (unwrap_or named.paper 0) (unwrap_or user 0) kind) r ≡ assignment_at t stamp paper user kind
     assignment-drawn kind seen same conflicted clear r judges =
         judged-made (assign_checks named.by told (seats.target_of seen conflicted named.paper target) (seats.labels_at seen named.paper))
-        (assignment_drawn maker (unwrap_or named.paper 0) (unwrap_or user 0) kind) (seats.labels_at seen named.paper + 1) r judges
+        (assignment_drawn stamp (unwrap_or named.paper 0) (unwrap_or user 0) kind) (seats.labels_at seen named.paper + 1) r judges
         ∙ ap (λ (x : SeatsState). judged (assign_checks named.by told (seats.target_of x conflicted named.paper target) (seats.labels_at x named.paper))
         (made named.paper (seats.labels_at x named.paper + 1))) same
         ∙ ap (λ (o : Option (ℕ × Role)). judged (assign_checks named.by told (seats.target_of t.seats conflicted named.paper o) (labels named.paper)) (made named.paper (labels named.paper + 1))) has
@@ -172,7 +176,7 @@ module _ (t : Tables) (maker : ℕ) where
         ∙ there-judged t.papers asked due refl (λ (at : Option ℕ). refl) some paper
       where
         made : Option ℕ → ℕ → Drawn
-        made at = assignment_drawn maker (unwrap_or at 0) (unwrap_or user 0) kind
+        made at = assignment_drawn stamp (unwrap_or at 0) (unwrap_or user 0) kind
 
         labels : Option ℕ → ℕ
         labels at = seats.labels_at t.seats at
@@ -198,10 +202,10 @@ module _ (t : Tables) (maker : ℕ) where
     -- and its end: nor whether she is in conflict with the paper
     pub unassignment-drawn : (seen : SeatsState) → seen ≡ t.seats → (written : Bool) → written ≡ written_at t user named.paper → (r : Result ℕ Rule)
         → r ≡ judged (unassign_checks named.by told (seats.target_of seen false named.paper target) written) (seats.held_at seen named.paper target)
-        → made_of (unassignment_drawn maker (unwrap_or named.paper 0) (unwrap_or user 0)) r ≡ unassignment_at t maker paper user
+        → made_of (unassignment_drawn stamp (unwrap_or named.paper 0) (unwrap_or user 0)) r ≡ unassignment_at t stamp paper user
     unassignment-drawn seen same written is r judges =
         judged-made (unassign_checks named.by told (seats.target_of seen false named.paper target) written)
-        (unassignment_drawn maker (unwrap_or named.paper 0) (unwrap_or user 0)) (seats.held_at seen named.paper target) r judges
+        (unassignment_drawn stamp (unwrap_or named.paper 0) (unwrap_or user 0)) (seats.held_at seen named.paper target) r judges
         ∙ ap (λ (x : SeatsState). judged (unassign_checks named.by told (seats.target_of x false named.paper target) written) (made named.paper (seats.held_at x named.paper target))) same
         ∙ ap (λ (o : Option (ℕ × Role)). judged (unassign_checks named.by told (seats.target_of t.seats false named.paper o) written) (made named.paper (seats.held_at t.seats named.paper o))) has
         ∙ ap (λ (w : Bool). judged (unassign_checks named.by told (seats.target_of t.seats false named.paper mine) w) (made named.paper (seats.held_at t.seats named.paper mine))) is
@@ -210,7 +214,7 @@ module _ (t : Tables) (maker : ℕ) where
         ∙ there-judged t.papers asked due refl (λ (at : Option ℕ). refl) some paper
       where
         made : Option ℕ → ℕ → Drawn
-        made at = unassignment_drawn maker (unwrap_or at 0) (unwrap_or user 0)
+        made at = unassignment_drawn stamp (unwrap_or at 0) (unwrap_or user 0)
 
         seat : Option ℕ → ℕ
         seat at = unwrap_or (ordinal_in t.seats user (unwrap_or at 0)) 0

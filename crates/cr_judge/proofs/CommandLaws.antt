@@ -1,10 +1,11 @@
 -- What single commands draw that name no user, by reads of the tables.
-use Rattle.std.proofs.Common.{ℕ, Bool, true, false, cond, ◌≡◌, ◌+◌, ◌==◌, List, [], ◌∷◌, length, refl, sym, ap, ◌∙◌, Option, Some, None, Result, Ok, Err}
+use Rattle.std.proofs.Common.{ℕ, Bool, true, false, cond, ◌≡◌, ◌+◌, ◌==◌, List, [], ◌∷◌, length, refl, ap, ◌∙◌, Option, Some, None, Result, Ok, Err}
 use Rattle.std.specs.Prelude.{is_some, unwrap_or}
 use Rattle.cr_base.specs.declared.command.Command.TheVariants.{SetPhase, SetMode, Upload}
 use Rattle.cr_base.specs.declared.entry.Account.{Account}
 use Rattle.cr_base.specs.declared.entry.Entry.{Entry}
 use Rattle.cr_base.specs.declared.entry.Entry.TheVariants.{Registered, Named}
+use Rattle.cr_base.specs.declared.entry.Stamp.{Stamp}
 use Rattle.cr_base.specs.declared.reply.Receipt.TheVariants as receipts
 use Rattle.cr_base.specs.declared.reply.Rule.{Rule}
 use Rattle.cr_base.specs.declared.standing.Standing.{Standing}
@@ -12,6 +13,7 @@ use Rattle.cr_base.specs.declared.words.Mode.{Mode}
 use Rattle.cr_base.specs.declared.words.Phase.{Phase}
 use Rattle.cr_base.specs.declared.words.Role.TheVariants.{Chair}
 use Rattle.cr_base.specs.Accounts.{number_at}
+use Rattle.cr_base.specs.Calls.{call_by, stamp_by}
 use Rattle.cr_base.specs.Checks.{judged, register_checks, phase_checks, mode_checks, revise_checks, upload_checks}
 use Rattle.cr_base.specs.Drawn.{Drawn, grouped, registration, registration_drawn, phase_drawn, mode_drawn, upload_drawn}
 use Rattle.cr_base.specs.Judging.{judge_by_role}
@@ -29,10 +31,10 @@ use Rattle.cr_judge.specs.Named.{registration_at}
 -- a registration; the first user is made a chair
 module _ (t : Tables) (name digest : List ℕ) (seen : List Account) (same : seen ≡ t.accounts) where
   registration-made : (r : Result ℕ Rule) → r ≡ judged (register_checks (is_some (number_at seen name)) (length seen)) (length seen + 1)
-      → made_of (λ (user : ℕ). registration_drawn user name digest) r ≡ registration_at t name digest
+      → made_of (λ (user : ℕ). registration_drawn (stamp_by user) user name digest) r ≡ registration_at t name digest
   registration-made r judges =
-      judged-made (register_checks (is_some (number_at seen name)) (length seen)) (λ (user : ℕ). registration_drawn user name digest) (length seen + 1) r judges
-      ∙ ap (λ (x : List Account). judged (register_checks (is_some (number_at x name)) (length x)) (registration_drawn (length x + 1) name digest)) same
+      judged-made (register_checks (is_some (number_at seen name)) (length seen)) (λ (user : ℕ). registration_drawn (stamp_by user) user name digest) (length seen + 1) r judges
+      ∙ ap (λ (x : List Account). judged (register_checks (is_some (number_at x name)) (length x)) (registration_drawn (stamp_by (length x + 1)) (length x + 1) name digest)) same
 
   pub registration-refused : (rule : Rule)
       → ◌≡◌ {A = Result ℕ Rule} (Err rule) (judged (register_checks (is_some (number_at seen name)) (length seen)) (length seen + 1))
@@ -43,9 +45,9 @@ module _ (t : Tables) (name digest : List ℕ) (seen : List Account) (same : see
       → ◌≡◌ {A = Result ℕ Rule} (Ok user) (judged (register_checks (is_some (number_at seen name)) (length seen)) (length seen + 1))
       → (rest : Rest) → rest ≡ cond (user == 1) (rests.FirstChair user) rests.Nothing
       → ◌≡◌ {A = Result Drawn Rule}
-      (Ok (drawn_by t.accounts (record { stamp = record { maker = user }; first = Registered user name digest; rest = rest }))) (registration_at t name digest)
+      (Ok (drawn_by t.accounts (record { stamp = stamp_by user; first = Registered user name digest; rest = rest }))) (registration_at t name digest)
   registration-drawn user judges rest is =
-      ap (λ (es : List Entry). Ok (record { group = grouped user es; receipt = receipts.User user })) (ap (λ (r : Rest). first ∷ behind r) is ∙ by (user == 1))
+      ap (λ (es : List Entry). Ok (record { group = grouped (stamp_by user) es; receipt = receipts.User user })) (ap (λ (r : Rest). first ∷ behind r) is ∙ by (user == 1))
       ∙ registration-made (Ok user) judges
     where
       first : Entry
@@ -56,37 +58,37 @@ module _ (t : Tables) (name digest : List ℕ) (seen : List Account) (same : see
       by false = refl
 
 -- the phase and the mode
-module _ (t : Tables) (maker : ℕ) (by : Standing) (stands : by ≡ standing_at t (Some maker) None) (seen : StageState) (same : seen ≡ t.stage)
+module _ (t : Tables) (stamp : Stamp) (by : Standing) (stands : by ≡ standing_at t (Some stamp.maker) None) (seen : StageState) (same : seen ≡ t.stage)
     (kept : Result (Unit {0}) Rule) where
   pub phase-drawn : (to : Phase) → kept ≡ judged (phase_checks by seen.phase to) tt
-      → made_of (λ (done : Unit {0}). phase_drawn maker to) kept ≡ judge_by_role t (Some maker) (SetPhase to)
+      → made_of (λ (done : Unit {0}). phase_drawn stamp to) kept ≡ judge_by_role t (call_by stamp (SetPhase to))
   phase-drawn to judges =
-      judged-made (phase_checks by seen.phase to) (λ (done : Unit {0}). phase_drawn maker to) tt kept judges
-      ∙ (λ i. judged (phase_checks (stands i) (same i).phase to) (phase_drawn maker to))
+      judged-made (phase_checks by seen.phase to) (λ (done : Unit {0}). phase_drawn stamp to) tt kept judges
+      ∙ (λ i. judged (phase_checks (stands i) (same i).phase to) (phase_drawn stamp to))
 
   pub mode-drawn : (to : Mode) → kept ≡ judged (mode_checks by seen.phase) tt
-      → made_of (λ (done : Unit {0}). mode_drawn maker to) kept ≡ judge_by_role t (Some maker) (SetMode to)
+      → made_of (λ (done : Unit {0}). mode_drawn stamp to) kept ≡ judge_by_role t (call_by stamp (SetMode to))
   mode-drawn to judges =
-      judged-made (mode_checks by seen.phase) (λ (done : Unit {0}). mode_drawn maker to) tt kept judges
-      ∙ (λ i. judged (mode_checks (stands i) (same i).phase) (mode_drawn maker to))
+      judged-made (mode_checks by seen.phase) (λ (done : Unit {0}). mode_drawn stamp to) tt kept judges
+      ∙ (λ i. judged (mode_checks (stands i) (same i).phase) (mode_drawn stamp to))
 
 -- what an author does with her paper
-module _ (t : Tables) (maker : ℕ) (paper : Option ℕ) (by : Standing) (stands : by ≡ standing_at t (Some maker) paper)
+module _ (t : Tables) (stamp : Stamp) (paper : Option ℕ) (by : Standing) (stands : by ≡ standing_at t (Some stamp.maker) paper)
     (seen : PapersState) (same : seen ≡ t.papers) where
   -- a revision or a withdrawal, of which the same is asked
   pub revision-drawn : (draw : ℕ → Drawn) (kept : Result (Unit {0}) Rule) → kept ≡ judged (revise_checks by (named_in seen paper)) tt
       → made_of (λ (done : Unit {0}). draw (unwrap_or paper 0)) kept
-      ≡ judged (revise_checks (standing_at t (Some maker) paper) (named_in t.papers paper)) (draw (unwrap_or paper 0))
+      ≡ judged (revise_checks (standing_at t (Some stamp.maker) paper) (named_in t.papers paper)) (draw (unwrap_or paper 0))
   revision-drawn draw kept judges =
       judged-made (revise_checks by (named_in seen paper)) (λ (done : Unit {0}). draw (unwrap_or paper 0)) tt kept judges
       ∙ (λ i. judged (revise_checks (stands i) (named_in (same i) paper)) (draw (unwrap_or paper 0)))
 
   -- an upload, judged by so many bytes
   pub upload-made : (content : List ℕ) (count : ℕ) → count ≡ length content → (r : Result ℕ Rule)
-      → r ≡ judged (upload_checks by (named_in seen paper) (own_bytes seen (Some maker)) count) (length (uploads_at seen (unwrap_or paper 0)) + 1)
-      → made_of (λ (version : ℕ). upload_drawn maker (unwrap_or paper 0) version content) r ≡ judge_by_role t (Some maker) (Upload paper content)
+      → r ≡ judged (upload_checks by (named_in seen paper) (own_bytes seen (Some stamp.maker)) count) (length (uploads_at seen (unwrap_or paper 0)) + 1)
+      → made_of (λ (version : ℕ). upload_drawn stamp (unwrap_or paper 0) version content) r ≡ judge_by_role t (call_by stamp (Upload paper content))
   upload-made content count counted r judges =
-      judged-made (upload_checks by (named_in seen paper) (own_bytes seen (Some maker)) count) (λ (version : ℕ). upload_drawn maker (unwrap_or paper 0) version content)
+      judged-made (upload_checks by (named_in seen paper) (own_bytes seen (Some stamp.maker)) count) (λ (version : ℕ). upload_drawn stamp (unwrap_or paper 0) version content)
       (length (uploads_at seen (unwrap_or paper 0)) + 1) r judges
-      ∙ (λ i. judged (upload_checks (stands i) (named_in (same i) paper) (own_bytes (same i) (Some maker)) (counted i))
-      (upload_drawn maker (unwrap_or paper 0) (length (uploads_at (same i) (unwrap_or paper 0)) + 1) content))
+      ∙ (λ i. judged (upload_checks (stands i) (named_in (same i) paper) (own_bytes (same i) (Some stamp.maker)) (counted i))
+      (upload_drawn stamp (unwrap_or paper 0) (length (uploads_at (same i) (unwrap_or paper 0)) + 1) content))

@@ -6,14 +6,16 @@ use Rattle.cr_base.specs.declared.command.Command.TheVariants.{SetConflict, Assi
 use Rattle.cr_base.specs.declared.entry.Account.{Account}
 use Rattle.cr_base.specs.declared.entry.Entry.{Entry}
 use Rattle.cr_base.specs.declared.entry.Entry.TheVariants as entries
+use Rattle.cr_base.specs.declared.entry.Stamp.{Stamp}
 use Rattle.cr_base.specs.declared.entry.Stamped.{Stamped}
 use Rattle.cr_base.specs.declared.reply.Receipt.{Receipt}
 use Rattle.cr_base.specs.declared.reply.Receipt.TheVariants as receipts
 use Rattle.cr_base.specs.declared.reply.Rule.{Rule}
 use Rattle.cr_base.specs.declared.reply.Rule.TheVariants as rules
 use Rattle.cr_base.specs.Bulk.{entries_of, turns_own_conflict}
+use Rattle.cr_base.specs.Calls.{call_by}
 use Rattle.cr_base.specs.Checks.{Check, judged, conflict_checks, assign_checks, unassign_checks, tag_checks}
-use Rattle.cr_base.specs.Drawn.{Drawn, grouped}
+use Rattle.cr_base.specs.Drawn.{Drawn, stamped, grouped}
 use Rattle.cr_base.specs.History.{History}
 use Rattle.cr_base.specs.Judging.{judge_by_role}
 use Rattle.cr_base.specs.Lists.{at_some, is_number}
@@ -36,55 +38,55 @@ use Rattle.cr_judge.proofs.RowLaws.{user-behind, within-from}
 -- ---- an entry
 
 -- what is drawn of one entry, where it is known
-one-drawn : (user : ℕ) (checks : List Check) (e : Entry) (receipt : Receipt) (drawn : Drawn) (entry : Entry)
-    → judged checks (record { group = grouped user (e ∷ []); receipt = receipt }) ≡ Ok drawn → IsRowEntry e → entries_of drawn.group ≡ entry ∷ []
-    → (drawn.group ≡ grouped user (entry ∷ [])) × IsRowEntry entry
-one-drawn user checks e receipt drawn entry accepted is told =
-    let first : Drawn = record { group = grouped user (e ∷ []); receipt = receipt } in
+one-drawn : (stamp : Stamp) (checks : List Check) (e : Entry) (receipt : Receipt) (drawn : Drawn) (entry : Entry)
+    → judged checks (record { group = grouped stamp (e ∷ []); receipt = receipt }) ≡ Ok drawn → IsRowEntry e → entries_of drawn.group ≡ entry ∷ []
+    → (drawn.group ≡ grouped stamp (entry ∷ [])) × IsRowEntry entry
+one-drawn stamp checks e receipt drawn entry accepted is told =
+    let first : Drawn = record { group = grouped stamp (e ∷ []); receipt = receipt } in
     let k = judged-Ok checks first drawn accepted in
     let same : e ≡ entry = ap (λ (es : List Entry). head-or es) (ap (λ (d : Drawn). entries_of d.group) k.1 ∙ told) in
-    (ap (λ (d : Drawn). d.group) (sym k.1) ∙ ap (λ (x : Entry). grouped user (x ∷ [])) same, subst IsRowEntry same is)
+    (ap (λ (d : Drawn). d.group) (sym k.1) ∙ ap (λ (x : Entry). grouped stamp (x ∷ [])) same, subst IsRowEntry same is)
   where
     head-or : List Entry → Entry
     head-or [] = e
     head-or (x ∷ xs) = x
 
 -- the command of a row draws one of its kinds, which its caller makes
-pub row-drawn : (t : Tables) (user : ℕ) (command : Command) → IsRowCommand command → (drawn : Drawn) (entry : Entry)
-    → judge_by_role t (Some user) command ≡ Ok drawn → entries_of drawn.group ≡ entry ∷ []
-    → (drawn.group ≡ grouped user (entry ∷ [])) × IsRowEntry entry
-row-drawn t user (SetConflict paper name on) is drawn entry accepted told =
-    let facts : Facts = facts_of_tables t (Some user) in
+pub row-drawn : (t : Tables) (stamp : Stamp) (command : Command) → IsRowCommand command → (drawn : Drawn) (entry : Entry)
+    → judge_by_role t (call_by stamp command) ≡ Ok drawn → entries_of drawn.group ≡ entry ∷ []
+    → (drawn.group ≡ grouped stamp (entry ∷ [])) × IsRowEntry entry
+row-drawn t stamp (SetConflict paper name on) is drawn entry accepted told =
+    let facts : Facts = facts_of_tables t (Some stamp.maker) in
     let target = user_among facts.accounts name in
-    one-drawn user
-    (conflict_checks (standing_at t (Some user) paper) (paper_named facts (shown_in_tables t) paper) (target_named facts (shown_in_tables t) (Some user) paper target) on)
+    one-drawn stamp
+    (conflict_checks (standing_at t (Some stamp.maker) paper) (paper_named facts (shown_in_tables t) paper) (target_named facts (shown_in_tables t) (Some stamp.maker) paper target) on)
     (entries.Conflict (unwrap_or paper 0) (unwrap_or target 0) on) (receipts.Changed (unwrap_or paper 0)) drawn entry accepted tt told
-row-drawn t user (Assign paper name kind) is drawn entry accepted told =
-    let facts : Facts = facts_of_tables t (Some user) in
+row-drawn t stamp (Assign paper name kind) is drawn entry accepted told =
+    let facts : Facts = facts_of_tables t (Some stamp.maker) in
     let target = user_among facts.accounts name in
     let labels = labels_in t.seats (unwrap_or paper 0) in
-    one-drawn user
-    (assign_checks (standing_at t (Some user) paper) (paper_named facts (shown_in_tables t) paper) (target_named facts (shown_in_tables t) (Some user) paper target) labels)
+    one-drawn stamp
+    (assign_checks (standing_at t (Some stamp.maker) paper) (paper_named facts (shown_in_tables t) paper) (target_named facts (shown_in_tables t) (Some stamp.maker) paper target) labels)
     (entries.Assigned (unwrap_or paper 0) (unwrap_or target 0) kind (labels + 1)) (receipts.Label (labels + 1)) drawn entry accepted tt told
-row-drawn t user (Unassign paper name) is drawn entry accepted told =
-    let facts : Facts = facts_of_tables t (Some user) in
+row-drawn t stamp (Unassign paper name) is drawn entry accepted told =
+    let facts : Facts = facts_of_tables t (Some stamp.maker) in
     let target = user_among facts.accounts name in
     let p : ℕ = unwrap_or paper 0 in
     let seat = ordinal_in t.seats target p in
-    one-drawn user
-    (unassign_checks (standing_at t (Some user) paper) (paper_named facts (shown_in_tables t) paper) (target_named facts (shown_in_tables t) (Some user) paper target)
+    one-drawn stamp
+    (unassign_checks (standing_at t (Some stamp.maker) paper) (paper_named facts (shown_in_tables t) paper) (target_named facts (shown_in_tables t) (Some stamp.maker) paper target)
     (at_some (is_written_in t.reviews p) seat))
     (entries.Unassigned p (unwrap_or target 0) (unwrap_or seat 0)) (receipts.Changed p) drawn entry accepted tt told
-row-drawn t user (Tag paper tag on) is drawn entry accepted told =
-    one-drawn user
-    (tag_checks (standing_at t (Some user) paper) (paper_named (facts_of_tables t (Some user)) (shown_in_tables t) paper) (is_for_chairs tag))
+row-drawn t stamp (Tag paper tag on) is drawn entry accepted told =
+    one-drawn stamp
+    (tag_checks (standing_at t (Some stamp.maker) paper) (paper_named (facts_of_tables t (Some stamp.maker)) (shown_in_tables t) paper) (is_for_chairs tag))
     (entries.Tagged (unwrap_or paper 0) tag on) (receipts.Changed (unwrap_or paper 0)) drawn entry accepted tt told
-row-drawn t user _ is drawn entry accepted told = absurd is
+row-drawn t stamp _ is drawn entry accepted told = absurd is
 
 -- ---- one more
 
 -- its mark is no matter
-fit-marked : (t : Tables) (s : Stamped) (more : Bool) → Fits t s → Fits t (record { stamp = s.stamp; more = more; entry = s.entry })
+fit-marked : (t : Tables) (s : Stamped) (more : Bool) → Fits t s → Fits t (stamped s.stamp more s.entry)
 fit-marked t s more fit = record {
   accounts = fit.accounts;
   papers = fit.papers;
@@ -105,87 +107,87 @@ rows-more (x ∷ earlier) s are is = (are.0, rows-more earlier s are.1 is)
 -- ---- a conflict
 
 -- what is told of this user, who may be the caller
-abbrev row_conflict_at : Tables → ℕ → Option ℕ → Bool → Option ℕ → Bool → Result Drawn Rule
-row_conflict_at t maker paper on user own = cond own (Err rules.BulkSelf) (conflict_at t maker paper user on)
+abbrev row_conflict_at : Tables → Stamp → Option ℕ → Bool → Option ℕ → Bool → Result Drawn Rule
+row_conflict_at t stamp paper on user own = cond own (Err rules.BulkSelf) (conflict_at t stamp paper user on)
 
 -- whether it is of the caller's own is asked of the user who was found for the name
-module _ (t : Tables) (earlier : History) (are : AreRowEntries earlier) (maker : ℕ) (paper : Option ℕ) (name : Option (List ℕ)) (on : Bool)
-    (user : Option ℕ) (found : user ≡ target_at t.accounts name) (own : Bool) (told : own ≡ is_number user maker) where
+module _ (t : Tables) (earlier : History) (are : AreRowEntries earlier) (stamp : Stamp) (paper : Option ℕ) (name : Option (List ℕ)) (on : Bool)
+    (user : Option ℕ) (found : user ≡ target_at t.accounts name) (own : Bool) (told : own ≡ is_number user stamp.maker) where
   abbrev row_told : Result Drawn Rule
-  row_told = row_judged_at (tables_from t earlier) maker (SetConflict paper name on)
+  row_told = row_judged_at (tables_from t earlier) stamp (SetConflict paper name on)
 
-  conflict-told : (b : Bool) → own ≡ b → row_conflict_at (tables_from t earlier) maker paper on user b ≡ row_told
+  conflict-told : (b : Bool) → own ≡ b → row_conflict_at (tables_from t earlier) stamp paper on user b ≡ row_told
   conflict-told b is =
-      ap (row_conflict_at (tables_from t earlier) maker paper on user) (sym is ∙ told)
-      ∙ ap (λ (v : Option ℕ). row_conflict_at (tables_from t earlier) maker paper on v (is_number v maker)) (user-behind t earlier are name user found)
+      ap (row_conflict_at (tables_from t earlier) stamp paper on user) (sym is ∙ told)
+      ∙ ap (λ (v : Option ℕ). row_conflict_at (tables_from t earlier) stamp paper on v (is_number v stamp.maker)) (user-behind t earlier are name user found)
 
   pub conflict-own : own ≡ true → ◌≡◌ {A = Result Drawn Rule} (Err rules.BulkSelf) row_told
   conflict-own is = conflict-told true is
 
-  pub conflict-other : own ≡ false → (r : Result Drawn Rule) → r ≡ conflict_at (tables_from t earlier) maker paper user on → r ≡ row_told
+  pub conflict-other : own ≡ false → (r : Result Drawn Rule) → r ≡ conflict_at (tables_from t earlier) stamp paper user on → r ≡ row_told
   conflict-other is r judges = judges ∙ conflict-told false is
 
 -- ---- what a row is answered
 
 -- what its command draws, where it is accepted
-accepted-judged : (t : Tables) (user : ℕ) (command : Command) (drawn : Drawn) → row_judged_at t user command ≡ Ok drawn → judge_by_role t (Some user) command ≡ Ok drawn
-accepted-judged t user command drawn is = by (turns_own_conflict (facts_of_tables t (Some user)) user command) is
+accepted-judged : (t : Tables) (stamp : Stamp) (command : Command) (drawn : Drawn) → row_judged_at t stamp command ≡ Ok drawn → judge_by_role t (call_by stamp command) ≡ Ok drawn
+accepted-judged t stamp command drawn is = by (turns_own_conflict (facts_of_tables t (Some stamp.maker)) stamp.maker command) is
   where
     no : ◌≡◌ {A = Result Drawn Rule} (Err rules.BulkSelf) (Ok drawn) → ⊥
     no e = cc (e)
 
-    by : (own : Bool) → cond own (Err rules.BulkSelf) (judge_by_role t (Some user) command) ≡ Ok drawn → judge_by_role t (Some user) command ≡ Ok drawn
+    by : (own : Bool) → cond own (Err rules.BulkSelf) (judge_by_role t (call_by stamp command)) ≡ Ok drawn → judge_by_role t (call_by stamp command) ≡ Ok drawn
     by true e = absurd (no e)
     by false e = e
 
-module _ (t : Tables) (earlier : History) (before : AreEarlier t earlier) (user : ℕ) (command : Command) where
+module _ (t : Tables) (earlier : History) (before : AreEarlier t earlier) (stamp : Stamp) (command : Command) where
   abbrev now : Tables
   now = tables_from t earlier
 
   -- where the entry that is told of it is its own
   module _ (row : IsRowCommand command) (accounts : List Account) (r : Result Entry Rule)
-      (judges : entry_or_rule accounts user r ≡ row_judged_at now user command) where
-    pub row-judged : row_group user r ≡ group_or_rule (row_judged_at now user command)
+      (judges : entry_or_rule accounts stamp r ≡ row_judged_at now stamp command) where
+    pub row-judged : row_group stamp r ≡ group_or_rule (row_judged_at now stamp command)
     row-judged = same r ∙ ap group_or_rule judges
       where
-        same : (x : Result Entry Rule) → row_group user x ≡ group_or_rule (entry_or_rule accounts user x)
+        same : (x : Result Entry Rule) → row_group stamp x ≡ group_or_rule (entry_or_rule accounts stamp x)
         same (Ok entry) = refl
         same (Err rule) = refl
 
     -- it is of a kind that a row adds, and may come next
     module _ (within : AreWithin (paper_count t.papers) t.ties) (entry : Entry) (is : r ≡ Ok entry) where
       abbrev drawn : Drawn
-      drawn = drawn_by accounts (alone user entry)
+      drawn = drawn_by accounts (alone stamp entry)
 
-      accepted : judge_by_role now (Some user) command ≡ Ok drawn
-      accepted = accepted-judged now user command drawn (sym judges ∙ ap (entry_or_rule accounts user) is)
+      accepted : judge_by_role now (call_by stamp command) ≡ Ok drawn
+      accepted = accepted-judged now stamp command drawn (sym judges ∙ ap (entry_or_rule accounts stamp) is)
 
       row-kind : IsRowEntry entry
-      row-kind = (row-drawn now user command row drawn entry accepted refl).1
+      row-kind = (row-drawn now stamp command row drawn entry accepted refl).1
 
-      fits-now : FitInTurn now (grouped user (entry ∷ []))
-      fits-now = judged-fits now (within-from t earlier before.fits within) user command drawn accepted
+      fits-now : FitInTurn now (grouped stamp (entry ∷ []))
+      fits-now = judged-fits now (within-from t earlier before.fits within) stamp command drawn accepted
 
-      next-now : (more : Bool) → AreEarlier t (earlier ++ record { stamp = record { maker = user }; more = more; entry = entry } ∷ [])
+      next-now : (more : Bool) → AreEarlier t (earlier ++ stamped stamp more entry ∷ [])
       next-now more =
-          let s : Stamped = record { stamp = record { maker = user }; more = more; entry = entry } in
+          let s : Stamped = stamped stamp more entry in
           record {
             rows = rows-more earlier s before.rows row-kind;
-            fits = fits-more t earlier s before.fits (fit-marked now (record { stamp = record { maker = user }; more = false; entry = entry }) more fits-now.0);
+            fits = fits-more t earlier s before.fits (fit-marked now (stamped stamp false entry) more fits-now.0);
           }
 
-    pub row-fits : AreWithin (paper_count t.papers) t.ties → IfOk r (λ entry. FitInTurn now (grouped user (entry ∷ [])))
+    pub row-fits : AreWithin (paper_count t.papers) t.ties → IfOk r (λ entry. FitInTurn now (grouped stamp (entry ∷ [])))
     row-fits within = by r refl
       where
-        by : (x : Result Entry Rule) → r ≡ x → IfOk x (λ entry. FitInTurn now (grouped user (entry ∷ [])))
+        by : (x : Result Entry Rule) → r ≡ x → IfOk x (λ entry. FitInTurn now (grouped stamp (entry ∷ [])))
         by (Ok entry) is = fits-now within entry is
         by (Err rule) is = tt
 
     pub row-next : AreWithin (paper_count t.papers) t.ties
-        → IfOk r (λ entry. (more : Bool) → AreEarlier t (earlier ++ record { stamp = record { maker = user }; more = more; entry = entry } ∷ []))
+        → IfOk r (λ entry. (more : Bool) → AreEarlier t (earlier ++ stamped stamp more entry ∷ []))
     row-next within = by r refl
       where
-        by : (x : Result Entry Rule) → r ≡ x → IfOk x (λ entry. (more : Bool) → AreEarlier t (earlier ++ record { stamp = record { maker = user }; more = more; entry = entry } ∷ []))
+        by : (x : Result Entry Rule) → r ≡ x → IfOk x (λ entry. (more : Bool) → AreEarlier t (earlier ++ stamped stamp more entry ∷ []))
         by (Ok entry) is = next-now within entry is
         by (Err rule) is = tt
 
@@ -193,7 +195,7 @@ module _ (t : Tables) (earlier : History) (before : AreEarlier t earlier) (user 
 
 -- an entry without its mark
 abbrev pub unmarked : Stamped → Stamped
-unmarked s = record { stamp = s.stamp; more = false; entry = s.entry }
+unmarked s = stamped s.stamp false s.entry
 
 -- the tables behind entries don't hang on marks
 tables-unmarked : (t : Tables) (H : History) → tables_from t (map unmarked H) ≡ tables_from t H

@@ -25,7 +25,6 @@ use Rattle.cr_base.specs.Tags.{TagsState, tags_after}
 use Rattle.cr_base.specs.Ties.{BareTies, TiesState, ties_after, ties_from, is_author_in, is_conflicted_in, AreWithin}
 use Rattle.cr_base.proofs.TieLaws.{within-after}
 use Rattle.cr_view.proofs.NobodyLaws.{nobody-seat}
-use Rattle.cr_judge.specs.declared.named.Named.{Named}
 use Rattle.cr_judge.specs.Named.{there_in, named_at, target_with, user_named, written_at}
 use Rattle.cr_judge.specs.Rows.{AreRowEntries}
 use Rattle.cr_judge.specs.Targets.{target_at}

@@ -7,13 +7,14 @@ use Rattle.std.proofs.lemmas.Bool.{true≢false}
 use Rattle.cr_base.specs.declared.command.Command.TheVariants.{Submit, Name}
 use Rattle.cr_base.specs.declared.entry.Account.{Account}
 use Rattle.cr_base.specs.declared.entry.Entry.TheVariants.{Named, Submitted}
-use Rattle.cr_base.specs.declared.reply.Receipt.TheVariants as receipts
+use Rattle.cr_base.specs.declared.entry.Stamp.{Stamp}
 use Rattle.cr_base.specs.declared.reply.Rule.{Rule}
 use Rattle.cr_base.specs.declared.standing.Standing.{Standing}
 use Rattle.cr_base.specs.declared.words.Role.{Role}
 use Rattle.cr_base.specs.Accounts.{role_at, account_at, lines_of}
+use Rattle.cr_base.specs.Calls.{call_by}
 use Rattle.cr_base.specs.Checks.{judged, of_role, submit_checks, name_checks}
-use Rattle.cr_base.specs.Drawn.{Drawn, besides, grouped, submission_drawn, naming_drawn}
+use Rattle.cr_base.specs.Drawn.{Drawn, besides, submission_drawn, naming_drawn}
 use Rattle.cr_base.specs.Judging.{name_judged, submission_judged, judge_by_role}
 use Rattle.cr_base.specs.Lists.{listed}
 use Rattle.cr_base.specs.Papers.{PapersState, paper_count, own_count}
@@ -23,9 +24,8 @@ use Rattle.cr_base.proofs.AccountLaws.{number_in-lines_of}
 use Rattle.cr_base.proofs.CheckLaws.{judged-Ok}
 use Rattle.cr_base.proofs.ListLaws.{length-numbers_from, role_among-lines_of}
 use Rattle.cr_view.proofs.JudgeLaws.{made_of, judged-made}
-use Rattle.cr_judge.specs.declared.effect.Effect.{Effect}
 use Rattle.cr_judge.specs.declared.effect.Rest.TheVariants as rests
-use Rattle.cr_judge.specs.Effects.{alone, drawn_by, drawn_or_rule}
+use Rattle.cr_judge.specs.Effects.{alone, drawn_by}
 use Rattle.cr_judge.specs.Named.{submission_of, submission_at, naming_at}
 use Rattle.cr_judge.specs.Targets.{target_at, users_at, coauthors_of}
 use Rattle.cr_judge.proofs.NameLaws.{name-found}
@@ -38,26 +38,26 @@ users-among : (accounts : List Account) (names : List (Option (List ℕ))) → u
 users-among accounts names = ap (λ (f : Option (List ℕ) → Option ℕ). map f names) (λ i name. target-among accounts name i)
 
 -- a submission is judged by the number of papers and by the users of the names
-pub judge-submit : (t : Tables) (maker : ℕ) (title abstract : List ℕ) (authors : List (Option (List ℕ)))
-    → judge_by_role t (Some maker) (Submit title abstract authors) ≡ submission_at t maker title abstract authors
-judge-submit t maker title abstract authors =
+pub judge-submit : (t : Tables) (stamp : Stamp) (title abstract : List ℕ) (authors : List (Option (List ℕ)))
+    → judge_by_role t (call_by stamp (Submit title abstract authors)) ≡ submission_at t stamp title abstract authors
+judge-submit t stamp title abstract authors =
     let users : List (Option ℕ) = users_at t.accounts authors in
-    let by : Standing = standing_at t (Some maker) None in
+    let by : Standing = standing_at t (Some stamp.maker) None in
     let judge : ℕ → Result Drawn Rule = λ n.
-    judged (submit_checks (list_any is_none users) by n (own_count t.papers (Some maker))) (submission_drawn maker (n + 1) title abstract (flat_map listed users)) in
-    ap (λ (us : List (Option ℕ)). submission_judged (facts_of_tables t (Some maker)) (Some maker) us title abstract) (users-among t.accounts authors)
+    judged (submit_checks (list_any is_none users) by n (own_count t.papers (Some stamp.maker))) (submission_drawn stamp (n + 1) title abstract (flat_map listed users)) in
+    ap (λ (us : List (Option ℕ)). submission_judged (facts_of_tables t (Some stamp.maker)) stamp us title abstract) (users-among t.accounts authors)
     ∙ ap judge (length-numbers_from 1 t.papers.papers)
 
-pub judge-name : (t : Tables) (maker : ℕ) (name : Option (List ℕ)) (role : Role) → judge_by_role t (Some maker) (Name name role) ≡ naming_at t maker name role
-judge-name t maker name role =
-    ap (λ (v : Option ℕ). name_judged (facts_of_tables t (Some maker)) (Some maker) v (unwrap_or name []) role) (target-among t.accounts name)
-    ∙ ap (λ (now : Option Role). judged (name_checks (standing_at t (Some maker) None) (option_map of_role now) role) (naming_drawn maker (unwrap_or (target_at t.accounts name) 0) (unwrap_or name []) role)) (role_among-lines_of t.accounts (target_at t.accounts name))
+pub judge-name : (t : Tables) (stamp : Stamp) (name : Option (List ℕ)) (role : Role) → judge_by_role t (call_by stamp (Name name role)) ≡ naming_at t stamp name role
+judge-name t stamp name role =
+    ap (λ (v : Option ℕ). name_judged (facts_of_tables t (Some stamp.maker)) stamp v (unwrap_or name []) role) (target-among t.accounts name)
+    ∙ ap (λ (now : Option Role). judged (name_checks (standing_at t (Some stamp.maker) None) (option_map of_role now) role) (naming_drawn stamp (unwrap_or (target_at t.accounts name) 0) (unwrap_or name []) role)) (role_among-lines_of t.accounts (target_at t.accounts name))
 
 -- ---- a submission
 
-module _ (t : Tables) (maker : ℕ) (users : List (Option ℕ)) (title abstract : List ℕ) (found : Option (List ℕ)) (told : found ≡ coauthors_of maker users) where
+module _ (t : Tables) (stamp : Stamp) (users : List (Option ℕ)) (title abstract : List ℕ) (found : Option (List ℕ)) (told : found ≡ coauthors_of stamp.maker users) where
   abbrev others : List ℕ
-  others = besides (maker ∷ []) (flat_map listed users)
+  others = besides (stamp.maker ∷ []) (flat_map listed users)
 
   all-found : not (is_some found) ≡ list_any is_none users
   all-found = ap (λ (o : Option (List ℕ)). not (is_some o)) told ∙ by (list_any is_none users)
@@ -75,30 +75,30 @@ module _ (t : Tables) (maker : ℕ) (users : List (Option ℕ)) (title abstract 
       of None none = absurd (true≢false none)
       of (Some us) none = refl
 
-  submission-made : (by : Standing) → by ≡ standing_at t (Some maker) None → (seen : PapersState) → seen ≡ t.papers → (r : Result ℕ Rule)
-      → r ≡ judged (submit_checks (not (is_some found)) by (paper_count seen) (own_count seen (Some maker))) (paper_count seen + 1)
-      → made_of (λ (paper : ℕ). submission_drawn maker paper title abstract (flat_map listed users)) r ≡ submission_of t maker users title abstract
+  submission-made : (by : Standing) → by ≡ standing_at t (Some stamp.maker) None → (seen : PapersState) → seen ≡ t.papers → (r : Result ℕ Rule)
+      → r ≡ judged (submit_checks (not (is_some found)) by (paper_count seen) (own_count seen (Some stamp.maker))) (paper_count seen + 1)
+      → made_of (λ (paper : ℕ). submission_drawn stamp paper title abstract (flat_map listed users)) r ≡ submission_of t stamp users title abstract
   submission-made by stands seen same r judges =
-      judged-made (submit_checks (not (is_some found)) by (paper_count seen) (own_count seen (Some maker))) make (paper_count seen + 1) r judges
-      ∙ ap (λ (x : PapersState). judged (submit_checks (not (is_some found)) by (paper_count x) (own_count x (Some maker))) (make (paper_count x + 1))) same
-      ∙ (λ i. judged (submit_checks (all-found i) (stands i) (paper_count t.papers) (own_count t.papers (Some maker))) (make (paper_count t.papers + 1)))
+      judged-made (submit_checks (not (is_some found)) by (paper_count seen) (own_count seen (Some stamp.maker))) make (paper_count seen + 1) r judges
+      ∙ ap (λ (x : PapersState). judged (submit_checks (not (is_some found)) by (paper_count x) (own_count x (Some stamp.maker))) (make (paper_count x + 1))) same
+      ∙ (λ i. judged (submit_checks (all-found i) (stands i) (paper_count t.papers) (own_count t.papers (Some stamp.maker))) (make (paper_count t.papers + 1)))
     where
       make : ℕ → Drawn
-      make paper = submission_drawn maker paper title abstract (flat_map listed users)
+      make paper = submission_drawn stamp paper title abstract (flat_map listed users)
 
-  pub submission-refused : (by : Standing) → by ≡ standing_at t (Some maker) None → (seen : PapersState) → seen ≡ t.papers → (rule : Rule)
-      → ◌≡◌ {A = Result ℕ Rule} (Err rule) (judged (submit_checks (not (is_some found)) by (paper_count seen) (own_count seen (Some maker))) (paper_count seen + 1))
-      → ◌≡◌ {A = Result Drawn Rule} (Err rule) (submission_of t maker users title abstract)
+  pub submission-refused : (by : Standing) → by ≡ standing_at t (Some stamp.maker) None → (seen : PapersState) → seen ≡ t.papers → (rule : Rule)
+      → ◌≡◌ {A = Result ℕ Rule} (Err rule) (judged (submit_checks (not (is_some found)) by (paper_count seen) (own_count seen (Some stamp.maker))) (paper_count seen + 1))
+      → ◌≡◌ {A = Result Drawn Rule} (Err rule) (submission_of t stamp users title abstract)
   submission-refused by stands seen same rule judges = submission-made by stands seen same (Err rule) judges
 
-  pub submission-drawn : (by : Standing) → by ≡ standing_at t (Some maker) None → (seen : PapersState) → seen ≡ t.papers → (paper : ℕ)
-      → ◌≡◌ {A = Result ℕ Rule} (Ok paper) (judged (submit_checks (not (is_some found)) by (paper_count seen) (own_count seen (Some maker))) (paper_count seen + 1))
+  pub submission-drawn : (by : Standing) → by ≡ standing_at t (Some stamp.maker) None → (seen : PapersState) → seen ≡ t.papers → (paper : ℕ)
+      → ◌≡◌ {A = Result ℕ Rule} (Ok paper) (judged (submit_checks (not (is_some found)) by (paper_count seen) (own_count seen (Some stamp.maker))) (paper_count seen + 1))
       → (given : List ℕ) → found ≡ Some given
       → ◌≡◌ {A = Result Drawn Rule}
-      (Ok (drawn_by t.accounts (record { stamp = record { maker = maker }; first = Submitted paper title abstract; rest = rests.Coauthors paper given })))
-      (submission_of t maker users title abstract)
+      (Ok (drawn_by t.accounts (record { stamp = stamp; first = Submitted paper title abstract; rest = rests.Coauthors paper given })))
+      (submission_of t stamp users title abstract)
   submission-drawn by stands seen same paper judges given is =
-      ap (λ (us : List ℕ). Ok (drawn_by t.accounts (record { stamp = record { maker = maker }; first = Submitted paper title abstract; rest = rests.Coauthors paper us })))
+      ap (λ (us : List ℕ). Ok (drawn_by t.accounts (record { stamp = stamp; first = Submitted paper title abstract; rest = rests.Coauthors paper us })))
       (sym (among (list_any is_none users) (sym told ∙ is)))
       ∙ submission-made by stands seen same (Ok paper) judges
     where
@@ -114,8 +114,8 @@ name-told : (accounts : List Account) (name : Option (List ℕ)) (user : ℕ) �
 name-told accounts None user is = cc
 name-told accounts (Some name) user is = ap (λ (o : Option (List ℕ)). unwrap_or o []) (name-found accounts name user is)
 
-module _ (t : Tables) (maker : ℕ) (name : Option (List ℕ)) (role : Role) (user : Option ℕ) (found : user ≡ target_at t.accounts name)
-    (by : Standing) (stands : by ≡ standing_at t (Some maker) None) (seen : List Account) (same : seen ≡ t.accounts)
+module _ (t : Tables) (stamp : Stamp) (name : Option (List ℕ)) (role : Role) (user : Option ℕ) (found : user ≡ target_at t.accounts name)
+    (by : Standing) (stands : by ≡ standing_at t (Some stamp.maker) None) (seen : List Account) (same : seen ≡ t.accounts)
     (kept : Result (Unit {0}) Rule) (judges : kept ≡ judged (name_checks by (option_map of_role (option_and_then (role_at seen) user)) role) tt) where
   -- where no rule is broken, she is there
   pub is-named : kept ≡ Ok tt → IsSome user
@@ -125,19 +125,19 @@ module _ (t : Tables) (maker : ℕ) (name : Option (List ℕ)) (role : Role) (us
       of None none = absurd (true≢false none)
       of (Some v) none = refl
 
-  pub naming-made : made_of (λ (done : Unit {0}). naming_drawn maker (unwrap_or user 0) (unwrap_or name []) role) kept ≡ naming_at t maker name role
+  pub naming-made : made_of (λ (done : Unit {0}). naming_drawn stamp (unwrap_or user 0) (unwrap_or name []) role) kept ≡ naming_at t stamp name role
   naming-made =
       judged-made (name_checks by (option_map of_role (option_and_then (role_at seen) user)) role) (λ (done : Unit {0}). make user) tt kept judges
       ∙ ap (λ (x : List Account). judged (name_checks by (option_map of_role (option_and_then (role_at x) user)) role) (make user)) same
       ∙ (λ i. judged (name_checks (stands i) (option_map of_role (option_and_then (role_at t.accounts) (found i))) role) (make (found i)))
     where
       make : Option ℕ → Drawn
-      make v = naming_drawn maker (unwrap_or v 0) (unwrap_or name []) role
+      make v = naming_drawn stamp (unwrap_or v 0) (unwrap_or name []) role
 
   pub naming-drawn : kept ≡ Ok tt → (v : ℕ) → user ≡ Some v
-      → ◌≡◌ {A = Result Drawn Rule} (Ok (drawn_by t.accounts (alone maker (Named v role)))) (naming_at t maker name role)
+      → ◌≡◌ {A = Result Drawn Rule} (Ok (drawn_by t.accounts (alone stamp (Named v role)))) (naming_at t stamp name role)
   naming-drawn is v found_as =
-      ap (λ (n : List ℕ). Ok (naming_drawn maker v n role)) (name-told t.accounts name v (sym found ∙ found_as))
-      ∙ ap (λ (o : Option ℕ). Ok (naming_drawn maker (unwrap_or o 0) (unwrap_or name []) role)) (sym found_as)
-      ∙ ap (made_of (λ (done : Unit {0}). naming_drawn maker (unwrap_or user 0) (unwrap_or name []) role)) (sym is)
+      ap (λ (n : List ℕ). Ok (naming_drawn stamp v n role)) (name-told t.accounts name v (sym found ∙ found_as))
+      ∙ ap (λ (o : Option ℕ). Ok (naming_drawn stamp (unwrap_or o 0) (unwrap_or name []) role)) (sym found_as)
+      ∙ ap (made_of (λ (done : Unit {0}). naming_drawn stamp (unwrap_or user 0) (unwrap_or name []) role)) (sym is)
       ∙ naming-made

@@ -5,9 +5,11 @@ use Rattle.std.specs.Option.{option_and_then}
 use Rattle.std.proofs.lemmas.Bool.{true≢false}
 use Rattle.std.proofs.lemmas.List.{length-map}
 use Rattle.cr_base.specs.declared.command.Command.TheVariants.{Review, Comment}
+use Rattle.cr_base.specs.declared.entry.Stamp.{Stamp}
 use Rattle.cr_base.specs.declared.form.Form.{Form}
 use Rattle.cr_base.specs.declared.reply.Rule.{Rule}
 use Rattle.cr_base.specs.declared.standing.Standing.{Standing}
+use Rattle.cr_base.specs.Calls.{call_by}
 use Rattle.cr_base.specs.Checks.{NamedPaper, judged, review_checks, comment_checks}
 use Rattle.cr_base.specs.Drawn.{Drawn, review_drawn, comment_drawn}
 use Rattle.cr_base.specs.Judging.{judge_by_role}
@@ -20,27 +22,27 @@ use Rattle.cr_base.proofs.CheckLaws.{judged-Ok}
 use Rattle.cr_reviews.specs.Under.{forms_by}
 use Rattle.cr_view.proofs.JudgeLaws.{made_of}
 use Rattle.cr_judge.specs.declared.named.Named.{Named}
-use Rattle.cr_judge.specs.Named.{there_in, named_at, asked_of}
+use Rattle.cr_judge.specs.Named.{there_in, named_at}
 use Rattle.cr_judge.proofs.NamedLaws.{numbered-drawn}
 
-module _ (t : Tables) (maker : ℕ) (paper : Option ℕ) (named : Named) (given : named ≡ named_at t maker (there_in t.papers paper))
-    (ordinal : Option ℕ) (held : ordinal ≡ option_and_then (ordinal_in t.seats (Some maker)) named.paper) where
+module _ (t : Tables) (stamp : Stamp) (paper : Option ℕ) (named : Named) (given : named ≡ named_at t stamp.maker (there_in t.papers paper))
+    (ordinal : Option ℕ) (held : ordinal ≡ option_and_then (ordinal_in t.seats (Some stamp.maker)) named.paper) where
   abbrev told : NamedPaper
   told = record { there = is_some named.paper; withdrawn = named.withdrawn }
 
   -- the label under which she reviews the paper, where it is there
   abbrev seat : Option ℕ → Option ℕ
-  seat at = option_and_then (ordinal_in t.seats (Some maker)) at
+  seat at = option_and_then (ordinal_in t.seats (Some stamp.maker)) at
 
   pub review-drawn : (form : Form) (seen : ReviewsState) → seen ≡ t.reviews → (r : Result ℕ Rule)
       → r ≡ judged (review_checks named.by told) (length (forms_by seen (unwrap_or named.paper 0) ordinal) + 1)
-      → made_of (λ (version : ℕ). review_drawn maker (unwrap_or named.paper 0) (unwrap_or ordinal 0) version form) r ≡ judge_by_role t (Some maker) (Review paper form)
+      → made_of (λ (version : ℕ). review_drawn stamp (unwrap_or named.paper 0) (unwrap_or ordinal 0) version form) r ≡ judge_by_role t (call_by stamp (Review paper form))
   review-drawn form seen same r judges =
-      ap (λ (o : Option ℕ). made_of (λ (version : ℕ). review_drawn maker (unwrap_or named.paper 0) (unwrap_or o 0) version form) r) held
-      ∙ numbered-drawn t maker paper named given review_checks (λ (s : Standing) (w : Bool) (x : Drawn). refl)
-      (λ (at : Option ℕ) (version : ℕ). review_drawn maker (unwrap_or at 0) (unwrap_or (seat at) 0) version form)
+      ap (λ (o : Option ℕ). made_of (λ (version : ℕ). review_drawn stamp (unwrap_or named.paper 0) (unwrap_or o 0) version form) r) held
+      ∙ numbered-drawn t stamp.maker paper named given review_checks (λ (s : Standing) (w : Bool) (x : Drawn). refl)
+      (λ (at : Option ℕ) (version : ℕ). review_drawn stamp (unwrap_or at 0) (unwrap_or (seat at) 0) version form)
       (λ (at : Option ℕ). length (forms_by t.reviews (unwrap_or at 0) (seat at)) + 1)
-      (λ (at : Option ℕ). let p : ℕ = unwrap_or at 0 in review_drawn maker p (unwrap_or (ordinal_in t.seats (Some maker) p) 0) (length (own_forms_in t (Some maker) p) + 1) form)
+      (λ (at : Option ℕ). let p : ℕ = unwrap_or at 0 in review_drawn stamp p (unwrap_or (ordinal_in t.seats (Some stamp.maker) p) 0) (length (own_forms_in t (Some stamp.maker) p) + 1) form)
       (λ (p : ℕ). refl) r
       (judges
       ∙ ap (λ (o : Option ℕ). judged (review_checks named.by told) (length (forms_by seen (unwrap_or named.paper 0) o) + 1)) held
@@ -54,7 +56,7 @@ module _ (t : Tables) (maker : ℕ) (paper : Option ℕ) (named : Named) (given 
       is-true true none = refl
       is-true false none = absurd (true≢false none)
 
-      seated : (at : Option ℕ) → (standing_at t (Some maker) at).reviewer ≡ is_some (seat at)
+      seated : (at : Option ℕ) → (standing_at t (Some stamp.maker) at).reviewer ≡ is_some (seat at)
       seated None = refl
       seated (Some p) = refl
 
@@ -71,14 +73,14 @@ module _ (t : Tables) (maker : ℕ) (paper : Option ℕ) (named : Named) (given 
 
   -- a comment is numbered by how many are kept
   pub comment-drawn : (text : List ℕ) (seen : TalkState) → seen ≡ t.talk → (r : Result ℕ Rule)
-      → r ≡ judged (comment_checks named.by told (own_comments_in seen (Some maker))) (length (comments_in seen (unwrap_or named.paper 0)) + 1)
-      → made_of (λ (n : ℕ). comment_drawn maker (unwrap_or named.paper 0) n ordinal text) r ≡ judge_by_role t (Some maker) (Comment paper text)
+      → r ≡ judged (comment_checks named.by told (own_comments_in seen (Some stamp.maker))) (length (comments_in seen (unwrap_or named.paper 0)) + 1)
+      → made_of (λ (n : ℕ). comment_drawn stamp (unwrap_or named.paper 0) n ordinal text) r ≡ judge_by_role t (call_by stamp (Comment paper text))
   comment-drawn text seen same r judges =
-      ap (λ (o : Option ℕ). made_of (λ (n : ℕ). comment_drawn maker (unwrap_or named.paper 0) n o text) r) held
-      ∙ numbered-drawn t maker paper named given (λ (s : Standing) (p : NamedPaper). comment_checks s p (own_comments_in t.talk (Some maker)))
+      ap (λ (o : Option ℕ). made_of (λ (n : ℕ). comment_drawn stamp (unwrap_or named.paper 0) n o text) r) held
+      ∙ numbered-drawn t stamp.maker paper named given (λ (s : Standing) (p : NamedPaper). comment_checks s p (own_comments_in t.talk (Some stamp.maker)))
       (λ (s : Standing) (w : Bool) (x : Drawn). refl)
-      (λ (at : Option ℕ) (n : ℕ). comment_drawn maker (unwrap_or at 0) n (seat at) text)
+      (λ (at : Option ℕ) (n : ℕ). comment_drawn stamp (unwrap_or at 0) n (seat at) text)
       (λ (at : Option ℕ). length (comments_in t.talk (unwrap_or at 0)) + 1)
-      (λ (at : Option ℕ). let p : ℕ = unwrap_or at 0 in comment_drawn maker p (length (map comment_as_told (comments_in t.talk p)) + 1) (ordinal_in t.seats (Some maker) p) text)
-      (λ (p : ℕ). ap (λ (n : ℕ). comment_drawn maker p (n + 1) (ordinal_in t.seats (Some maker) p) text) (sym (length-map (comments_in t.talk p) comment_as_told))) r
-      (judges ∙ ap (λ (x : TalkState). judged (comment_checks named.by told (own_comments_in x (Some maker))) (length (comments_in x (unwrap_or named.paper 0)) + 1)) same)
+      (λ (at : Option ℕ). let p : ℕ = unwrap_or at 0 in comment_drawn stamp p (length (map comment_as_told (comments_in t.talk p)) + 1) (ordinal_in t.seats (Some stamp.maker) p) text)
+      (λ (p : ℕ). ap (λ (n : ℕ). comment_drawn stamp p (n + 1) (ordinal_in t.seats (Some stamp.maker) p) text) (sym (length-map (comments_in t.talk p) comment_as_told))) r
+      (judges ∙ ap (λ (x : TalkState). judged (comment_checks named.by told (own_comments_in x (Some stamp.maker))) (length (comments_in x (unwrap_or named.paper 0)) + 1)) same)

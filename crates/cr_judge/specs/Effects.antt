@@ -4,6 +4,7 @@ use Rattle.std.specs.Option.{option_map}
 use Rattle.cr_base.specs.declared.entry.Account.{Account}
 use Rattle.cr_base.specs.declared.entry.Entry.{Entry}
 use Rattle.cr_base.specs.declared.entry.Entry.TheVariants.{Named, Coauthor}
+use Rattle.cr_base.specs.declared.entry.Stamp.{Stamp}
 use Rattle.cr_base.specs.declared.reply.Rule.{Rule}
 use Rattle.cr_base.specs.declared.words.Role.TheVariants.{Chair}
 use Rattle.cr_base.specs.Accounts.{account_at}
@@ -20,7 +21,7 @@ behind (rests.FirstChair user) = Named user Chair ∷ []
 behind (rests.Coauthors paper users) = map (λ (user : ℕ). Coauthor paper user) users
 
 abbrev pub group_of : Effect → History
-group_of effect = grouped effect.stamp.maker (effect.first ∷ behind effect.rest)
+group_of effect = grouped effect.stamp (effect.first ∷ behind effect.rest)
 
 -- the name of the user to whom the entry gives a role
 abbrev pub name_for : List Account → Entry → Option (List ℕ)
@@ -41,15 +42,15 @@ drawn_or_rule accounts (Err rule) = Err rule
 
 -- ---- one entry
 
--- this entry of this maker, and nothing behind it
-abbrev pub alone : ℕ → Entry → Effect
-alone maker entry = record { stamp = record { maker = maker }; first = entry; rest = rests.Nothing }
+-- this entry under this stamp, and nothing behind it
+abbrev pub alone : Stamp → Entry → Effect
+alone stamp entry = record { stamp = stamp; first = entry; rest = rests.Nothing }
 
 -- of a judgement of such a command
-abbrev pub alone_or_rule : ℕ → Result Entry Rule → Result Effect Rule
-alone_or_rule maker (Ok entry) = Ok (alone maker entry)
-alone_or_rule maker (Err rule) = Err rule
+abbrev pub alone_or_rule : Stamp → Result Entry Rule → Result Effect Rule
+alone_or_rule stamp (Ok entry) = Ok (alone stamp entry)
+alone_or_rule stamp (Err rule) = Err rule
 
-abbrev pub entry_or_rule : List Account → ℕ → Result Entry Rule → Result Drawn Rule
-entry_or_rule accounts maker (Ok entry) = Ok (drawn_by accounts (alone maker entry))
-entry_or_rule accounts maker (Err rule) = Err rule
+abbrev pub entry_or_rule : List Account → Stamp → Result Entry Rule → Result Drawn Rule
+entry_or_rule accounts stamp (Ok entry) = Ok (drawn_by accounts (alone stamp entry))
+entry_or_rule accounts stamp (Err rule) = Err rule

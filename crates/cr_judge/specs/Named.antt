@@ -1,14 +1,17 @@
--- What a command names, and what the rules make of it, by reads of the tables; the caller is `maker`.
+-- What a command names, and what the rules make of it, by reads of the tables; the caller is `maker`, or the maker of
+-- `stamp`.
 use Rattle.std.specs.Prelude.{ℕ, Bool, ◌+◌, ◌==◌, List, [], ◌∷◌, length, Option, Some, None, Result}
 use Rattle.std.specs.Prelude.{is_some, is_none, unwrap_or, if◌then◌else◌}
 use Rattle.std.specs.List.{flat_map, list_any}
 use Rattle.std.specs.Option.{option_map, option_and_then}
 use Rattle.cr_base.specs.declared.entry.Account.{Account}
+use Rattle.cr_base.specs.declared.entry.Stamp.{Stamp}
 use Rattle.cr_base.specs.declared.reply.Rule.{Rule}
 use Rattle.cr_base.specs.declared.target.Target.{Target}
 use Rattle.cr_base.specs.declared.words.Kind.{Kind}
 use Rattle.cr_base.specs.declared.words.Role.{Role}
 use Rattle.cr_base.specs.Accounts.{number_at, role_at, lines_of}
+use Rattle.cr_base.specs.Calls.{stamp_by}
 use Rattle.cr_base.specs.Checks.{NamedPaper, judged, of_role, register_checks, submit_checks, name_checks}
 use Rattle.cr_base.specs.Drawn.{Drawn, registration_drawn, submission_drawn, naming_drawn}
 use Rattle.cr_base.specs.Judging.{conflict_judged, assignment_judged, unassignment_judged}
@@ -61,39 +64,41 @@ user_named t name = user_among (lines_of t.accounts) name
 abbrev pub registration_at : Tables → List ℕ → List ℕ → Result Drawn Rule
 registration_at t name digest =
     let count = length t.accounts in
-    judged (register_checks (is_some (number_at t.accounts name)) count) (registration_drawn (count + 1) name digest)
+    let drawn = registration_drawn (stamp_by (count + 1)) (count + 1) name digest in
+    judged (register_checks (is_some (number_at t.accounts name)) count) drawn
 
 -- submitting a paper with the users of these names
-abbrev pub submission_of : Tables → ℕ → List (Option ℕ) → List ℕ → List ℕ → Result Drawn Rule
-submission_of t maker users title abstract =
+abbrev pub submission_of : Tables → Stamp → List (Option ℕ) → List ℕ → List ℕ → Result Drawn Rule
+submission_of t stamp users title abstract =
     let count = paper_count t.papers in
+    let maker = stamp.maker in
     judged
     (submit_checks (list_any is_none users) (standing_at t (Some maker) None) count (own_count t.papers (Some maker)))
-    (submission_drawn maker (count + 1) title abstract (flat_map listed users))
+    (submission_drawn stamp (count + 1) title abstract (flat_map listed users))
 
-abbrev pub submission_at : Tables → ℕ → List ℕ → List ℕ → List (Option (List ℕ)) → Result Drawn Rule
-submission_at t maker title abstract authors = submission_of t maker (users_at t.accounts authors) title abstract
+abbrev pub submission_at : Tables → Stamp → List ℕ → List ℕ → List (Option (List ℕ)) → Result Drawn Rule
+submission_at t stamp title abstract authors = submission_of t stamp (users_at t.accounts authors) title abstract
 
 -- naming this user, if there is one; and the user of a name
-abbrev pub naming_of : Tables → ℕ → Option ℕ → List ℕ → Role → Result Drawn Rule
-naming_of t maker target name role =
+abbrev pub naming_of : Tables → Stamp → Option ℕ → List ℕ → Role → Result Drawn Rule
+naming_of t stamp target name role =
     let asked = option_map of_role (option_and_then (role_at t.accounts) target) in
     judged
-    (name_checks (standing_at t (Some maker) None) asked role)
-    (naming_drawn maker (unwrap_or target 0) name role)
+    (name_checks (standing_at t (Some stamp.maker) None) asked role)
+    (naming_drawn stamp (unwrap_or target 0) name role)
 
-abbrev pub naming_at : Tables → ℕ → Option (List ℕ) → Role → Result Drawn Rule
-naming_at t maker name role = naming_of t maker (target_at t.accounts name) (unwrap_or name []) role
+abbrev pub naming_at : Tables → Stamp → Option (List ℕ) → Role → Result Drawn Rule
+naming_at t stamp name role = naming_of t stamp (target_at t.accounts name) (unwrap_or name []) role
 
 -- turning the conflict of this user on or off, assigning her, and taking her off the paper
-abbrev pub conflict_at : Tables → ℕ → Option ℕ → Option ℕ → Bool → Result Drawn Rule
-conflict_at t maker paper user on =
-    conflict_judged (facts_of_tables t (Some maker)) (shown_in_tables t) (Some maker) paper user on
+abbrev pub conflict_at : Tables → Stamp → Option ℕ → Option ℕ → Bool → Result Drawn Rule
+conflict_at t stamp paper user on =
+    conflict_judged (facts_of_tables t (Some stamp.maker)) (shown_in_tables t) stamp paper user on
 
-abbrev pub assignment_at : Tables → ℕ → Option ℕ → Option ℕ → Kind → Result Drawn Rule
-assignment_at t maker paper user kind =
-    assignment_judged (facts_of_tables t (Some maker)) (shown_in_tables t) (Some maker) paper user kind
+abbrev pub assignment_at : Tables → Stamp → Option ℕ → Option ℕ → Kind → Result Drawn Rule
+assignment_at t stamp paper user kind =
+    assignment_judged (facts_of_tables t (Some stamp.maker)) (shown_in_tables t) stamp paper user kind
 
-abbrev pub unassignment_at : Tables → ℕ → Option ℕ → Option ℕ → Result Drawn Rule
-unassignment_at t maker paper user =
-    unassignment_judged (facts_of_tables t (Some maker)) (shown_in_tables t) (Some maker) paper user
+abbrev pub unassignment_at : Tables → Stamp → Option ℕ → Option ℕ → Result Drawn Rule
+unassignment_at t stamp paper user =
+    unassignment_judged (facts_of_tables t (Some stamp.maker)) (shown_in_tables t) stamp paper user

@@ -1,7 +1,8 @@
 -- The rows of a bulk by the tables: their commands, the entries that they draw, and what each is judged behind.
-use Rattle.std.specs.Prelude.{ℕ, [], ◌∷◌, Some, Result, Ok, Err}
+use Rattle.std.specs.Prelude.{[], ◌∷◌, Some, Result, Ok, Err}
 use Rattle.cr_base.specs.declared.command.Command.{Command}
 use Rattle.cr_base.specs.declared.entry.Entry.{Entry}
+use Rattle.cr_base.specs.declared.entry.Stamp.{Stamp}
 use Rattle.cr_base.specs.declared.reply.Rule.{Rule}
 use Rattle.cr_base.specs.Bulk.{row_judged_by, IsRowEntry}
 use Rattle.cr_base.specs.Drawn.{Drawn, grouped}
@@ -23,15 +24,15 @@ pub record AreEarlier (t : Tables) (earlier : History) : Type 0 where
 -- ---- what is judged of one
 
 -- what the command of a row draws, by the tables
-abbrev pub row_judged_at : Tables → ℕ → Command → Result Drawn Rule
-row_judged_at t user command = row_judged_by (facts_of_tables t (Some user)) (shown_in_tables t) user command
+abbrev pub row_judged_at : Tables → Stamp → Command → Result Drawn Rule
+row_judged_at t stamp command = row_judged_by (facts_of_tables t (Some stamp.maker)) (shown_in_tables t) stamp command
 
 -- a judgement without its receipt, since no row is given one
 abbrev pub group_or_rule : Result Drawn Rule → Result History Rule
 group_or_rule (Ok drawn) = Ok drawn.group
 group_or_rule (Err rule) = Err rule
 
--- the entry of a row of this user's bulk, as a group of its own
-abbrev pub row_group : ℕ → Result Entry Rule → Result History Rule
-row_group user (Ok entry) = Ok (grouped user (entry ∷ []))
-row_group user (Err rule) = Err rule
+-- the entry of a row of a bulk under this stamp, as a group of its own
+abbrev pub row_group : Stamp → Result Entry Rule → Result History Rule
+row_group stamp (Ok entry) = Ok (grouped stamp (entry ∷ []))
+row_group stamp (Err rule) = Err rule

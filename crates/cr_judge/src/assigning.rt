@@ -1,5 +1,6 @@
 //! What is judged of a paper, and of a user who is named with it: conflicts, bids and assignments.
-ghost use Rattle.std.specs.Prelude.{◌≡◌, Some};
+ghost use Rattle.std.specs.Prelude.{◌≡◌};
+ghost use Rattle.cr_base.specs.Calls.{call_by};
 ghost use Rattle.cr_base.specs.Judging.{judge_by_role};
 ghost use Rattle.cr_base.specs.Tables.{tables_from};
 ghost use Rattle.cr_base.specs.declared.command.Command.TheVariants as commands;
@@ -9,44 +10,44 @@ ghost use Rattle.cr_judge.specs.Rows.{AreEarlier};
 
 use crate::effect::{Effect, alone};
 use crate::named::{held, is_conflicted, named_paper, ordinal_of, target_of, user_of};
-use cr_base::{Bid, Entry, Kind, PaperNo, Rule, Short, Stamped, UserNo};
+use cr_base::{Bid, Entry, Kind, PaperNo, Rule, Short, Stamp, Stamped, UserNo};
 use cr_view::Live;
 
 pub(crate) fn bid(
     live: &Live,
-    maker: UserNo,
+    stamp: &Stamp,
     paper: &Option<PaperNo>,
     value: Bid,
 ) -> Result<Effect, Rule>
     ensures { drawn_or_rule live.now.tables.accounts result
-        ≡ judge_by_role live.now.tables (Some maker) (commands.Bid paper.now value) }
+        ≡ judge_by_role live.now.tables (call_by stamp.now (commands.Bid paper.now value)) }
 {
-    let named = named_paper(live, maker, paper, &[]);
+    let named = named_paper(live, stamp.maker, paper, &[]);
     live.tie_table()
         .judge_bid(&named.by, &named.paper, named.withdrawn)?;
     let paper = held(&named.paper);
-    Ok(alone(maker, Entry::Bid { paper, value }))
+    Ok(alone(stamp, Entry::Bid { paper, value }))
 }
 
 /// The entry that turns on or off the conflict of the user who was found for a name, behind earlier entries of the
 /// same bulk.
 pub(crate) fn conflict(
     live: &Live,
-    maker: UserNo,
+    stamp: &Stamp,
     paper: &Option<PaperNo>,
     user: &Option<UserNo>,
     on: bool,
     earlier: &[Stamped],
 ) -> Result<Entry, Rule>
     requires { AreEarlier live.now.tables earlier.now }
-    ensures { entry_or_rule live.now.tables.accounts maker result
-        ≡ conflict_at (tables_from live.now.tables earlier.now) maker paper.now user.now on }
+    ensures { entry_or_rule live.now.tables.accounts stamp.now result
+        ≡ conflict_at (tables_from live.now.tables earlier.now) stamp.now paper.now user.now on }
 {
-    let named = named_paper(live, maker, paper, earlier);
+    let named = named_paper(live, stamp.maker, paper, earlier);
     let target = target_of(live, user);
     live.tie_table().judge_conflict(
         &named.by,
-        maker,
+        stamp.maker,
         &named.paper,
         &target,
         on,
@@ -61,18 +62,18 @@ pub(crate) fn conflict(
 /// The entry that assigns the user of a name, behind earlier entries of the same bulk.
 pub(crate) fn assignment(
     live: &Live,
-    maker: UserNo,
+    stamp: &Stamp,
     paper: &Option<PaperNo>,
     name: &Option<Short>,
     kind: Kind,
     earlier: &[Stamped],
 ) -> Result<Entry, Rule>
     requires { AreEarlier live.now.tables earlier.now }
-    ensures { entry_or_rule live.now.tables.accounts maker result
-        ≡ judge_by_role (tables_from live.now.tables earlier.now) (Some maker)
-        (commands.Assign paper.now name.now kind) }
+    ensures { entry_or_rule live.now.tables.accounts stamp.now result
+        ≡ judge_by_role (tables_from live.now.tables earlier.now)
+        (call_by stamp.now (commands.Assign paper.now name.now kind)) }
 {
-    let named = named_paper(live, maker, paper, earlier);
+    let named = named_paper(live, stamp.maker, paper, earlier);
     let user = user_of(live, name);
     let ordinal = live.seat_table().judge_assign(
         &named.by,
@@ -95,16 +96,17 @@ pub(crate) fn assignment(
 /// The entry that takes the user of a name off the paper, behind earlier entries of the same bulk.
 pub(crate) fn unassignment(
     live: &Live,
-    maker: UserNo,
+    stamp: &Stamp,
     paper: &Option<PaperNo>,
     name: &Option<Short>,
     earlier: &[Stamped],
 ) -> Result<Entry, Rule>
     requires { AreEarlier live.now.tables earlier.now }
-    ensures { entry_or_rule live.now.tables.accounts maker result
-        ≡ judge_by_role (tables_from live.now.tables earlier.now) (Some maker) (commands.Unassign paper.now name.now) }
+    ensures { entry_or_rule live.now.tables.accounts stamp.now result
+        ≡ judge_by_role (tables_from live.now.tables earlier.now)
+        (call_by stamp.now (commands.Unassign paper.now name.now)) }
 {
-    let named = named_paper(live, maker, paper, earlier);
+    let named = named_paper(live, stamp.maker, paper, earlier);
     let user = user_of(live, name);
     let ordinal = live.seat_table().judge_unassign(
         &named.by,

@@ -1,5 +1,6 @@
 //! What is judged by the tables.
-ghost use Rattle.std.specs.Prelude.{◌≡◌, ◌≤◌, ◌==◌, IfOk, Some, length, if◌then◌else◌};
+ghost use Rattle.std.specs.Prelude.{◌≡◌, ◌≤◌, ◌==◌, IfOk, IsSome, Some, length, if◌then◌else◌};
+ghost use Rattle.cr_base.specs.Calls.{call_by};
 ghost use Rattle.cr_base.specs.Judging.{judge_by_role};
 ghost use Rattle.cr_base.specs.Tables.{FitInTurn};
 ghost use Rattle.cr_base.specs.declared.command.Command.TheVariants as commands;
@@ -14,8 +15,8 @@ use crate::effect::{Effect, Rest, alone, alone_or_rule};
 use crate::named::{held, user_of};
 use crate::writing::{comment, decision, review, tag};
 use cr_base::{
-    Blob, Command, Digest, Entry, Mode, PaperNo, Phase, Role, Rule, Short, Stamp, Text, ToldNames,
-    UserNo,
+    Blob, Call, Command, Digest, Entry, Mode, PaperNo, Phase, Role, Rule, Short, Stamp, Text,
+    ToldNames, UserNo,
 };
 use cr_view::Live;
 
@@ -34,58 +35,78 @@ use cr_view::Live;
 /// ties and seats; a conflict takes three more at most, an assignment five, its end four and a walk over
 /// the paper's forms, a review three and such a walk, and a comment three. All else is a few reads by
 /// number.
-pub fn judge(live: &Live, caller: &Option<UserNo>, command: Command) -> Result<Effect, Rule>
-    requires caller { HasCaller caller.now command }
-    requires few { HasFewAuthors command }
-    ensures drawn { drawn_or_rule live.now.tables.accounts result ≡ judge_by_role live.now.tables caller.now command }
+pub fn judge(live: &Live, call: Call) -> Result<Effect, Rule>
+    requires caller { HasCaller call }
+    requires few { HasFewAuthors call.command }
+    ensures drawn { drawn_or_rule live.now.tables.accounts result ≡ judge_by_role live.now.tables call }
     ensures fits { IfOk result (λ effect. FitInTurn live.now.tables (group_of effect)) }
 {
     live.law_within();
+    effect_of(live, call)
+}
+
+/// The same by the function of its kind.
+fn effect_of(live: &Live, call: Call) -> Result<Effect, Rule>
+    requires caller { HasCaller call }
+    requires few { HasFewAuthors call.command }
+    ensures { drawn_or_rule live.now.tables.accounts result ≡ judge_by_role live.now.tables call }
+{
+    let Call { caller, command } = call;
     match command {
         Command::Register { name, digest } => registration(live, name, digest),
-        Command::SetPhase { phase: to } => phase(live, held(caller), to),
+        Command::SetPhase { phase: to } => phase(live, &stamp_of(&caller), to),
         Command::Submit {
             title,
             abstract_,
             authors,
-        } => submission(live, held(caller), title, abstract_, &authors),
+        } => submission(live, &stamp_of(&caller), title, abstract_, &authors),
         Command::Revise {
             paper,
             title,
             abstract_,
-        } => revision(live, held(caller), &paper, title, abstract_),
-        Command::Upload { paper, content } => upload(live, held(caller), &paper, content),
-        Command::Withdraw { paper } => withdrawal(live, held(caller), &paper),
-        Command::Name { user, role } => naming(live, held(caller), &user, role),
-        Command::SetMode { mode: to } => mode(live, held(caller), to),
+        } => revision(live, &stamp_of(&caller), &paper, title, abstract_),
+        Command::Upload { paper, content } => upload(live, &stamp_of(&caller), &paper, content),
+        Command::Withdraw { paper } => withdrawal(live, &stamp_of(&caller), &paper),
+        Command::Name { user, role } => naming(live, &stamp_of(&caller), &user, role),
+        Command::SetMode { mode: to } => mode(live, &stamp_of(&caller), to),
         Command::SetConflict { paper, user, on } => {
-            let maker = held(caller);
+            let stamp = stamp_of(&caller);
             let user = user_of(live, &user);
-            alone_or_rule(maker, conflict(live, maker, &paper, &user, on, &[]))
+            alone_or_rule(&stamp, conflict(live, &stamp, &paper, &user, on, &[]))
         }
-        Command::Bid { paper, value } => bid(live, held(caller), &paper, value),
+        Command::Bid { paper, value } => bid(live, &stamp_of(&caller), &paper, value),
         Command::Assign { paper, user, kind } => {
-            let maker = held(caller);
-            alone_or_rule(maker, assignment(live, maker, &paper, &user, kind, &[]))
+            let stamp = stamp_of(&caller);
+            alone_or_rule(&stamp, assignment(live, &stamp, &paper, &user, kind, &[]))
         }
         Command::Unassign { paper, user } => {
-            let maker = held(caller);
-            alone_or_rule(maker, unassignment(live, maker, &paper, &user, &[]))
+            let stamp = stamp_of(&caller);
+            alone_or_rule(&stamp, unassignment(live, &stamp, &paper, &user, &[]))
         }
-        Command::Review { paper, form } => review(live, held(caller), &paper, form),
-        Command::Comment { paper, text } => comment(live, held(caller), &paper, text),
+        Command::Review { paper, form } => review(live, &stamp_of(&caller), &paper, form),
+        Command::Comment { paper, text } => comment(live, &stamp_of(&caller), &paper, text),
         Command::Tag {
             paper,
             tag: text,
             on,
         } => {
-            let maker = held(caller);
-            alone_or_rule(maker, tag(live, maker, &paper, text, on, &[]))
+            let stamp = stamp_of(&caller);
+            alone_or_rule(&stamp, tag(live, &stamp, &paper, text, on, &[]))
         }
         Command::Decide {
             paper,
             decision: made,
-        } => { decision(live, held(caller), &paper, made) }
+        } => { decision(live, &stamp_of(&caller), &paper, made) }
+    }
+}
+
+/// The stamp of a user's command.
+fn stamp_of(caller: &Option<UserNo>) -> Stamp
+    requires { IsSome caller.now }
+    ensures { caller.now ≡ Some result.maker }
+{
+    Stamp {
+        maker: held(caller),
     }
 }
 
@@ -111,33 +132,33 @@ fn behind_registration(user: UserNo) -> Rest
     }
 }
 
-fn phase(live: &Live, maker: UserNo, to: Phase) -> Result<Effect, Rule>
+fn phase(live: &Live, stamp: &Stamp, to: Phase) -> Result<Effect, Rule>
     ensures { drawn_or_rule live.now.tables.accounts result
-        ≡ judge_by_role live.now.tables (Some maker) (commands.SetPhase to) }
+        ≡ judge_by_role live.now.tables (call_by stamp.now (commands.SetPhase to)) }
 {
-    let by = live.standing(&Some(maker), &None);
+    let by = live.standing(&Some(stamp.maker), &None);
     live.stage_table().judge_phase(&by, to)?;
-    Ok(alone(maker, Entry::PhaseSet { phase: to }))
+    Ok(alone(stamp, Entry::PhaseSet { phase: to }))
 }
 
 fn submission(
     live: &Live,
-    maker: UserNo,
+    stamp: &Stamp,
     title: Text,
     abstract_: Text,
     authors: &ToldNames,
 ) -> Result<Effect, Rule>
     requires { length authors.now ≤ 19 }
     ensures { drawn_or_rule live.now.tables.accounts result
-        ≡ submission_at live.now.tables maker title abstract_ authors.now }
+        ≡ submission_at live.now.tables stamp.now title abstract_ authors.now }
 {
-    let users = coauthors(live, maker, authors.as_slice());
-    let by = live.standing(&Some(maker), &None);
+    let users = coauthors(live, stamp.maker, authors.as_slice());
+    let by = live.standing(&Some(stamp.maker), &None);
     let paper = live
         .paper_table()
-        .judge_submit(&by, maker, users.is_some())?;
+        .judge_submit(&by, stamp.maker, users.is_some())?;
     Ok(Effect {
-        stamp: Stamp { maker },
+        stamp: *stamp,
         first: Entry::Submitted {
             paper,
             title,
@@ -150,40 +171,40 @@ fn submission(
     })
 }
 
-fn naming(live: &Live, maker: UserNo, name: &Option<Short>, role: Role) -> Result<Effect, Rule>
-    ensures { drawn_or_rule live.now.tables.accounts result ≡ naming_at live.now.tables maker name.now role }
+fn naming(live: &Live, stamp: &Stamp, name: &Option<Short>, role: Role) -> Result<Effect, Rule>
+    ensures { drawn_or_rule live.now.tables.accounts result ≡ naming_at live.now.tables stamp.now name.now role }
 {
     let user = user_of(live, name);
-    let by = live.standing(&Some(maker), &None);
+    let by = live.standing(&Some(stamp.maker), &None);
     live.account_table().judge_name(&by, &user, role)?;
     let user = held(&user);
-    Ok(alone(maker, Entry::Named { user, role }))
+    Ok(alone(stamp, Entry::Named { user, role }))
 }
 
-fn mode(live: &Live, maker: UserNo, to: Mode) -> Result<Effect, Rule>
+fn mode(live: &Live, stamp: &Stamp, to: Mode) -> Result<Effect, Rule>
     ensures { drawn_or_rule live.now.tables.accounts result
-        ≡ judge_by_role live.now.tables (Some maker) (commands.SetMode to) }
+        ≡ judge_by_role live.now.tables (call_by stamp.now (commands.SetMode to)) }
 {
-    let by = live.standing(&Some(maker), &None);
+    let by = live.standing(&Some(stamp.maker), &None);
     live.stage_table().judge_mode(&by)?;
-    Ok(alone(maker, Entry::ModeSet { mode: to }))
+    Ok(alone(stamp, Entry::ModeSet { mode: to }))
 }
 
 fn revision(
     live: &Live,
-    maker: UserNo,
+    stamp: &Stamp,
     paper: &Option<PaperNo>,
     title: Text,
     abstract_: Text,
 ) -> Result<Effect, Rule>
     ensures { drawn_or_rule live.now.tables.accounts result
-        ≡ judge_by_role live.now.tables (Some maker) (commands.Revise paper.now title abstract_) }
+        ≡ judge_by_role live.now.tables (call_by stamp.now (commands.Revise paper.now title abstract_)) }
 {
-    let by = live.standing(&Some(maker), paper);
+    let by = live.standing(&Some(stamp.maker), paper);
     live.paper_table().judge_revise(&by, paper)?;
     let paper = held(paper);
     Ok(alone(
-        maker,
+        stamp,
         Entry::Revised {
             paper,
             title,
@@ -194,19 +215,21 @@ fn revision(
 
 fn upload(
     live: &Live,
-    maker: UserNo,
+    stamp: &Stamp,
     paper: &Option<PaperNo>,
     content: Blob,
 ) -> Result<Effect, Rule>
     ensures { drawn_or_rule live.now.tables.accounts result
-        ≡ judge_by_role live.now.tables (Some maker) (commands.Upload paper.now content) }
+        ≡ judge_by_role live.now.tables (call_by stamp.now (commands.Upload paper.now content)) }
 {
-    let by = live.standing(&Some(maker), paper);
+    let by = live.standing(&Some(stamp.maker), paper);
     let bytes = content.as_slice().len() as u64;
-    let version = live.paper_table().judge_upload(&by, maker, paper, bytes)?;
+    let version = live
+        .paper_table()
+        .judge_upload(&by, stamp.maker, paper, bytes)?;
     let paper = held(paper);
     Ok(alone(
-        maker,
+        stamp,
         Entry::Uploaded {
             paper,
             version,
@@ -215,12 +238,12 @@ fn upload(
     ))
 }
 
-fn withdrawal(live: &Live, maker: UserNo, paper: &Option<PaperNo>) -> Result<Effect, Rule>
+fn withdrawal(live: &Live, stamp: &Stamp, paper: &Option<PaperNo>) -> Result<Effect, Rule>
     ensures { drawn_or_rule live.now.tables.accounts result
-        ≡ judge_by_role live.now.tables (Some maker) (commands.Withdraw paper.now) }
+        ≡ judge_by_role live.now.tables (call_by stamp.now (commands.Withdraw paper.now)) }
 {
-    let by = live.standing(&Some(maker), paper);
+    let by = live.standing(&Some(stamp.maker), paper);
     live.paper_table().judge_withdraw(&by, paper)?;
     let paper = held(paper);
-    Ok(alone(maker, Entry::Withdrawn { paper }))
+    Ok(alone(stamp, Entry::Withdrawn { paper }))
 }

@@ -1,6 +1,6 @@
 //! What an accepted command comes to.
 ghost use Rattle.std.specs.Prelude.{◌≡◌, ◌≤◌, ◌<◌, [], IfOk, Some, length, slice_get, unwrap_or};
-ghost use Rattle.cr_base.specs.Drawn.{receipt_of};
+ghost use Rattle.cr_base.specs.Drawn.{receipt_of, stamped};
 ghost use Rattle.cr_judge.specs.Effects.{alone, alone_or_rule, behind, drawn_by, group_of, name_for};
 
 use cr_base::{Coauthors, Entry, PaperNo, Receipt, Role, Rule, Short, Stamp, Stamped, UserNo};
@@ -94,30 +94,30 @@ impl Effect {
     }
 }
 
-/// The effect of one entry of this maker.
-pub(crate) fn alone(maker: UserNo, entry: Entry) -> Effect
-    ensures { result ≡ alone maker entry }
+/// The effect of one entry under this stamp.
+pub(crate) fn alone(stamp: &Stamp, entry: Entry) -> Effect
+    ensures { result ≡ alone stamp.now entry }
 {
     Effect {
-        stamp: Stamp { maker },
+        stamp: *stamp,
         first: entry,
         rest: Rest::Nothing,
     }
 }
 
 /// The same of a judgement, which may tell a broken rule.
-pub(crate) fn alone_or_rule(maker: UserNo, judged: Result<Entry, Rule>) -> Result<Effect, Rule>
-    ensures { result ≡ alone_or_rule maker judged }
+pub(crate) fn alone_or_rule(stamp: &Stamp, judged: Result<Entry, Rule>) -> Result<Effect, Rule>
+    ensures { result ≡ alone_or_rule stamp.now judged }
 {
     match judged {
-        Ok(entry) => Ok(alone(maker, entry)),
+        Ok(entry) => Ok(alone(stamp, entry)),
         Err(rule) => Err(rule),
     }
 }
 
 /// An entry with its stamp, and whether another follows it.
 fn stamped(stamp: &Stamp, more: bool, entry: Entry) -> Stamped
-    ensures { result ≡ record { stamp = stamp.now; more = more; entry = entry } }
+    ensures { result ≡ stamped stamp.now more entry }
 {
     Stamped {
         stamp: *stamp,

@@ -46,7 +46,8 @@ pub(crate) fn named_paper(
     earlier: &[Stamped],
 ) -> Named
     requires { AreEarlier live.now.tables earlier.now }
-    ensures { let t = tables_from live.now.tables earlier.now in result ≡ named_at t maker (there_in t.papers paper.now) }
+    ensures { let t = tables_from live.now.tables earlier.now in
+        result ≡ named_at t maker (there_in t.papers paper.now) }
 {
     let paper = there(live, paper);
     Named {

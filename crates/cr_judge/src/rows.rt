@@ -2,7 +2,7 @@
 ghost use Rattle.std.specs.Prelude.{◌≡◌, [], ◌∷◌, ◌++◌, Bool, IfOk, Some, None};
 ghost use Rattle.cr_base.specs.Bulk.{bulk_checks, IsRowCommand};
 ghost use Rattle.cr_base.specs.Checks.{judged};
-ghost use Rattle.cr_base.specs.Drawn.{grouped};
+ghost use Rattle.cr_base.specs.Drawn.{grouped, stamped};
 ghost use Rattle.cr_base.specs.Lists.{is_number};
 ghost use Rattle.cr_base.specs.Sources.{standing_at};
 ghost use Rattle.cr_base.specs.Tables.{FitInTurn, tables_from};
@@ -13,7 +13,7 @@ ghost use Rattle.cr_judge.specs.Rows.{AreEarlier, group_or_rule, row_group, row_
 use crate::assigning::{assignment, conflict, unassignment};
 use crate::named::user_of;
 use crate::writing::tag;
-use cr_base::{Command, Entry, PaperNo, Rule, Short, Stamped, UserNo};
+use cr_base::{Command, Entry, PaperNo, Rule, Short, Stamp, Stamped, UserNo};
 use cr_view::Live;
 
 /// Whether a user may send a bulk, or the first broken rule: `NotChair`, else `WrongPhase` before the
@@ -31,8 +31,8 @@ pub fn may_bulk(live: &Live, caller: UserNo) -> Result<(), Rule>
     Ok(())
 }
 
-/// The entry that a row of the caller's bulk comes to, or the first broken rule, behind the `earlier` entries
-/// of the same bulk, which no table knows yet: each is of a kind that a row adds, and may come next in its
+/// The entry that a row of a bulk under this stamp comes to, or the first broken rule, behind the `earlier`
+/// entries of the same bulk, which no table knows yet: each is of a kind that a row adds, and may come next in its
 /// turn. So may this one. The command is one that a row tells. No table is changed.
 ///
 /// First comes `BulkSelf`, where it turns a conflict of the caller's own on or off; then the rules of the
@@ -42,49 +42,49 @@ pub fn may_bulk(live: &Live, caller: UserNo) -> Result<(), Rule>
 /// 511: three for how the caller stands to the paper, and four more at most for how the user named does.
 pub fn judge_row(
     live: &Live,
-    caller: UserNo,
+    stamp: &Stamp,
     command: Command,
     earlier: &[Stamped],
 ) -> Result<Entry, Rule>
     requires row { IsRowCommand command }
     requires earlier { AreEarlier live.now.tables earlier.now }
-    ensures judged { row_group caller result
-        ≡ group_or_rule (row_judged_at (tables_from live.now.tables earlier.now) caller command) }
+    ensures judged { row_group stamp.now result
+        ≡ group_or_rule (row_judged_at (tables_from live.now.tables earlier.now) stamp.now command) }
     ensures fits { IfOk result
-        (λ entry. FitInTurn (tables_from live.now.tables earlier.now) (grouped caller (entry ∷ []))) }
+        (λ entry. FitInTurn (tables_from live.now.tables earlier.now) (grouped stamp.now (entry ∷ []))) }
     ensures next { IfOk result (λ entry. (more : Bool)
         → AreEarlier live.now.tables
-        (earlier.now ++ record { stamp = record { maker = caller }; more = more; entry = entry } ∷ [])) }
+        (earlier.now ++ stamped stamp.now more entry ∷ [])) }
 {
     live.law_within();
-    row_entry(live, caller, command, earlier)
+    row_entry(live, stamp, command, earlier)
 }
 
 /// The same by the function of its kind.
 fn row_entry(
     live: &Live,
-    caller: UserNo,
+    stamp: &Stamp,
     command: Command,
     earlier: &[Stamped],
 ) -> Result<Entry, Rule>
     requires row { IsRowCommand command }
     requires earlier { AreEarlier live.now.tables earlier.now }
-    ensures { entry_or_rule live.now.tables.accounts caller result
-        ≡ row_judged_at (tables_from live.now.tables earlier.now) caller command }
+    ensures { entry_or_rule live.now.tables.accounts stamp.now result
+        ≡ row_judged_at (tables_from live.now.tables earlier.now) stamp.now command }
 {
     match command {
         Command::SetConflict { paper, user, on } => {
-            row_conflict(live, caller, &paper, &user, on, earlier)
+            row_conflict(live, stamp, &paper, &user, on, earlier)
         }
         Command::Assign { paper, user, kind } => {
-            assignment(live, caller, &paper, &user, kind, earlier)
+            assignment(live, stamp, &paper, &user, kind, earlier)
         }
-        Command::Unassign { paper, user } => unassignment(live, caller, &paper, &user, earlier),
+        Command::Unassign { paper, user } => unassignment(live, stamp, &paper, &user, earlier),
         Command::Tag {
             paper,
             tag: text,
             on,
-        } => tag(live, caller, &paper, text, on, earlier),
+        } => tag(live, stamp, &paper, text, on, earlier),
         _ => unreachable!(),
     }
 }
@@ -93,22 +93,22 @@ fn row_entry(
 /// `conflict` tells. One look-up by name.
 fn row_conflict(
     live: &Live,
-    caller: UserNo,
+    stamp: &Stamp,
     paper: &Option<PaperNo>,
     name: &Option<Short>,
     on: bool,
     earlier: &[Stamped],
 ) -> Result<Entry, Rule>
     requires { AreEarlier live.now.tables earlier.now }
-    ensures { entry_or_rule live.now.tables.accounts caller result
-        ≡ row_judged_at (tables_from live.now.tables earlier.now) caller
+    ensures { entry_or_rule live.now.tables.accounts stamp.now result
+        ≡ row_judged_at (tables_from live.now.tables earlier.now) stamp.now
         (commands.SetConflict paper.now name.now on) }
 {
     let user = user_of(live, name);
-    if is_user(&user, caller) {
+    if is_user(&user, stamp.maker) {
         return Err(Rule::BulkSelf);
     }
-    conflict(live, caller, paper, &user, on, earlier)
+    conflict(live, stamp, paper, &user, on, earlier)
 }
 
 /// Whether the user found, if there is one, is this one.

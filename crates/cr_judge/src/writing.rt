@@ -1,5 +1,6 @@
 //! What is judged of what members write on a paper, reviews, comments and tags, and of what is decided of it.
-ghost use Rattle.std.specs.Prelude.{◌≡◌, Some};
+ghost use Rattle.std.specs.Prelude.{◌≡◌};
+ghost use Rattle.cr_base.specs.Calls.{call_by};
 ghost use Rattle.cr_base.specs.Judging.{judge_by_role};
 ghost use Rattle.cr_base.specs.Tables.{tables_from};
 ghost use Rattle.cr_base.specs.declared.command.Command.TheVariants as commands;
@@ -8,27 +9,27 @@ ghost use Rattle.cr_judge.specs.Rows.{AreEarlier};
 
 use crate::effect::{Effect, alone};
 use crate::named::{held, named_paper, ordinal_of};
-use cr_base::{Decision, Entry, Form, PaperNo, Rule, Stamped, Tag, Text, UserNo};
+use cr_base::{Decision, Entry, Form, PaperNo, Rule, Stamp, Stamped, Tag, Text};
 use cr_view::Live;
 
 pub(crate) fn review(
     live: &Live,
-    maker: UserNo,
+    stamp: &Stamp,
     paper: &Option<PaperNo>,
     form: Form,
 ) -> Result<Effect, Rule>
     ensures { drawn_or_rule live.now.tables.accounts result
-        ≡ judge_by_role live.now.tables (Some maker) (commands.Review paper.now form) }
+        ≡ judge_by_role live.now.tables (call_by stamp.now (commands.Review paper.now form)) }
 {
-    let named = named_paper(live, maker, paper, &[]);
-    let ordinal = ordinal_of(live, &Some(maker), &named.paper, &[]);
+    let named = named_paper(live, stamp.maker, paper, &[]);
+    let ordinal = ordinal_of(live, &Some(stamp.maker), &named.paper, &[]);
     let version = live
         .review_table()
         .judge_review(&named.by, &named.paper, &ordinal, named.withdrawn)?;
     let paper = held(&named.paper);
     let ordinal = held(&ordinal);
     Ok(alone(
-        maker,
+        stamp,
         Entry::Reviewed {
             paper,
             ordinal,
@@ -40,21 +41,21 @@ pub(crate) fn review(
 
 pub(crate) fn comment(
     live: &Live,
-    maker: UserNo,
+    stamp: &Stamp,
     paper: &Option<PaperNo>,
     text: Text,
 ) -> Result<Effect, Rule>
     ensures { drawn_or_rule live.now.tables.accounts result
-        ≡ judge_by_role live.now.tables (Some maker) (commands.Comment paper.now text) }
+        ≡ judge_by_role live.now.tables (call_by stamp.now (commands.Comment paper.now text)) }
 {
-    let named = named_paper(live, maker, paper, &[]);
+    let named = named_paper(live, stamp.maker, paper, &[]);
     let n = live
         .comment_table()
-        .judge_comment(&named.by, maker, &named.paper, named.withdrawn)?;
-    let ordinal = ordinal_of(live, &Some(maker), &named.paper, &[]);
+        .judge_comment(&named.by, stamp.maker, &named.paper, named.withdrawn)?;
+    let ordinal = ordinal_of(live, &Some(stamp.maker), &named.paper, &[]);
     let paper = held(&named.paper);
     Ok(alone(
-        maker,
+        stamp,
         Entry::Commented {
             paper,
             n,
@@ -67,17 +68,18 @@ pub(crate) fn comment(
 /// The entry that turns a tag on or off, behind earlier entries of the same bulk.
 pub(crate) fn tag(
     live: &Live,
-    maker: UserNo,
+    stamp: &Stamp,
     paper: &Option<PaperNo>,
     tag: Tag,
     on: bool,
     earlier: &[Stamped],
 ) -> Result<Entry, Rule>
     requires { AreEarlier live.now.tables earlier.now }
-    ensures { entry_or_rule live.now.tables.accounts maker result
-        ≡ judge_by_role (tables_from live.now.tables earlier.now) (Some maker) (commands.Tag paper.now tag on) }
+    ensures { entry_or_rule live.now.tables.accounts stamp.now result
+        ≡ judge_by_role (tables_from live.now.tables earlier.now)
+        (call_by stamp.now (commands.Tag paper.now tag on)) }
 {
-    let named = named_paper(live, maker, paper, earlier);
+    let named = named_paper(live, stamp.maker, paper, earlier);
     live.tag_table()
         .judge_tag(&named.by, &named.paper, &tag, named.withdrawn)?;
     let paper = held(&named.paper);
@@ -86,16 +88,16 @@ pub(crate) fn tag(
 
 pub(crate) fn decision(
     live: &Live,
-    maker: UserNo,
+    stamp: &Stamp,
     paper: &Option<PaperNo>,
     decision: Decision,
 ) -> Result<Effect, Rule>
     ensures { drawn_or_rule live.now.tables.accounts result
-        ≡ judge_by_role live.now.tables (Some maker) (commands.Decide paper.now decision) }
+        ≡ judge_by_role live.now.tables (call_by stamp.now (commands.Decide paper.now decision)) }
 {
-    let named = named_paper(live, maker, paper, &[]);
+    let named = named_paper(live, stamp.maker, paper, &[]);
     live.decision_table()
         .judge_decide(&named.by, &named.paper, named.withdrawn)?;
     let paper = held(&named.paper);
-    Ok(alone(maker, Entry::Decided { paper, decision }))
+    Ok(alone(stamp, Entry::Decided { paper, decision }))
 }

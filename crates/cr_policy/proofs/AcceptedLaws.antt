@@ -4,16 +4,19 @@ use Rattle.std.specs.Prelude.{map}
 use Rattle.std.specs.List.{list_any}
 use Rattle.std.proofs.lemmas.Bool.{and_parts, eqb-true}
 use Rattle.std.proofs.lemmas.Map.Views.{any-filter_same}
+use Rattle.cr_base.specs.declared.command.Call.{Call}
 use Rattle.cr_base.specs.declared.command.Command.{Command}
 use Rattle.cr_base.specs.declared.command.Command.TheVariants.{Register, Tag}
 use Rattle.cr_base.specs.declared.entry.Stamped.{Stamped}
 use Rattle.cr_base.specs.declared.reply.AccountLine.{AccountLine}
 use Rattle.cr_base.specs.Bounds.{IsBoundedCommand}
+use Rattle.cr_base.specs.declared.entry.Stamp.{Stamp}
 use Rattle.cr_base.specs.Drawn.{Drawn}
 use Rattle.cr_base.specs.History.{History}
 use Rattle.cr_base.specs.HistoryFacts.{accounts_of, is_author, standing_of, is_accepted}
 use Rattle.cr_base.specs.Lists.{is_number}
 use Rattle.cr_base.specs.Page.{is_clear_chair}
+use Rattle.cr_base.specs.Calls.{stamp_by, stamp_of, call_of, call_by}
 use Rattle.cr_base.specs.Judging.{judge_by, judge_by_role}
 use Rattle.cr_base.specs.Sources.{Facts, Shown}
 use Rattle.cr_base.specs.Tables.{Tables, tables_of, FitInTurn}
@@ -107,12 +110,13 @@ module _ (user : ℕ) (H : History) where
       shown author chair member accepted h = grind arith
 
 -- a registered user's command
-user-adds : (H : History) (user : ℕ) (command : Command) (drawn : Drawn) → IsBoundedCommand command → IsRegistered H user
-    → judge (Some user) (view (Some user) H) command ≡ Ok drawn → Adds H drawn.group
-user-adds H user command drawn bounded registered accepted =
+user-adds : (H : History) (stamp : Stamp) (command : Command) (drawn : Drawn) → IsBoundedCommand command → IsRegistered H stamp.maker
+    → judge (view (Some stamp.maker) H) (call_by stamp command) ≡ Ok drawn → Adds H drawn.group
+user-adds H stamp command drawn bounded registered accepted =
+    let user : ℕ = stamp.maker in
     let shown : Shown = shown_in_view (Some user) (view (Some user) H) in
-    command-adds H user shown registered (seats-told user H) command drawn bounded
-    (sym (ap (λ (facts : Facts). judge_by facts shown (Some user) command) (facts-seen (Some user) H)) ∙ accepted)
+    command-adds H stamp shown registered (seats-told user H) command drawn bounded
+    (sym (ap (λ (facts : Facts). judge_by facts shown stamp command) (facts-seen (Some user) H)) ∙ accepted)
 
 -- a tag is turned on, and off, by a registered user
 tags-user : (H : History) (caller paper : Option ℕ) (tag : List ℕ) (on : Bool) → IsCaller H caller (Tag paper tag on) → IsUser H caller
@@ -120,25 +124,31 @@ tags-user H caller paper tag true is = is
 tags-user H caller paper tag false is = is
 
 -- the group of an accepted command is one that the rules allow
-pub accepted-adds : (H : History) (caller : Option ℕ) (command : Command) (drawn : Drawn) → IsBoundedCommand command → IsCaller H caller command
-    → judge caller (view caller H) command ≡ Ok drawn → Adds H drawn.group
-accepted-adds H caller (Register name digest) drawn bounded is accepted = registration-adds H caller (facts_in_view caller (view caller H)) (shown_in_view caller (view caller H)) name digest drawn bounded accepted
-accepted-adds H None (Tag paper tag on) drawn bounded is accepted = absurd (tags-user H None paper tag on is)
-accepted-adds H None command drawn bounded is accepted = absurd is
-accepted-adds H (Some user) (Tag paper tag on) drawn bounded is accepted =
-    user-adds H user (Tag paper tag on) drawn bounded (tags-user H (Some user) paper tag on is) accepted
-accepted-adds H (Some user) command drawn bounded is accepted = user-adds H user command drawn bounded is accepted
+pub accepted-adds : (H : History) (call : Call) (drawn : Drawn) → IsBoundedCommand call.command → IsCaller H call.caller call.command
+    → judge (view call.caller H) call ≡ Ok drawn → Adds H drawn.group
+accepted-adds H call drawn = by call.caller call.command
+  where
+    by : (caller : Option ℕ) (command : Command) → IsBoundedCommand command → IsCaller H caller command
+        → judge (view caller H) (call_of caller command) ≡ Ok drawn → Adds H drawn.group
+    by caller (Register name digest) bounded is accepted =
+        registration-adds H (stamp_of (call_of caller (Register name digest))) (facts_in_view caller (view caller H))
+        (shown_in_view caller (view caller H)) name digest drawn bounded accepted
+    by None (Tag paper tag on) bounded is accepted = absurd (tags-user H None paper tag on is)
+    by None command bounded is accepted = absurd is
+    by (Some user) (Tag paper tag on) bounded is accepted =
+        user-adds H (stamp_by user) (Tag paper tag on) drawn bounded (tags-user H (Some user) paper tag on is) accepted
+    by (Some user) command bounded is accepted = user-adds H (stamp_by user) command drawn bounded is accepted
 
 -- and the tables take it. Nobody's is a registration, which doesn't ask who gives it
-pub accepted-fits : (H : History) (caller : Option ℕ) (command : Command) (drawn : Drawn) → Invariants H → AreTold H → AreFormsTold H
-    → IsCaller H caller command → judge caller (view caller H) command ≡ Ok drawn → FitInTurn (tables_of H) drawn.group
-accepted-fits H caller command drawn kept told forms is accepted = by caller command is (sym (judge-tables caller H command kept told forms) ∙ accepted)
+pub accepted-fits : (H : History) (call : Call) (drawn : Drawn) → Invariants H → AreTold H → AreFormsTold H
+    → IsCaller H call.caller call.command → judge (view call.caller H) call ≡ Ok drawn → FitInTurn (tables_of H) drawn.group
+accepted-fits H call drawn kept told forms is accepted = by call.caller call.command is (sym (judge-tables H call kept told forms) ∙ accepted)
   where
     t : Tables
     t = tables_of H
 
-    by : (caller : Option ℕ) (command : Command) → IsCaller H caller command → judge_by_role t caller command ≡ Ok drawn → FitInTurn t drawn.group
-    by (Some user) command is accepted = judged-fits t (sized-tables H kept.fits).ties user command drawn accepted
-    by None (Register name digest) is accepted = judged-fits t (sized-tables H kept.fits).ties 0 (Register name digest) drawn accepted
+    by : (caller : Option ℕ) (command : Command) → IsCaller H caller command → judge_by_role t (call_of caller command) ≡ Ok drawn → FitInTurn t drawn.group
+    by (Some user) command is accepted = judged-fits t (sized-tables H kept.fits).ties (stamp_by user) command drawn accepted
+    by None (Register name digest) is accepted = judged-fits t (sized-tables H kept.fits).ties (stamp_by 0) (Register name digest) drawn accepted
     by None (Tag paper tag on) is accepted = absurd (tags-user H None paper tag on is)
     by None command is accepted = absurd is

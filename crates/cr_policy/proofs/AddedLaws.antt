@@ -5,10 +5,12 @@ use Rattle.std.specs.List.{list_any, flat_map}
 use Rattle.std.specs.Option.{option_map}
 use Rattle.std.proofs.lemmas.Bool.{true≢false, eqb-true}
 use Rattle.std.proofs.lemmas.Bool.Decides.{nat_tests}
+use Rattle.cr_base.specs.declared.command.Call.{Call}
 use Rattle.cr_base.specs.declared.command.Command.{Command}
 use Rattle.cr_base.specs.declared.command.Command.TheVariants as commands
 use Rattle.cr_base.specs.declared.entry.Entry.{Entry}
 use Rattle.cr_base.specs.declared.entry.Entry.TheVariants as entries
+use Rattle.cr_base.specs.declared.entry.Stamp.{Stamp}
 use Rattle.cr_base.specs.declared.form.Form.{Form}
 use Rattle.cr_base.specs.declared.reply.AccountLine.{AccountLine}
 use Rattle.cr_base.specs.declared.reply.Receipt.{Receipt}
@@ -24,6 +26,7 @@ use Rattle.cr_base.specs.declared.words.Phase.{Phase}
 use Rattle.cr_base.specs.declared.words.Role.{Role}
 use Rattle.cr_base.specs.declared.words.Role.TheVariants.{Chair}
 use Rattle.cr_base.specs.Checks.{Check, NamedPaper, target_is, register_checks, phase_checks, mode_checks, submit_checks, revise_checks, upload_checks}
+use Rattle.cr_base.specs.Calls.{stamp_by, stamp_of, call_of}
 use Rattle.cr_base.specs.Checks.{of_role, name_checks, conflict_checks, bid_checks, assign_checks, unassign_checks, judged}
 use Rattle.cr_base.specs.Checks.{review_checks, comment_checks, tag_checks, decide_checks}
 use Rattle.cr_base.specs.Drawn.{Drawn, grouped, registration, besides, submission, submission_drawn, naming_drawn, conflict_drawn, assignment_drawn}
@@ -32,7 +35,7 @@ use Rattle.cr_base.specs.Drawn.{registration_drawn}
 use Rattle.cr_base.specs.History.{History, FormTold}
 use Rattle.cr_base.specs.HistoryFacts.{standing_of, phase_of, accounts_of, papers_of, number_of, ordinal_of, seats_of, forms_of, own_forms_of}
 use Rattle.cr_base.specs.HistoryFacts.{own_papers_of, own_bytes_of, own_comments_of, is_written}
-use Rattle.cr_base.specs.Judging.{judge_by, name_judged, conflict_judged, assignment_judged, unassignment_judged}
+use Rattle.cr_base.specs.Judging.{name_judged, conflict_judged, assignment_judged, unassignment_judged}
 use Rattle.cr_base.specs.Lists.{listed, given, at_some, is_number, is_nothing}
 use Rattle.cr_base.specs.Reviews.{forms_in, written_told}
 use Rattle.cr_base.specs.Sources.{number_in, user_among, users_among, role_among, paper_named, target_named}
@@ -42,24 +45,24 @@ use Rattle.cr_base.proofs.CheckLaws.{NoneBroken, judged-Ok}
 use Rattle.cr_base.proofs.FiledLaws.{filter-filter}
 use Rattle.cr_history.proofs.RuleLaws.{facts_of}
 use Rattle.cr_policy.specs.Added.{next_user, next_paper, next_version, next_label, next_form, next_comment, without, once, for_label}
-use Rattle.cr_policy.specs.Added.{added, answered, IsAdded, AddsAsSaid}
+use Rattle.cr_policy.specs.Added.{added, answered, stamp_added, IsAdded, AddsAsSaid}
 use Rattle.cr_policy.specs.Judge.{judge}
-use Rattle.cr_policy.specs.Legal.{Legal}
+use Rattle.cr_policy.specs.Legal.{IsCaller, Legal}
 use Rattle.cr_policy.specs.Sentences.{user_named}
 use Rattle.cr_policy.specs.View.{view}
-use Rattle.cr_policy.proofs.SentenceLaws.{shown_of, told, forms, judge-history, number-same}
+use Rattle.cr_policy.proofs.SentenceLaws.{shown_of, told, forms, judged_on, judge-history, number-same}
 
 -- ---- groups
 
 -- a group of so many entries
-group-added : (maker : ℕ) (es : List Entry) (receipt : Receipt) → IsAdded maker es (receipt ∷ []) (record { group = grouped maker es; receipt = receipt })
-group-added maker [] receipt = record { entries = refl; makers = tt; marks = refl; receipt = refl }
-group-added maker (e ∷ []) receipt = record { entries = refl; makers = (refl, tt); marks = refl; receipt = refl }
-group-added maker (e ∷ next ∷ es) receipt =
-    let rest = group-added maker (next ∷ es) receipt in
+group-added : (stamp : Stamp) (es : List Entry) (receipt : Receipt) → IsAdded stamp es (receipt ∷ []) (record { group = grouped stamp es; receipt = receipt })
+group-added stamp [] receipt = record { entries = refl; stamps = tt; marks = refl; receipt = refl }
+group-added stamp (e ∷ []) receipt = record { entries = refl; stamps = (refl, tt); marks = refl; receipt = refl }
+group-added stamp (e ∷ next ∷ es) receipt =
+    let rest = group-added stamp (next ∷ es) receipt in
     record {
       entries = ap (λ (xs : List Entry). e ∷ xs) rest.entries;
-      makers = (refl, rest.makers);
+      stamps = (refl, rest.stamps);
       marks = ap (λ (xs : List Bool). true ∷ xs) rest.marks;
       receipt = refl;
     }
@@ -140,11 +143,11 @@ was-true false h = absurd (true≢false h)
 
 module _ (u : Option ℕ) (H : History) (legal : Legal H) where
   -- what an accepted command draws, and that it breaks none of its checks
-  drawn-by : (command : Command) (checks : List Check) (draws drawn : Drawn) → judge_by (facts_of u H) (shown_of H) u command ≡ judged checks draws
-      → judge u (view u H) command ≡ Ok drawn → NoneBroken checks × (draws ≡ drawn)
+  drawn-by : (command : Command) (checks : List Check) (draws drawn : Drawn) → judged_on u H legal command ≡ judged checks draws
+      → judge (view u H) (call_of u command) ≡ Ok drawn → NoneBroken checks × (draws ≡ drawn)
   drawn-by command checks draws drawn is accepted = judged-Ok checks draws drawn (sym is ∙ sym (judge-history u H legal command) ∙ accepted)
 
-  judged-by : (command : Command) (drawn : Drawn) → judge u (view u H) command ≡ Ok drawn → judge_by (facts_of u H) (shown_of H) u command ≡ Ok drawn
+  judged-by : (command : Command) (drawn : Drawn) → judge (view u H) (call_of u command) ≡ Ok drawn → judged_on u H legal command ≡ Ok drawn
   judged-by command drawn accepted = sym (judge-history u H legal command) ∙ accepted
 
   pub user-same : (name : Option (List ℕ)) → user_among (accounts_of H) name ≡ user_named name H
@@ -156,15 +159,18 @@ module _ (u : Option ℕ) (H : History) (legal : Legal H) where
   users-same (name ∷ names) = λ i. listed (user-same name i) ++ users-same names i
 
   -- registrations
-  registered : (name digest : List ℕ) (drawn : Drawn) → judge u (view u H) (commands.Register name digest) ≡ Ok drawn
-      → IsAdded (next_user H) (entries.Registered (next_user H) name digest ∷ given (is_nothing (accounts_of H)) (entries.Named 1 Chair))
+  abbrev registering : List ℕ → List ℕ → Call
+  registering name digest = call_of u (commands.Register name digest)
+
+  registered : (name digest : List ℕ) (drawn : Drawn) → judge (view u H) (registering name digest) ≡ Ok drawn
+      → IsAdded (stamp_added H (registering name digest)) (entries.Registered (next_user H) name digest ∷ given (is_nothing (accounts_of H)) (entries.Named 1 Chair))
       (receipts.User (next_user H) ∷ []) drawn
   registered name digest drawn accepted =
       let k = drawn-by (commands.Register name digest) (register_checks (is_some (number_in (accounts_of H) name)) (length (accounts_of H))) _ drawn refl accepted in
-      subst (λ (d : Drawn). IsAdded (next_user H) (entries.Registered (next_user H) name digest ∷ given (is_nothing (accounts_of H)) (entries.Named 1 Chair))
+      subst (λ (d : Drawn). IsAdded (stamp_added H (registering name digest)) (entries.Registered (next_user H) name digest ∷ given (is_nothing (accounts_of H)) (entries.Named 1 Chair))
       (receipts.User (next_user H) ∷ []) d) k.1
-      (subst (λ (es : List Entry). IsAdded (next_user H) es (receipts.User (next_user H) ∷ []) (registration_drawn (next_user H) name digest)) (first (accounts_of H))
-      (group-added (next_user H) (registration (next_user H) name digest) (receipts.User (next_user H))))
+      (subst (λ (es : List Entry). IsAdded (stamp_added H (registering name digest)) es (receipts.User (next_user H) ∷ []) (registration_drawn (stamp_of (registering name digest)) (next_user H) name digest)) (first (accounts_of H))
+      (group-added (stamp_added H (registering name digest)) (registration (next_user H) name digest) (receipts.User (next_user H))))
     where
       later : (n : ℕ) → eqb (suc n + 1) 1 ≡ false
       later n = grind (arith, nat_tests)
@@ -181,11 +187,14 @@ module _ (w : ℕ) (H : History) (legal : Legal H) where
   abbrev u : Option ℕ
   u = Some w
 
+  abbrev stamp : Stamp
+  stamp = stamp_by w
+
   abbrev Adds : Command → Drawn → Type 0
-  Adds command drawn = IsAdded w (added u H command) (answered u H command) drawn
+  Adds command drawn = IsAdded stamp (added u H command) (answered u H command) drawn
 
   abbrev Accepted : Command → Drawn → Type 0
-  Accepted command drawn = judge u (view u H) command ≡ Ok drawn
+  Accepted command drawn = judge (view u H) (call_of u command) ≡ Ok drawn
 
   abbrev by : ℕ → Standing
   by p = standing_of u (Some p) H
@@ -198,11 +207,11 @@ module _ (w : ℕ) (H : History) (legal : Legal H) where
 
   -- one entry
   one : (command : Command) (drawn : Drawn) (checks : List Check) (e : Entry) (receipt : Receipt)
-      → judge_by (facts_of u H) (shown_of H) u command ≡ judged checks (record { group = grouped w (e ∷ []); receipt = receipt })
-      → Accepted command drawn → IsAdded w (e ∷ []) (receipt ∷ []) drawn
+      → judged_on u H legal command ≡ judged checks (record { group = grouped stamp (e ∷ []); receipt = receipt })
+      → Accepted command drawn → IsAdded stamp (e ∷ []) (receipt ∷ []) drawn
   one command drawn checks e receipt is accepted =
-      subst (IsAdded w (e ∷ []) (receipt ∷ []))
-      (drawn-by u H legal command checks (record { group = grouped w (e ∷ []); receipt = receipt }) drawn is accepted).1 (group-added w (e ∷ []) receipt)
+      subst (IsAdded stamp (e ∷ []) (receipt ∷ []))
+      (drawn-by u H legal command checks (record { group = grouped stamp (e ∷ []); receipt = receipt }) drawn is accepted).1 (group-added stamp (e ∷ []) receipt)
 
   phases : (to : Phase) (drawn : Drawn) → Accepted (commands.SetPhase to) drawn → Adds (commands.SetPhase to) drawn
   phases to drawn accepted =
@@ -256,67 +265,67 @@ module _ (w : ℕ) (H : History) (legal : Legal H) where
       let told : List ℕ = flat_map listed (users_among (accounts_of H) names) in
       let k = drawn-by u H legal (commands.Submit title abstract names)
       (submit_checks (list_any (λ (o : Option ℕ). is_none o) (users_among (accounts_of H) names)) (standing_of u None H) (length (papers_of H)) (own_papers_of u H))
-      (submission_drawn w (next_paper H) title abstract told) drawn refl accepted in
+      (submission_drawn stamp (next_paper H) title abstract told) drawn refl accepted in
       subst (Adds (commands.Submit title abstract names)) k.1
-      (subst (λ (us : List ℕ). IsAdded w (entries.Submitted (next_paper H) title abstract ∷ map (λ (v : ℕ). entries.Coauthor (next_paper H) v) us)
-      (receipts.Paper (next_paper H) ∷ []) (submission_drawn w (next_paper H) title abstract told))
+      (subst (λ (us : List ℕ). IsAdded stamp (entries.Submitted (next_paper H) title abstract ∷ map (λ (v : ℕ). entries.Coauthor (next_paper H) v) us)
+      (receipts.Paper (next_paper H) ∷ []) (submission_drawn stamp (next_paper H) title abstract told))
       (others-once w told ∙ ap (λ (us : List ℕ). without w (once us)) (users-same u H legal names))
-      (group-added w (submission w (next_paper H) title abstract told) (receipts.Paper (next_paper H))))
+      (group-added stamp (submission w (next_paper H) title abstract told) (receipts.Paper (next_paper H))))
 
   namings : (name : Option (List ℕ)) (role : Role) (drawn : Drawn) → Accepted (commands.Name name role) drawn → Adds (commands.Name name role) drawn
   namings None role drawn accepted = refused rules.NoUser drawn (judged-by u H legal (commands.Name None role) drawn accepted)
   namings (Some name) role drawn accepted =
       each (number_of name H)
-      (ap (λ (target : Option ℕ). name_judged (facts_of u H) u target name role) (sym (user-same u H legal (Some name)))
+      (ap (λ (target : Option ℕ). name_judged (facts_of u H) stamp target name role) (sym (user-same u H legal (Some name)))
       ∙ judged-by u H legal (commands.Name (Some name) role) drawn accepted)
     where
-      each : (target : Option ℕ) → name_judged (facts_of u H) u target name role ≡ Ok drawn
-          → IsAdded w (listed (option_map (λ v. entries.Named v role) target)) (receipts.Named name role ∷ []) drawn
+      each : (target : Option ℕ) → name_judged (facts_of u H) stamp target name role ≡ Ok drawn
+          → IsAdded stamp (listed (option_map (λ v. entries.Named v role) target)) (receipts.Named name role ∷ []) drawn
       each None is = refused rules.NoUser drawn is
       each (Some v) is =
-          subst (IsAdded w (entries.Named v role ∷ []) (receipts.Named name role ∷ []))
-          (judged-Ok (name_checks (standing_of u None H) (option_map of_role (role_among (accounts_of H) (Some v))) role) (naming_drawn w v name role) drawn is).1
-          (group-added w (entries.Named v role ∷ []) (receipts.Named name role))
+          subst (IsAdded stamp (entries.Named v role ∷ []) (receipts.Named name role ∷ []))
+          (judged-Ok (name_checks (standing_of u None H) (option_map of_role (role_among (accounts_of H) (Some v))) role) (naming_drawn stamp v name role) drawn is).1
+          (group-added stamp (entries.Named v role ∷ []) (receipts.Named name role))
 
   conflicts : (paper : Option ℕ) (name : Option (List ℕ)) (on : Bool) (drawn : Drawn) → Accepted (commands.SetConflict paper name on) drawn
       → Adds (commands.SetConflict paper name on) drawn
   conflicts None name on drawn accepted = refused rules.NoPaper drawn (judged-by u H legal (commands.SetConflict None name on) drawn accepted)
   conflicts (Some p) name on drawn accepted =
       each (user_named name H)
-      (ap (λ (target : Option ℕ). conflict_judged (facts_of u H) (shown_of H) u (Some p) target on) (sym (user-same u H legal name))
+      (ap (λ (target : Option ℕ). conflict_judged (facts_of u H) (shown_of H) stamp (Some p) target on) (sym (user-same u H legal name))
       ∙ judged-by u H legal (commands.SetConflict (Some p) name on) drawn accepted)
     where
-      each : (target : Option ℕ) → conflict_judged (facts_of u H) (shown_of H) u (Some p) target on ≡ Ok drawn
-          → IsAdded w (listed (option_map (λ v. entries.Conflict p v on) target)) (receipts.Changed p ∷ []) drawn
-      each None is = absurd (true≢false (judged-Ok (conflict_checks (by p) (named p) None on) (conflict_drawn w p 0 on) drawn is).0.1.0)
+      each : (target : Option ℕ) → conflict_judged (facts_of u H) (shown_of H) stamp (Some p) target on ≡ Ok drawn
+          → IsAdded stamp (listed (option_map (λ v. entries.Conflict p v on) target)) (receipts.Changed p ∷ []) drawn
+      each None is = absurd (true≢false (judged-Ok (conflict_checks (by p) (named p) None on) (conflict_drawn stamp p 0 on) drawn is).0.1.0)
       each (Some v) is =
-          subst (IsAdded w (entries.Conflict p v on ∷ []) (receipts.Changed p ∷ []))
-          (judged-Ok (conflict_checks (by p) (named p) (asked p (Some v)) on) (conflict_drawn w p v on) drawn is).1
-          (group-added w (entries.Conflict p v on ∷ []) (receipts.Changed p))
+          subst (IsAdded stamp (entries.Conflict p v on ∷ []) (receipts.Changed p ∷ []))
+          (judged-Ok (conflict_checks (by p) (named p) (asked p (Some v)) on) (conflict_drawn stamp p v on) drawn is).1
+          (group-added stamp (entries.Conflict p v on ∷ []) (receipts.Changed p))
 
   assignments : (paper : Option ℕ) (name : Option (List ℕ)) (kind : Kind) (drawn : Drawn) → Accepted (commands.Assign paper name kind) drawn
       → Adds (commands.Assign paper name kind) drawn
   assignments None name kind drawn accepted = refused rules.NoPaper drawn (judged-by u H legal (commands.Assign None name kind) drawn accepted)
   assignments (Some p) name kind drawn accepted =
       each (user_named name H)
-      (ap (λ (target : Option ℕ). assignment_judged (facts_of u H) (shown_of H) u (Some p) target kind) (sym (user-same u H legal name))
+      (ap (λ (target : Option ℕ). assignment_judged (facts_of u H) (shown_of H) stamp (Some p) target kind) (sym (user-same u H legal name))
       ∙ judged-by u H legal (commands.Assign (Some p) name kind) drawn accepted)
     where
-      each : (target : Option ℕ) → assignment_judged (facts_of u H) (shown_of H) u (Some p) target kind ≡ Ok drawn
-          → IsAdded w (listed (option_map (λ v. entries.Assigned p v kind (next_label p H)) target)) (receipts.Label (next_label p H) ∷ []) drawn
+      each : (target : Option ℕ) → assignment_judged (facts_of u H) (shown_of H) stamp (Some p) target kind ≡ Ok drawn
+          → IsAdded stamp (listed (option_map (λ v. entries.Assigned p v kind (next_label p H)) target)) (receipts.Label (next_label p H) ∷ []) drawn
       each None is =
-          absurd (true≢false (judged-Ok (assign_checks (by p) (named p) None (length (seats_of p H))) (assignment_drawn w p 0 kind (next_label p H)) drawn is).0.1.0)
+          absurd (true≢false (judged-Ok (assign_checks (by p) (named p) None (length (seats_of p H))) (assignment_drawn stamp p 0 kind (next_label p H)) drawn is).0.1.0)
       each (Some v) is =
-          subst (IsAdded w (entries.Assigned p v kind (next_label p H) ∷ []) (receipts.Label (next_label p H) ∷ []))
-          (judged-Ok (assign_checks (by p) (named p) (asked p (Some v)) (length (seats_of p H))) (assignment_drawn w p v kind (next_label p H)) drawn is).1
-          (group-added w (entries.Assigned p v kind (next_label p H) ∷ []) (receipts.Label (next_label p H)))
+          subst (IsAdded stamp (entries.Assigned p v kind (next_label p H) ∷ []) (receipts.Label (next_label p H) ∷ []))
+          (judged-Ok (assign_checks (by p) (named p) (asked p (Some v)) (length (seats_of p H))) (assignment_drawn stamp p v kind (next_label p H)) drawn is).1
+          (group-added stamp (entries.Assigned p v kind (next_label p H) ∷ []) (receipts.Label (next_label p H)))
 
   unassignments : (paper : Option ℕ) (name : Option (List ℕ)) (drawn : Drawn) → Accepted (commands.Unassign paper name) drawn
       → Adds (commands.Unassign paper name) drawn
   unassignments None name drawn accepted = refused rules.NoPaper drawn (judged-by u H legal (commands.Unassign None name) drawn accepted)
   unassignments (Some p) name drawn accepted =
       each (user_named name H)
-      (ap (λ (target : Option ℕ). unassignment_judged (facts_of u H) (shown_of H) u (Some p) target) (sym (user-same u H legal name))
+      (ap (λ (target : Option ℕ). unassignment_judged (facts_of u H) (shown_of H) stamp (Some p) target) (sym (user-same u H legal name))
       ∙ judged-by u H legal (commands.Unassign (Some p) name) drawn accepted)
     where
       -- the user named, as the rules ask of her
@@ -338,19 +347,19 @@ module _ (w : ℕ) (H : History) (legal : Legal H) where
       seated (Some r) target seat is h = sym (is r) ∙ was-true (target r).reviewer h
 
       under : (v : ℕ) (seat : Option ℕ) → is_some seat ≡ true
-          → IsAdded w (listed (option_map (λ o. entries.Unassigned p v o) seat) ++ []) (receipts.Changed p ∷ []) (unassignment_drawn w p v (unwrap_or seat 0))
+          → IsAdded stamp (listed (option_map (λ o. entries.Unassigned p v o) seat) ++ []) (receipts.Changed p ∷ []) (unassignment_drawn stamp p v (unwrap_or seat 0))
       under v None h = absurd (true≢false (sym h))
-      under v (Some o) h = group-added w (entries.Unassigned p v o ∷ []) (receipts.Changed p)
+      under v (Some o) h = group-added stamp (entries.Unassigned p v o ∷ []) (receipts.Changed p)
 
-      each : (target : Option ℕ) → unassignment_judged (facts_of u H) (shown_of H) u (Some p) target ≡ Ok drawn
-          → IsAdded w (flat_map (λ v. for_label v p H (λ o. entries.Unassigned p v o)) (listed target)) (receipts.Changed p ∷ []) drawn
+      each : (target : Option ℕ) → unassignment_judged (facts_of u H) (shown_of H) stamp (Some p) target ≡ Ok drawn
+          → IsAdded stamp (flat_map (λ v. for_label v p H (λ o. entries.Unassigned p v o)) (listed target)) (receipts.Changed p ∷ []) drawn
       each None is =
           absurd (true≢false (judged-Ok (unassign_checks (by p) (named p) None (at_some (λ o. is_written p o H) (ordinal_of None p H)))
-          (unassignment_drawn w p 0 (unwrap_or (ordinal_of None p H) 0)) drawn is).0.1.0)
+          (unassignment_drawn stamp p 0 (unwrap_or (ordinal_of None p H) 0)) drawn is).0.1.0)
       each (Some v) is =
           let k = judged-Ok (unassign_checks (by p) (named p) (asked p (Some v)) (at_some (λ o. is_written p o H) (ordinal_of (Some v) p H)))
-          (unassignment_drawn w p v (unwrap_or (ordinal_of (Some v) p H) 0)) drawn is in
-          subst (IsAdded w (for_label v p H (λ o. entries.Unassigned p v o) ++ []) (receipts.Changed p ∷ [])) k.1
+          (unassignment_drawn stamp p v (unwrap_or (ordinal_of (Some v) p H) 0)) drawn is in
+          subst (IsAdded stamp (for_label v p H (λ o. entries.Unassigned p v o) ++ []) (receipts.Changed p ∷ [])) k.1
           (under v (ordinal_of (Some v) p H)
           (seated (role_among (accounts_of H) (Some v)) (target_at p v) (is_some (ordinal_of (Some v) p H)) (λ r. refl) k.0.1.1.1.1.1.1.0))
 
@@ -358,7 +367,7 @@ module _ (w : ℕ) (H : History) (legal : Legal H) where
   reviewed None form drawn accepted = refused rules.NoPaper drawn (judged-by u H legal (commands.Review None form) drawn accepted)
   reviewed (Some p) form drawn accepted =
       let k = drawn-by u H legal (commands.Review (Some p) form) (review_checks (by p) (named p))
-      (review_drawn w p (unwrap_or (ordinal_of u p H) 0) (length (own_forms_of u p H) + 1) form) drawn refl accepted in
+      (review_drawn stamp p (unwrap_or (ordinal_of u p H) 0) (length (own_forms_of u p H) + 1) form) drawn refl accepted in
       subst (Adds (commands.Review (Some p) form)) k.1 (under (ordinal_of u p H) refl (was-true (is_some (ordinal_of u p H)) k.0.1.1.1.0))
     where
       -- her forms are those under her label
@@ -371,34 +380,39 @@ module _ (w : ℕ) (H : History) (legal : Legal H) where
           ∙ sym ((told u H legal).forms p o)
 
       under : (seat : Option ℕ) → ordinal_of u p H ≡ seat → is_some seat ≡ true
-          → IsAdded w (listed (option_map (λ o. entries.Reviewed p o (next_form p o H) form) seat))
+          → IsAdded stamp (listed (option_map (λ o. entries.Reviewed p o (next_form p o H) form) seat))
           (listed (option_map (λ o. receipts.Version (next_form p o H)) seat))
-          (review_drawn w p (unwrap_or seat 0) (length (own_forms_of u p H) + 1) form)
+          (review_drawn stamp p (unwrap_or seat 0) (length (own_forms_of u p H) + 1) form)
       under None is h = absurd (true≢false (sym h))
       under (Some o) is h =
-          subst (λ (n : ℕ). IsAdded w (entries.Reviewed p o (next_form p o H) form ∷ []) (receipts.Version (next_form p o H) ∷ []) (review_drawn w p o (n + 1) form))
+          subst (λ (n : ℕ). IsAdded stamp (entries.Reviewed p o (next_form p o H) form ∷ []) (receipts.Version (next_form p o H) ∷ []) (review_drawn stamp p o (n + 1) form))
           (sym (ap (λ (fs : List FormTold). length fs) (hers o is)))
-          (group-added w (entries.Reviewed p o (next_form p o H) form ∷ []) (receipts.Version (next_form p o H)))
+          (group-added stamp (entries.Reviewed p o (next_form p o H) form ∷ []) (receipts.Version (next_form p o H)))
 
 -- ---- the law
 
 pub adds_as_said : AddsAsSaid
-adds_as_said caller H (commands.Register name digest) drawn legal calls accepted = registered caller H legal name digest drawn accepted
-adds_as_said None H (commands.Tag paper tag true) drawn legal calls accepted = absurd calls
-adds_as_said None H (commands.Tag paper tag false) drawn legal calls accepted = absurd calls
-adds_as_said None H _ drawn legal calls accepted = absurd calls
-adds_as_said (Some w) H (commands.SetPhase to) drawn legal calls accepted = phases w H legal to drawn accepted
-adds_as_said (Some w) H (commands.Submit title abstract names) drawn legal calls accepted = submissions w H legal title abstract names drawn accepted
-adds_as_said (Some w) H (commands.Revise paper title abstract) drawn legal calls accepted = revisions w H legal paper title abstract drawn accepted
-adds_as_said (Some w) H (commands.Upload paper content) drawn legal calls accepted = uploads w H legal paper content drawn accepted
-adds_as_said (Some w) H (commands.Withdraw paper) drawn legal calls accepted = withdrawals w H legal paper drawn accepted
-adds_as_said (Some w) H (commands.Name name role) drawn legal calls accepted = namings w H legal name role drawn accepted
-adds_as_said (Some w) H (commands.SetMode to) drawn legal calls accepted = modes w H legal to drawn accepted
-adds_as_said (Some w) H (commands.SetConflict paper name on) drawn legal calls accepted = conflicts w H legal paper name on drawn accepted
-adds_as_said (Some w) H (commands.Bid paper value) drawn legal calls accepted = bids w H legal paper value drawn accepted
-adds_as_said (Some w) H (commands.Assign paper name kind) drawn legal calls accepted = assignments w H legal paper name kind drawn accepted
-adds_as_said (Some w) H (commands.Unassign paper name) drawn legal calls accepted = unassignments w H legal paper name drawn accepted
-adds_as_said (Some w) H (commands.Review paper form) drawn legal calls accepted = reviewed w H legal paper form drawn accepted
-adds_as_said (Some w) H (commands.Comment paper text) drawn legal calls accepted = comments w H legal paper text drawn accepted
-adds_as_said (Some w) H (commands.Tag paper tag on) drawn legal calls accepted = tags w H legal paper tag on drawn accepted
-adds_as_said (Some w) H (commands.Decide paper decision) drawn legal calls accepted = decisions w H legal paper decision drawn accepted
+adds_as_said H call drawn = by call.caller call.command
+  where
+    by : (caller : Option ℕ) (command : Command) → Legal H → IsCaller H caller command
+        → judge (view caller H) (call_of caller command) ≡ Ok drawn
+        → IsAdded (stamp_added H (call_of caller command)) (added caller H command) (answered caller H command) drawn
+    by caller (commands.Register name digest) legal calls accepted = registered caller H legal name digest drawn accepted
+    by None (commands.Tag paper tag true) legal calls accepted = absurd calls
+    by None (commands.Tag paper tag false) legal calls accepted = absurd calls
+    by None _ legal calls accepted = absurd calls
+    by (Some w) (commands.SetPhase to) legal calls accepted = phases w H legal to drawn accepted
+    by (Some w) (commands.Submit title abstract names) legal calls accepted = submissions w H legal title abstract names drawn accepted
+    by (Some w) (commands.Revise paper title abstract) legal calls accepted = revisions w H legal paper title abstract drawn accepted
+    by (Some w) (commands.Upload paper content) legal calls accepted = uploads w H legal paper content drawn accepted
+    by (Some w) (commands.Withdraw paper) legal calls accepted = withdrawals w H legal paper drawn accepted
+    by (Some w) (commands.Name name role) legal calls accepted = namings w H legal name role drawn accepted
+    by (Some w) (commands.SetMode to) legal calls accepted = modes w H legal to drawn accepted
+    by (Some w) (commands.SetConflict paper name on) legal calls accepted = conflicts w H legal paper name on drawn accepted
+    by (Some w) (commands.Bid paper value) legal calls accepted = bids w H legal paper value drawn accepted
+    by (Some w) (commands.Assign paper name kind) legal calls accepted = assignments w H legal paper name kind drawn accepted
+    by (Some w) (commands.Unassign paper name) legal calls accepted = unassignments w H legal paper name drawn accepted
+    by (Some w) (commands.Review paper form) legal calls accepted = reviewed w H legal paper form drawn accepted
+    by (Some w) (commands.Comment paper text) legal calls accepted = comments w H legal paper text drawn accepted
+    by (Some w) (commands.Tag paper tag on) legal calls accepted = tags w H legal paper tag on drawn accepted
+    by (Some w) (commands.Decide paper decision) legal calls accepted = decisions w H legal paper decision drawn accepted

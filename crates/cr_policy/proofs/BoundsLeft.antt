@@ -7,6 +7,7 @@ use Rattle.cr_base.specs.declared.entry.Entry.{Entry}
 use Rattle.cr_base.specs.declared.entry.Entry.TheVariants.{Registered, Named, Submitted, Coauthor, Revised, Uploaded, Withdrawn, Conflict}
 use Rattle.cr_base.specs.declared.entry.Entry.TheVariants.{Bid, Assigned, Unassigned, Reviewed, Commented, Tagged, Decided}
 use Rattle.cr_base.specs.declared.entry.EntryKind.TheVariants as kinds
+use Rattle.cr_base.specs.declared.entry.Stamp.{Stamp}
 use Rattle.cr_base.specs.declared.entry.Stamped.{Stamped}
 use Rattle.cr_base.specs.declared.words.Role.{Role}
 use Rattle.cr_base.specs.declared.words.Role.TheVariants.{Account}
@@ -212,81 +213,81 @@ LeftAt u H s None = Unit {0}
 LeftAt u H s (Some paper) = is_author u paper H ≡ false → is_eligible u paper H ≡ false → IsLeft u (outsider u paper H) s.kind s
 
 module _ (u : Option ℕ) (H : History) where
-  left-one : (before later : History) (maker : ℕ) (e : Entry) → IsWriters u H maker e → is_told u H before later maker e ≡ true
-      → LeftAt u H (shown_to u H before later maker e) (paper_for u H before later maker e)
-  left-one before later maker (Submitted paper title abstract) writes told = λ wrote handled. λ i. record (blank kinds.Submitted) {
+  left-one : (before later : History) (stamp : Stamp) (e : Entry) → IsWriters u H stamp.maker e → is_told u H before later stamp.maker e ≡ true
+      → LeftAt u H (shown_to u H before later stamp e) (paper_for u H before later stamp e)
+  left-one before later stamp (Submitted paper title abstract) writes told = λ wrote handled. λ i. record (blank kinds.Submitted) {
     mine = other wrote i;
     paper = Some paper;
-    by = maker-left u H paper wrote handled maker i;
+    by = maker-left u H paper wrote handled stamp.maker i;
     title = title-left u H paper wrote handled (is_replaced paper later) title i;
     abstract = text-left u H paper wrote handled false (is_replaced paper later) abstract i;
   }
     where
-      other : is_author u paper H ≡ false → is_number u maker ≡ false
-      other wrote = by (is_number u maker) writes
+      other : is_author u paper H ≡ false → is_number u stamp.maker ≡ false
+      other wrote = by (is_number u stamp.maker) writes
         where
           by : (own : Bool) → (own ≡ true → is_author u paper H ≡ true) → own ≡ false
           by true h = absurd (false≢true (sym wrote ∙ h refl))
           by false h = refl
-  left-one before later maker (Coauthor paper user) writes told = λ wrote handled. (
-    coauthor-left (is_number u maker) (is_author u paper H) (is_eligible u paper H) (chairs_committee (role_of u H)) (hides_authors (mode_of H))
+  left-one before later stamp (Coauthor paper user) writes told = λ wrote handled. (
+    coauthor-left (is_number u stamp.maker) (is_author u paper H) (is_eligible u paper H) (chairs_committee (role_of u H)) (hides_authors (mode_of H))
         (is_in_programme paper H) wrote handled told,
     refl,
   )
-  left-one before later maker (Revised paper title abstract) writes told = λ wrote handled. (
-    revision-left (is_number u maker) (is_author u paper H) (not (is_replaced paper later)) (serves u H) (is_in_programme paper H) wrote told,
-    λ i. record (shown_to u H before later maker (Revised paper title abstract)) {
-      abstract = text-left u H paper wrote handled (is_number u maker) (is_replaced paper later) abstract i;
+  left-one before later stamp (Revised paper title abstract) writes told = λ wrote handled. (
+    revision-left (is_number u stamp.maker) (is_author u paper H) (not (is_replaced paper later)) (serves u H) (is_in_programme paper H) wrote told,
+    λ i. record (shown_to u H before later stamp (Revised paper title abstract)) {
+      abstract = text-left u H paper wrote handled (is_number u stamp.maker) (is_replaced paper later) abstract i;
     },
   )
-  left-one before later maker (Uploaded paper version content) writes told = λ wrote handled. (
-    upload-left (is_number u maker) (is_author u paper H) (not (is_superseded paper later)) (is_eligible u paper H) (appears paper H) wrote handled told,
+  left-one before later stamp (Uploaded paper version content) writes told = λ wrote handled. (
+    upload-left (is_number u stamp.maker) (is_author u paper H) (not (is_superseded paper later)) (is_eligible u paper H) (appears paper H) wrote handled told,
     refl,
   )
-  left-one before later maker (Withdrawn paper) writes told = λ wrote handled.
-      (withdrawal-left (is_number u maker) (is_author u paper H) (serves u H) wrote told, refl)
-  left-one before later maker (Conflict paper user on) writes told = λ wrote handled. (
-    hers (is_number u user) (is_number u maker) (is_author u paper H) (is_author (Some maker) paper H) (oversees u paper H) wrote
+  left-one before later stamp (Withdrawn paper) writes told = λ wrote handled.
+      (withdrawal-left (is_number u stamp.maker) (is_author u paper H) (serves u H) wrote told, refl)
+  left-one before later stamp (Conflict paper user on) writes told = λ wrote handled. (
+    hers (is_number u user) (is_number u stamp.maker) (is_author u paper H) (is_author (Some stamp.maker) paper H) (oversees u paper H) wrote
         (ap (λ b. b && chairs_committee (role_of u H)) handled) told,
     refl,
   )
     where
       hers : (named own a w o : Bool) → a ≡ false → o ≡ false → (named || own || (a && w) || o) ≡ true → (own || named) ≡ true
       hers named own a w o ha ho h = grind arith
-  left-one before later maker (Bid paper value) writes told = λ wrote handled. (
-    bid-own (is_number u maker) (is_eligible u paper H) (chairs_committee (role_of u H)) handled told,
-    λ i. record (shown_to u H before later maker (Bid paper value)) {
-      by = known-not _ maker (ap (λ b. b && chairs_committee (role_of u H)) handled) i;
+  left-one before later stamp (Bid paper value) writes told = λ wrote handled. (
+    bid-own (is_number u stamp.maker) (is_eligible u paper H) (chairs_committee (role_of u H)) handled told,
+    λ i. record (shown_to u H before later stamp (Bid paper value)) {
+      by = known-not _ stamp.maker (ap (λ b. b && chairs_committee (role_of u H)) handled) i;
     },
   )
-  left-one before later maker (Assigned paper user review_kind ordinal) writes told = λ wrote handled. (party u H paper wrote handled user maker told, refl)
-  left-one before later maker (Unassigned paper user ordinal) writes told = λ wrote handled. (party u H paper wrote handled user maker told, refl)
-  left-one before later maker (Reviewed paper ordinal version form) writes told = λ wrote handled. (
-    left-form u H paper wrote handled before later ordinal (is_number u maker) told,
-    λ i. record (shown_to u H before later maker (Reviewed paper ordinal version form)) {
-      version = form-own u H paper wrote handled before later ordinal (is_number u maker) version i;
-      score = review-own u H paper wrote handled before later ordinal (is_number u maker) form.score i;
-      confidence = review-own u H paper wrote handled before later ordinal (is_number u maker) form.confidence i;
-      to_authors = review-own u H paper wrote handled before later ordinal (is_number u maker) form.to_authors i;
-      to_pc = form-own u H paper wrote handled before later ordinal (is_number u maker) form.to_pc i;
+  left-one before later stamp (Assigned paper user review_kind ordinal) writes told = λ wrote handled. (party u H paper wrote handled user stamp.maker told, refl)
+  left-one before later stamp (Unassigned paper user ordinal) writes told = λ wrote handled. (party u H paper wrote handled user stamp.maker told, refl)
+  left-one before later stamp (Reviewed paper ordinal version form) writes told = λ wrote handled. (
+    left-form u H paper wrote handled before later ordinal (is_number u stamp.maker) told,
+    λ i. record (shown_to u H before later stamp (Reviewed paper ordinal version form)) {
+      version = form-own u H paper wrote handled before later ordinal (is_number u stamp.maker) version i;
+      score = review-own u H paper wrote handled before later ordinal (is_number u stamp.maker) form.score i;
+      confidence = review-own u H paper wrote handled before later ordinal (is_number u stamp.maker) form.confidence i;
+      to_authors = review-own u H paper wrote handled before later ordinal (is_number u stamp.maker) form.to_authors i;
+      to_pc = form-own u H paper wrote handled before later ordinal (is_number u stamp.maker) form.to_pc i;
       done = done-led u H paper wrote handled before later ordinal (administers u paper H) i;
     },
   )
-  left-one before later maker (Commented paper n ordinal text) writes told = λ wrote handled. (
-    comment-own (is_number u maker) (is_eligible u paper H) (is_past_reviewing (phase_of H)) handled told,
-    λ i. record (shown_to u H before later maker (Commented paper n ordinal text)) {
-      by = known-not _ maker (form-unread (is_eligible u paper H) (is_past_reviewing (phase_of H)) (knows_writers u H) handled) i;
+  left-one before later stamp (Commented paper n ordinal text) writes told = λ wrote handled. (
+    comment-own (is_number u stamp.maker) (is_eligible u paper H) (is_past_reviewing (phase_of H)) handled told,
+    λ i. record (shown_to u H before later stamp (Commented paper n ordinal text)) {
+      by = known-not _ stamp.maker (form-unread (is_eligible u paper H) (is_past_reviewing (phase_of H)) (knows_writers u H) handled) i;
     },
   )
-  left-one before later maker (Tagged paper tag on) writes told = λ wrote handled. (
-    tag-own (is_number u maker) (is_committees tag) (is_chairs tag) (is_eligible u paper H) (chairs_committee (role_of u H)) handled told,
+  left-one before later stamp (Tagged paper tag on) writes told = λ wrote handled. (
+    tag-own (is_number u stamp.maker) (is_committees tag) (is_chairs tag) (is_eligible u paper H) (chairs_committee (role_of u H)) handled told,
     refl,
   )
-  left-one before later maker (Decided paper decision) writes told = λ wrote handled. (
-    own-or-in (is_number u maker) (is_announced H later paper) (decision-told u H paper wrote handled later (is_number u maker) told)
+  left-one before later stamp (Decided paper decision) writes told = λ wrote handled. (
+    own-or-in (is_number u stamp.maker) (is_announced H later paper) (decision-told u H paper wrote handled later (is_number u stamp.maker) told)
         (announced-in u H paper wrote handled later),
-    λ i. record (shown_to u H before later maker (Decided paper decision)) {
-      decision = known-alone _ (is_number u maker) decision (verdict-unknown u H paper wrote handled later (is_number u maker)) i;
+    λ i. record (shown_to u H before later stamp (Decided paper decision)) {
+      decision = known-alone _ (is_number u stamp.maker) decision (verdict-unknown u H paper wrote handled later (is_number u stamp.maker)) i;
       outcome = known-not _ true (outcome-unknown u H paper wrote handled later) i;
       accepted = accepted-left u H paper wrote handled later i;
     },
@@ -296,14 +297,14 @@ module _ (u : Option ℕ) (H : History) where
           → (own || is_in_programme paper H) ≡ true
       own-or-in true announced told in_it = refl
       own-or-in false announced told in_it = in_it told
-  left-one before later maker (Registered user name digest) writes told = tt
-  left-one before later maker e writes told = tt
+  left-one before later stamp (Registered user name digest) writes told = tt
+  left-one before later stamp e writes told = tt
 
 pub outsiders-shown : OutsidersShown
 outsiders-shown u p H out =
     all-view u H (λ (s : Sighting). is_number s.paper p ≡ true → IsLeft u (outsider u p H) s.kind s) (λ (e : Stamped). IsWriters u H e.stamp.maker e.entry)
-    (λ before later maker more e writes told.
-    on-paper (shown_to u H before later maker e) (paper_for u H before later maker e) (left-one u H before later maker e writes told))
+    (λ before later stamp more e writes told.
+    on-paper (shown_to u H before later stamp e) (paper_for u H before later stamp e) (left-one u H before later stamp e writes told))
     (writers-all u H)
   where
     on-paper : (s : Sighting) (paper : Option ℕ) → LeftAt u H s paper → is_number paper p ≡ true → IsLeft u (outsider u p H) s.kind s
@@ -355,69 +356,69 @@ module _ (u : Option ℕ) (H : History) (stranger : IsStranger u H) where
       text-left u H paper (stranger.author paper) (unhandled paper) own replaced text
       ∙ ap (λ b. cond (b || appears paper H) shown None) other
 
-  public-one : (before later : History) (maker : ℕ) (e : Entry) → IsUnnamed u H e
-      → is_told u H before later maker e ≡ true → is_number u maker ≡ false → IsPublicIn H (shown_to u H before later maker e)
-  public-one before later maker (Registered user name digest) unnamed told other = λ i. record (blank kinds.Registered) {
+  public-one : (before later : History) (stamp : Stamp) (e : Entry) → IsUnnamed u H e
+      → is_told u H before later stamp.maker e ≡ true → is_number u stamp.maker ≡ false → IsPublicIn H (shown_to u H before later stamp e)
+  public-one before later stamp (Registered user name digest) unnamed told other = λ i. record (blank kinds.Registered) {
     mine = other i;
     user = Some user;
     name = Some name;
     digest = where_known (other i) digest;
   }
-  public-one before later maker (Submitted paper title abstract) unnamed told other = λ i. record (blank kinds.Submitted) {
+  public-one before later stamp (Submitted paper title abstract) unnamed told other = λ i. record (blank kinds.Submitted) {
     mine = other i;
     paper = Some paper;
-    by = maker-left u H paper (stranger.author paper) (unhandled paper) maker i;
+    by = maker-left u H paper (stranger.author paper) (unhandled paper) stamp.maker i;
     title = title-public paper (is_replaced paper later) title i;
     abstract = text-public paper false (is_replaced paper later) abstract refl i;
   }
-  public-one before later maker (Coauthor paper user) unnamed told other = (
-    public (is_number u maker) (is_in_programme paper H) other
-        (coauthor-left (is_number u maker) (is_author u paper H) (is_eligible u paper H) (chairs_committee (role_of u H)) (hides_authors (mode_of H))
+  public-one before later stamp (Coauthor paper user) unnamed told other = (
+    public (is_number u stamp.maker) (is_in_programme paper H) other
+        (coauthor-left (is_number u stamp.maker) (is_author u paper H) (is_eligible u paper H) (chairs_committee (role_of u H)) (hides_authors (mode_of H))
         (is_in_programme paper H) (stranger.author paper) (unhandled paper) told),
-    λ i. record (shown_to u H before later maker (Coauthor paper user)) { mine = other i },
+    λ i. record (shown_to u H before later stamp (Coauthor paper user)) { mine = other i },
   )
-  public-one before later maker (Revised paper title abstract) unnamed told other = (
-    public (is_number u maker || serves u H) (is_in_programme paper H) (or_from (is_number u maker) (serves u H) other stranger.serving)
-        (revision-left (is_number u maker) (is_author u paper H) (not (is_replaced paper later)) (serves u H) (is_in_programme paper H)
+  public-one before later stamp (Revised paper title abstract) unnamed told other = (
+    public (is_number u stamp.maker || serves u H) (is_in_programme paper H) (or_from (is_number u stamp.maker) (serves u H) other stranger.serving)
+        (revision-left (is_number u stamp.maker) (is_author u paper H) (not (is_replaced paper later)) (serves u H) (is_in_programme paper H)
         (stranger.author paper) told),
-    λ i. record (shown_to u H before later maker (Revised paper title abstract)) {
+    λ i. record (shown_to u H before later stamp (Revised paper title abstract)) {
       mine = other i;
-      abstract = text-public paper (is_number u maker) (is_replaced paper later) abstract other i;
+      abstract = text-public paper (is_number u stamp.maker) (is_replaced paper later) abstract other i;
     },
   )
-  public-one before later maker (Uploaded paper version content) unnamed told other = (
-    public (is_number u maker) (appears paper H) other
-        (upload-left (is_number u maker) (is_author u paper H) (not (is_superseded paper later)) (is_eligible u paper H) (appears paper H)
+  public-one before later stamp (Uploaded paper version content) unnamed told other = (
+    public (is_number u stamp.maker) (appears paper H) other
+        (upload-left (is_number u stamp.maker) (is_author u paper H) (not (is_superseded paper later)) (is_eligible u paper H) (appears paper H)
         (stranger.author paper) (unhandled paper) told),
-    λ i. record (shown_to u H before later maker (Uploaded paper version content)) { mine = other i },
+    λ i. record (shown_to u H before later stamp (Uploaded paper version content)) { mine = other i },
   )
-  public-one before later maker (Bid paper value) unnamed told other =
-      hers other (bid-own (is_number u maker) (is_eligible u paper H) (chairs_committee (role_of u H)) (unhandled paper) told)
-  public-one before later maker (Assigned paper user review_kind ordinal) unnamed told other = absurd (untold paper user maker unnamed.0 unnamed.1 told other)
-  public-one before later maker (Unassigned paper user ordinal) unnamed told other = absurd (untold paper user maker unnamed.0 unnamed.1 told other)
-  public-one before later maker (Reviewed paper ordinal version form) unnamed told other =
-      absurd (unreviewed (is_number u maker) (chairs_committee (role_of u H)) (not (has_conflict u paper H)) other unnamed.1
-      (left-form u H paper (stranger.author paper) (unhandled paper) before later ordinal (is_number u maker) told))
+  public-one before later stamp (Bid paper value) unnamed told other =
+      hers other (bid-own (is_number u stamp.maker) (is_eligible u paper H) (chairs_committee (role_of u H)) (unhandled paper) told)
+  public-one before later stamp (Assigned paper user review_kind ordinal) unnamed told other = absurd (untold paper user stamp.maker unnamed.0 unnamed.1 told other)
+  public-one before later stamp (Unassigned paper user ordinal) unnamed told other = absurd (untold paper user stamp.maker unnamed.0 unnamed.1 told other)
+  public-one before later stamp (Reviewed paper ordinal version form) unnamed told other =
+      absurd (unreviewed (is_number u stamp.maker) (chairs_committee (role_of u H)) (not (has_conflict u paper H)) other unnamed.1
+      (left-form u H paper (stranger.author paper) (unhandled paper) before later ordinal (is_number u stamp.maker) told))
     where
       unreviewed : (own chair clear : Bool) → own ≡ false → (chair && true) ≡ false → (own || (chair && clear)) ≡ true → ⊥
       unreviewed own chair clear o c led = grind (arith, o, c, led)
-  public-one before later maker (Commented paper n ordinal text) unnamed told other =
-      hers other (comment-own (is_number u maker) (is_eligible u paper H) (is_past_reviewing (phase_of H)) (unhandled paper) told)
-  public-one before later maker (Tagged paper tag on) unnamed told other =
+  public-one before later stamp (Commented paper n ordinal text) unnamed told other =
+      hers other (comment-own (is_number u stamp.maker) (is_eligible u paper H) (is_past_reviewing (phase_of H)) (unhandled paper) told)
+  public-one before later stamp (Tagged paper tag on) unnamed told other =
       hers other
-      (tag-own (is_number u maker) (is_committees tag) (is_chairs tag) (is_eligible u paper H) (chairs_committee (role_of u H)) (unhandled paper) told)
-  public-one before later maker (Withdrawn paper) unnamed told other =
-      hers (or_from (is_number u maker) (serves u H) other stranger.serving)
-      (withdrawal-left (is_number u maker) (is_author u paper H) (serves u H) (stranger.author paper) told)
-  public-one before later maker (Conflict paper user on) unnamed told other = absurd (undeclared unnamed.0 other (stranger.author paper) stranger.serving)
+      (tag-own (is_number u stamp.maker) (is_committees tag) (is_chairs tag) (is_eligible u paper H) (chairs_committee (role_of u H)) (unhandled paper) told)
+  public-one before later stamp (Withdrawn paper) unnamed told other =
+      hers (or_from (is_number u stamp.maker) (serves u H) other stranger.serving)
+      (withdrawal-left (is_number u stamp.maker) (is_author u paper H) (serves u H) (stranger.author paper) told)
+  public-one before later stamp (Conflict paper user on) unnamed told other = absurd (undeclared unnamed.0 other (stranger.author paper) stranger.serving)
     where
-      undeclared : is_number u user ≡ false → is_number u maker ≡ false → is_author u paper H ≡ false → serves u H ≡ false → ⊥
+      undeclared : is_number u user ≡ false → is_number u stamp.maker ≡ false → is_author u paper H ≡ false → serves u H ≡ false → ⊥
       undeclared n o a s = grind (arith, told, n, o, a, s)
-  public-one before later maker (Decided paper decision) unnamed told other = (
+  public-one before later stamp (Decided paper decision) unnamed told other = (
     announced-in u H paper (stranger.author paper) (unhandled paper) later announced,
-    λ i. record (shown_to u H before later maker (Decided paper decision)) {
+    λ i. record (shown_to u H before later stamp (Decided paper decision)) {
       mine = other i;
-      decision = known-not _ decision (verdict-unknown u H paper (stranger.author paper) (unhandled paper) later (is_number u maker) other) i;
+      decision = known-not _ decision (verdict-unknown u H paper (stranger.author paper) (unhandled paper) later (is_number u stamp.maker) other) i;
       outcome = known-not _ true (outcome-unknown u H paper (stranger.author paper) (unhandled paper) later) i;
       accepted = where_known (announced i) true;
     },
@@ -425,9 +426,9 @@ module _ (u : Option ℕ) (H : History) (stranger : IsStranger u H) where
     where
       announced : is_announced H later paper ≡ true
       announced =
-          public (is_number u maker) (is_announced H later paper) other
-          (decision-told u H paper (stranger.author paper) (unhandled paper) later (is_number u maker) told)
-  public-one before later maker e unnamed told other = λ i. record (shown_to u H before later maker e) { mine = other i }
+          public (is_number u stamp.maker) (is_announced H later paper) other
+          (decision-told u H paper (stranger.author paper) (unhandled paper) later (is_number u stamp.maker) told)
+  public-one before later stamp e unnamed told other = λ i. record (shown_to u H before later stamp e) { mine = other i }
 
   unnamed-all : (G : History) → list_any (λ (e : Stamped). names_her u e.entry) G ≡ false
       → (chairs_committee (role_of u H) && list_any (λ (e : Stamped). is_reviewing e.entry) G) ≡ false
@@ -445,7 +446,7 @@ module _ (u : Option ℕ) (H : History) (stranger : IsStranger u H) where
 pub strangers-shown : StrangersShown
 strangers-shown u H stranger =
     all-view u H (λ (s : Sighting). s.mine ≡ false → IsPublicIn H s) (λ (e : Stamped). IsUnnamed u H e.entry)
-    (λ before later maker more e unnamed told. public-one u H stranger before later maker e unnamed told)
+    (λ before later stamp more e unnamed told. public-one u H stranger before later stamp e unnamed told)
     (unnamed-all u H stranger H stranger.named stranger.leading)
 
 -- nobody is a stranger
@@ -480,5 +481,5 @@ pub nobody-shown : NobodyShown
 nobody-shown H =
     let stranger = nobody-stranger H in
     all-view None H (λ (s : Sighting). IsPublicIn H s) (λ (e : Stamped). IsUnnamed None H e.entry)
-    (λ before later maker more e unnamed told. public-one None H stranger before later maker e unnamed told refl)
+    (λ before later stamp more e unnamed told. public-one None H stranger before later stamp e unnamed told refl)
     (unnamed-all None H stranger H stranger.named stranger.leading)

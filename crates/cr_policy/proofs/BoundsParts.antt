@@ -7,6 +7,7 @@ use Rattle.std.proofs.Math.Bool.{or-false}
 use Rattle.cr_base.specs.declared.entry.Entry.{Entry}
 use Rattle.cr_base.specs.declared.entry.Entry.TheVariants.{Registered, Submitted, Coauthor, Revised, Uploaded, Conflict, Bid, Assigned, Unassigned, PhaseSet}
 use Rattle.cr_base.specs.declared.entry.Entry.TheVariants.{Reviewed, Commented, Tagged, Decided}
+use Rattle.cr_base.specs.declared.entry.Stamp.{Stamp}
 use Rattle.cr_base.specs.declared.entry.Stamped.{Stamped}
 use Rattle.cr_base.specs.declared.form.Form.{Form}
 use Rattle.cr_base.specs.declared.words.Decision.{Decision}
@@ -19,12 +20,12 @@ use Rattle.cr_base.specs.declared.words.Role.{Role}
 use Rattle.cr_base.specs.declared.words.Role.TheVariants.{Account, Member, Chair}
 use Rattle.cr_base.specs.Decisions.{is_published}
 use Rattle.cr_base.specs.Lists.{given, is_nothing, is_number, until}
+use Rattle.cr_base.specs.Drawn.{stamped}
 use Rattle.cr_base.specs.History.{History, all_told, opens, opens_discussion, title_told, upload_told, form_told, decision_told, whole_form}
 use Rattle.cr_base.specs.HistoryFacts.{phase_of, mode_of, role_of, is_author, is_conflicted, is_withdrawn, decision_of, is_accepted}
 use Rattle.cr_base.specs.Phases.{is_from, is_phase}
 use Rattle.cr_base.specs.TagTexts.{is_for_all, is_for_chairs}
 use Rattle.cr_base.specs.Words.{is_anonymous, is_overt, is_member, is_chair, is_accept}
-use Rattle.cr_history.proofs.LineAgreement.{stamp}
 use Rattle.cr_policy.specs.Sighting.{Sighting, where_shown}
 use Rattle.cr_policy.specs.Part as part
 use Rattle.cr_policy.specs.Part.{whole}
@@ -264,12 +265,12 @@ tag-seen all chairs m c f own all' chairs' h o ha hc hh ho = grind (arith, ha, h
 decision-seen : (d l k own d' l' k' : Bool) → d ≡ d' → l ≡ l' → k ≡ k' → (d || (l || (k || (own || false)))) ≡ ((own || d') || l' || k')
 decision-seen d l k own d' l' k' hd hl hk = grind (arith, hd, hl, hk)
 
-module _ (u : Option ℕ) (H : History) (at : Around) (maker : ℕ) (more : Bool) where
+module _ (u : Option ℕ) (H : History) (at : Around) (stamp : Stamp) (more : Bool) where
   abbrev r : Reader
   r = reader u H
 
   abbrev seen : Entry → Sighting
-  seen e = joined r at (stamp maker more e)
+  seen e = joined r at (stamped stamp more e)
 
   serves-same : (is_member (role_of u H) && is_from Bidding (phase_of H)) ≡ serves u H
   serves-same =
@@ -319,7 +320,7 @@ module _ (u : Option ℕ) (H : History) (at : Around) (maker : ℕ) (more : Bool
   -- ---- who is told of an assignment and of its end, and what of it
 
   abbrev seat_rows_to : ℕ → ℕ → List TriggerRow
-  seat_rows_to paper user = seat_rows r paper user ++ user_named r maker see whole ∷ []
+  seat_rows_to paper user = seat_rows r paper user ++ user_named r stamp.maker see whole ∷ []
 
   module _ (paper user : ℕ) where
     -- the tests of the rows: the entry names her, she is a chair in no conflict, a member in none, it is the discussion, members who
@@ -343,23 +344,23 @@ module _ (u : Option ℕ) (H : History) (at : Around) (maker : ℕ) (more : Bool
     answered = is_author u paper H && is_overt (mode_of H) && is_from Notification (phase_of H)
 
     abbrev own : Bool
-    own = is_number u maker
+    own = is_number u stamp.maker
 
-    assignment-seen : applies_any (seat_rows_to paper user) ≡ (is_party u H maker paper user || discusses u paper H || is_answered u paper H)
+    assignment-seen : applies_any (seat_rows_to paper user) ≡ (is_party u H stamp.maker paper user || discusses u paper H || is_answered u paper H)
     assignment-seen =
         seat-seen named leading clear discussed hidden answered own (administers u paper H) (discusses u paper H) (is_answered u paper H)
         (administers-same paper) (discusses-same paper) (answered-same paper)
 
-    reviewer-shown : where_shown (shows (seat_rows_to paper user) part.user) (Some user) ≡ reviewer_for u H maker paper user
+    reviewer-shown : where_shown (shows (seat_rows_to paper user) part.user) (Some user) ≡ reviewer_for u H stamp.maker paper user
     reviewer-shown =
         known-same _ _ user
         (seat-user named leading clear discussed hidden answered own (administers u paper H) (discusses u paper H) (hides_reviewers (mode_of H))
         (is_answered u paper H) (administers-same paper) (discusses-same paper) (mode-words (mode_of H)).reviewers (answered-same paper))
 
-    kind-shown : shows (seat_rows_to paper user) part.review_kind ≡ (is_party u H maker paper user || discusses u paper H)
+    kind-shown : shows (seat_rows_to paper user) part.review_kind ≡ (is_party u H stamp.maker paper user || discusses u paper H)
     kind-shown = seat-kind named leading clear discussed own (administers u paper H) (discusses u paper H) (administers-same paper) (discusses-same paper)
 
-    label-shown : shows (seat_rows_to paper user) part.ordinal ≡ (is_party u H maker paper user || discusses u paper H || is_answered u paper H)
+    label-shown : shows (seat_rows_to paper user) part.ordinal ≡ (is_party u H stamp.maker paper user || discusses u paper H || is_answered u paper H)
     label-shown =
         seat-ordinal named leading clear discussed answered own (administers u paper H) (discusses u paper H) (is_answered u paper H)
         (administers-same paper) (discusses-same paper) (answered-same paper)
@@ -367,7 +368,7 @@ module _ (u : Option ℕ) (H : History) (at : Around) (maker : ℕ) (more : Bool
   -- ---- who is told of a form, and what of it
 
   abbrev rows_to : Entry → List TriggerRow
-  rows_to e = rows r (position_of at e) maker e ++ user_named r maker see whole ∷ []
+  rows_to e = rows r (position_of at e) stamp.maker e ++ user_named r stamp.maker see whole ∷ []
 
   notified-same : (p : ℕ) → (is_author u p H && is_from Notification (phase_of H)) ≡ is_notified u p H
   notified-same p = ap (λ b. is_author u p H && b) (phase-words (phase_of H)).notification
@@ -408,14 +409,14 @@ module _ (u : Option ℕ) (H : History) (at : Around) (maker : ℕ) (more : Bool
         by n n' a f l hn hl = grind (arith, hn, hl)
 
     review-seen : applies_any (rows_to reviewed)
-        ≡ (reads_form u H at.before at.after maker paper ordinal || counts_form u H at.before paper ordinal || learns_form u H at.after paper ordinal)
-    review-seen = form-seen counted is_read learnt (is_number u maker) _ _ _ counted-same read-same learnt-same
+        ≡ (reads_form u H at.before at.after stamp.maker paper ordinal || counts_form u H at.before paper ordinal || learns_form u H at.after paper ordinal)
+    review-seen = form-seen counted is_read learnt (is_number u stamp.maker) _ _ _ counted-same read-same learnt-same
 
-    form-read : (is_read || (is_number u maker || false)) ≡ reads_form u H at.before at.after maker paper ordinal
-    form-read = whole-shown is_read (is_number u maker) _ read-same
+    form-read : (is_read || (is_number u stamp.maker || false)) ≡ reads_form u H at.before at.after stamp.maker paper ordinal
+    form-read = whole-shown is_read (is_number u stamp.maker) _ read-same
 
-    review-read : (is_read || (learnt || (is_number u maker || false))) ≡ reads_review u H at.before at.after maker paper ordinal
-    review-read = form-review is_read learnt (is_number u maker) _ _ read-same learnt-same
+    review-read : (is_read || (learnt || (is_number u stamp.maker || false))) ≡ reads_review u H at.before at.after stamp.maker paper ordinal
+    review-read = form-review is_read learnt (is_number u stamp.maker) _ _ read-same learnt-same
 
   -- ---- who is told of a comment, and what of it
 
@@ -465,37 +466,37 @@ module _ (u : Option ℕ) (H : History) (at : Around) (maker : ℕ) (more : Bool
         ap (λ b. b && is_accepted paper H) (none_in-decided paper at.after)
         ∙ ap (λ b. not (is_decided_again paper at.after) && b) (programme-same paper)
 
-    verdict-seen : (discussing paper || (told_outcome || (announced || (is_number u maker || false))))
-        ≡ (reads_decision u H maker paper || learns_outcome u H at.after paper || is_announced H at.after paper)
+    verdict-seen : (discussing paper || (told_outcome || (announced || (is_number u stamp.maker || false))))
+        ≡ (reads_decision u H stamp.maker paper || learns_outcome u H at.after paper || is_announced H at.after paper)
     verdict-seen =
-        decision-seen (discussing paper) told_outcome announced (is_number u maker) _ _ _ (discusses-same paper) outcome-same announced-same
+        decision-seen (discussing paper) told_outcome announced (is_number u stamp.maker) _ _ _ (discusses-same paper) outcome-same announced-same
 
-    verdict-read : (discussing paper || (told_outcome || (is_number u maker || false)))
-        ≡ (reads_decision u H maker paper || learns_outcome u H at.after paper)
-    verdict-read = form-review (discussing paper) told_outcome (is_number u maker) _ _ (discusses-same paper) outcome-same
+    verdict-read : (discussing paper || (told_outcome || (is_number u stamp.maker || false)))
+        ≡ (reads_decision u H stamp.maker paper || learns_outcome u H at.after paper)
+    verdict-read = form-review (discussing paper) told_outcome (is_number u stamp.maker) _ _ (discusses-same paper) outcome-same
 
   -- ---- part by part
 
-  pub seen-told : (e : Entry) → is_seen r at (stamp maker more e) ≡ is_told u H at.before at.after maker e
+  pub seen-told : (e : Entry) → is_seen r at (stamped stamp more e) ≡ is_told u H at.before at.after stamp.maker e
   seen-told (Registered user name digest) = refl
   seen-told (Coauthor paper user) =
       coauthor-seen (is_author u paper H) (is_chair (role_of u H) && not (is_conflicted u paper H))
       (is_member (role_of u H) && not (is_conflicted u paper H)) (is_anonymous (mode_of H)) (is_from Bidding (phase_of H)) (is_accepted paper H)
-      (is_number u maker) _ _ _ _ (oversees-same paper) (is_eligible-same paper) (mode-words (mode_of H)).authors (programme-same paper)
+      (is_number u stamp.maker) _ _ _ _ (oversees-same paper) (is_eligible-same paper) (mode-words (mode_of H)).authors (programme-same paper)
   seen-told (Revised paper title abstract) =
       revision-seen (is_author u paper H) _ (is_member (role_of u H)) (is_from Bidding (phase_of H)) (is_conflicted u paper H) (is_accepted paper H)
-      (is_from Closed (phase_of H)) (is_number u maker) _ _ _ (none_in-replaced paper at.after) serves-same (programme-same paper)
+      (is_from Closed (phase_of H)) (is_number u stamp.maker) _ _ _ (none_in-replaced paper at.after) serves-same (programme-same paper)
   seen-told (Uploaded paper version content) =
       text-known (is_author u paper H) _ (is_member (role_of u H) && not (is_conflicted u paper H)) (is_from Bidding (phase_of H))
-      (is_published (phase_of H) (is_accepted paper H)) (is_number u maker) _ _ _
+      (is_published (phase_of H) (is_accepted paper H)) (is_number u stamp.maker) _ _ _
       (none_in-superseded paper at.after) (is_eligible-same paper) (appears-same paper)
   seen-told (Assigned paper user review_kind ordinal) = assignment-seen paper user
   seen-told (Unassigned paper user ordinal) = assignment-seen paper user
   seen-told (Reviewed paper ordinal version form) = review-seen paper ordinal version form
-  seen-told (Commented paper n ordinal text) = comment-seen (discussing paper) (shows_names paper) (is_number u maker) _ (discusses-same paper)
+  seen-told (Commented paper n ordinal text) = comment-seen (discussing paper) (shows_names paper) (is_number u stamp.maker) _ (discusses-same paper)
   seen-told (Tagged paper tag on) =
       tag-seen (is_for_all tag) (is_for_chairs tag) (is_member (role_of u H) && not (is_conflicted u paper H))
-      (is_chair (role_of u H) && not (is_conflicted u paper H)) (is_from Bidding (phase_of H)) (is_number u maker) _ _ _ _
+      (is_chair (role_of u H) && not (is_conflicted u paper H)) (is_from Bidding (phase_of H)) (is_number u stamp.maker) _ _ _ _
       (for-committee tag) (for-chairs tag) (is_eligible-same paper) (oversees-same paper)
   seen-told (Decided paper decision) = verdict-seen paper
   seen-told e =
@@ -508,45 +509,45 @@ module _ (u : Option ℕ) (H : History) (at : Around) (maker : ℕ) (more : Bool
 
   -- the parts that are shown to all who are told of the entry
   pub record AreShown (e : Entry) : Type 0 where
-    pub kind : (seen e).kind ≡ kind_for u H at.before at.after maker e
-    pub paper : (seen e).paper ≡ paper_for u H at.before at.after maker e
-    pub name : (seen e).name ≡ name_for u H at.before at.after maker e
-    pub role : (seen e).role ≡ role_for u H at.before at.after maker e
-    pub phase : (seen e).phase ≡ phase_for u H at.before at.after maker e
-    pub mode : (seen e).mode ≡ mode_for u H at.before at.after maker e
+    pub kind : (seen e).kind ≡ kind_for u H at.before at.after stamp e
+    pub paper : (seen e).paper ≡ paper_for u H at.before at.after stamp e
+    pub name : (seen e).name ≡ name_for u H at.before at.after stamp e
+    pub role : (seen e).role ≡ role_for u H at.before at.after stamp e
+    pub phase : (seen e).phase ≡ phase_for u H at.before at.after stamp e
+    pub mode : (seen e).mode ≡ mode_for u H at.before at.after stamp e
 
   pub shown-one : (e : Entry) → AreShown e
   shown-one (Registered user name digest) = record { kind = refl; paper = refl; name = refl; role = refl; phase = refl; mode = refl }
   shown-one e = record { kind = refl; paper = refl; name = refl; role = refl; phase = refl; mode = refl }
 
-  pub mark-one : (e : Entry) → (seen e).mine ≡ mark_for u H at.before at.after maker e
+  pub mark-one : (e : Entry) → (seen e).mine ≡ mark_for u H at.before at.after stamp e
   mark-one e = refl
 
-  pub user-one : (e : Entry) → is_told u H at.before at.after maker e ≡ true → (seen e).user ≡ user_for u H at.before at.after maker e
+  pub user-one : (e : Entry) → is_told u H at.before at.after stamp.maker e ≡ true → (seen e).user ≡ user_for u H at.before at.after stamp e
   user-one (Coauthor paper user) told = ap (λ b. where_known b user) (seen-told (Coauthor paper user) ∙ told)
   user-one (Conflict paper user on) told = ap (λ b. where_known b user) (seen-told (Conflict paper user on) ∙ told)
   user-one (Assigned paper user review_kind ordinal) told = reviewer-shown paper user
   user-one (Unassigned paper user ordinal) told = reviewer-shown paper user
   user-one e told = refl
 
-  pub digest-one : (e : Entry) → (seen e).digest ≡ digest_for u H at.before at.after maker e
-  digest-one (Registered user name digest) = known-same _ (is_number u maker) digest (or-false (is_number u maker))
+  pub digest-one : (e : Entry) → (seen e).digest ≡ digest_for u H at.before at.after stamp e
+  digest-one (Registered user name digest) = known-same _ (is_number u stamp.maker) digest (or-false (is_number u stamp.maker))
   digest-one e = refl
 
-  pub switch-one : (e : Entry) → is_told u H at.before at.after maker e ≡ true → (seen e).on ≡ switch_for u H at.before at.after maker e
+  pub switch-one : (e : Entry) → is_told u H at.before at.after stamp.maker e ≡ true → (seen e).on ≡ switch_for u H at.before at.after stamp e
   switch-one (Conflict paper user on) told = ap (λ b. where_known b on) (seen-told (Conflict paper user on) ∙ told)
   switch-one (Tagged paper tag on) told = ap (λ b. where_known b on) (seen-told (Tagged paper tag on) ∙ told)
   switch-one e told = refl
 
-  pub maker-one : (e : Entry) → (seen e).by ≡ maker_for u H at.before at.after maker e
+  pub maker-one : (e : Entry) → (seen e).by ≡ maker_for u H at.before at.after stamp e
   maker-one (Registered user name digest) = refl
   maker-one (Submitted paper title abstract) =
-      known-same _ _ maker
+      known-same _ _ stamp.maker
       (submitter-seen (is_author u paper H) (is_chair (role_of u H) && not (is_conflicted u paper H))
       (is_member (role_of u H) && not (is_conflicted u paper H)) (is_anonymous (mode_of H)) (is_from Bidding (phase_of H)) (is_accepted paper H)
       _ _ _ _ (oversees-same paper) (is_eligible-same paper) (mode-words (mode_of H)).authors (programme-same paper))
-  maker-one (Bid paper value) = known-same _ _ maker (or-false _ ∙ oversees-same paper)
-  maker-one (Commented paper n ordinal text) = known-same _ _ maker (or-false _ ∙ writer-same paper)
+  maker-one (Bid paper value) = known-same _ _ stamp.maker (or-false _ ∙ oversees-same paper)
+  maker-one (Commented paper n ordinal text) = known-same _ _ stamp.maker (or-false _ ∙ writer-same paper)
   maker-one e = refl
 
   -- a title or an abstract is shown to those who own the entry, the last one to those who may read it from the bidding on, and to
@@ -556,117 +557,117 @@ module _ (u : Option ℕ) (H : History) (at : Around) (maker : ℕ) (more : Bool
       where_shown
       (is_author u paper H
       || ((none_in (title_told paper) at.after && m && is_from Bidding (phase_of H))
-      || ((none_in (title_told paper) at.after && k) || (is_number u maker || false))))
+      || ((none_in (title_told paper) at.after && k) || (is_number u stamp.maker || false))))
       (Some text)
       ≡ where_known known text
 
   text-one : (paper : ℕ) (m s k p known : Bool) (text : List ℕ) → (m && is_from Bidding (phase_of H)) ≡ s → k ≡ p
-      → (owns u H maker paper || (not (is_replaced paper at.after) && (s || p))) ≡ known → IsTextShown paper m k known text
+      → (owns u H stamp.maker paper || (not (is_replaced paper at.after) && (s || p))) ≡ known → IsTextShown paper m k known text
   text-one paper m s k p known text may public same =
-      known-same _ _ text (text-known (is_author u paper H) _ m (is_from Bidding (phase_of H)) k (is_number u maker) _ s p
+      known-same _ _ text (text-known (is_author u paper H) _ m (is_from Bidding (phase_of H)) k (is_number u stamp.maker) _ s p
       (none_in-replaced paper at.after) may public
       ∙ same)
 
   title-shown : (paper : ℕ) (title : List ℕ) (known : Bool)
-      → (owns u H maker paper || (not (is_replaced paper at.after) && (serves u H || is_in_programme paper H))) ≡ known
+      → (owns u H stamp.maker paper || (not (is_replaced paper at.after) && (serves u H || is_in_programme paper H))) ≡ known
       → IsTextShown paper (is_member (role_of u H)) (is_accepted paper H) known title
   title-shown paper title known same =
       text-one paper (is_member (role_of u H)) (serves u H) (is_accepted paper H) (is_in_programme paper H) known title
       serves-same (programme-same paper) same
 
   abstract-shown : (paper : ℕ) (abstract : List ℕ) (known : Bool)
-      → (owns u H maker paper || (not (is_replaced paper at.after) && (is_eligible u paper H || appears paper H))) ≡ known
+      → (owns u H stamp.maker paper || (not (is_replaced paper at.after) && (is_eligible u paper H || appears paper H))) ≡ known
       → IsTextShown paper (is_member (role_of u H) && not (is_conflicted u paper H)) (is_published (phase_of H) (is_accepted paper H)) known abstract
   abstract-shown paper abstract known same =
       text-one paper (is_member (role_of u H) && not (is_conflicted u paper H)) (is_eligible u paper H)
       (is_published (phase_of H) (is_accepted paper H)) (appears paper H) known abstract
       (is_eligible-same paper) (appears-same paper) same
 
-  pub title-one : (e : Entry) → IsWriters u H maker e → (seen e).title ≡ title_for u H at.before at.after maker e
-  title-one (Submitted paper title abstract) writes = title-shown paper title _ (own-author (is_author u paper H) (is_number u maker) _ writes)
+  pub title-one : (e : Entry) → IsWriters u H stamp.maker e → (seen e).title ≡ title_for u H at.before at.after stamp e
+  title-one (Submitted paper title abstract) writes = title-shown paper title _ (own-author (is_author u paper H) (is_number u stamp.maker) _ writes)
   title-one (Revised paper title abstract) writes = title-shown paper title _ refl
   title-one (Registered user name digest) writes = refl
   title-one e writes = refl
 
-  pub abstract-one : (e : Entry) → IsWriters u H maker e → (seen e).abstract ≡ abstract_for u H at.before at.after maker e
-  abstract-one (Submitted paper title abstract) writes = abstract-shown paper abstract _ (own-author (is_author u paper H) (is_number u maker) _ writes)
+  pub abstract-one : (e : Entry) → IsWriters u H stamp.maker e → (seen e).abstract ≡ abstract_for u H at.before at.after stamp e
+  abstract-one (Submitted paper title abstract) writes = abstract-shown paper abstract _ (own-author (is_author u paper H) (is_number u stamp.maker) _ writes)
   abstract-one (Revised paper title abstract) writes = abstract-shown paper abstract _ refl
   abstract-one (Registered user name digest) writes = refl
   abstract-one e writes = refl
 
   -- the number and the content of a version are shown to all who are told of the upload
-  pub version-one : (e : Entry) → (seen e).version ≡ version_for u H at.before at.after maker e
+  pub version-one : (e : Entry) → (seen e).version ≡ version_for u H at.before at.after stamp e
   version-one (Uploaded paper version content) = known-same _ _ version (seen-told (Uploaded paper version content))
   version-one (Reviewed paper ordinal version form) = known-same _ _ version (form-read paper ordinal version form)
   version-one e = refl
 
-  pub content-one : (e : Entry) → (seen e).content ≡ content_for u H at.before at.after maker e
+  pub content-one : (e : Entry) → (seen e).content ≡ content_for u H at.before at.after stamp e
   content-one (Uploaded paper version content) = known-same _ _ content (seen-told (Uploaded paper version content))
   content-one e = refl
 
   -- a bid, and the ordinal of a label, are shown to all who are told of the entry; what a reviewer is to the paper to those who
   -- are told all of it, or discuss the paper
-  pub value-one : (e : Entry) → is_told u H at.before at.after maker e ≡ true → (seen e).value ≡ value_for u H at.before at.after maker e
+  pub value-one : (e : Entry) → is_told u H at.before at.after stamp.maker e ≡ true → (seen e).value ≡ value_for u H at.before at.after stamp e
   value-one (Bid paper value) told = ap (λ b. where_known b value) (seen-told (Bid paper value) ∙ told)
   value-one e told = refl
 
-  pub seat-one : (e : Entry) → (seen e).review_kind ≡ review_kind_for u H at.before at.after maker e
+  pub seat-one : (e : Entry) → (seen e).review_kind ≡ review_kind_for u H at.before at.after stamp e
   seat-one (Assigned paper user review_kind ordinal) = known-same _ _ review_kind (kind-shown paper user)
   seat-one e = refl
 
-  pub ordinal-one : (e : Entry) → is_told u H at.before at.after maker e ≡ true → (seen e).ordinal ≡ ordinal_for u H at.before at.after maker e
+  pub ordinal-one : (e : Entry) → is_told u H at.before at.after stamp.maker e ≡ true → (seen e).ordinal ≡ ordinal_for u H at.before at.after stamp e
   ordinal-one (Assigned paper user review_kind ordinal) told = ap (λ b. where_known b ordinal) (label-shown paper user ∙ told)
   ordinal-one (Unassigned paper user ordinal) told = ap (λ b. where_known b ordinal) (label-shown paper user ∙ told)
   ordinal-one (Reviewed paper ordinal version form) told = ap (λ b. where_known b ordinal) (review-seen paper ordinal version form ∙ told)
   ordinal-one (Commented paper n ordinal text) told =
-      known-same _ _ (unwrap_or ordinal 0) (comment-label (discussing paper) (shows_names paper) (is_number u maker) _ _ (label-same paper))
+      known-same _ _ (unwrap_or ordinal 0) (comment-label (discussing paper) (shows_names paper) (is_number u stamp.maker) _ _ (label-same paper))
   ordinal-one e told = refl
 
   -- of a form its grades and the text to the authors are shown to those who read or learn it, the text to the committee to those
   -- who read it, and the mark to those who count it
-  pub score-one : (e : Entry) → (seen e).score ≡ score_for u H at.before at.after maker e
+  pub score-one : (e : Entry) → (seen e).score ≡ score_for u H at.before at.after stamp e
   score-one (Reviewed paper ordinal version form) = known-same _ _ form.score (review-read paper ordinal version form)
   score-one e = refl
 
-  pub confidence-one : (e : Entry) → (seen e).confidence ≡ confidence_for u H at.before at.after maker e
+  pub confidence-one : (e : Entry) → (seen e).confidence ≡ confidence_for u H at.before at.after stamp e
   confidence-one (Reviewed paper ordinal version form) = known-same _ _ form.confidence (review-read paper ordinal version form)
   confidence-one e = refl
 
-  pub to_authors-one : (e : Entry) → (seen e).to_authors ≡ to_authors_for u H at.before at.after maker e
+  pub to_authors-one : (e : Entry) → (seen e).to_authors ≡ to_authors_for u H at.before at.after stamp e
   to_authors-one (Reviewed paper ordinal version form) = known-same _ _ form.to_authors (review-read paper ordinal version form)
   to_authors-one e = refl
 
-  pub to_pc-one : (e : Entry) → (seen e).to_pc ≡ to_pc_for u H at.before at.after maker e
+  pub to_pc-one : (e : Entry) → (seen e).to_pc ≡ to_pc_for u H at.before at.after stamp e
   to_pc-one (Reviewed paper ordinal version form) = known-same _ _ form.to_pc (form-read paper ordinal version form)
   to_pc-one e = refl
 
-  pub done-one : (e : Entry) → (seen e).done ≡ done_for u H at.before at.after maker e
+  pub done-one : (e : Entry) → (seen e).done ≡ done_for u H at.before at.after stamp e
   done-one (Reviewed paper ordinal version form) = known-same _ _ true (or-false _ ∙ counted-same paper ordinal version form)
   done-one e = refl
 
   -- a comment's number and text, and a tag, are shown to all who are told of the entry
-  pub n-one : (e : Entry) → is_told u H at.before at.after maker e ≡ true → (seen e).n ≡ n_for u H at.before at.after maker e
-  n-one (Commented paper n ordinal text) told = ap (λ b. where_known b n) (whole-shown (discussing paper) (is_number u maker) _ (discusses-same paper) ∙ told)
+  pub n-one : (e : Entry) → is_told u H at.before at.after stamp.maker e ≡ true → (seen e).n ≡ n_for u H at.before at.after stamp e
+  n-one (Commented paper n ordinal text) told = ap (λ b. where_known b n) (whole-shown (discussing paper) (is_number u stamp.maker) _ (discusses-same paper) ∙ told)
   n-one e told = refl
 
-  pub comment-one : (e : Entry) → is_told u H at.before at.after maker e ≡ true → (seen e).text ≡ text_for u H at.before at.after maker e
+  pub comment-one : (e : Entry) → is_told u H at.before at.after stamp.maker e ≡ true → (seen e).text ≡ text_for u H at.before at.after stamp e
   comment-one (Commented paper n ordinal text) told =
-      ap (λ b. where_known b text) (whole-shown (discussing paper) (is_number u maker) _ (discusses-same paper) ∙ told)
+      ap (λ b. where_known b text) (whole-shown (discussing paper) (is_number u stamp.maker) _ (discusses-same paper) ∙ told)
   comment-one e told = refl
 
-  pub tag-one : (e : Entry) → is_told u H at.before at.after maker e ≡ true → (seen e).tag ≡ tag_for u H at.before at.after maker e
+  pub tag-one : (e : Entry) → is_told u H at.before at.after stamp.maker e ≡ true → (seen e).tag ≡ tag_for u H at.before at.after stamp e
   tag-one (Tagged paper tag on) told = ap (λ b. where_known b tag) (seen-told (Tagged paper tag on) ∙ told)
   tag-one e told = refl
 
   -- a decision is shown to those who read it or learn the outcome, and each mark to those whom it is for
-  pub decision-one : (e : Entry) → (seen e).decision ≡ decision_for u H at.before at.after maker e
+  pub decision-one : (e : Entry) → (seen e).decision ≡ decision_for u H at.before at.after stamp e
   decision-one (Decided paper decision) = known-same _ _ decision (verdict-read paper)
   decision-one e = refl
 
-  pub outcome-one : (e : Entry) → (seen e).outcome ≡ outcome_for u H at.before at.after maker e
+  pub outcome-one : (e : Entry) → (seen e).outcome ≡ outcome_for u H at.before at.after stamp e
   outcome-one (Decided paper decision) = known-same _ _ true (or-false _ ∙ outcome-same paper)
   outcome-one e = refl
 
-  pub accepted-one : (e : Entry) → (seen e).accepted ≡ accepted_for u H at.before at.after maker e
+  pub accepted-one : (e : Entry) → (seen e).accepted ≡ accepted_for u H at.before at.after stamp e
   accepted-one (Decided paper decision) = known-same _ _ true (or-false _ ∙ announced-same paper)
   accepted-one e = refl

@@ -5,6 +5,7 @@ use Rattle.std.proofs.lemmas.Bool.{eqb-true, false≢true, and_parts}
 use Rattle.cr_base.specs.declared.entry.Entry.{Entry}
 use Rattle.cr_base.specs.declared.entry.Entry.TheVariants.{Bid, Assigned, Unassigned}
 use Rattle.cr_base.specs.declared.entry.EntryKind.TheVariants as kinds
+use Rattle.cr_base.specs.declared.entry.Stamp.{Stamp}
 use Rattle.cr_base.specs.Lists.{is_number}
 use Rattle.cr_base.specs.History.{History}
 use Rattle.cr_base.specs.HistoryFacts.{phase_of, mode_of, is_author}
@@ -27,11 +28,11 @@ own-bids u p H apart =
     own : (o over : Bool) → over ≡ false → (o || over) ≡ true → o ≡ true
     own o over h told = grind (arith, h, told)
 
-    each : (before later : History) (maker : ℕ) (e : Entry) → is_told u H before later maker e ≡ true
-        → (is_kind kinds.Bid (shown_to u H before later maker e) && is_number (shown_to u H before later maker e).paper p) ≡ true → is_number u maker ≡ true
-    each before later maker (Bid paper value) told on_it =
-        own (is_number u maker) (oversees u paper H) (ap (λ n. oversees u n H) (eqb-true paper p on_it) ∙ apart) told
-    each before later maker e told on_it = absurd (false≢true on_it)
+    each : (before later : History) (stamp : Stamp) (e : Entry) → is_told u H before later stamp.maker e ≡ true
+        → (is_kind kinds.Bid (shown_to u H before later stamp e) && is_number (shown_to u H before later stamp e).paper p) ≡ true → is_number u stamp.maker ≡ true
+    each before later stamp (Bid paper value) told on_it =
+        own (is_number u stamp.maker) (oversees u paper H) (ap (λ n. oversees u n H) (eqb-true paper p on_it) ∙ apart) told
+    each before later stamp e told on_it = absurd (false≢true on_it)
 
 -- ---- who reviews
 
@@ -71,11 +72,11 @@ module _ (u : Option ℕ) (p : ℕ) (H : History) where
           (is_answered u paper H) (ap (λ n. administers u n H) (on_it refl) ∙ apart) (ap (λ n. discusses u n H) (on_it refl) ∙ silent)
           (ap (λ n. is_answered u n H) (on_it refl) ∙ unanswered) told
 
-      each : (before later : History) (maker : ℕ) (e : Entry) → is_told u H before later maker e ≡ true
-          → is_of_other u p (shown_to u H before later maker e) ≡ false
-      each before later maker (Assigned paper user review_kind ordinal) told = one maker paper user told (eqb paper p) (eqb-true paper p)
-      each before later maker (Unassigned paper user ordinal) told = one maker paper user told (eqb paper p) (eqb-true paper p)
-      each before later maker e told = refl
+      each : (before later : History) (stamp : Stamp) (e : Entry) → is_told u H before later stamp.maker e ≡ true
+          → is_of_other u p (shown_to u H before later stamp e) ≡ false
+      each before later stamp (Assigned paper user review_kind ordinal) told = one stamp.maker paper user told (eqb paper p) (eqb-true paper p)
+      each before later stamp (Unassigned paper user ordinal) told = one stamp.maker paper user told (eqb paper p) (eqb-true paper p)
+      each before later stamp e told = refl
 
   -- an author is in conflict, so she neither administers nor discusses her paper
   pub author-apart : is_author u p H ≡ true → (administers u p H ≡ false) × (is_eligible u p H ≡ false)
@@ -104,11 +105,11 @@ module _ (u : Option ℕ) (p : ℕ) (H : History) where
           (none-named (is_number u user) (is_number u maker) (administers u paper H) (discusses u paper H) (not (hides_reviewers (mode_of H))) (is_answered u paper H)
           (ap (λ n. administers u n H) same ∙ apart) (ap not hides) (ap (λ n. is_answered u n H) same ∙ unanswered) (sym (other-known maker paper user) ∙ parts.1))
 
-      each : (before later : History) (maker : ℕ) (e : Entry) → is_told u H before later maker e ≡ true
-          → is_of_other u p (shown_to u H before later maker e) ≡ true → (shown_to u H before later maker e).user ≡ None
-      each before later maker (Assigned paper user review_kind ordinal) told other = one maker paper user other
-      each before later maker (Unassigned paper user ordinal) told other = one maker paper user other
-      each before later maker e told other = absurd (false≢true other)
+      each : (before later : History) (stamp : Stamp) (e : Entry) → is_told u H before later stamp.maker e ≡ true
+          → is_of_other u p (shown_to u H before later stamp e) ≡ true → (shown_to u H before later stamp e).user ≡ None
+      each before later stamp (Assigned paper user review_kind ordinal) told other = one stamp.maker paper user other
+      each before later stamp (Unassigned paper user ordinal) told other = one stamp.maker paper user other
+      each before later stamp e told other = absurd (false≢true other)
 
 pub reviewers-from-authors : ReviewersFromAuthors
 reviewers-from-authors u p H wrote unnamed =

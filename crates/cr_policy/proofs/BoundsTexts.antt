@@ -8,6 +8,7 @@ use Rattle.std.proofs.lemmas.Bool.{eqb-true, or_parts}
 use Rattle.std.proofs.lemmas.List.Concat.{flat_map-append}
 use Rattle.cr_base.specs.declared.entry.Entry.{Entry}
 use Rattle.cr_base.specs.declared.entry.Entry.TheVariants.{Submitted, Revised, Uploaded, Decided}
+use Rattle.cr_base.specs.declared.entry.Stamp.{Stamp}
 use Rattle.cr_base.specs.declared.entry.Stamped.{Stamped}
 use Rattle.cr_base.specs.declared.words.Decision.{Decision}
 use Rattle.cr_base.specs.declared.words.Decision.TheVariants.{Reject}
@@ -54,29 +55,29 @@ module _ {A : Type 0} (u : Option ℕ) (p : ℕ) (H : History) (gives : Entry �
   -- of what others gave, only the last is shown, to those who may know it
   abbrev ShowsLast : Type 0
   ShowsLast =
-      (before later : History) (maker : ℕ) (e : Entry)
-      → seen (shown_to u H before later maker e) ≡ told_known (gives e) (is_number u maker) (not (is_late later) && may) (value e)
+      (before later : History) (stamp : Stamp) (e : Entry)
+      → seen (shown_to u H before later stamp e) ≡ told_known (gives e) (is_number u stamp.maker) (not (is_late later) && may) (value e)
 
   module _ (shows : ShowsLast) where
     abbrev all_seen : History → History → List A
     all_seen before G = flat_map seen (each_told u H (shown_to u H) before G)
 
     -- of each entry at most one, nothing of those that give it none, and nothing where a later entry gives it another
-    few : (before later : History) (maker : ℕ) (e : Entry) → length (seen (shown_to u H before later maker e)) ≤ 1
-    few before later maker e =
-        subst (λ (xs : List A). length xs ≤ 1) (sym (shows before later maker e)) (told_known-few (gives e) (is_number u maker) _ (value e))
+    few : (before later : History) (stamp : Stamp) (e : Entry) → length (seen (shown_to u H before later stamp e)) ≤ 1
+    few before later stamp e =
+        subst (λ (xs : List A). length xs ≤ 1) (sym (shows before later stamp e)) (told_known-few (gives e) (is_number u stamp.maker) _ (value e))
 
-    other : (before later : History) (maker : ℕ) (e : Entry) → gives e ≡ false → seen (shown_to u H before later maker e) ≡ []
-    other before later maker e h = shows before later maker e ∙ ap (λ b. told_known b (is_number u maker) (not (is_late later) && may) (value e)) h ∙ only-false _
+    other : (before later : History) (stamp : Stamp) (e : Entry) → gives e ≡ false → seen (shown_to u H before later stamp e) ≡ []
+    other before later stamp e h = shows before later stamp e ∙ ap (λ b. told_known b (is_number u stamp.maker) (not (is_late later) && may) (value e)) h ∙ only-false _
 
-    late : (before later : History) (maker : ℕ) (e : Entry) → is_late later ≡ true → seen (shown_to u H before later maker e) ≡ []
-    late before later maker e h = shows before later maker e ∙ ap (λ b. told_known (gives e) (is_number u maker) (not b && may) (value e)) h
+    late : (before later : History) (stamp : Stamp) (e : Entry) → is_late later ≡ true → seen (shown_to u H before later stamp e) ≡ []
+    late before later stamp e h = shows before later stamp e ∙ ap (λ b. told_known (gives e) (is_number u stamp.maker) (not b && may) (value e)) h
 
     first-seen : (before : History) (e : Stamped) (G : History)
-        → all_seen before (e ∷ G) ≡ only (is_told u H before G e.stamp.maker e.entry) (seen (shown_to u H before G e.stamp.maker e.entry)) ++ all_seen (before ++ e ∷ []) G
+        → all_seen before (e ∷ G) ≡ only (is_told u H before G e.stamp.maker e.entry) (seen (shown_to u H before G e.stamp e.entry)) ++ all_seen (before ++ e ∷ []) G
     first-seen before e G =
         let told : Bool = is_told u H before G e.stamp.maker e.entry in
-        let one : Sighting = shown_to u H before G e.stamp.maker e.entry in
+        let one : Sighting = shown_to u H before G e.stamp e.entry in
         flat_map-append seen (given told one) (each_told u H (shown_to u H) (before ++ e ∷ []) G)
         ∙ ap (λ xs. xs ++ all_seen (before ++ e ∷ []) G) (flat_map-given seen told one)
 
@@ -89,7 +90,7 @@ module _ {A : Type 0} (u : Option ℕ) (p : ℕ) (H : History) (gives : Entry �
         let parts = or_parts (gives e.entry) (is_late G) h in
         first-seen before e G
         ∙ ap (λ xs. xs ++ all_seen (before ++ e ∷ []) G)
-        (only-nothing (is_told u H before G e.stamp.maker e.entry) (seen (shown_to u H before G e.stamp.maker e.entry)) (other before G e.stamp.maker e.entry parts.0))
+        (only-nothing (is_told u H before G e.stamp.maker e.entry) (seen (shown_to u H before G e.stamp e.entry)) (other before G e.stamp e.entry parts.0))
         ∙ none-seen (before ++ e ∷ []) G parts.1
 
     only-few : (b : Bool) (xs : List A) → length xs ≤ 1 → length (only b xs) ≤ 1
@@ -100,12 +101,12 @@ module _ {A : Type 0} (u : Option ℕ) (p : ℕ) (H : History) (gives : Entry �
     one-seen before [] = omega arith
     one-seen before (e ∷ G) =
         let told : Bool = is_told u H before G e.stamp.maker e.entry in
-        let one : List A = seen (shown_to u H before G e.stamp.maker e.entry) in
+        let one : List A = seen (shown_to u H before G e.stamp e.entry) in
         subst (λ (xs : List A). length xs ≤ 1) (sym (first-seen before e G))
         (by (only told one) (all_seen (before ++ e ∷ []) G) (is_late G)
         (none-seen (before ++ e ∷ []) G)
-        (only-few told one (few before G e.stamp.maker e.entry))
-        (λ more. only-nothing told one (late before G e.stamp.maker e.entry more))
+        (only-few told one (few before G e.stamp e.entry))
+        (λ more. only-nothing told one (late before G e.stamp e.entry more))
         (one-seen (before ++ e ∷ []) G))
       where
         by : (xs ys : List A) (more : Bool) → (more ≡ false → ys ≡ []) → length xs ≤ 1 → (more ≡ true → xs ≡ []) → length ys ≤ 1 → length (xs ++ ys) ≤ 1
@@ -161,11 +162,11 @@ one-title u p H stranger = one-view u p H (gives_texts p) title_given (may p) (p
     may n = serves u H || is_in_programme n H
 
     shows : ShowsLast u p H (gives_texts p) title_given (may p) (part_shown (λ (s : Sighting). s.title) p)
-    shows before later maker (Submitted paper title abstract) =
-        author-known u p H (λ n. is_author u n H) (λ n. is_replaced n later) may stranger (is_number u maker) paper title
-    shows before later maker (Revised paper title abstract) =
-        owner-known u p H (λ n. is_author u n H) (λ n. is_replaced n later) may stranger (is_number u maker) paper title
-    shows before later maker e = sym (only-false _)
+    shows before later stamp (Submitted paper title abstract) =
+        author-known u p H (λ n. is_author u n H) (λ n. is_replaced n later) may stranger (is_number u stamp.maker) paper title
+    shows before later stamp (Revised paper title abstract) =
+        owner-known u p H (λ n. is_author u n H) (λ n. is_replaced n later) may stranger (is_number u stamp.maker) paper title
+    shows before later stamp e = sym (only-false _)
 
 pub one-abstract : OneAbstract
 one-abstract u p H stranger = one-view u p H (gives_texts p) abstract_given (may p) (part_shown (λ (s : Sighting). s.abstract) p) shows
@@ -174,11 +175,11 @@ one-abstract u p H stranger = one-view u p H (gives_texts p) abstract_given (may
     may n = is_eligible u n H || appears n H
 
     shows : ShowsLast u p H (gives_texts p) abstract_given (may p) (part_shown (λ (s : Sighting). s.abstract) p)
-    shows before later maker (Submitted paper title abstract) =
-        author-known u p H (λ n. is_author u n H) (λ n. is_replaced n later) may stranger (is_number u maker) paper abstract
-    shows before later maker (Revised paper title abstract) =
-        owner-known u p H (λ n. is_author u n H) (λ n. is_replaced n later) may stranger (is_number u maker) paper abstract
-    shows before later maker e = sym (only-false _)
+    shows before later stamp (Submitted paper title abstract) =
+        author-known u p H (λ n. is_author u n H) (λ n. is_replaced n later) may stranger (is_number u stamp.maker) paper abstract
+    shows before later stamp (Revised paper title abstract) =
+        owner-known u p H (λ n. is_author u n H) (λ n. is_replaced n later) may stranger (is_number u stamp.maker) paper abstract
+    shows before later stamp e = sym (only-false _)
 
 pub one-content : OneContent
 one-content u p H stranger = one-view u p H (gives_content p) content_given (may p) (part_shown (λ (s : Sighting). s.content) p) shows
@@ -187,9 +188,9 @@ one-content u p H stranger = one-view u p H (gives_content p) content_given (may
     may n = is_eligible u n H || appears n H
 
     shows : ShowsLast u p H (gives_content p) content_given (may p) (part_shown (λ (s : Sighting). s.content) p)
-    shows before later maker (Uploaded paper version content) =
-        owner-known u p H (λ n. is_author u n H) (λ n. is_superseded n later) may stranger (is_number u maker) paper content
-    shows before later maker e = sym (only-false _)
+    shows before later stamp (Uploaded paper version content) =
+        owner-known u p H (λ n. is_author u n H) (λ n. is_superseded n later) may stranger (is_number u stamp.maker) paper content
+    shows before later stamp e = sym (only-false _)
 
 pub one-decision : OneDecision
 one-decision u p H silent = one-view u p H (decides p) decision_given (may p) (part_shown (λ (s : Sighting). s.decision) p) shows
@@ -198,6 +199,6 @@ one-decision u p H silent = one-view u p H (decides p) decision_given (may p) (p
     may n = is_notified u n H
 
     shows : ShowsLast u p H (decides p) decision_given (may p) (part_shown (λ (s : Sighting). s.decision) p)
-    shows before later maker (Decided paper decision) =
-        owner-known u p H (λ n. discusses u n H) (λ n. is_decided_again n later) may silent (is_number u maker) paper decision
-    shows before later maker e = sym (only-false _)
+    shows before later stamp (Decided paper decision) =
+        owner-known u p H (λ n. discusses u n H) (λ n. is_decided_again n later) may silent (is_number u stamp.maker) paper decision
+    shows before later stamp e = sym (only-false _)

@@ -9,11 +9,12 @@ use Rattle.std.proofs.lemmas.List.Elements.{All-nil, All-cons, All-append, All-s
 use Rattle.std.proofs.lemmas.List.Folds.{list_any-append}
 use Rattle.cr_base.specs.declared.entry.Entry.{Entry}
 use Rattle.cr_base.specs.declared.entry.Entry.TheVariants.{Submitted}
+use Rattle.cr_base.specs.declared.entry.Stamp.{Stamp}
 use Rattle.cr_base.specs.declared.entry.Stamped.{Stamped}
 use Rattle.cr_base.specs.Lists.{given, is_number}
+use Rattle.cr_base.specs.Drawn.{stamped}
 use Rattle.cr_base.specs.History.{History, author_told}
 use Rattle.cr_base.specs.HistoryFacts.{authors_of, is_author}
-use Rattle.cr_history.proofs.LineAgreement.{stamp}
 use Rattle.cr_policy.specs.Sighting.{Sighting}
 use Rattle.cr_policy.specs.Triggers.{reader, Around}
 use Rattle.cr_policy.specs.View.{sight, sights, view, is_seen, joined}
@@ -32,36 +33,36 @@ use Rattle.cr_policy.proofs.BoundsParts.{to_pc-one, done-one, n-one, comment-one
 
 -- all its parts
 abbrev pub shown_to : PartFor Sighting
-shown_to u H before later maker e = record {
-  kind = kind_for u H before later maker e;
-  mine = mark_for u H before later maker e;
-  paper = paper_for u H before later maker e;
-  user = user_for u H before later maker e;
-  name = name_for u H before later maker e;
-  digest = digest_for u H before later maker e;
-  role = role_for u H before later maker e;
-  phase = phase_for u H before later maker e;
-  mode = mode_for u H before later maker e;
-  by = maker_for u H before later maker e;
-  title = title_for u H before later maker e;
-  abstract = abstract_for u H before later maker e;
-  version = version_for u H before later maker e;
-  content = content_for u H before later maker e;
-  on = switch_for u H before later maker e;
-  value = value_for u H before later maker e;
-  review_kind = review_kind_for u H before later maker e;
-  ordinal = ordinal_for u H before later maker e;
-  score = score_for u H before later maker e;
-  confidence = confidence_for u H before later maker e;
-  to_authors = to_authors_for u H before later maker e;
-  to_pc = to_pc_for u H before later maker e;
-  done = done_for u H before later maker e;
-  n = n_for u H before later maker e;
-  text = text_for u H before later maker e;
-  tag = tag_for u H before later maker e;
-  decision = decision_for u H before later maker e;
-  outcome = outcome_for u H before later maker e;
-  accepted = accepted_for u H before later maker e;
+shown_to u H before later stamp e = record {
+  kind = kind_for u H before later stamp e;
+  mine = mark_for u H before later stamp e;
+  paper = paper_for u H before later stamp e;
+  user = user_for u H before later stamp e;
+  name = name_for u H before later stamp e;
+  digest = digest_for u H before later stamp e;
+  role = role_for u H before later stamp e;
+  phase = phase_for u H before later stamp e;
+  mode = mode_for u H before later stamp e;
+  by = maker_for u H before later stamp e;
+  title = title_for u H before later stamp e;
+  abstract = abstract_for u H before later stamp e;
+  version = version_for u H before later stamp e;
+  content = content_for u H before later stamp e;
+  on = switch_for u H before later stamp e;
+  value = value_for u H before later stamp e;
+  review_kind = review_kind_for u H before later stamp e;
+  ordinal = ordinal_for u H before later stamp e;
+  score = score_for u H before later stamp e;
+  confidence = confidence_for u H before later stamp e;
+  to_authors = to_authors_for u H before later stamp e;
+  to_pc = to_pc_for u H before later stamp e;
+  done = done_for u H before later stamp e;
+  n = n_for u H before later stamp e;
+  text = text_for u H before later stamp e;
+  tag = tag_for u H before later stamp e;
+  decision = decision_for u H before later stamp e;
+  outcome = outcome_for u H before later stamp e;
+  accepted = accepted_for u H before later stamp e;
 }
 
 module _ (u : Option ℕ) (H : History) where
@@ -72,64 +73,64 @@ module _ (u : Option ℕ) (H : History) where
       by true h = ap (λ (x : A). x ∷ []) (h refl)
       by false h = refl
 
-  joined-one : (at : Around) (maker : ℕ) (more : Bool) (e : Entry) → IsWriters u H maker e → is_told u H at.before at.after maker e ≡ true
-      → joined (reader u H) at (stamp maker more e) ≡ shown_to u H at.before at.after maker e
-  joined-one at maker more e writes told = λ i. record {
-    kind = (shown-one u H at maker more e).kind i;
-    mine = mark-one u H at maker more e i;
-    paper = (shown-one u H at maker more e).paper i;
-    user = user-one u H at maker more e told i;
-    name = (shown-one u H at maker more e).name i;
-    digest = digest-one u H at maker more e i;
-    role = (shown-one u H at maker more e).role i;
-    phase = (shown-one u H at maker more e).phase i;
-    mode = (shown-one u H at maker more e).mode i;
-    by = maker-one u H at maker more e i;
-    title = title-one u H at maker more e writes i;
-    abstract = abstract-one u H at maker more e writes i;
-    version = version-one u H at maker more e i;
-    content = content-one u H at maker more e i;
-    on = switch-one u H at maker more e told i;
-    value = value-one u H at maker more e told i;
-    review_kind = seat-one u H at maker more e i;
-    ordinal = ordinal-one u H at maker more e told i;
-    score = score-one u H at maker more e i;
-    confidence = confidence-one u H at maker more e i;
-    to_authors = to_authors-one u H at maker more e i;
-    to_pc = to_pc-one u H at maker more e i;
-    done = done-one u H at maker more e i;
-    n = n-one u H at maker more e told i;
-    text = comment-one u H at maker more e told i;
-    tag = tag-one u H at maker more e told i;
-    decision = decision-one u H at maker more e i;
-    outcome = outcome-one u H at maker more e i;
-    accepted = accepted-one u H at maker more e i;
+  joined-one : (at : Around) (stamp : Stamp) (more : Bool) (e : Entry) → IsWriters u H stamp.maker e → is_told u H at.before at.after stamp.maker e ≡ true
+      → joined (reader u H) at (stamped stamp more e) ≡ shown_to u H at.before at.after stamp e
+  joined-one at stamp more e writes told = λ i. record {
+    kind = (shown-one u H at stamp more e).kind i;
+    mine = mark-one u H at stamp more e i;
+    paper = (shown-one u H at stamp more e).paper i;
+    user = user-one u H at stamp more e told i;
+    name = (shown-one u H at stamp more e).name i;
+    digest = digest-one u H at stamp more e i;
+    role = (shown-one u H at stamp more e).role i;
+    phase = (shown-one u H at stamp more e).phase i;
+    mode = (shown-one u H at stamp more e).mode i;
+    by = maker-one u H at stamp more e i;
+    title = title-one u H at stamp more e writes i;
+    abstract = abstract-one u H at stamp more e writes i;
+    version = version-one u H at stamp more e i;
+    content = content-one u H at stamp more e i;
+    on = switch-one u H at stamp more e told i;
+    value = value-one u H at stamp more e told i;
+    review_kind = seat-one u H at stamp more e i;
+    ordinal = ordinal-one u H at stamp more e told i;
+    score = score-one u H at stamp more e i;
+    confidence = confidence-one u H at stamp more e i;
+    to_authors = to_authors-one u H at stamp more e i;
+    to_pc = to_pc-one u H at stamp more e i;
+    done = done-one u H at stamp more e i;
+    n = n-one u H at stamp more e told i;
+    text = comment-one u H at stamp more e told i;
+    tag = tag-one u H at stamp more e told i;
+    decision = decision-one u H at stamp more e i;
+    outcome = outcome-one u H at stamp more e i;
+    accepted = accepted-one u H at stamp more e i;
   }
 
-  sight-one : (at : Around) (maker : ℕ) (more : Bool) (e : Entry) → IsWriters u H maker e → sight (reader u H) at (stamp maker more e)
-      ≡ given (is_told u H at.before at.after maker e) (shown_to u H at.before at.after maker e)
-  sight-one at maker more e writes =
-      given-same (is_seen (reader u H) at (stamp maker more e)) (is_told u H at.before at.after maker e)
-      (joined (reader u H) at (stamp maker more e)) (shown_to u H at.before at.after maker e)
-      (seen-told u H at maker more e) (joined-one at maker more e writes)
+  sight-one : (at : Around) (stamp : Stamp) (more : Bool) (e : Entry) → IsWriters u H stamp.maker e → sight (reader u H) at (stamped stamp more e)
+      ≡ given (is_told u H at.before at.after stamp.maker e) (shown_to u H at.before at.after stamp e)
+  sight-one at stamp more e writes =
+      given-same (is_seen (reader u H) at (stamped stamp more e)) (is_told u H at.before at.after stamp.maker e)
+      (joined (reader u H) at (stamped stamp more e)) (shown_to u H at.before at.after stamp e)
+      (seen-told u H at stamp more e) (joined-one at stamp more e writes)
 
   -- ---- the entries of a history
 
-  -- each of them makes a paper of which its maker is an author
-  writes-one : (before : History) (maker : ℕ) (more : Bool) (e : Entry) (after : History) → before ++ (stamp maker more e ∷ after) ≡ H → IsWriters u H maker e
-  writes-one before maker more (Submitted paper title abstract) after whole = λ own.
+  -- each of them makes a paper of which its stamp.maker is an author
+  writes-one : (before : History) (stamp : Stamp) (more : Bool) (e : Entry) (after : History) → before ++ (stamped stamp more e ∷ after) ≡ H → IsWriters u H stamp.maker e
+  writes-one before stamp more (Submitted paper title abstract) after whole = λ own.
       ap (is_author u paper) (sym whole)
       ∙ ap (list_any (is_number u))
-      (flat_map-append (λ (e : Stamped). author_told paper e.stamp.maker e.entry) before (stamp maker more (Submitted paper title abstract) ∷ after))
-      ∙ list_any-append (is_number u) (authors_of paper before) (given (eqb paper paper) maker ++ authors_of paper after)
-      ∙ ap (λ b. list_any (is_number u) (authors_of paper before) || list_any (is_number u) (given b maker ++ authors_of paper after)) (eq-eqb paper paper refl)
+      (flat_map-append (λ (e : Stamped). author_told paper e.stamp.maker e.entry) before (stamped stamp more (Submitted paper title abstract) ∷ after))
+      ∙ list_any-append (is_number u) (authors_of paper before) (given (eqb paper paper) stamp.maker ++ authors_of paper after)
+      ∙ ap (λ b. list_any (is_number u) (authors_of paper before) || list_any (is_number u) (given b stamp.maker ++ authors_of paper after)) (eq-eqb paper paper refl)
       ∙ ap (λ b. list_any (is_number u) (authors_of paper before) || (b || list_any (is_number u) (authors_of paper after))) own
       ∙ or-true (list_any (is_number u) (authors_of paper before))
     where
       or-true : (b : Bool) → (b || true) ≡ true
       or-true true = refl
       or-true false = refl
-  writes-one before maker more e after whole = tt
+  writes-one before stamp more e after whole = tt
 
   abbrev pub Writes : Stamped → Type 0
   Writes e = IsWriters u H e.stamp.maker e.entry
@@ -137,7 +138,7 @@ module _ (u : Option ℕ) (H : History) where
   writes-all : (before after : History) → before ++ after ≡ H → AllByRecursion Writes after
   writes-all before [] whole = tt
   writes-all before (e ∷ after) whole =
-      (writes-one before e.stamp.maker e.more e.entry after whole, writes-all (before ++ e ∷ []) after (append_assoc before (e ∷ []) after ∙ whole))
+      (writes-one before e.stamp e.more e.entry after whole, writes-all (before ++ e ∷ []) after (append_assoc before (e ∷ []) after ∙ whole))
 
   pub writers-all : AllByRecursion Writes H
   writers-all = writes-all [] H refl
@@ -145,8 +146,8 @@ module _ (u : Option ℕ) (H : History) where
   sights-told : (before after : History) → AllByRecursion Writes after → sights (reader u H) before after ≡ each_told u H (shown_to u H) before after
   sights-told before [] writes = refl
   sights-told before (e ∷ after) writes =
-      ap (λ xs. xs ++ sights (reader u H) (before ++ e ∷ []) after) (sight-one (record { before = before; after = after }) e.stamp.maker e.more e.entry writes.0)
-      ∙ ap (λ ys. given (is_told u H before after e.stamp.maker e.entry) (shown_to u H before after e.stamp.maker e.entry) ++ ys)
+      ap (λ xs. xs ++ sights (reader u H) (before ++ e ∷ []) after) (sight-one (record { before = before; after = after }) e.stamp e.more e.entry writes.0)
+      ∙ ap (λ ys. given (is_told u H before after e.stamp.maker e.entry) (shown_to u H before after e.stamp e.entry) ++ ys)
       (sights-told (before ++ e ∷ []) after writes.1)
 
   pub view-told : view u H ≡ each_told u H (shown_to u H) [] H
@@ -159,16 +160,16 @@ module _ (u : Option ℕ) (H : History) where
   map-given f false x = refl
 
   map-told : {A : Type 0} (f : Sighting → A) (before G : History) → map f (each_told u H (shown_to u H) before G)
-      ≡ each_told u H (λ before later maker e. f (shown_to u H before later maker e)) before G
+      ≡ each_told u H (λ before later stamp e. f (shown_to u H before later stamp e)) before G
   map-told f before [] = refl
   map-told f before (e ∷ G) =
-      let s : Sighting = shown_to u H before G e.stamp.maker e.entry in
+      let s : Sighting = shown_to u H before G e.stamp e.entry in
       let rest : List Sighting = each_told u H (shown_to u H) (before ++ e ∷ []) G in
       map-append f (given (is_told u H before G e.stamp.maker e.entry) s) rest
       ∙ ap (λ xs. xs ++ map f rest) (map-given f (is_told u H before G e.stamp.maker e.entry) s)
       ∙ ap (λ ys. given (is_told u H before G e.stamp.maker e.entry) (f s) ++ ys) (map-told f (before ++ e ∷ []) G)
 
-  map-view : {A : Type 0} (f : Sighting → A) → map f (view u H) ≡ each_told u H (λ before later maker e. f (shown_to u H before later maker e)) [] H
+  map-view : {A : Type 0} (f : Sighting → A) → map f (view u H) ≡ each_told u H (λ before later stamp e. f (shown_to u H before later stamp e)) [] H
   map-view f = ap (map f) view-told ∙ map-told f [] H
 
 -- ---- each sighting
@@ -176,18 +177,18 @@ module _ (u : Option ℕ) (H : History) where
 -- what is so of each entry that the user is told of, as she is shown it, is so of each sighting
 module _
     (u : Option ℕ) (H : History) (P : Sighting → Type 0) (Q : Stamped → Type 0)
-    (each : (before later : History) (maker : ℕ) (more : Bool) (e : Entry) → Q (stamp maker more e) → is_told u H before later maker e ≡ true
-    → P (shown_to u H before later maker e))
+    (each : (before later : History) (stamp : Stamp) (more : Bool) (e : Entry) → Q (stamped stamp more e) → is_told u H before later stamp.maker e ≡ true
+    → P (shown_to u H before later stamp e))
   where
     all-told : (before G : History) → AllByRecursion Q G → All P (each_told u H (shown_to u H) before G)
     all-told before [] h = All-nil P
     all-told before (e ∷ G) h =
-        All-append P (given (is_told u H before G e.stamp.maker e.entry) (shown_to u H before G e.stamp.maker e.entry)) (each_told u H (shown_to u H) (before ++ e ∷ []) G)
-        (by (is_told u H before G e.stamp.maker e.entry) (each before G e.stamp.maker e.more e.entry h.0))
+        All-append P (given (is_told u H before G e.stamp.maker e.entry) (shown_to u H before G e.stamp e.entry)) (each_told u H (shown_to u H) (before ++ e ∷ []) G)
+        (by (is_told u H before G e.stamp.maker e.entry) (each before G e.stamp e.more e.entry h.0))
         (all-told (before ++ e ∷ []) G h.1)
       where
-        by : (told : Bool) → (told ≡ true → P (shown_to u H before G e.stamp.maker e.entry)) → All P (given told (shown_to u H before G e.stamp.maker e.entry))
-        by true one = All-cons P (shown_to u H before G e.stamp.maker e.entry) [] (one refl) (All-nil P)
+        by : (told : Bool) → (told ≡ true → P (shown_to u H before G e.stamp e.entry)) → All P (given told (shown_to u H before G e.stamp e.entry))
+        by true one = All-cons P (shown_to u H before G e.stamp e.entry) [] (one refl) (All-nil P)
         by false one = All-nil P
 
     pub all-view : AllByRecursion Q H → All P (view u H)
@@ -196,11 +197,11 @@ module _
 -- the same, whatever is so of the entries
 module _
     (u : Option ℕ) (H : History) (P : Sighting → Type 0)
-    (each : (before later : History) (maker : ℕ) (e : Entry) → is_told u H before later maker e ≡ true → P (shown_to u H before later maker e))
+    (each : (before later : History) (stamp : Stamp) (e : Entry) → is_told u H before later stamp.maker e ≡ true → P (shown_to u H before later stamp e))
   where
     pub each-view : All P (view u H)
     each-view =
-        all-view u H P (λ (e : Stamped). IsWriters u H e.stamp.maker e.entry) (λ before later maker more e writes told. each before later maker e told)
+        all-view u H P (λ (e : Stamped). IsWriters u H e.stamp.maker e.entry) (λ before later stamp more e writes told. each before later stamp e told)
         (writers-all u H)
 
 -- ---- the laws

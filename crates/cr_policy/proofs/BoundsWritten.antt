@@ -7,6 +7,7 @@ use Rattle.std.proofs.Math.Bool.{or-false}
 use Rattle.cr_base.specs.declared.entry.Entry.{Entry}
 use Rattle.cr_base.specs.declared.entry.Entry.TheVariants.{Reviewed, Commented, Tagged, Decided}
 use Rattle.cr_base.specs.declared.entry.EntryKind.TheVariants as kinds
+use Rattle.cr_base.specs.declared.entry.Stamp.{Stamp}
 use Rattle.cr_base.specs.Lists.{is_number}
 use Rattle.cr_base.specs.History.{History}
 use Rattle.cr_base.specs.HistoryFacts.{phase_of, mode_of, role_of, is_author, is_withdrawn, decision_of}
@@ -52,14 +53,14 @@ forms-early u p H early = each-view u H IsUnread each
     silent : is_past_discussion (phase_of H) ≡ false
     silent = sym (phase-words (phase_of H)).notification_later ∙ ap (λ b. b && is_past_discussion (phase_of H)) early
 
-    each : (before later : History) (maker : ℕ) (e : Entry) → is_told u H before later maker e ≡ true → IsUnread (shown_to u H before later maker e)
-    each before later maker (Reviewed paper ordinal version form) told = λ other.
-        let own : is_number u maker ≡ false = (other-parts (eqb paper p) (is_number u maker) other).1 in
+    each : (before later : History) (stamp : Stamp) (e : Entry) → is_told u H before later stamp.maker e ≡ true → IsUnread (shown_to u H before later stamp e)
+    each before later stamp (Reviewed paper ordinal version form) told = λ other.
+        let own : is_number u stamp.maker ≡ false = (other-parts (eqb paper p) (is_number u stamp.maker) other).1 in
         let discussed : Bool = is_discussed paper ordinal before later in
-        let unread = form-hidden (is_number u maker) (is_eligible u paper H) (is_past_reviewing (phase_of H)) discussed own early in
-        let unlearnt = review-hidden (is_number u maker) (is_eligible u paper H) (is_past_reviewing (phase_of H)) discussed (is_author u paper H)
+        let unread = form-hidden (is_number u stamp.maker) (is_eligible u paper H) (is_past_reviewing (phase_of H)) discussed own early in
+        let unlearnt = review-hidden (is_number u stamp.maker) (is_eligible u paper H) (is_past_reviewing (phase_of H)) discussed (is_author u paper H)
         (is_past_discussion (phase_of H)) (not (is_reviewed paper ordinal later)) own early silent in
-        λ i. record (shown_to u H before later maker (Reviewed paper ordinal version form)) {
+        λ i. record (shown_to u H before later stamp (Reviewed paper ordinal version form)) {
           mine = own i;
           version = known-not _ version unread i;
           score = known-not _ form.score unlearnt i;
@@ -67,7 +68,7 @@ forms-early u p H early = each-view u H IsUnread each
           to_authors = known-not _ form.to_authors unlearnt i;
           to_pc = known-not _ form.to_pc unread i;
         }
-    each before later maker e told = λ other. absurd (false≢true other)
+    each before later stamp e told = λ other. absurd (false≢true other)
 
 -- who neither administers the paper nor is eligible for it
 module _ (u : Option ℕ) (p : ℕ) (H : History) (apart : administers u p H ≡ false) (unhandled : is_eligible u p H ≡ false) where
@@ -83,18 +84,18 @@ module _ (u : Option ℕ) (p : ℕ) (H : History) (apart : administers u p H ≡
   forms-for-authors : All IsForAuthors (view u H)
   forms-for-authors = each-view u H IsForAuthors each
     where
-      each : (before later : History) (maker : ℕ) (e : Entry) → is_told u H before later maker e ≡ true → IsForAuthors (shown_to u H before later maker e)
-      each before later maker (Reviewed paper ordinal version form) told = λ other.
-          let parts = other-parts (eqb paper p) (is_number u maker) other in
+      each : (before later : History) (stamp : Stamp) (e : Entry) → is_told u H before later stamp.maker e ≡ true → IsForAuthors (shown_to u H before later stamp e)
+      each before later stamp (Reviewed paper ordinal version form) told = λ other.
+          let parts = other-parts (eqb paper p) (is_number u stamp.maker) other in
           let discussed : Bool = is_discussed paper ordinal before later in (
-            author-form (is_number u maker) (is_eligible u paper H) (is_past_reviewing (phase_of H)) discussed (administers u paper H)
+            author-form (is_number u stamp.maker) (is_eligible u paper H) (is_past_reviewing (phase_of H)) discussed (administers u paper H)
                 (not (is_reviewed paper ordinal before)) (is_author u paper H) (is_past_discussion (phase_of H)) (not (is_reviewed paper ordinal later))
                 parts.1 (handled-at paper parts.0) (led-at paper parts.0) told,
             known-not _ form.to_pc
-                (or_from (is_number u maker) _ parts.1
+                (or_from (is_number u stamp.maker) _ parts.1
                 (form-unread (is_eligible u paper H) (is_past_reviewing (phase_of H)) discussed (handled-at paper parts.0))),
           )
-      each before later maker e told = λ other. absurd (false≢true other)
+      each before later stamp e told = λ other. absurd (false≢true other)
 
   -- ---- comments and tags
 
@@ -108,17 +109,17 @@ module _ (u : Option ℕ) (p : ℕ) (H : History) (apart : administers u p H ≡
       none true own h = ap not (h refl)
       none false own h = refl
 
-      each : (before later : History) (maker : ℕ) (e : Entry) → is_told u H before later maker e ≡ true
-          → is_of_others (shown_to u H before later maker e) ≡ false
-      each before later maker (Commented paper n ordinal text) told =
+      each : (before later : History) (stamp : Stamp) (e : Entry) → is_told u H before later stamp.maker e ≡ true
+          → is_of_others (shown_to u H before later stamp e) ≡ false
+      each before later stamp (Commented paper n ordinal text) told =
           or-false _
-          ∙ none (eqb paper p) (is_number u maker)
-          (λ same. comment-own (is_number u maker) (is_eligible u paper H) (is_past_reviewing (phase_of H)) (handled-at paper same) told)
-      each before later maker (Tagged paper tag on) told =
-          none (eqb paper p) (is_number u maker)
-          (λ same. tag-own (is_number u maker) (is_committees tag) (is_chairs tag) (is_eligible u paper H) (chairs_committee (role_of u H))
+          ∙ none (eqb paper p) (is_number u stamp.maker)
+          (λ same. comment-own (is_number u stamp.maker) (is_eligible u paper H) (is_past_reviewing (phase_of H)) (handled-at paper same) told)
+      each before later stamp (Tagged paper tag on) told =
+          none (eqb paper p) (is_number u stamp.maker)
+          (λ same. tag-own (is_number u stamp.maker) (is_committees tag) (is_chairs tag) (is_eligible u paper H) (chairs_committee (role_of u H))
           (handled-at paper same) told)
-      each before later maker e told = refl
+      each before later stamp e told = refl
 
 pub forms-from-authors : FormsFromAuthors
 forms-from-authors u p H wrote =
@@ -137,14 +138,14 @@ writers-unnamed u p H apart hides =
     unnamed : (s c past lead hide : Bool) → (lead && c) ≡ false → hide ≡ true → (((s && c) && past) && (lead || not hide)) ≡ false
     unnamed s c past lead hide hl hh = grind (arith, hl, hh)
 
-    each : (before later : History) (maker : ℕ) (e : Entry) → is_told u H before later maker e ≡ true
-        → (is_kind kinds.Commented (shown_to u H before later maker e) && is_number (shown_to u H before later maker e).paper p) ≡ true
-        → (shown_to u H before later maker e).by ≡ None
-    each before later maker (Commented paper n ordinal text) told on_it =
-        known-not _ maker
+    each : (before later : History) (stamp : Stamp) (e : Entry) → is_told u H before later stamp.maker e ≡ true
+        → (is_kind kinds.Commented (shown_to u H before later stamp e) && is_number (shown_to u H before later stamp e).paper p) ≡ true
+        → (shown_to u H before later stamp e).by ≡ None
+    each before later stamp (Commented paper n ordinal text) told on_it =
+        known-not _ stamp.maker
         (unnamed (serves u H) (not (has_conflict u paper H)) (is_past_reviewing (phase_of H)) (chairs_committee (role_of u H)) (hides_reviewers (mode_of H))
         (ap (λ n. administers u n H) (eqb-true paper p on_it) ∙ apart) hides)
-    each before later maker e told on_it = absurd (false≢true on_it)
+    each before later stamp e told on_it = absurd (false≢true on_it)
 
 -- a tag that she is told of: `m` and `c` are that it is the committee's or the chairs', `h` and `o` that she is eligible for or oversees the
 -- paper
@@ -155,11 +156,11 @@ private-tags u p H =
     none : (same own m c h o : Bool) → (own || ((m && h) || (c && o))) ≡ true → ((same && not own) && (not m && not c)) ≡ false
     none same own m c h o told = grind (arith, told)
 
-    each : (before later : History) (maker : ℕ) (e : Entry) → is_told u H before later maker e ≡ true
-        → (is_others kinds.Tagged p (shown_to u H before later maker e) && is_tag_so is_setters (shown_to u H before later maker e).tag) ≡ false
-    each before later maker (Tagged paper tag on) told =
-        none (eqb paper p) (is_number u maker) (is_committees tag) (is_chairs tag) (is_eligible u paper H) (oversees u paper H) told
-    each before later maker e told = refl
+    each : (before later : History) (stamp : Stamp) (e : Entry) → is_told u H before later stamp.maker e ≡ true
+        → (is_others kinds.Tagged p (shown_to u H before later stamp e) && is_tag_so is_setters (shown_to u H before later stamp e).tag) ≡ false
+    each before later stamp (Tagged paper tag on) told =
+        none (eqb paper p) (is_number u stamp.maker) (is_committees tag) (is_chairs tag) (is_eligible u paper H) (oversees u paper H) told
+    each before later stamp e told = refl
 
 pub chairs-tags : ChairsTags
 chairs-tags u p H apart =
@@ -180,12 +181,12 @@ chairs-tags u p H apart =
     chairs-apart (a ∷ []) h = absurd (false≢true h)
     chairs-apart (a ∷ b ∷ tag) h = ap not (and_parts (eqb a 126) (eqb b 126) h).0
 
-    each : (before later : History) (maker : ℕ) (e : Entry) → is_told u H before later maker e ≡ true
-        → (is_others kinds.Tagged p (shown_to u H before later maker e) && is_tag_so is_chairs (shown_to u H before later maker e).tag) ≡ false
-    each before later maker (Tagged paper tag on) told =
-        none (eqb paper p) (is_number u maker) (is_committees tag) (is_chairs tag) (is_eligible u paper H) (oversees u paper H)
+    each : (before later : History) (stamp : Stamp) (e : Entry) → is_told u H before later stamp.maker e ≡ true
+        → (is_others kinds.Tagged p (shown_to u H before later stamp e) && is_tag_so is_chairs (shown_to u H before later stamp e).tag) ≡ false
+    each before later stamp (Tagged paper tag on) told =
+        none (eqb paper p) (is_number u stamp.maker) (is_committees tag) (is_chairs tag) (is_eligible u paper H) (oversees u paper H)
         (chairs-apart tag) (λ same. ap (λ n. oversees u n H) (eqb-true paper p same) ∙ apart) told
-    each before later maker e told = refl
+    each before later stamp e told = refl
 
 -- ---- decisions
 
@@ -202,14 +203,14 @@ decisions-early u p H apart early =
     none true own h = ap not (h refl)
     none false own h = refl
 
-    each : (before later : History) (maker : ℕ) (e : Entry) → is_told u H before later maker e ≡ true
-        → is_others kinds.Decided p (shown_to u H before later maker e) ≡ false
-    each before later maker (Decided paper decision) told =
-        none (eqb paper p) (is_number u maker)
-        (λ same. untold (is_number u maker) (discusses u paper H) (not (is_decided_again paper later)) (is_author u paper H)
+    each : (before later : History) (stamp : Stamp) (e : Entry) → is_told u H before later stamp.maker e ≡ true
+        → is_others kinds.Decided p (shown_to u H before later stamp e) ≡ false
+    each before later stamp (Decided paper decision) told =
+        none (eqb paper p) (is_number u stamp.maker)
+        (λ same. untold (is_number u stamp.maker) (discusses u paper H) (not (is_decided_again paper later)) (is_author u paper H)
         (takes (decision_of paper H) && not (is_withdrawn paper H)) (is_past_discussion (phase_of H))
         (ap (λ n. discusses u n H) (eqb-true paper p same) ∙ apart) early told)
-    each before later maker e told = refl
+    each before later stamp e told = refl
 
 pub decisions-untold : DecisionsUntold
 decisions-untold u p H apart = each-view u H IsUntold each
@@ -228,25 +229,25 @@ decisions-untold u p H apart = each-view u H IsUntold each
     unlearnt : (n a d : Bool) → a ≡ false → (n && (a && d)) ≡ false
     unlearnt n a d ha = grind (arith, ha)
 
-    each : (before later : History) (maker : ℕ) (e : Entry) → is_told u H before later maker e ≡ true → IsUntold (shown_to u H before later maker e)
-    each before later maker (Decided paper decision) told = λ other.
-        let parts = other-parts (eqb paper p) (is_number u maker) other in
+    each : (before later : History) (stamp : Stamp) (e : Entry) → is_told u H before later stamp.maker e ≡ true → IsUntold (shown_to u H before later stamp e)
+    each before later stamp (Decided paper decision) told = λ other.
+        let parts = other-parts (eqb paper p) (is_number u stamp.maker) other in
         let same : paper ≡ p = eqb-true paper p parts.0 in
         let either = or_parts (is_author u p H) (discusses u p H) apart in
         let wrote = ap (λ n. is_author u n H) same ∙ either.0 in
         let silent = ap (λ n. discusses u n H) same ∙ either.1 in
         let last : Bool = not (is_decided_again paper later) in
         let seen : is_announced H later paper ≡ true =
-        announced (is_number u maker) (discusses u paper H) last (is_author u paper H) (is_past_discussion (phase_of H)) (is_in_programme paper H)
+        announced (is_number u stamp.maker) (discusses u paper H) last (is_author u paper H) (is_past_discussion (phase_of H)) (is_in_programme paper H)
         parts.1 silent wrote told in (
           ap (λ n. is_in_programme n H) (sym same) ∙ (and_parts last (is_in_programme paper H) seen).1,
-          λ i. record (shown_to u H before later maker (Decided paper decision)) {
+          λ i. record (shown_to u H before later stamp (Decided paper decision)) {
             mine = parts.1 i;
             paper = Some (same i);
             decision = known-not _ decision
-                (unread (is_number u maker) (discusses u paper H) last (is_author u paper H) (is_past_discussion (phase_of H)) parts.1 silent wrote) i;
+                (unread (is_number u stamp.maker) (discusses u paper H) last (is_author u paper H) (is_past_discussion (phase_of H)) parts.1 silent wrote) i;
             outcome = known-not _ true (unlearnt last (is_author u paper H) (is_past_discussion (phase_of H)) wrote) i;
             accepted = where_known (seen i) true;
           },
         )
-    each before later maker e told = λ other. absurd (false≢true other)
+    each before later stamp e told = λ other. absurd (false≢true other)

@@ -8,14 +8,16 @@ use Rattle.cr_base.specs.declared.command.Command.{Command}
 use Rattle.cr_base.specs.declared.command.Command.TheVariants.{SetConflict, Assign, Unassign, Tag}
 use Rattle.cr_base.specs.declared.entry.Entry.{Entry}
 use Rattle.cr_base.specs.declared.entry.Entry.TheVariants as entries
+use Rattle.cr_base.specs.declared.entry.Stamp.{Stamp}
 use Rattle.cr_base.specs.declared.reply.Rule.{Rule}
 use Rattle.cr_base.specs.declared.reply.Rule.TheVariants as rules
 use Rattle.cr_base.specs.Bounds.{IsBoundedCommand}
 use Rattle.cr_base.specs.Bulk.{IsRowCommand, Action, action_of, assigns, unassigns, turns_conflict, turns_tag, command_told_by, row_command, turns_own_conflict}
 use Rattle.cr_base.specs.Bulk.{row_told_judged, row_judged, entries_of, and_rows, and_behind, rows_judged, bulk_checks, bulk_drawn, bulk_of_rows, bulk_behind}
 use Rattle.cr_base.specs.Bulk.{tables_basis, bulk_by_role}
+use Rattle.cr_base.specs.Calls.{BulkCall, call_by}
 use Rattle.cr_base.specs.Checks.{judged, conflict_checks, assign_checks, unassign_checks, tag_checks}
-use Rattle.cr_base.specs.Drawn.{Drawn, grouped, conflict_drawn, assignment_drawn, unassignment_drawn, tag_drawn}
+use Rattle.cr_base.specs.Drawn.{stamped, Drawn, grouped, conflict_drawn, assignment_drawn, unassignment_drawn, tag_drawn}
 use Rattle.cr_base.specs.History.{History}
 use Rattle.cr_base.specs.Judging.{judge_by}
 use Rattle.cr_base.specs.Lists.{at_some, is_number}
@@ -29,7 +31,6 @@ use Rattle.cr_history.specs.Invariants.{IsRegistered, IsMadeByUser, Invariants}
 use Rattle.cr_history.specs.Laws.{AreTold, AreFormsTold}
 use Rattle.cr_history.proofs.FormAgreement.{forms_tell}
 use Rattle.cr_history.proofs.GrowthLaws.{growth_keeps}
-use Rattle.cr_history.proofs.LineAgreement.{stamp}
 use Rattle.cr_history.proofs.TableAgreement.{tables_of-append}
 use Rattle.cr_policy.specs.Judge.{judge, view_basis, own_sightings, judge_row, judge_bulk}
 use Rattle.cr_policy.specs.Legal.{IsCaller}
@@ -80,46 +81,46 @@ row-caller H user command told registered = absurd told
 
 -- ---- what it draws
 
-record RowDraws (user : ℕ) (drawn : Drawn) : Type 0 where
+record RowDraws (stamp : Stamp) (drawn : Drawn) : Type 0 where
   entry : Entry
-  group : drawn.group ≡ grouped user (entry ∷ [])
-  of_row : IsOfRow user entry
+  group : drawn.group ≡ grouped stamp (entry ∷ [])
+  of_row : IsOfRow stamp.maker entry
 
-module _ (facts : Facts) (shown : Shown) (user : ℕ) where
-  drawn-alone : (e : Entry) (draws drawn : Drawn) → draws.group ≡ grouped user (e ∷ []) → IsOfRow user e → draws ≡ drawn → RowDraws user drawn
+module _ (facts : Facts) (shown : Shown) (stamp : Stamp) where
+  drawn-alone : (e : Entry) (draws drawn : Drawn) → draws.group ≡ grouped stamp (e ∷ []) → IsOfRow stamp.maker e → draws ≡ drawn → RowDraws stamp drawn
   drawn-alone e draws drawn group of_row is = record { entry = e; group = ap (λ (d : Drawn). d.group) (sym is) ∙ group; of_row = of_row }
 
-  -- a user is named, and she isn't the caller
-  other-named : (paper target : Option ℕ) → is_none (target_named facts shown (Some user) paper target) ≡ false → is_number target user ≡ false
-      → eqb (unwrap_or target 0) user ≡ false
+  -- a stamp.maker is named, and she isn't the caller
+  other-named : (paper target : Option ℕ) → is_none (target_named facts shown (Some stamp.maker) paper target) ≡ false → is_number target stamp.maker ≡ false
+      → eqb (unwrap_or target 0) stamp.maker ≡ false
   other-named paper None there other = absurd (true≢false there)
   other-named paper (Some v) there other = other
 
-  row-draws : (command : Command) (drawn : Drawn) → IsRowCommand command → turns_own_conflict facts user command ≡ false
-      → judge_by facts shown (Some user) command ≡ Ok drawn → RowDraws user drawn
+  row-draws : (command : Command) (drawn : Drawn) → IsRowCommand command → turns_own_conflict facts stamp.maker command ≡ false
+      → judge_by facts shown stamp command ≡ Ok drawn → RowDraws stamp drawn
   row-draws (SetConflict paper name on) drawn told other accepted =
       let target : Option ℕ = user_among facts.accounts name in
-      let draws : Drawn = conflict_drawn user (unwrap_or paper 0) (unwrap_or target 0) on in
-      let k = judged-Ok (conflict_checks (facts.standing paper) (paper_named facts shown paper) (target_named facts shown (Some user) paper target) on)
+      let draws : Drawn = conflict_drawn stamp (unwrap_or paper 0) (unwrap_or target 0) on in
+      let k = judged-Ok (conflict_checks (facts.standing paper) (paper_named facts shown paper) (target_named facts shown (Some stamp.maker) paper target) on)
       draws drawn accepted in
       drawn-alone (entries.Conflict (unwrap_or paper 0) (unwrap_or target 0) on) draws drawn refl (other-named paper target k.0.1.0 other) k.1
   row-draws (Assign paper name kind) drawn told other accepted =
       let target : Option ℕ = user_among facts.accounts name in
       let labels : ℕ = shown.labels (unwrap_or paper 0) in
-      let draws : Drawn = assignment_drawn user (unwrap_or paper 0) (unwrap_or target 0) kind (labels + 1) in
-      let k = judged-Ok (assign_checks (facts.standing paper) (paper_named facts shown paper) (target_named facts shown (Some user) paper target) labels)
+      let draws : Drawn = assignment_drawn stamp (unwrap_or paper 0) (unwrap_or target 0) kind (labels + 1) in
+      let k = judged-Ok (assign_checks (facts.standing paper) (paper_named facts shown paper) (target_named facts shown (Some stamp.maker) paper target) labels)
       draws drawn accepted in
       drawn-alone (entries.Assigned (unwrap_or paper 0) (unwrap_or target 0) kind (labels + 1)) draws drawn refl tt k.1
   row-draws (Unassign paper name) drawn told other accepted =
       let target : Option ℕ = user_among facts.accounts name in
       let p : ℕ = unwrap_or paper 0 in
       let seat : Option ℕ = shown.ordinal target p in
-      let draws : Drawn = unassignment_drawn user p (unwrap_or target 0) (unwrap_or seat 0) in
-      let k = judged-Ok (unassign_checks (facts.standing paper) (paper_named facts shown paper) (target_named facts shown (Some user) paper target)
+      let draws : Drawn = unassignment_drawn stamp p (unwrap_or target 0) (unwrap_or seat 0) in
+      let k = judged-Ok (unassign_checks (facts.standing paper) (paper_named facts shown paper) (target_named facts shown (Some stamp.maker) paper target)
       (at_some (shown.written p) seat)) draws drawn accepted in
       drawn-alone (entries.Unassigned p (unwrap_or target 0) (unwrap_or seat 0)) draws drawn refl tt k.1
   row-draws (Tag paper tag on) drawn told other accepted =
-      let draws : Drawn = tag_drawn user (unwrap_or paper 0) tag on in
+      let draws : Drawn = tag_drawn stamp (unwrap_or paper 0) tag on in
       let k = judged-Ok (tag_checks (facts.standing paper) (paper_named facts shown paper) (is_for_chairs tag)) draws drawn accepted in
       drawn-alone (entries.Tagged (unwrap_or paper 0) tag on) draws drawn refl tt k.1
   row-draws command drawn told other accepted = absurd told
@@ -132,13 +133,13 @@ IsRuledFirst H [] = Unit {0}
 IsRuledFirst H (e ∷ g) = IsMadeByUser H e.stamp.maker e.entry × IsRuled H e.stamp.maker e.entry
 
 added-ruled : (H g : History) → Adds H g → IsRuledFirst H g
-added-ruled H g (single maker e made alone ruled) = (made, ruled)
-added-ruled H g (submitted maker paper title abstract users made ruled registered) = by _
+added-ruled H g (single stamp e made alone ruled) = (made, ruled)
+added-ruled H g (submitted stamp paper title abstract users made ruled registered) = by _
   where
-    by : (es : List Entry) → IsRuledFirst H (grouped maker (entries.Submitted paper title abstract ∷ es))
+    by : (es : List Entry) → IsRuledFirst H (grouped stamp (entries.Submitted paper title abstract ∷ es))
     by [] = (made, ruled)
     by (e ∷ es) = (made, ruled)
-added-ruled H g (first_user user name digest is texts) =
+added-ruled H g (first_user stamp name digest is texts) =
     (refl, record { phase = tt; chair = tt; role = tt; member = tt; right = tt; seat = tt; texts = texts })
 
 row-alone : (user : ℕ) (e : Entry) → IsOfRow user e → StandsAlone e
@@ -149,8 +150,8 @@ row-alone user (entries.Tagged paper tag on) row = tt
 row-alone user e row = absurd row
 
 -- the tables take it with either mark
-fits-marked : (t : Tables) (user : ℕ) (more : Bool) (e : Entry) → Fits t (stamp user false e) → Fits t (stamp user more e)
-fits-marked t user more e fit = record {
+fits-marked : (t : Tables) (stamp : Stamp) (more : Bool) (e : Entry) → Fits t (stamped stamp false e) → Fits t (stamped stamp more e)
+fits-marked t stamp more e fit = record {
   accounts = fit.accounts;
   papers = fit.papers;
   ties = fit.ties;
@@ -159,19 +160,22 @@ fits-marked t user more e fit = record {
   talk = fit.talk;
 }
 
-module _ (user : ℕ) where
+module _ (stamp : Stamp) where
+  abbrev user : ℕ
+  user = stamp.maker
+
   abbrev pub row_seen : History → BulkRow → Result Drawn Rule
-  row_seen H row = judge_row user (view (Some user) H) row
+  row_seen H row = judge_row (view (Some user) H) stamp row
 
   abbrev row_tabled : History → BulkRow → Result Drawn Rule
-  row_tabled H row = row_judged (facts_of_tables (tables_of H) (Some user)) (shown_in_tables (tables_of H)) user row
+  row_tabled H row = row_judged (facts_of_tables (tables_of H) (Some user)) (shown_in_tables (tables_of H)) stamp row
 
   -- the judgement of rows, as the caller sees the history, and by its tables
   abbrev pub seen : History → ℕ → List BulkRow → Result (List Entry) Broken
-  seen H n rows = rows_judged (view_basis user) user (view (Some user) H) n rows
+  seen H n rows = rows_judged (view_basis user) stamp (view (Some user) H) n rows
 
   abbrev tabled : History → ℕ → List BulkRow → Result (List Entry) Broken
-  tabled H n rows = rows_judged (tables_basis user) user (tables_of H) n rows
+  tabled H n rows = rows_judged (tables_basis user) stamp (tables_of H) n rows
 
   -- the caller has registered, and the history keeps the invariants
   pub record IsReady (H : History) : Type 0 where
@@ -185,7 +189,7 @@ module _ (user : ℕ) where
     pub told : IsTold command
     pub caller : IsCaller H (Some user) command
     pub other : turns_own_conflict (facts_in_view (Some user) (view (Some user) H)) user command ≡ false
-    pub accepted : judge (Some user) (view (Some user) H) command ≡ Ok drawn
+    pub accepted : judge (view (Some user) H) (call_by stamp command) ≡ Ok drawn
 
   pub row-calls : (H : History) (row : BulkRow) (drawn : Drawn) → IsReady H → row_seen H row ≡ Ok drawn → RowCalls H row drawn
   row-calls H row drawn ready accepted = by (row_command row) refl accepted
@@ -196,12 +200,12 @@ module _ (user : ℕ) where
       shown : Shown
       shown = shown_in_view (Some user) (view (Some user) H)
 
-      by : (told : Result Command Rule) → row_command row ≡ told → row_told_judged facts shown user told ≡ Ok drawn → RowCalls H row drawn
+      by : (told : Result Command Rule) → row_command row ≡ told → row_told_judged facts shown stamp told ≡ Ok drawn → RowCalls H row drawn
       by (Err rule) is accepted = cc
       by (Ok command) is accepted = own (turns_own_conflict facts user command) refl accepted
         where
           own : (b : Bool) → turns_own_conflict facts user command ≡ b
-              → ◌≡◌ {A = Result Drawn Rule} (cond b (Err rules.BulkSelf) (judge_by facts shown (Some user) command)) (Ok drawn) → RowCalls H row drawn
+              → ◌≡◌ {A = Result Drawn Rule} (cond b (Err rules.BulkSelf) (judge_by facts shown stamp command)) (Ok drawn) → RowCalls H row drawn
           own true herself accepted = cc
           own false other accepted =
               let told : IsTold command = row-told row command is in
@@ -217,21 +221,21 @@ module _ (user : ℕ) where
   -- and adds one entry, which the history may have behind it with either mark
   pub record RowAdds (H : History) (drawn : Drawn) : Type 0 where
     pub entry : Entry
-    pub group : drawn.group ≡ grouped user (entry ∷ [])
+    pub group : drawn.group ≡ grouped stamp (entry ∷ [])
     pub of_row : IsOfRow user entry
-    pub grows : (more : Bool) → Grows H (stamp user more entry ∷ [])
-    pub fit : Fits (tables_of H) (stamp user false entry)
+    pub grows : (more : Bool) → Grows H (stamped stamp more entry ∷ [])
+    pub fit : Fits (tables_of H) (stamped stamp false entry)
 
   pub row-adds : (H : History) (row : BulkRow) (drawn : Drawn) → IsReady H → row_seen H row ≡ Ok drawn → RowAdds H drawn
   row-adds H row drawn ready seen =
       let V : View = view (Some user) H in
       let calls : RowCalls H row drawn = row-calls H row drawn ready seen in
-      let draws : RowDraws user drawn = row-draws (facts_in_view (Some user) V) (shown_in_view (Some user) V) user calls.command drawn calls.told.of_row
+      let draws : RowDraws stamp drawn = row-draws (facts_in_view (Some user) V) (shown_in_view (Some user) V) stamp calls.command drawn calls.told.of_row
       calls.other calls.accepted in
-      let added : Adds H drawn.group = accepted-adds H (Some user) calls.command drawn calls.told.bounded calls.caller calls.accepted in
+      let added : Adds H drawn.group = accepted-adds H (call_by stamp calls.command) drawn calls.told.bounded calls.caller calls.accepted in
       let ruled = subst (IsRuledFirst H) draws.group (added-ruled H drawn.group added) in
       let fits = subst (FitInTurn (tables_of H)) draws.group
-      (accepted-fits H (Some user) calls.command drawn ready.kept (Kept-told H ready.kept) (forms_tell H ready.kept) calls.caller calls.accepted) in
+      (accepted-fits H (call_by stamp calls.command) drawn ready.kept (Kept-told H ready.kept) (forms_tell H ready.kept) calls.caller calls.accepted) in
       record {
         entry = draws.entry;
         group = draws.group;
@@ -240,28 +244,28 @@ module _ (user : ℕ) where
         fit = fits.0;
       }
     where
-      grown : (e : Entry) → IsOfRow user e → IsMadeByUser H user e → IsRuled H user e → (more : Bool) → Grows H (stamp user more e ∷ [])
-      grown e row made ruled true = goes_on user e made (row-goes user e row) ruled
-      grown e row made ruled false = adds _ (single user e made (row-alone user e row) ruled)
+      grown : (e : Entry) → IsOfRow user e → IsMadeByUser H user e → IsRuled H user e → (more : Bool) → Grows H (stamped stamp more e ∷ [])
+      grown e row made ruled true = goes_on stamp e made (row-goes user e row) ruled
+      grown e row made ruled false = adds _ (single stamp e made (row-alone user e row) ruled)
 
   -- ---- behind it
 
   module _ (H : History) (drawn : Drawn) (ready : IsReady H) (row : RowAdds H drawn) (more : Bool) where
     abbrev pub next : History
-    next = H ++ stamp user more row.entry ∷ []
+    next = H ++ stamped stamp more row.entry ∷ []
 
     pub next-ready : IsReady next
     next-ready = record {
-      kept = growth_keeps.more H (stamp user more row.entry ∷ []) ready.kept (row.grows more) (fits-marked (tables_of H) user more row.entry row.fit, tt);
-      registered = registered-behind user more row.entry row.of_row H user ready.registered;
+      kept = growth_keeps.more H (stamped stamp more row.entry ∷ []) ready.kept (row.grows more) (fits-marked (tables_of H) stamp more row.entry row.fit, tt);
+      registered = registered-behind stamp more row.entry row.of_row H user ready.registered;
     }
 
     pub next-seen : view (Some user) H ++ own_sightings drawn.group ≡ view (Some user) next
     next-seen =
-        ap (λ (g : History). view (Some user) H ++ own_sightings g) row.group ∙ sym (view-behind user more row.entry row.of_row H)
+        ap (λ (g : History). view (Some user) H ++ own_sightings g) row.group ∙ sym (view-behind stamp more row.entry row.of_row H)
 
     next-tables : tables_of next ≡ tables_from (tables_of H) drawn.group
-    next-tables = tables_of-append H (stamp user more row.entry ∷ []) ∙ ap (tables_from (tables_of H)) (sym row.group)
+    next-tables = tables_of-append H (stamped stamp more row.entry ∷ []) ∙ ap (tables_from (tables_of H)) (sym row.group)
 
   -- ---- the same by the view as by the tables
 
@@ -274,14 +278,14 @@ module _ (user : ℕ) where
       forms : AreFormsTold H
       forms = forms_tell H kept
 
-      by : (command : Result Command Rule) → row_told_judged (facts_in_view (Some user) (view (Some user) H)) (shown_in_view (Some user) (view (Some user) H)) user command
-          ≡ row_told_judged (facts_of_tables (tables_of H) (Some user)) (shown_in_tables (tables_of H)) user command
+      by : (command : Result Command Rule) → row_told_judged (facts_in_view (Some user) (view (Some user) H)) (shown_in_view (Some user) (view (Some user) H)) stamp command
+          ≡ row_told_judged (facts_of_tables (tables_of H) (Some user)) (shown_in_tables (tables_of H)) stamp command
       by (Err rule) = refl
       by (Ok command) =
-          ap (λ (facts : Facts). cond (turns_own_conflict facts user command) (Err rules.BulkSelf) (judge (Some user) (view (Some user) H) command))
+          ap (λ (facts : Facts). cond (turns_own_conflict facts user command) (Err rules.BulkSelf) (judge (view (Some user) H) (call_by stamp command)))
           (facts_in_view-tables (Some user) H told forms)
           ∙ ap (λ (r : Result Drawn Rule). cond (turns_own_conflict (facts_of_tables (tables_of H) (Some user)) user command) (Err rules.BulkSelf) r)
-          (judge-tables (Some user) H command kept told forms)
+          (judge-tables H (call_by stamp command) kept told forms)
 
   rows-same : (rows : List BulkRow) (n : ℕ) (H : History) → IsReady H → seen H n rows ≡ tabled H n rows
   rows-same [] n H ready = refl
@@ -289,10 +293,10 @@ module _ (user : ℕ) where
       by (row_seen H row) refl (rows-same rows (n + 1)) ∙ ap (λ (r : Result Drawn Rule). and_behind n r tables_go) (row-same H row ready.kept)
     where
       view_goes : History → Result (List Entry) Broken
-      view_goes group = rows_judged (view_basis user) user (view (Some user) H ++ own_sightings group) (n + 1) rows
+      view_goes group = rows_judged (view_basis user) stamp (view (Some user) H ++ own_sightings group) (n + 1) rows
 
       tables_go : History → Result (List Entry) Broken
-      tables_go group = rows_judged (tables_basis user) user (tables_from (tables_of H) group) (n + 1) rows
+      tables_go group = rows_judged (tables_basis user) stamp (tables_from (tables_of H) group) (n + 1) rows
 
       by : (r : Result Drawn Rule) → row_seen H row ≡ r → ((G : History) → IsReady G → seen G (n + 1) rows ≡ tabled G (n + 1) rows)
           → and_behind n r view_goes ≡ and_behind n r tables_go
@@ -300,9 +304,9 @@ module _ (user : ℕ) where
       by (Ok drawn) is rest =
           let first : RowAdds H drawn = row-adds H row drawn ready is in
           ap (and_rows (entries_of drawn.group))
-          (ap (λ (V : View). rows_judged (view_basis user) user V (n + 1) rows) (next-seen H drawn ready first true)
+          (ap (λ (V : View). rows_judged (view_basis user) stamp V (n + 1) rows) (next-seen H drawn ready first true)
           ∙ rest (next H drawn ready first true) (next-ready H drawn ready first true)
-          ∙ ap (λ (t : Tables). rows_judged (tables_basis user) user t (n + 1) rows) (next-tables H drawn ready first true))
+          ∙ ap (λ (t : Tables). rows_judged (tables_basis user) stamp t (n + 1) rows) (next-tables H drawn ready first true))
 
   -- ---- what all of them add
 
@@ -312,7 +316,7 @@ module _ (user : ℕ) where
     pub judged : row_seen H row ≡ Ok drawn
     pub first : RowAdds H drawn
     pub more : List Entry
-    pub rest : (mark : Bool) → seen (H ++ stamp user mark first.entry ∷ []) (n + 1) rows ≡ Ok more
+    pub rest : (mark : Bool) → seen (H ++ stamped stamp mark first.entry ∷ []) (n + 1) rows ≡ Ok more
     pub all : es ≡ first.entry ∷ more
 
   pub rows-accepted : (H : History) (n : ℕ) (row : BulkRow) (rows : List BulkRow) (es : List Entry) → IsReady H → seen H n (row ∷ rows) ≡ Ok es
@@ -320,7 +324,7 @@ module _ (user : ℕ) where
   rows-accepted H n row rows es ready accepted = by (row_seen H row) refl accepted
     where
       view_goes : History → Result (List Entry) Broken
-      view_goes group = rows_judged (view_basis user) user (view (Some user) H ++ own_sightings group) (n + 1) rows
+      view_goes group = rows_judged (view_basis user) stamp (view (Some user) H ++ own_sightings group) (n + 1) rows
 
       by : (r : Result Drawn Rule) → row_seen H row ≡ r → and_behind n r view_goes ≡ Ok es → AreAccepted H n row rows es
       by (Err rule) is accepted = cc
@@ -337,7 +341,7 @@ module _ (user : ℕ) where
             first = row_adds;
             more = more;
             rest = λ mark.
-                ap (λ (V : View). rows_judged (view_basis user) user V (n + 1) rows) (sym (next-seen H drawn ready row_adds mark)) ∙ goes;
+                ap (λ (V : View). rows_judged (view_basis user) stamp V (n + 1) rows) (sym (next-seen H drawn ready row_adds mark)) ∙ goes;
             all = same (entries_of drawn.group ++ more) accepted ∙ ap (λ (g : History). entries_of g ++ more) row_adds.group;
           }
             where
@@ -347,47 +351,50 @@ module _ (user : ℕ) where
   pub no_rows : (es : List Entry) → ◌≡◌ {A = Result (List Entry) Broken} (Ok []) (Ok es) → [] ≡ es
   no_rows es h = cc
 
-  pub rows-keep : (rows : List BulkRow) (n : ℕ) (H : History) (es : List Entry) → IsReady H → seen H n rows ≡ Ok es → Invariants (H ++ grouped user es)
+  pub rows-keep : (rows : List BulkRow) (n : ℕ) (H : History) (es : List Entry) → IsReady H → seen H n rows ≡ Ok es → Invariants (H ++ grouped stamp es)
   rows-keep [] n H es ready accepted =
-      subst (λ (es : List Entry). Invariants (H ++ grouped user es)) (no_rows es accepted) (subst Invariants (sym (append-nil H)) ready.kept)
+      subst (λ (es : List Entry). Invariants (H ++ grouped stamp es)) (no_rows es accepted) (subst Invariants (sym (append-nil H)) ready.kept)
   rows-keep (row ∷ rows) n H es ready accepted =
       let all = rows-accepted H n row rows es ready accepted in
-      subst (λ (es : List Entry). Invariants (H ++ grouped user es)) (sym all.all)
+      subst (λ (es : List Entry). Invariants (H ++ grouped stamp es)) (sym all.all)
       (by all.drawn all.first all.more (all.rest true) (rows-keep rows (n + 1)))
     where
-      by : (drawn : Drawn) (first : RowAdds H drawn) (more : List Entry) → seen (H ++ stamp user true first.entry ∷ []) (n + 1) rows ≡ Ok more
-          → ((G : History) (es : List Entry) → IsReady G → seen G (n + 1) rows ≡ Ok es → Invariants (G ++ grouped user es))
-          → Invariants (H ++ grouped user (first.entry ∷ more))
+      by : (drawn : Drawn) (first : RowAdds H drawn) (more : List Entry) → seen (H ++ stamped stamp true first.entry ∷ []) (n + 1) rows ≡ Ok more
+          → ((G : History) (es : List Entry) → IsReady G → seen G (n + 1) rows ≡ Ok es → Invariants (G ++ grouped stamp es))
+          → Invariants (H ++ grouped stamp (first.entry ∷ more))
       by drawn first [] goes rest = (next-ready H drawn ready first false).kept
       by drawn first (e ∷ more) goes rest =
-          subst Invariants (append_assoc H (stamp user true first.entry ∷ []) (grouped user (e ∷ more)))
+          subst Invariants (append_assoc H (stamped stamp true first.entry ∷ []) (grouped stamp (e ∷ more)))
           (rest (next H drawn ready first true) (e ∷ more) (next-ready H drawn ready first true) goes)
 
   -- ---- the bulk
 
-  pub bulk-same : (H : History) (rows : List BulkRow) → IsReady H → judge_bulk user (view (Some user) H) rows ≡ bulk_by_role (tables_of H) user rows
+  abbrev bulk : List BulkRow → BulkCall
+  bulk rows = record { stamp = stamp; rows = rows }
+
+  pub bulk-same : (H : History) (rows : List BulkRow) → IsReady H → judge_bulk (view (Some user) H) (bulk rows) ≡ bulk_by_role (tables_of H) (bulk rows)
   bulk-same H rows ready =
       by (judged (bulk_checks ((facts_in_view (Some user) (view (Some user) H)).standing None)) tt)
-      ∙ ap (λ (facts : Facts). bulk_behind (tables_basis user) user (tables_of H) rows (judged (bulk_checks (facts.standing None)) tt))
+      ∙ ap (λ (facts : Facts). bulk_behind (tables_basis user) (tables_of H) (bulk rows) (judged (bulk_checks (facts.standing None)) tt))
       (facts_in_view-tables (Some user) H (Kept-told H ready.kept) (forms_tell H ready.kept))
     where
-      by : (r : Result (Unit {0}) Rule) → bulk_behind (view_basis user) user (view (Some user) H) rows r ≡ bulk_behind (tables_basis user) user (tables_of H) rows r
+      by : (r : Result (Unit {0}) Rule) → bulk_behind (view_basis user) (view (Some user) H) (bulk rows) r ≡ bulk_behind (tables_basis user) (tables_of H) (bulk rows) r
       by (Err rule) = refl
-      by (Ok done) = ap (bulk_of_rows user (length rows)) (rows-same rows 1 H ready)
+      by (Ok done) = ap (bulk_of_rows stamp (length rows)) (rows-same rows 1 H ready)
 
   -- an accepted bulk draws the entries of its rows
   pub record BulkDraws (H : History) (rows : List BulkRow) (drawn : Drawn) : Type 0 where
     pub entries : List Entry
     pub accepted : seen H 1 rows ≡ Ok entries
-    pub drawn_is : bulk_drawn user (length rows) entries ≡ drawn
+    pub drawn_is : bulk_drawn stamp (length rows) entries ≡ drawn
 
-  pub bulk-draws : (H : History) (rows : List BulkRow) (drawn : Drawn) → judge_bulk user (view (Some user) H) rows ≡ Ok drawn → BulkDraws H rows drawn
+  pub bulk-draws : (H : History) (rows : List BulkRow) (drawn : Drawn) → judge_bulk (view (Some user) H) (bulk rows) ≡ Ok drawn → BulkDraws H rows drawn
   bulk-draws H rows drawn accepted = by (judged (bulk_checks ((facts_in_view (Some user) (view (Some user) H)).standing None)) tt) accepted
     where
-      all : (r : Result (List Entry) Broken) → seen H 1 rows ≡ r → bulk_of_rows user (length rows) r ≡ Ok drawn → BulkDraws H rows drawn
+      all : (r : Result (List Entry) Broken) → seen H 1 rows ≡ r → bulk_of_rows stamp (length rows) r ≡ Ok drawn → BulkDraws H rows drawn
       all (Err refusal) is accepted = cc
       all (Ok es) is accepted = record { entries = es; accepted = is; drawn_is = cc }
 
-      by : (r : Result (Unit {0}) Rule) → bulk_behind (view_basis user) user (view (Some user) H) rows r ≡ Ok drawn → BulkDraws H rows drawn
+      by : (r : Result (Unit {0}) Rule) → bulk_behind (view_basis user) (view (Some user) H) (bulk rows) r ≡ Ok drawn → BulkDraws H rows drawn
       by (Err rule) accepted = cc
       by (Ok done) accepted = all (seen H 1 rows) refl accepted

@@ -7,18 +7,19 @@ use Rattle.std.proofs.lemmas.List.Concat.{flat_map-append}
 use Rattle.cr_base.specs.declared.entry.Entry.{Entry}
 use Rattle.cr_base.specs.declared.entry.Entry.TheVariants.{Registered, Named, PhaseSet, ModeSet, Submitted, Coauthor, Revised, Uploaded, Withdrawn}
 use Rattle.cr_base.specs.declared.entry.Entry.TheVariants.{Conflict, Assigned, Unassigned, Reviewed, Tagged, Decided}
+use Rattle.cr_base.specs.declared.entry.Stamp.{Stamp}
 use Rattle.cr_base.specs.declared.entry.Stamped.{Stamped}
 use Rattle.cr_base.specs.declared.words.Mode.TheVariants.{Blind}
 use Rattle.cr_base.specs.declared.words.Phase.TheVariants.{Setup, Discussion}
 use Rattle.cr_base.specs.declared.words.Role.TheVariants.{Account}
 use Rattle.cr_base.specs.Decisions.{is_accepted_when}
+use Rattle.cr_base.specs.Drawn.{stamped}
 use Rattle.cr_base.specs.History.{History, phase_told, mode_told, role_told, author_told, conflict_told, withdrawal_told, decision_told, registration_told}
 use Rattle.cr_base.specs.History.{title_told, upload_told, form_told, opens, opens_discussion}
 use Rattle.cr_base.specs.Lists.{given, last, last_or, is_nothing, is_number, until}
 use Rattle.cr_base.proofs.ListLaws.{turned}
 use Rattle.cr_base.specs.Bulk.{IsRowEntry}
 use Rattle.cr_history.specs.Invariants.{IsRegistered}
-use Rattle.cr_history.proofs.LineAgreement.{stamp}
 use Rattle.cr_history.proofs.ListCuts.{until-none, until-append, until-before}
 use Rattle.cr_policy.specs.Part.{Part, whole}
 use Rattle.cr_policy.specs.Sighting.{Sighting, entire, masked, sighting}
@@ -115,7 +116,7 @@ last-shows [] p is = ap (λ b. (b && true) || false) is
 last-shows (r ∷ rs) p is = or_right (r.parts p && r.applies) (shows (rs ++ true see whole ∷ []) p) (last-shows rs p is)
 
 -- the parts that belong to the whole of an entry, where all of those are shown
-module _ (user : ℕ) (f : Part → Bool) (all : (p : Part) → whole p ≡ true → f p ≡ true) where
+module _ (stamp : Stamp) (f : Part → Bool) (all : (p : Part) → whole p ≡ true → f p ≡ true) where
   only-whole : (λ (p : Part). whole p && f p) ≡ whole
   only-whole = λ i p. by p (whole p) refl i
     where
@@ -124,18 +125,21 @@ module _ (user : ℕ) (f : Part → Bool) (all : (p : Part) → whole p ≡ true
       by p false is = refl
 
   -- an entry of a row has no others
-  own-masked : (e : Entry) → IsOfRow user e → masked f true (entire user e) ≡ masked whole true (entire user e)
-  own-masked (Conflict paper other on) row = ap (λ (g : Part → Bool). masked g true (entire user (Conflict paper other on))) only-whole
-  own-masked (Assigned paper other kind ordinal) row = ap (λ (g : Part → Bool). masked g true (entire user (Assigned paper other kind ordinal))) only-whole
-  own-masked (Unassigned paper other ordinal) row = ap (λ (g : Part → Bool). masked g true (entire user (Unassigned paper other ordinal))) only-whole
-  own-masked (Tagged paper tag on) row = ap (λ (g : Part → Bool). masked g true (entire user (Tagged paper tag on))) only-whole
+  own-masked : (e : Entry) → IsOfRow stamp.maker e → masked f true (entire stamp e) ≡ masked whole true (entire stamp e)
+  own-masked (Conflict paper other on) row = ap (λ (g : Part → Bool). masked g true (entire stamp (Conflict paper other on))) only-whole
+  own-masked (Assigned paper other kind ordinal) row = ap (λ (g : Part → Bool). masked g true (entire stamp (Assigned paper other kind ordinal))) only-whole
+  own-masked (Unassigned paper other ordinal) row = ap (λ (g : Part → Bool). masked g true (entire stamp (Unassigned paper other ordinal))) only-whole
+  own-masked (Tagged paper tag on) row = ap (λ (g : Part → Bool). masked g true (entire stamp (Tagged paper tag on))) only-whole
   own-masked e row = absurd row
 
 -- ---- behind such an entry
 
-module _ (user : ℕ) (more : Bool) (e : Entry) (row : IsOfRow user e) where
+module _ (stamp : Stamp) (more : Bool) (e : Entry) (row : IsOfRow stamp.maker e) where
+  abbrev user : ℕ
+  user = stamp.maker
+
   abbrev s : Stamped
-  s = stamp user more e
+  s = stamped stamp more e
 
   -- she stands as before to the conference and to each paper, as far as the table asks
   reader-behind : (H : History) → reader (Some user) (H ++ s ∷ []) ≡ reader (Some user) H
@@ -220,7 +224,7 @@ module _ (user : ℕ) (more : Bool) (e : Entry) (row : IsOfRow user e) where
       let all : List TriggerRow = rs ++ true see whole ∷ [] in
       ap (λ (b : Bool). given (applies_any (rs ++ b see whole ∷ [])) (sighting (shows (rs ++ b see whole ∷ [])) b s)) mine
       ∙ ap (λ (b : Bool). given b (sighting (shows all) true s)) (last-seen rs)
-      ∙ ap (λ (shown : Sighting). shown ∷ []) (own-masked user (shows all) (last-shows rs) e row)
+      ∙ ap (λ (shown : Sighting). shown ∷ []) (own-masked stamp (shows all) (last-shows rs) e row)
 
   -- her view goes on with it
   pub view-behind : (H : History) → view (Some user) (H ++ s ∷ []) ≡ view (Some user) H ++ sighting whole true s ∷ []

@@ -9,11 +9,13 @@ use Rattle.std.proofs.lemmas.List.Elements.{All-head, All-tail}
 use Rattle.cr_base.specs.declared.comment.CommentLine.{CommentLine}
 use Rattle.cr_base.specs.declared.entry.Entry.{Entry}
 use Rattle.cr_base.specs.declared.entry.Entry.TheVariants.{Commented}
+use Rattle.cr_base.specs.declared.entry.Stamp.{Stamp}
 use Rattle.cr_base.specs.declared.entry.Stamped.{Stamped}
 use Rattle.cr_base.specs.declared.reply.AccountLine.{AccountLine}
 use Rattle.cr_base.specs.declared.standing.Standing.{Standing}
 use Rattle.cr_base.specs.Answering.{comment_line}
 use Rattle.cr_base.specs.Lists.{given}
+use Rattle.cr_base.specs.Drawn.{stamped}
 use Rattle.cr_base.specs.History.{History, CommentTold, comment_told}
 use Rattle.cr_base.specs.HistoryFacts.{phase_of, standing_of, comments_of}
 use Rattle.cr_base.specs.Page.{is_clear_member, shows_writer}
@@ -21,7 +23,6 @@ use Rattle.cr_base.specs.Phases.{members_read_comments}
 use Rattle.cr_base.specs.Rows.{label_number, IsBoundedEntry}
 use Rattle.cr_base.specs.Sources.{name_in}
 use Rattle.cr_base.specs.Words.{is_anonymous, is_chair, is_member}
-use Rattle.cr_history.proofs.LineAgreement.{stamp}
 use Rattle.cr_policy.specs.Part as part
 use Rattle.cr_policy.specs.Sighting.{Sighting, where_shown}
 use Rattle.cr_policy.specs.Triggers.{Reader, reader, Around, user_named}
@@ -57,31 +58,31 @@ module _ {B : Type 0} (m : CommentTold → B) (r : Reader) (at : Around) where
   -- each comment on the paper is shown, and what is shown of it is as good as all of it, for one who is told it so
   abbrev ShowsComment : ℕ → Type 0
   ShowsComment p =
-      (maker : ℕ) (more : Bool) (n : ℕ) (ordinal : Option ℕ) (text : List ℕ)
-      → (passes part.n r at (stamp maker more (Commented p n ordinal text)) ≡ true)
+      (stamp : Stamp) (more : Bool) (n : ℕ) (ordinal : Option ℕ) (text : List ℕ)
+      → (passes part.n r at (stamped stamp more (Commented p n ordinal text)) ≡ true)
       × (m (record {
         n = n;
-        writer = where_shown (passes part.by r at (stamp maker more (Commented p n ordinal text))) (Some maker);
-        ordinal = label_shown (where_shown (passes part.ordinal r at (stamp maker more (Commented p n ordinal text))) (Some (unwrap_or ordinal 0)));
+        writer = where_shown (passes part.by r at (stamped stamp more (Commented p n ordinal text))) (Some stamp.maker);
+        ordinal = label_shown (where_shown (passes part.ordinal r at (stamped stamp more (Commented p n ordinal text))) (Some (unwrap_or ordinal 0)));
         text = text;
-      }) ≡ m (record { n = n; writer = Some maker; ordinal = label_told ordinal; text = text }))
+      }) ≡ m (record { n = n; writer = Some stamp.maker; ordinal = label_told ordinal; text = text }))
 
-  comment_at : (p : ℕ) → ShowsComment p → (maker : ℕ) (more : Bool) (e : Entry)
-      → flat_map (λ (s : Sighting). map m (comment_seen p s)) (sight r at (stamp maker more e)) ≡ map m (comment_numbered p maker e)
-  comment_at p shown maker more (Commented paper n ordinal text) =
-      let e : Stamped = stamp maker more (Commented paper n ordinal text) in
+  comment_at : (p : ℕ) → ShowsComment p → (stamp : Stamp) (more : Bool) (e : Entry)
+      → flat_map (λ (s : Sighting). map m (comment_seen p s)) (sight r at (stamped stamp more e)) ≡ map m (comment_numbered p stamp.maker e)
+  comment_at p shown stamp more (Commented paper n ordinal text) =
+      let e : Stamped = stamped stamp more (Commented paper n ordinal text) in
       flat_map-given (λ (s : Sighting). map m (comment_seen p s)) (is_seen r at e) (joined r at e)
-      ∙ comment_value m (eqb paper p) (is_seen r at e) (passes part.n r at e) n (where_shown (passes part.by r at e) (Some maker))
+      ∙ comment_value m (eqb paper p) (is_seen r at e) (passes part.n r at e) n (where_shown (passes part.by r at e) (Some stamp.maker))
       (where_shown (passes part.ordinal r at e) (Some (unwrap_or ordinal 0))) text
-      (record { n = n; writer = Some maker; ordinal = label_told ordinal; text = text })
+      (record { n = n; writer = Some stamp.maker; ordinal = label_told ordinal; text = text })
       (λ same.
-      let hers = subst (λ (n : ℕ). ShowsComment n) (sym (eqb-true paper p same)) shown maker more n ordinal text in
+      let hers = subst (λ (n : ℕ). ShowsComment n) (sym (eqb-true paper p same)) shown stamp more n ordinal text in
       (seen_where r at part.n e hers.0, hers.0, hers.1))
-  comment_at p shown maker more e = silent r at maker more (λ (s : Sighting). map m (comment_seen p s)) e refl
+  comment_at p shown stamp more e = silent r at stamp more (λ (s : Sighting). map m (comment_seen p s)) e refl
 
 comment_tells : {B : Type 0} (m : CommentTold → B) (r : Reader) (p : ℕ) → ((at : Around) → ShowsComment m r at p)
     → TellsAll r (λ (s : Sighting). map m (comment_seen p s)) (λ (e : Stamped). map m (comment_numbered p e.stamp.maker e.entry))
-comment_tells m r p shown at e = comment_at m r at p (shown at) e.stamp.maker e.more e.entry
+comment_tells m r p shown at e = comment_at m r at p (shown at) e.stamp e.more e.entry
 
 -- ---- labels within their bounds
 
@@ -98,13 +99,13 @@ numbered-label (Some o) few = by (eqb o 0) few
 numbered-told : (p : ℕ) (H : History) → All IsBoundedEntry H → flat_map (λ (e : Stamped). comment_numbered p e.stamp.maker e.entry) H ≡ comments_of p H
 numbered-told p [] bounded = refl
 numbered-told p (e ∷ H) bounded =
-    ap (λ xs. xs ++ flat_map (λ (e : Stamped). comment_numbered p e.stamp.maker e.entry) H) (one e.stamp.maker e.more e.entry (All-head IsBoundedEntry e H bounded))
+    ap (λ xs. xs ++ flat_map (λ (e : Stamped). comment_numbered p e.stamp.maker e.entry) H) (one e.stamp e.more e.entry (All-head IsBoundedEntry e H bounded))
     ∙ ap (λ xs. comment_told p e.stamp.maker e.entry ++ xs) (numbered-told p H (All-tail IsBoundedEntry e H bounded))
   where
-    one : (maker : ℕ) (more : Bool) (e : Entry) → IsBoundedEntry (stamp maker more e) → comment_numbered p maker e ≡ comment_told p maker e
-    one maker more (Commented paper n ordinal text) fits =
-        ap (λ (label : Option ℕ). given (eqb paper p) (record { n = n; writer = Some maker; ordinal = label; text = text })) (numbered-label ordinal fits.n3.1)
-    one maker more e fits = refl
+    one : (stamp : Stamp) (more : Bool) (e : Entry) → IsBoundedEntry (stamped stamp more e) → comment_numbered p stamp.maker e ≡ comment_told p stamp.maker e
+    one stamp more (Commented paper n ordinal text) fits =
+        ap (λ (label : Option ℕ). given (eqb paper p) (record { n = n; writer = Some stamp.maker; ordinal = label; text = text })) (numbered-label ordinal fits.n3.1)
+    one stamp more e fits = refl
 
 -- ---- what a view says of comments
 
@@ -130,11 +131,11 @@ module _ (u : Option ℕ) (p : ℕ) (H : History) (accounts : List AccountLine) 
   from_discussion = members_read_comments by.phase
 
   comment-shown : (at : Around) → ShowsComment line (reader u H) at p
-  comment-shown at maker more n ordinal text =
-      let own : Bool = user_named (reader u H) maker in
-      let e : Stamped = stamp maker more (Commented p n ordinal text) in
+  comment-shown at stamp more n ordinal text =
+      let own : Bool = user_named (reader u H) stamp.maker in
+      let e : Stamped = stamped stamp more (Commented p n ordinal text) in
       let label : Bool → Option ℕ = λ b. label_shown (where_shown b (Some (unwrap_or ordinal 0))) in
-      let user : Bool → Option (List ℕ) = λ b. option_and_then (name_in accounts) (where_shown b (Some maker)) in
+      let user : Bool → Option (List ℕ) = λ b. option_and_then (name_in accounts) (where_shown b (Some stamp.maker)) in
       let labels = same_key (not (shows_writer by)) (label (passes part.ordinal (reader u H) at e)) (label true)
       (λ h. ap label (labelled serves by.conflicted from_discussion chair anonymous own clear discussed h)) in
       let users = same_key (shows_writer by) (user (passes part.by (reader u H) at e)) (user true)

@@ -5,6 +5,7 @@ use Rattle.std.specs.List.{list_all, list_any}
 use Rattle.std.specs.Str.{is_utf8}
 use Rattle.std.proofs.lemmas.Bool.{and_parts, leb-true, true≢false}
 use Rattle.std.proofs.lemmas.Option.{none-some, same_Some}
+use Rattle.cr_base.specs.declared.command.Call.{Call}
 use Rattle.cr_base.specs.declared.command.Command.{Command}
 use Rattle.cr_base.specs.declared.command.Command.TheVariants.{SetPhase, Submit, Revise, Upload, Withdraw, Name, SetMode, SetConflict}
 use Rattle.cr_base.specs.declared.command.Command.TheVariants.{Bid, Assign, Unassign, Review, Comment, Tag, Decide}
@@ -16,6 +17,7 @@ use Rattle.cr_base.specs.declared.words.Mode.TheVariants.{Anonymous}
 use Rattle.cr_base.specs.declared.words.Phase.TheVariants.{Submission, Bidding, Reviewing, Discussion, Notification, Closed}
 use Rattle.cr_base.specs.declared.words.Role.TheVariants.{Member, Chair}
 use Rattle.cr_base.specs.Bounds.{IsGrade, IsForm, IsBoundedCommand}
+use Rattle.cr_base.specs.Calls.{call_of}
 use Rattle.cr_base.specs.History.{History, Registration, all_told, registration_told}
 use Rattle.cr_base.specs.Logins.{command_wants_login}
 use Rattle.cr_base.specs.Texts.{IsName, IsTitle, IsAbstract, IsReviewText, IsCommentText, is_name_byte, is_name, is_title_byte}
@@ -26,7 +28,7 @@ use Rattle.cr_policy.specs.Conference.{first_form, second_form, last_form, alice
 use Rattle.cr_policy.specs.Conference.{registered, opened, submitted, before_bidding, having_tags, in_bidding, in_reviewing, having_comments}
 use Rattle.cr_policy.specs.Conference.{Verdicts, verdicts, in_discussion, at_notification, at_close}
 use Rattle.cr_policy.specs.ConferenceLaws.{IsReviewed, IsDecided, ConferenceLegal}
-use Rattle.cr_policy.specs.Legal.{CallsAs, Call, step, Move, calls, LeadsTo, Legal}
+use Rattle.cr_policy.specs.Legal.{CallsAs, step, Move, calls, LeadsTo, Legal}
 use Rattle.cr_policy.proofs.LegalLaws.{LeadsTo-append}
 use Rattle.cr_policy.proofs.WitnessLaws.{register, ascii-utf8}
 
@@ -78,7 +80,7 @@ goes_on from to turns leads legal =
 
 -- a user's command
 abbrev pub by : (user : ℕ) (command : Command) → IsBoundedCommand command → Turn
-by user command bounded = record { call = record { caller = Some user; command = command }; bounded = bounded }
+by user command bounded = record { call = call_of (Some user) command; bounded = bounded }
 
 -- ---- bounds, by computing
 

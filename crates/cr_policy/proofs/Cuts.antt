@@ -1,5 +1,5 @@
 -- Folds over the part of a view before the entry at which a test first passes, and over the part after it.
-use Rattle.std.proofs.Common.{◌≡◌, ℕ, Bool, true, false, cond, List, [], ◌∷◌, ◌++◌, refl, sym, ap, ◌∙◌, ◌||◌, ◌&&◌, append_assoc, Option}
+use Rattle.std.proofs.Common.{◌≡◌, Bool, true, false, cond, List, [], ◌∷◌, ◌++◌, refl, sym, ap, ◌∙◌, ◌||◌, ◌&&◌, append_assoc, Option}
 use Rattle.std.specs.Prelude.{map, if◌then◌else◌}
 use Rattle.std.specs.List.{AllByRecursion, flat_map, list_any}
 use Rattle.std.proofs.lemmas.Bool.{or_left, or_right, false≢true}
@@ -9,11 +9,12 @@ use Rattle.std.proofs.lemmas.List.Folds.{list_any-append}
 use Rattle.cr_base.specs.declared.entry.Entry.{Entry}
 use Rattle.cr_base.specs.declared.entry.Entry.TheVariants.{PhaseSet}
 use Rattle.cr_base.specs.declared.entry.EntryKind.TheVariants as kinds
+use Rattle.cr_base.specs.declared.entry.Stamp.{Stamp}
 use Rattle.cr_base.specs.declared.entry.Stamped.{Stamped}
 use Rattle.cr_base.specs.declared.words.Phase.{Phase}
 use Rattle.cr_base.specs.Lists.{given, until, since, last_from, is_nothing}
+use Rattle.cr_base.specs.Drawn.{stamped}
 use Rattle.cr_base.specs.History.{History, opens}
-use Rattle.cr_history.proofs.LineAgreement.{stamp}
 use Rattle.cr_history.proofs.ListCuts.{until-append, since-append}
 use Rattle.cr_policy.specs.Sighting.{Sighting}
 use Rattle.cr_policy.specs.Triggers.{Reader, Around}
@@ -44,14 +45,14 @@ module _ (r : Reader) (first : Phase) where
   abbrev pub opening_seen : Sighting → Bool
   opening_seen s = is_kind kinds.PhaseSet s && opens_phase first s.phase
 
-  opening-one : (at : Around) (maker : ℕ) (more : Bool) (e : Entry) → opens first e ≡ true
-      → (s : Sighting) × ((sight r at (stamp maker more e) ≡ s ∷ []) × (opening_seen s ≡ true))
-  opening-one at maker more (PhaseSet phase) h = (joined r at (stamp maker more (PhaseSet phase)), (refl, h))
-  opening-one at maker more e h = absurd (false≢true h)
+  opening-one : (at : Around) (stamp : Stamp) (more : Bool) (e : Entry) → opens first e ≡ true
+      → (s : Sighting) × ((sight r at (stamped stamp more e) ≡ s ∷ []) × (opening_seen s ≡ true))
+  opening-one at stamp more (PhaseSet phase) h = (joined r at (stamped stamp more (PhaseSet phase)), (refl, h))
+  opening-one at stamp more e h = absurd (false≢true h)
 
-  opening-other : (at : Around) (maker : ℕ) (more : Bool) (e : Entry) → opens first e ≡ false → list_any opening_seen (sight r at (stamp maker more e)) ≡ false
-  opening-other at maker more (PhaseSet phase) h = ap (λ b. b || false) h
-  opening-other at maker more e h = by (is_seen r at (stamp maker more e)) (joined r at (stamp maker more e)) refl
+  opening-other : (at : Around) (stamp : Stamp) (more : Bool) (e : Entry) → opens first e ≡ false → list_any opening_seen (sight r at (stamped stamp more e)) ≡ false
+  opening-other at stamp more (PhaseSet phase) h = ap (λ b. b || false) h
+  opening-other at stamp more e h = by (is_seen r at (stamped stamp more e)) (joined r at (stamped stamp more e)) refl
     where
       by : (b : Bool) (s : Sighting) → opening_seen s ≡ false → list_any opening_seen (given b s) ≡ false
       by true s h = ap (λ b. b || false) h
@@ -59,8 +60,8 @@ module _ (r : Reader) (first : Phase) where
 
   pub opening_cuts : CutsAt r (λ (e : Stamped). opens first e.entry) opening_seen
   opening_cuts = record {
-    one = λ at e h. opening-one at e.stamp.maker e.more e.entry h;
-    other = λ at e h. opening-other at e.stamp.maker e.more e.entry h;
+    one = λ at e h. opening-one at e.stamp e.more e.entry h;
+    other = λ at e h. opening-other at e.stamp e.more e.entry h;
   }
 
 module _ {A : Type 0} (r : Reader) (cut : Stamped → Bool) (cut_seen : Sighting → Bool) (cuts : CutsAt r cut cut_seen) (seen : Sighting → List A) (told : Stamped → List A) (passes : Around → Stamped → Bool) (tells : Tells r seen told passes) where

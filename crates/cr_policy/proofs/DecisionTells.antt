@@ -7,16 +7,17 @@ use Rattle.std.specs.List.{flat_map}
 use Rattle.std.proofs.lemmas.Bool.{eqb-true, and_parts}
 use Rattle.cr_base.specs.declared.entry.Entry.{Entry}
 use Rattle.cr_base.specs.declared.entry.Entry.TheVariants.{Decided}
+use Rattle.cr_base.specs.declared.entry.Stamp.{Stamp}
 use Rattle.cr_base.specs.declared.entry.Stamped.{Stamped}
 use Rattle.cr_base.specs.declared.words.Decision.{Decision}
 use Rattle.cr_base.specs.Lists.{given, last, last_or}
+use Rattle.cr_base.specs.Drawn.{stamped}
 use Rattle.cr_base.specs.History.{History, decision_told}
 use Rattle.cr_base.specs.HistoryFacts.{phase_of, standing_of, is_author, is_withdrawn, decision_of, is_accepted}
 use Rattle.cr_base.specs.Page.{gets_decision}
 use Rattle.cr_base.specs.Phases.{authors_read_decisions, papers_may_be_accepted}
 use Rattle.cr_base.specs.Words.{is_accept}
 use Rattle.cr_base.proofs.LastLaws.{last_from-map}
-use Rattle.cr_history.proofs.LineAgreement.{stamp}
 use Rattle.cr_policy.specs.Part as part
 use Rattle.cr_policy.specs.Triggers.{Reader, reader, Around, none_in, reads_decisions, user_named}
 use Rattle.cr_policy.specs.View.{view, sight}
@@ -30,56 +31,56 @@ use Rattle.cr_policy.proofs.Walk.{Tells, kept, kept-map, kept-none, sights-kept,
 abbrev mark : Decision → Bool
 mark decision = true
 
-module _ (r : Reader) (at : Around) (maker : ℕ) (more : Bool) where
-  decision_at : (p : ℕ) (e : Entry) → flat_map (decision_seen p) (sight r at (stamp maker more e))
-      ≡ only (passes part.decision r at (stamp maker more e)) (decision_told p e)
+module _ (r : Reader) (at : Around) (stamp : Stamp) (more : Bool) where
+  decision_at : (p : ℕ) (e : Entry) → flat_map (decision_seen p) (sight r at (stamped stamp more e))
+      ≡ only (passes part.decision r at (stamped stamp more e)) (decision_told p e)
   decision_at p (Decided paper decision) =
-      told_where r at maker more (decision_seen p) part.decision (Decided paper decision) (decision_told p (Decided paper decision))
+      told_where r at stamp more (decision_seen p) part.decision (Decided paper decision) (decision_told p (Decided paper decision))
       (paper_value (eqb paper p) _ decision)
-  decision_at p e = silent r at maker more (decision_seen p) e refl
+  decision_at p e = silent r at stamp more (decision_seen p) e refl
 
   -- the mark is shown of a decision
-  accepted_at : (p : ℕ) (e : Entry) → flat_map (accepted_seen p) (sight r at (stamp maker more e))
-      ≡ only (passes part.accepted r at (stamp maker more e)) (map mark (decision_told p e))
+  accepted_at : (p : ℕ) (e : Entry) → flat_map (accepted_seen p) (sight r at (stamped stamp more e))
+      ≡ only (passes part.accepted r at (stamped stamp more e)) (map mark (decision_told p e))
   accepted_at p (Decided paper decision) =
-      told_where r at maker more (accepted_seen p) part.accepted (Decided paper decision) (map mark (decision_told p (Decided paper decision)))
-      (paper_value (eqb paper p) _ true ∙ ap (only (passes part.accepted r at (stamp maker more (Decided paper decision)))) (marked (eqb paper p)))
+      told_where r at stamp more (accepted_seen p) part.accepted (Decided paper decision) (map mark (decision_told p (Decided paper decision)))
+      (paper_value (eqb paper p) _ true ∙ ap (only (passes part.accepted r at (stamped stamp more (Decided paper decision)))) (marked (eqb paper p)))
     where
       marked : (b : Bool) → given b true ≡ map mark (given b decision)
       marked true = refl
       marked false = refl
-  accepted_at p e = silent r at maker more (accepted_seen p) e refl
+  accepted_at p e = silent r at stamp more (accepted_seen p) e refl
 
 decision_tells : (r : Reader) (p : ℕ) → Tells r (decision_seen p) (λ (e : Stamped). decision_told p e.entry) (passes part.decision r)
-decision_tells r p at e = decision_at r at e.stamp.maker e.more p e.entry
+decision_tells r p at e = decision_at r at e.stamp e.more p e.entry
 
 accepted_tells : (r : Reader) (p : ℕ) → Tells r (accepted_seen p) (λ (e : Stamped). map mark (decision_told p e.entry)) (passes part.accepted r)
-accepted_tells r p at e = accepted_at r at e.stamp.maker e.more p e.entry
+accepted_tells r p at e = accepted_at r at e.stamp e.more p e.entry
 
 -- a decision on the paper is kept, where each that stands there passes; and isn't, where none does
 module _ (passing : Stamped → Bool) (p : ℕ) where
-  kept_decision : ((maker : ℕ) (more : Bool) (decision : Decision) → passing (stamp maker more (Decided p decision)) ≡ true) → (e : Stamped)
+  kept_decision : ((stamp : Stamp) (more : Bool) (decision : Decision) → passing (stamped stamp more (Decided p decision)) ≡ true) → (e : Stamped)
       → only (passing e) (decision_told p e.entry) ≡ decision_told p e.entry
-  kept_decision shown e = by e.stamp.maker e.more e.entry
+  kept_decision shown e = by e.stamp e.more e.entry
     where
-      by : (maker : ℕ) (more : Bool) (e : Entry) → only (passing (stamp maker more e)) (decision_told p e) ≡ decision_told p e
-      by maker more (Decided paper decision) =
-          of_paper (λ n. passing (stamp maker more (Decided n decision))) paper p decision (shown maker more decision)
-      by maker more e = refl
+      by : (stamp : Stamp) (more : Bool) (e : Entry) → only (passing (stamped stamp more e)) (decision_told p e) ≡ decision_told p e
+      by stamp more (Decided paper decision) =
+          of_paper (λ n. passing (stamped stamp more (Decided n decision))) paper p decision (shown stamp more decision)
+      by stamp more e = refl
 
-  no_decision : ((maker : ℕ) (more : Bool) (decision : Decision) → passing (stamp maker more (Decided p decision)) ≡ false) → (e : Stamped)
+  no_decision : ((stamp : Stamp) (more : Bool) (decision : Decision) → passing (stamped stamp more (Decided p decision)) ≡ false) → (e : Stamped)
       → only (passing e) (decision_told p e.entry) ≡ []
-  no_decision hidden e = by e.stamp.maker e.more e.entry
+  no_decision hidden e = by e.stamp e.more e.entry
     where
       none : (c same : Bool) (x : Decision) → (same ≡ true → c ≡ false) → only c (given same x) ≡ []
       none c true x h = ap (λ b. only b (x ∷ [])) (h refl)
       none c false x h = refl
 
-      by : (maker : ℕ) (more : Bool) (e : Entry) → only (passing (stamp maker more e)) (decision_told p e) ≡ []
-      by maker more (Decided paper decision) =
+      by : (stamp : Stamp) (more : Bool) (e : Entry) → only (passing (stamped stamp more e)) (decision_told p e) ≡ []
+      by stamp more (Decided paper decision) =
           none _ (eqb paper p) decision
-          (λ same. ap (λ n. passing (stamp maker more (Decided n decision))) (eqb-true paper p same) ∙ hidden maker more decision)
-      by maker more e = refl
+          (λ same. ap (λ n. passing (stamped stamp more (Decided n decision))) (eqb-true paper p same) ∙ hidden stamp more decision)
+      by stamp more e = refl
 
 -- ---- accepted papers
 
@@ -129,13 +130,13 @@ accepted-seen u p H =
     by true is =
         ap is_some (last_from-kept passing told
         (λ at e last.
-        kept_decision (passing at) p (λ maker more decision. marked_last (none_in (decision_told p) at.after) (is_accepted p H) last is) e)
+        kept_decision (passing at) p (λ stamp more decision. marked_last (none_in (decision_told p) at.after) (is_accepted p H) last is) e)
         None [] H)
         ∙ is_decided p H is
     by false is =
         ap (λ (xs : List Decision). is_some (last xs))
         (kept-none passing told
-        (λ at e. no_decision (passing at) p (λ maker more decision. unmarked (none_in (decision_told p) at.after) (is_accepted p H) is) e) [] H)
+        (λ at e. no_decision (passing at) p (λ stamp more decision. unmarked (none_in (decision_told p) at.after) (is_accepted p H) is) e) [] H)
 
 -- ---- decisions
 
@@ -151,6 +152,6 @@ decision-seen u p H told =
     fold_last r (decision_seen p) (λ (e : Stamped). decision_told p e.entry) (passes part.decision r) (decision_tells r p)
     (λ at e last.
     kept_decision (passes part.decision r at) p
-    (λ maker more decision.
-    decision_shown (reads_decisions r p) (none_in (decision_told p) at.after) (is_author u p H) (authors_read_decisions (phase_of H)) (user_named r maker)
+    (λ stamp more decision.
+    decision_shown (reads_decisions r p) (none_in (decision_told p) at.after) (is_author u p H) (authors_read_decisions (phase_of H)) (user_named r stamp.maker)
     last told) e) [] H

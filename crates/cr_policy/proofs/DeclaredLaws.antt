@@ -5,9 +5,11 @@ use Rattle.std.specs.List.{flat_map}
 use Rattle.std.proofs.lemmas.Bool.{eqb-true, true≢false, false≢true}
 use Rattle.cr_base.specs.declared.entry.Entry.{Entry}
 use Rattle.cr_base.specs.declared.entry.Entry.TheVariants.{Conflict}
+use Rattle.cr_base.specs.declared.entry.Stamp.{Stamp}
 use Rattle.cr_base.specs.declared.entry.Stamped.{Stamped}
 use Rattle.cr_base.specs.declared.words.Phase.TheVariants.{Bidding}
 use Rattle.cr_base.specs.Lists.{given, listed, is_number, until, since}
+use Rattle.cr_base.specs.Drawn.{stamped}
 use Rattle.cr_base.specs.History.{History, opens, declared_told}
 use Rattle.cr_base.specs.HistoryFacts.{authors_of, is_author, is_conflict_on, declared_by_authors}
 use Rattle.cr_base.specs.Page.{is_clear_chair}
@@ -20,7 +22,6 @@ use Rattle.cr_policy.specs.Triggers.{Reader, reader, Around, standing_to, user_n
 use Rattle.cr_policy.specs.View.{view, sight}
 use Rattle.cr_policy.specs.ViewFacts.{only, is_user, conflict_user_seen, own_or_other_seen, bidding_seen, declared_in_view}
 use Rattle.cr_policy.proofs.Cuts.{opening_cuts, sights-until, sights-since, kept_until-each, kept_since-each, flat_map-cut}
-use Rattle.cr_history.proofs.LineAgreement.{stamp}
 use Rattle.cr_policy.proofs.Tells.{passes, silent, told_where, paper_value}
 use Rattle.cr_policy.proofs.Walk.{only-false, list_any-nobody, Tells}
 
@@ -47,21 +48,21 @@ own_or_other_value a own false u v = by (a && (own || not false)) ∙ sym (only-
     by : (b : Bool) → only {A = ℕ} b [] ≡ []
     by b = refl
 
-module _ (r : Reader) (at : Around) (maker : ℕ) (more : Bool) where
-  user_at : (p : ℕ) (e : Entry) → flat_map (conflict_user_seen p) (sight r at (stamp maker more e)) ≡ only (passes part.user r at (stamp maker more e)) (user_told p e)
-  user_at p (Conflict paper user on) = told_where r at maker more (conflict_user_seen p) part.user (Conflict paper user on) (user_told p (Conflict paper user on)) (paper_value (eqb paper p) _ user)
-  user_at p e = silent r at maker more (conflict_user_seen p) e refl
+module _ (r : Reader) (at : Around) (stamp : Stamp) (more : Bool) where
+  user_at : (p : ℕ) (e : Entry) → flat_map (conflict_user_seen p) (sight r at (stamped stamp more e)) ≡ only (passes part.user r at (stamped stamp more e)) (user_told p e)
+  user_at p (Conflict paper user on) = told_where r at stamp more (conflict_user_seen p) part.user (Conflict paper user on) (user_told p (Conflict paper user on)) (paper_value (eqb paper p) _ user)
+  user_at p e = silent r at stamp more (conflict_user_seen p) e refl
 
-  own_or_other_at : (p : ℕ) (e : Entry) → flat_map (own_or_other_seen r.number p) (sight r at (stamp maker more e)) ≡ only (passes part.user r at (stamp maker more e)) (own_or_other_told r.number p maker e)
+  own_or_other_at : (p : ℕ) (e : Entry) → flat_map (own_or_other_seen r.number p) (sight r at (stamped stamp more e)) ≡ only (passes part.user r at (stamped stamp more e)) (own_or_other_told r.number p stamp.maker e)
   own_or_other_at p (Conflict paper user on) =
-      told_where r at maker more (own_or_other_seen r.number p) part.user (Conflict paper user on) (own_or_other_told r.number p maker (Conflict paper user on)) (own_or_other_value (eqb paper p) (user_named r maker) _ r.number user)
-  own_or_other_at p e = silent r at maker more (own_or_other_seen r.number p) e refl
+      told_where r at stamp more (own_or_other_seen r.number p) part.user (Conflict paper user on) (own_or_other_told r.number p stamp.maker (Conflict paper user on)) (own_or_other_value (eqb paper p) (user_named r stamp.maker) _ r.number user)
+  own_or_other_at p e = silent r at stamp more (own_or_other_seen r.number p) e refl
 
 user_tells : (r : Reader) (p : ℕ) → Tells r (conflict_user_seen p) (λ (e : Stamped). user_told p e.entry) (passes part.user r)
-user_tells r p at e = user_at r at e.stamp.maker e.more p e.entry
+user_tells r p at e = user_at r at e.stamp e.more p e.entry
 
 own_or_other_tells : (r : Reader) (p : ℕ) → Tells r (own_or_other_seen r.number p) (λ (e : Stamped). own_or_other_told r.number p e.stamp.maker e.entry) (passes part.user r)
-own_or_other_tells r p at e = own_or_other_at r at e.stamp.maker e.more p e.entry
+own_or_other_tells r p at e = own_or_other_at r at e.stamp e.more p e.entry
 
 -- ---- what an author is told is what an author made
 
@@ -106,27 +107,27 @@ module _ (u p : ℕ) (H : History) (author : is_author (Some u) p H ≡ true) wh
   abbrev made_told : Stamped → List ℕ
   made_told e = declared_told (is_author (Some e.stamp.maker) p H) p e.entry
 
-  early_at : (at : Around) (maker : ℕ) (more : Bool) (e : Entry) → ByAuthor H maker e → only (passes part.user r at (stamp maker more e)) (user_told p e) ≡ declared_told (is_author (Some maker) p H) p e
-  early_at at maker more (Conflict paper user on) h =
-      given_early _ (eqb paper p) (is_author (Some maker) p H) user
-      (λ same. let e : paper ≡ p = eqb-true paper p same in early_shown _ (r.wrote maker paper) (r.author paper) _ _ h (ap r.author e ∙ author))
-      (λ same. ap (λ n. is_author (Some maker) n H) (sym (eqb-true paper p same)) ∙ h)
-  early_at at maker more e h = refl
+  early_at : (at : Around) (stamp : Stamp) (more : Bool) (e : Entry) → ByAuthor H stamp.maker e → only (passes part.user r at (stamped stamp more e)) (user_told p e) ≡ declared_told (is_author (Some stamp.maker) p H) p e
+  early_at at stamp more (Conflict paper user on) h =
+      given_early _ (eqb paper p) (is_author (Some stamp.maker) p H) user
+      (λ same. let e : paper ≡ p = eqb-true paper p same in early_shown _ (r.wrote stamp.maker paper) (r.author paper) _ _ h (ap r.author e ∙ author))
+      (λ same. ap (λ n. is_author (Some stamp.maker) n H) (sym (eqb-true paper p same)) ∙ h)
+  early_at at stamp more e h = refl
 
-  late_at : (at : Around) (maker : ℕ) (more : Bool) (e : Entry) → ByHerselfOrOther H maker e → only (passes part.user r at (stamp maker more e)) (own_or_other_told (Some u) p maker e) ≡ declared_told (is_author (Some maker) p H) p e
-  late_at at maker more (Conflict paper user on) h =
-      given_both _ (eqb paper p) (eqb u maker || not (eqb u user)) (is_author (Some maker) p H) user
+  late_at : (at : Around) (stamp : Stamp) (more : Bool) (e : Entry) → ByHerselfOrOther H stamp.maker e → only (passes part.user r at (stamped stamp more e)) (own_or_other_told (Some u) p stamp.maker e) ≡ declared_told (is_author (Some stamp.maker) p H) p e
+  late_at at stamp more (Conflict paper user on) h =
+      given_both _ (eqb paper p) (eqb u stamp.maker || not (eqb u user)) (is_author (Some stamp.maker) p H) user
       (λ same. let e : paper ≡ p = eqb-true paper p same in
       let a : r.author paper ≡ true = ap r.author e ∙ author in
-      late_shown (eqb u user) (r.wrote maker paper) (r.author paper) (is_clear_chair (standing_to r paper)) (chairs_see_conflicts r.now) (eqb u maker) a
+      late_shown (eqb u user) (r.wrote stamp.maker paper) (r.author paper) (is_clear_chair (standing_to r paper)) (chairs_see_conflicts r.now) (eqb u stamp.maker) a
       (not_clear (is_chair r.rank) (r.author paper) (is_conflict_on (Some u) paper H) a)
-      (λ own. ap (λ m. is_author (Some m) paper H) (sym (eqb-true u maker own)) ∙ a)
-      (λ other named. h (ap (λ n. eqb n maker) (sym (eqb-true u user named)) ∙ other))
-      ∙ ap (λ n. is_author (Some maker) n H) e)
+      (λ own. ap (λ m. is_author (Some m) paper H) (sym (eqb-true u stamp.maker own)) ∙ a)
+      (λ other named. h (ap (λ n. eqb n stamp.maker) (sym (eqb-true u user named)) ∙ other))
+      ∙ ap (λ n. is_author (Some stamp.maker) n H) e)
     where
       not_clear : (chair a d : Bool) → a ≡ true → (chair && not (a || d)) ≡ false
       not_clear chair a d h = grind arith
-  late_at at maker more e h = refl
+  late_at at stamp more e h = refl
 
   opening-silent : (wrote : Bool) (e : Entry) → opens Bidding e ≡ true → declared_told wrote p e ≡ []
   opening-silent wrote (Conflict paper user on) h = absurd (false≢true h)
@@ -136,10 +137,10 @@ module _ (u p : ℕ) (H : History) (author : is_author (Some u) p H ≡ true) wh
   declared-seen_by in_time =
       let first : flat_map (conflict_user_seen p) (until bidding_seen (view (Some u) H)) ≡ flat_map made_told (until is_opening H) =
       sights-until r is_opening bidding_seen (opening_cuts r Bidding) (conflict_user_seen p) (λ (e : Stamped). user_told p e.entry) (passes part.user r) (user_tells r p) [] H
-      ∙ kept_until-each is_opening (passes part.user r) (λ (e : Stamped). user_told p e.entry) made_told (Early H) (λ at e h. early_at at e.stamp.maker e.more e.entry h) [] H in_time.early in
+      ∙ kept_until-each is_opening (passes part.user r) (λ (e : Stamped). user_told p e.entry) made_told (Early H) (λ at e h. early_at at e.stamp e.more e.entry h) [] H in_time.early in
       let second : flat_map (own_or_other_seen (Some u) p) (since bidding_seen (view (Some u) H)) ≡ flat_map made_told (since is_opening H) =
       sights-since r is_opening bidding_seen (opening_cuts r Bidding) (own_or_other_seen (Some u) p) (λ (e : Stamped). own_or_other_told (Some u) p e.stamp.maker e.entry) (passes part.user r) (own_or_other_tells r p) [] H
-      ∙ kept_since-each is_opening (passes part.user r) (λ (e : Stamped). own_or_other_told (Some u) p e.stamp.maker e.entry) made_told (Late H) (λ at e h. late_at at e.stamp.maker e.more e.entry h) [] H in_time.late in
+      ∙ kept_since-each is_opening (passes part.user r) (λ (e : Stamped). own_or_other_told (Some u) p e.stamp.maker e.entry) made_told (Late H) (λ at e h. late_at at e.stamp e.more e.entry h) [] H in_time.late in
       ap (λ xs. xs ++ flat_map (own_or_other_seen (Some u) p) (since bidding_seen (view (Some u) H))) first
       ∙ ap (λ ys. flat_map made_told (until is_opening H) ++ ys) second
       ∙ flat_map-cut is_opening made_told (λ e h. opening-silent (is_author (Some e.stamp.maker) p H) e.entry h) H

@@ -5,11 +5,12 @@ use Rattle.std.specs.List.{flat_map}
 use Rattle.std.proofs.lemmas.Bool.{eqb-true, and_parts, or_left, or_right, true≢false}
 use Rattle.cr_base.specs.declared.entry.Entry.{Entry}
 use Rattle.cr_base.specs.declared.entry.Entry.TheVariants.{Reviewed}
+use Rattle.cr_base.specs.declared.entry.Stamp.{Stamp}
 use Rattle.cr_base.specs.declared.entry.Stamped.{Stamped}
 use Rattle.cr_base.specs.declared.form.Form.{Form}
 use Rattle.cr_base.specs.Lists.{given, listed, is_number}
+use Rattle.cr_base.specs.Drawn.{stamped}
 use Rattle.cr_base.specs.History.{FormTold, whole_form, form_told, own_form_told}
-use Rattle.cr_history.proofs.LineAgreement.{stamp}
 use Rattle.cr_policy.specs.Part as part
 use Rattle.cr_policy.specs.Part.{Part}
 use Rattle.cr_policy.specs.Sighting.{Sighting, where_shown}
@@ -65,81 +66,81 @@ form_value {B} m same seen labelled true whole o ordinal version form hl hs alik
 form_value m same seen labelled false whole o ordinal version form hl hs alike =
     sym (only-false (map m (given (same && eqb ordinal o) (whole_form version form))))
 
-module _ (r : Reader) (at : Around) (maker : ℕ) (more : Bool) where
-  own_form_at : (p : ℕ) (e : Entry) → flat_map (own_form_seen p) (sight r at (stamp maker more e)) ≡ own_form_told r.number p maker e
+module _ (r : Reader) (at : Around) (stamp : Stamp) (more : Bool) where
+  own_form_at : (p : ℕ) (e : Entry) → flat_map (own_form_seen p) (sight r at (stamped stamp more e)) ≡ own_form_told r.number p stamp.maker e
   own_form_at p (Reviewed paper ordinal version form) =
       flat_map-given (own_form_seen p) (is_seen r at e) (joined r at e)
-      ∙ own_value (is_seen r at e) (eqb paper p) (is_number r.number maker) (whole_form version form) _
+      ∙ own_value (is_seen r at e) (eqb paper p) (is_number r.number stamp.maker) (whole_form version form) _
       (λ own. ap (λ b. form_with version form b (passes part.score r at e)) (whole own)
       ∙ ap (λ b. form_with version form true b) (graded own))
       (λ own. seen_where r at part.score e (graded own))
     where
       e : Stamped
-      e = stamp maker more (Reviewed paper ordinal version form)
+      e = stamped stamp more (Reviewed paper ordinal version form)
 
-      whole : is_number r.number maker ≡ true → passes part.version r at e ≡ true
-      whole own = or_right _ _ (or_left (is_number r.number maker) false own)
+      whole : is_number r.number stamp.maker ≡ true → passes part.version r at e ≡ true
+      whole own = or_right _ _ (or_left (is_number r.number stamp.maker) false own)
 
-      graded : is_number r.number maker ≡ true → passes part.score r at e ≡ true
-      graded own = or_right _ _ (or_right _ _ (or_left (is_number r.number maker) false own))
-  own_form_at p e = silent r at maker more (own_form_seen p) e refl
+      graded : is_number r.number stamp.maker ≡ true → passes part.score r at e ≡ true
+      graded own = or_right _ _ (or_right _ _ (or_left (is_number r.number stamp.maker) false own))
+  own_form_at p e = silent r at stamp more (own_form_seen p) e refl
 
   done_at : (p o : ℕ) (e : Entry)
-      → flat_map (done_seen p o) (sight r at (stamp maker more e)) ≡ only (passes part.done r at (stamp maker more e)) (map (λ _. true) (form_told p o e))
+      → flat_map (done_seen p o) (sight r at (stamped stamp more e)) ≡ only (passes part.done r at (stamped stamp more e)) (map (λ _. true) (form_told p o e))
   done_at p o (Reviewed paper ordinal version form) =
-      told_where r at maker more (done_seen p o) part.done (Reviewed paper ordinal version form)
+      told_where r at stamp more (done_seen p o) part.done (Reviewed paper ordinal version form)
       (map (λ _. true) (form_told p o (Reviewed paper ordinal version form)))
       (done_value (eqb paper p) (passes part.ordinal r at e) (passes part.done r at e) o ordinal (whole_form version form) (labelled _ _))
     where
       e : Stamped
-      e = stamp maker more (Reviewed paper ordinal version form)
+      e = stamped stamp more (Reviewed paper ordinal version form)
 
       labelled : (first rest : Bool) → (first || false) ≡ true → (first || rest) ≡ true
       labelled true rest h = refl
       labelled false rest h = absurd (true≢false (sym h))
-  done_at p o e = silent r at maker more (done_seen p o) e refl
+  done_at p o e = silent r at stamp more (done_seen p o) e refl
 
 pub own_form_tells : (r : Reader) (p : ℕ) → TellsAll r (own_form_seen p) (λ (e : Stamped). own_form_told r.number p e.stamp.maker e.entry)
-own_form_tells r p at e = own_form_at r at e.stamp.maker e.more p e.entry
+own_form_tells r p at e = own_form_at r at e.stamp e.more p e.entry
 
 pub done_tells : (r : Reader) (p o : ℕ) → Tells r (done_seen p o) (λ (e : Stamped). map (λ _. true) (form_told p o e.entry)) (passes part.done r)
-done_tells r p o at e = done_at r at e.stamp.maker e.more p o e.entry
+done_tells r p o at e = done_at r at e.stamp e.more p o e.entry
 
 module _ {B : Type 0} (m : FormTold → B) (r : Reader) (at : Around) where
   -- a form on the paper whose grades are shown is as good as all of it, for one who is told it so
   abbrev pub ShowsForm : ℕ → Type 0
   ShowsForm p =
-      (maker : ℕ) (more : Bool) (ordinal version : ℕ) (form : Form) → passes part.score r at (stamp maker more (Reviewed p ordinal version form)) ≡ true
-      → m (masked_form (passes part.version r at (stamp maker more (Reviewed p ordinal version form))) version form) ≡ m (whole_form version form)
+      (stamp : Stamp) (more : Bool) (ordinal version : ℕ) (form : Form) → passes part.score r at (stamped stamp more (Reviewed p ordinal version form)) ≡ true
+      → m (masked_form (passes part.version r at (stamped stamp more (Reviewed p ordinal version form))) version form) ≡ m (whole_form version form)
 
-  form_at : (p o : ℕ) → ShowsForm p → (maker : ℕ) (more : Bool) (e : Entry)
-      → flat_map (λ (s : Sighting). map m (form_seen p o s)) (sight r at (stamp maker more e))
-      ≡ only (passes part.score r at (stamp maker more e)) (map m (form_told p o e))
-  form_at p o shown maker more (Reviewed paper ordinal version form) =
+  form_at : (p o : ℕ) → ShowsForm p → (stamp : Stamp) (more : Bool) (e : Entry)
+      → flat_map (λ (s : Sighting). map m (form_seen p o s)) (sight r at (stamped stamp more e))
+      ≡ only (passes part.score r at (stamped stamp more e)) (map m (form_told p o e))
+  form_at p o shown stamp more (Reviewed paper ordinal version form) =
       flat_map-given (λ (s : Sighting). map m (form_seen p o s)) (is_seen r at e) (joined r at e)
       ∙ form_value m (eqb paper p) (is_seen r at e) (passes part.ordinal r at e) (passes part.score r at e) (passes part.version r at e) o ordinal version form
       (λ graded. or_right _ (passes part.score r at e) graded) (λ graded. seen_where r at part.score e graded)
-      (λ same. subst (λ (n : ℕ). ShowsForm n) (sym (eqb-true paper p (and_parts (eqb paper p) (eqb ordinal o) same).0)) shown maker more ordinal version form)
+      (λ same. subst (λ (n : ℕ). ShowsForm n) (sym (eqb-true paper p (and_parts (eqb paper p) (eqb ordinal o) same).0)) shown stamp more ordinal version form)
     where
       e : Stamped
-      e = stamp maker more (Reviewed paper ordinal version form)
-  form_at p o shown maker more e = silent r at maker more (λ (s : Sighting). map m (form_seen p o s)) e refl
+      e = stamped stamp more (Reviewed paper ordinal version form)
+  form_at p o shown stamp more e = silent r at stamp more (λ (s : Sighting). map m (form_seen p o s)) e refl
 
 pub form_tells : {B : Type 0} (m : FormTold → B) (r : Reader) (p o : ℕ) → ((at : Around) → ShowsForm m r at p)
     → TellsAs m r (form_seen p o) (λ (e : Stamped). form_told p o e.entry) (passes part.score r)
-form_tells m r p o shown at e = form_at m r at p o (shown at) e.stamp.maker e.more e.entry
+form_tells m r p o shown at e = form_at m r at p o (shown at) e.stamp e.more e.entry
 
 -- what is told of a form under the label is kept, where the part of it is shown
 pub form_kept : (q : Part) (r : Reader) (at : Around) (p o : ℕ)
-    → ((maker : ℕ) (more : Bool) (version : ℕ) (form : Form) → passes q r at (stamp maker more (Reviewed p o version form)) ≡ true)
+    → ((stamp : Stamp) (more : Bool) (version : ℕ) (form : Form) → passes q r at (stamped stamp more (Reviewed p o version form)) ≡ true)
     → (e : Stamped) → only (passes q r at e) (form_told p o e.entry) ≡ form_told p o e.entry
-form_kept q r at p o shown e = by e.stamp.maker e.more e.entry
+form_kept q r at p o shown e = by e.stamp e.more e.entry
   where
-    by : (maker : ℕ) (more : Bool) (e : Entry) → only (passes q r at (stamp maker more e)) (form_told p o e) ≡ form_told p o e
-    by maker more (Reviewed paper ordinal version form) =
-        shown_value (passes q r at (stamp maker more (Reviewed paper ordinal version form))) (eqb paper p && eqb ordinal o) (whole_form version form) (λ same.
+    by : (stamp : Stamp) (more : Bool) (e : Entry) → only (passes q r at (stamped stamp more e)) (form_told p o e) ≡ form_told p o e
+    by stamp more (Reviewed paper ordinal version form) =
+        shown_value (passes q r at (stamped stamp more (Reviewed paper ordinal version form))) (eqb paper p && eqb ordinal o) (whole_form version form) (λ same.
         let parts = and_parts (eqb paper p) (eqb ordinal o) same in
-        ap (λ n. passes q r at (stamp maker more (Reviewed n ordinal version form))) (eqb-true paper p parts.0)
-        ∙ ap (λ k. passes q r at (stamp maker more (Reviewed p k version form))) (eqb-true ordinal o parts.1)
-        ∙ shown maker more version form)
-    by maker more e = refl
+        ap (λ n. passes q r at (stamped stamp more (Reviewed n ordinal version form))) (eqb-true paper p parts.0)
+        ∙ ap (λ k. passes q r at (stamped stamp more (Reviewed p k version form))) (eqb-true ordinal o parts.1)
+        ∙ shown stamp more version form)
+    by stamp more e = refl

@@ -11,6 +11,7 @@ use Rattle.cr_base.specs.declared.entry.Stamped.{Stamped}
 use Rattle.cr_base.specs.declared.words.Role.{Role}
 use Rattle.cr_base.specs.declared.words.Role.TheVariants.{Account, Member, Chair}
 use Rattle.cr_base.specs.Drawn.{Drawn}
+use Rattle.cr_base.specs.Calls.{call_of}
 use Rattle.cr_base.specs.History.{History, Registration, all_told, role_told, registration_told}
 use Rattle.cr_base.specs.HistoryFacts.{role_of}
 use Rattle.cr_base.specs.Lists.{last_or, given}
@@ -40,7 +41,7 @@ Begins (e ∷ []) = ⊥
 Begins (e ∷ f ∷ rest) = IsFirst e.entry × (f.entry ≡ Named 1 Chair)
 
 -- the first command of all
-begun : (caller : Option ℕ) (command : Command) → IsCaller [] caller command → Begins (followed_by [] (judge caller (view caller []) command))
+begun : (caller : Option ℕ) (command : Command) → IsCaller [] caller command → Begins (followed_by [] (judge (view caller []) (call_of caller command)))
 begun None (commands.Register name digest) is = (refl, refl)
 begun (Some u) (commands.Register name digest) is = cc
 begun None (commands.Tag paper tag true) is = absurd is
@@ -59,9 +60,9 @@ moved-begins [] (calls call) begins allowed = begun call.caller call.command all
 moved-begins [] (bulks bulk) begins allowed = absurd (true≢false (sym allowed.caller))
 moved-begins (e ∷ []) move begins allowed = absurd begins
 moved-begins (e ∷ f ∷ rest) (calls call) begins allowed =
-    stays e f rest (judge call.caller (view call.caller (e ∷ f ∷ rest)) call.command) begins
+    stays e f rest (judge (view call.caller (e ∷ f ∷ rest)) call) begins
 moved-begins (e ∷ f ∷ rest) (bulks bulk) begins allowed =
-    stays e f rest (judge_bulk bulk.user (view (Some bulk.user) (e ∷ f ∷ rest)) bulk.rows) begins
+    stays e f rest (judge_bulk (view (Some bulk.stamp.maker) (e ∷ f ∷ rest)) bulk) begins
 
 leads-begins : (from to : History) (moves : List Move) → Begins from → LeadsTo from moves to → Begins to
 leads-begins from to [] begins leads = subst (λ (H : History). Begins H) leads begins
@@ -122,7 +123,7 @@ opens-next H legal chair before =
     record {
       next = next.0;
       comes = next.1;
-      accepted = permissions_as_said (Some 1) H (commands.SetPhase next.0) legal ∙ (λ i. chair i && next.1 i);
+      accepted = permissions_as_said H (call_of (Some 1) (commands.SetPhase next.0)) legal ∙ (λ i. chair i && next.1 i);
     }
 
 has-chair : (H : History) (u : ℕ) → Legal H → Begins H → InTurn IsInOrder [] H → IsRegistered H u → HasChair H

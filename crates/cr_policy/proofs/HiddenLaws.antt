@@ -11,6 +11,7 @@ use Rattle.cr_base.specs.declared.entry.Entry.TheVariants.{Coauthor, Revised, Up
 use Rattle.cr_base.specs.declared.entry.Entry.TheVariants.{Bid, Assigned, Unassigned, Reviewed, Commented, Tagged, Decided}
 use Rattle.cr_base.specs.declared.entry.EntryKind.{EntryKind}
 use Rattle.cr_base.specs.declared.entry.EntryKind.TheVariants as kinds
+use Rattle.cr_base.specs.declared.entry.Stamp.{Stamp}
 use Rattle.cr_base.specs.declared.entry.Stamped.{Stamped}
 use Rattle.cr_base.specs.declared.words.Decision.TheVariants.{Reject}
 use Rattle.cr_base.specs.declared.words.Kind.TheVariants.{Primary}
@@ -441,30 +442,30 @@ seen_by shown mine e = given (applies_any shown) (masked (shows shown) mine (all
 abbrev with_makers : Reader → ℕ → List TriggerRow → List TriggerRow
 with_makers r maker table = table ++ user_named r maker see whole ∷ []
 
--- of an entry that `maker` made, the rows for one that `by` made and the line of hers mask nothing of this part
-abbrev IsShown : {A : Type 0} → Part → (Sighting → Option A) → Reader → Position → (by maker : ℕ) → Entry → Type 0
-IsShown p part_of r at by maker e = where_shown (shows (with_makers r by (rows r at by e)) p) (part_of (entire maker e)) ≡ part_of (entire maker e)
+-- of an entry under this stamp, the rows for one that `by` made and the line of hers mask nothing of this part
+abbrev IsShown : {A : Type 0} → Part → (Sighting → Option A) → Reader → Position → ℕ → Stamp → Entry → Type 0
+IsShown p part_of r at by stamp e = where_shown (shows (with_makers r by (rows r at by e)) p) (part_of (entire stamp e)) ≡ part_of (entire stamp e)
 
 -- so it is of what everyone is shown
-phase-shown : (r : Reader) (at : Position) (by maker : ℕ) (e : Entry) → IsShown part.phase (λ (s : Sighting). s.phase) r at by maker e
-phase-shown r at by maker (PhaseSet phase) = refl
-phase-shown r at by maker e = refl
+phase-shown : (r : Reader) (at : Position) (by : ℕ) (stamp : Stamp) (e : Entry) → IsShown part.phase (λ (s : Sighting). s.phase) r at by stamp e
+phase-shown r at by stamp (PhaseSet phase) = refl
+phase-shown r at by stamp e = refl
 
-mode-shown : (r : Reader) (at : Position) (by maker : ℕ) (e : Entry) → IsShown part.mode (λ (s : Sighting). s.mode) r at by maker e
-mode-shown r at by maker (ModeSet mode) = refl
-mode-shown r at by maker e = refl
+mode-shown : (r : Reader) (at : Position) (by : ℕ) (stamp : Stamp) (e : Entry) → IsShown part.mode (λ (s : Sighting). s.mode) r at by stamp e
+mode-shown r at by stamp (ModeSet mode) = refl
+mode-shown r at by stamp e = refl
 
-role-shown : (r : Reader) (at : Position) (by maker : ℕ) (e : Entry) → IsShown part.role (λ (s : Sighting). s.role) r at by maker e
-role-shown r at by maker (Named user role) = refl
-role-shown r at by maker e = refl
+role-shown : (r : Reader) (at : Position) (by : ℕ) (stamp : Stamp) (e : Entry) → IsShown part.role (λ (s : Sighting). s.role) r at by stamp e
+role-shown r at by stamp (Named user role) = refl
+role-shown r at by stamp e = refl
 
 -- and of whether a conflict of hers is on
-on-shown : (r : Reader) (at : Position) (by maker : ℕ) (e : Entry) → is_user r.number (entire maker e).user ≡ true
-    → IsShown part.on (λ (s : Sighting). s.on) r at by maker e
-on-shown r at by maker (Conflict paper user on) h =
+on-shown : (r : Reader) (at : Position) (by : ℕ) (stamp : Stamp) (e : Entry) → is_user r.number (entire stamp e).user ≡ true
+    → IsShown part.on (λ (s : Sighting). s.on) r at by stamp e
+on-shown r at by stamp (Conflict paper user on) h =
     ap (λ named. where_shown (named || shows (with_makers r by (behind (rows r at by (Conflict paper user on)))) part.on) (Some on)) h
-on-shown r at by maker (Tagged paper tag on) h = absurd (true≢false (sym h))
-on-shown r at by maker e h = refl
+on-shown r at by stamp (Tagged paper tag on) h = absurd (true≢false (sym h))
+on-shown r at by stamp e h = refl
 
 -- a part that the rows show of the one entry, and so of the other, is the same
 module _ (r : Reader) (at : Around) (e other : Stamped) (alike : outline e ≡ outline other) (hidden : IsHiddenFrom r at e other) where
@@ -474,8 +475,8 @@ module _ (r : Reader) (at : Around) (e other : Stamped) (alike : outline e ≡ o
   part-same : {A : Type 0} (p : Part) (part_of : Sighting → Option A)
       → (part_of (masked (shows (rows_at r at e)) false (all_of e)) ≡ where_shown (shows (rows_at r at e) p) (part_of (all_of e)))
       → (part_of (masked (shows (rows_at r at e)) false (all_of other)) ≡ where_shown (shows (rows_at r at e) p) (part_of (all_of other)))
-      → IsShown p part_of r (position_of at e.entry) e.stamp.maker e.stamp.maker e.entry
-      → IsShown p part_of r (position_of at e.entry) e.stamp.maker other.stamp.maker other.entry
+      → IsShown p part_of r (position_of at e.entry) e.stamp.maker e.stamp e.entry
+      → IsShown p part_of r (position_of at e.entry) e.stamp.maker other.stamp other.entry
       → part_of (all_of e) ≡ part_of (all_of other)
   part-same p part_of one two first second =
       sym first
@@ -490,11 +491,11 @@ module _ (r : Reader) (at : Around) (e other : Stamped) (alike : outline e ≡ o
     alike = alike;
     maker = hidden.maker;
     named = hidden.user;
-    phase = part-same part.phase (λ s. s.phase) refl refl (phase-shown r pos e.stamp.maker e.stamp.maker e.entry) (phase-shown r pos e.stamp.maker other.stamp.maker other.entry);
-    mode = part-same part.mode (λ s. s.mode) refl refl (mode-shown r pos e.stamp.maker e.stamp.maker e.entry) (mode-shown r pos e.stamp.maker other.stamp.maker other.entry);
-    role = part-same part.role (λ s. s.role) refl refl (role-shown r pos e.stamp.maker e.stamp.maker e.entry) (role-shown r pos e.stamp.maker other.stamp.maker other.entry);
+    phase = part-same part.phase (λ s. s.phase) refl refl (phase-shown r pos e.stamp.maker e.stamp e.entry) (phase-shown r pos e.stamp.maker other.stamp other.entry);
+    mode = part-same part.mode (λ s. s.mode) refl refl (mode-shown r pos e.stamp.maker e.stamp e.entry) (mode-shown r pos e.stamp.maker other.stamp other.entry);
+    role = part-same part.role (λ s. s.role) refl refl (role-shown r pos e.stamp.maker e.stamp e.entry) (role-shown r pos e.stamp.maker other.stamp other.entry);
     on = λ named.
-        part-same part.on (λ s. s.on) refl refl (on-shown r pos e.stamp.maker e.stamp.maker e.entry named) (on-shown r pos e.stamp.maker other.stamp.maker other.entry (sym hidden.user ∙ named));
+        part-same part.on (λ s. s.on) refl refl (on-shown r pos e.stamp.maker e.stamp e.entry named) (on-shown r pos e.stamp.maker other.stamp other.entry (sym hidden.user ∙ named));
   }
     where
       pos : Position

@@ -6,7 +6,9 @@ use Rattle.std.specs.List.{list_any}
 use Rattle.std.specs.Option.{option_map}
 use Rattle.std.proofs.lemmas.Bool.{and_parts, not-false, or_left, or_right, true≢false}
 use Rattle.std.proofs.lemmas.Bool.Decides.{nat_tests}
+use Rattle.cr_base.specs.declared.command.Call.{Call}
 use Rattle.cr_base.specs.declared.command.Command.{Command}
+use Rattle.cr_base.specs.declared.entry.Stamp.{Stamp}
 use Rattle.cr_base.specs.declared.command.Command.TheVariants as commands
 use Rattle.cr_base.specs.declared.reply.Rule.{Rule}
 use Rattle.cr_base.specs.declared.reply.Rule.TheVariants as rules
@@ -17,6 +19,7 @@ use Rattle.cr_base.specs.declared.words.Phase.{Phase}
 use Rattle.cr_base.specs.declared.words.Phase.TheVariants.{Bidding, Reviewing, Discussion, Notification}
 use Rattle.cr_base.specs.declared.words.Role.{Role}
 use Rattle.cr_base.specs.declared.words.Role.TheVariants.{Account, Member, Chair}
+use Rattle.cr_base.specs.Calls.{stamp_of}
 use Rattle.cr_base.specs.Checks.{Check, ◌breaks◌, judged, declare_checks, own_checks, other_checks, off_checks, conflict_case, conflict_checks}
 use Rattle.cr_base.specs.Checks.{bid_checks, reviewer_checks, assign_checks, unassign_checks}
 use Rattle.cr_base.specs.Checks.{review_checks, comment_checks, tag_checks, decide_checks}
@@ -30,7 +33,7 @@ use Rattle.cr_base.specs.Words.{is_anonymous, is_member, is_chair}
 use Rattle.cr_base.specs.Drawn.{Drawn, revision_drawn, upload_drawn, withdrawal_drawn, conflict_drawn}
 use Rattle.cr_base.specs.Drawn.{bid_drawn, assignment_drawn, unassignment_drawn, review_drawn, comment_drawn, tag_drawn, decision_drawn}
 use Rattle.cr_base.specs.Judging.{conflict_judged, assignment_judged, unassignment_judged, judge_by, judge_by_role}
-use Rattle.cr_base.specs.Sources.{Facts, Shown, maker_of, user_among, role_among, has_paper, paper_named, standing_at, is_accepted_in}
+use Rattle.cr_base.specs.Sources.{Facts, Shown, user_among, role_among, has_paper, paper_named, standing_at, is_accepted_in}
 use Rattle.cr_base.specs.Sources.{facts_of_tables, shown_in_tables}
 use Rattle.cr_base.proofs.CheckLaws.{NoneBroken, judged-behind, asked-behind}
 use Rattle.cr_history.specs.Invariants.{Invariants}
@@ -194,16 +197,16 @@ module _ (facts : Facts) (shown tabled : Shown) (same : Agree facts shown tabled
       ∙ ap (λ (uploads : List Upload). judged (behind (tabled.withdrawn p) more) (drawn uploads)) (same.uploads p (not-false by_author.author none.1.0)))
 
 -- and matters to a conflict's judgement no further
-conflict-same : (facts : Facts) (shown tabled : Shown) (u paper target : Option ℕ) (on : Bool) → Agree facts shown tabled
-    → conflict_judged facts shown u paper target on ≡ conflict_judged facts tabled u paper target on
-conflict-same facts shown tabled u None target on same = refl
-conflict-same facts shown tabled u (Some p) target on same = by (role_among facts.accounts target)
+conflict-same : (facts : Facts) (shown tabled : Shown) (stamp : Stamp) (paper target : Option ℕ) (on : Bool) → Agree facts shown tabled
+    → conflict_judged facts shown stamp paper target on ≡ conflict_judged facts tabled stamp paper target on
+conflict-same facts shown tabled stamp None target on same = refl
+conflict-same facts shown tabled stamp (Some p) target on same = by (role_among facts.accounts target)
   where
     standing : Standing
     standing = facts.standing (Some p)
 
     drawn : Drawn
-    drawn = conflict_drawn (maker_of u) p (unwrap_or target 0) on
+    drawn = conflict_drawn stamp p (unwrap_or target 0) on
 
     bidding : Bool
     bidding = authors_have_declared standing.phase
@@ -212,7 +215,7 @@ conflict-same facts shown tabled u (Some p) target on same = by (role_among fact
     late = conflicts_are_final standing.phase
 
     herself : Bool
-    herself = is_number target (maker_of u)
+    herself = is_number target stamp.maker
 
     wrote : Shown → Bool
     wrote source = list_any (is_number target) (source.authors p)
@@ -345,7 +348,7 @@ record Asked : Type 0 where
   written : Bool
 
 -- all of it is asked only behind the rules that let through a clear chair from the bidding on
-module _ (facts : Facts) (shown tabled : Shown) (same : Agree facts shown tabled) (u : Option ℕ) (p : ℕ) (target : Option ℕ) where
+module _ (facts : Facts) (shown tabled : Shown) (same : Agree facts shown tabled) (stamp : Stamp) (p : ℕ) (target : Option ℕ) where
   abbrev chair : Standing
   chair = facts.standing (Some p)
 
@@ -355,7 +358,7 @@ module _ (facts : Facts) (shown tabled : Shown) (same : Agree facts shown tabled
       let declared : Bool = list_any (is_number target) (source.conflicts p) in
       record {
         withdrawn = source.withdrawn p;
-        user = named role (is_number target (maker_of u)) wrote (wrote || declared) (is_some (source.ordinal target p));
+        user = named role (is_number target stamp.maker) wrote (wrote || declared) (is_some (source.ordinal target p));
         ordinal = source.ordinal target p;
         labels = source.labels p;
         written = at_some (source.written p) (source.ordinal target p);
@@ -374,7 +377,7 @@ module _ (facts : Facts) (shown tabled : Shown) (same : Agree facts shown tabled
       let labels = same.labels p told in
       λ i. record {
         withdrawn = withdrawn i;
-        user = named role (is_number target (maker_of u)) (wrote i) (wrote i || declared i) (is_some (ordinal i));
+        user = named role (is_number target stamp.maker) (wrote i) (wrote i || declared i) (is_some (ordinal i));
         ordinal = ordinal i;
         labels = labels i;
         written = at_some (λ o. same.written p told o i) (ordinal i);
@@ -400,14 +403,14 @@ module _ (facts : Facts) (shown tabled : Shown) (same : Agree facts shown tabled
       behind : Asked → List Check
       behind asked = asked.withdrawn breaks rules.Withdrawn ∷ more asked
 
-  assign-same : (kind : Kind) → assignment_judged facts shown u (Some p) target kind ≡ assignment_judged facts tabled u (Some p) target kind
+  assign-same : (kind : Kind) → assignment_judged facts shown stamp (Some p) target kind ≡ assignment_judged facts tabled stamp (Some p) target kind
   assign-same kind = by (role_among facts.accounts target)
     where
       judged_by : Shown → Option Role → Result Drawn Rule
       judged_by source role =
           judged
           (assign_checks chair (paper_named facts source (Some p)) (option_map (λ (r : Role). (asked_of source r).user) role) (source.labels p))
-          (assignment_drawn (maker_of u) p (unwrap_or target 0) kind (source.labels p + 1))
+          (assignment_drawn stamp p (unwrap_or target 0) kind (source.labels p + 1))
 
       by : (role : Option Role) → judged_by shown role ≡ judged_by tabled role
       by None = refl
@@ -415,9 +418,9 @@ module _ (facts : Facts) (shown tabled : Shown) (same : Agree facts shown tabled
           reviewer-same role
           (λ asked. not (is_member asked.user.role) breaks rules.NotAMember ∷ asked.user.conflicted breaks rules.TargetConflict
           ∷ asked.user.reviewer breaks rules.AlreadyAssigned ∷ nat_le 26 asked.labels breaks rules.LabelsSpent ∷ [])
-          (λ asked. assignment_drawn (maker_of u) p (unwrap_or target 0) kind (asked.labels + 1))
+          (λ asked. assignment_drawn stamp p (unwrap_or target 0) kind (asked.labels + 1))
 
-  unassign-same : unassignment_judged facts shown u (Some p) target ≡ unassignment_judged facts tabled u (Some p) target
+  unassign-same : unassignment_judged facts shown stamp (Some p) target ≡ unassignment_judged facts tabled stamp (Some p) target
   unassign-same = by (role_among facts.accounts target)
     where
       judged_by : Shown → Option Role → Result Drawn Rule
@@ -425,41 +428,42 @@ module _ (facts : Facts) (shown tabled : Shown) (same : Agree facts shown tabled
           judged
           (unassign_checks chair (paper_named facts source (Some p)) (option_map (λ (r : Role). (asked_of source r).user) role)
           (at_some (source.written p) (source.ordinal target p)))
-          (unassignment_drawn (maker_of u) p (unwrap_or target 0) (unwrap_or (source.ordinal target p) 0))
+          (unassignment_drawn stamp p (unwrap_or target 0) (unwrap_or (source.ordinal target p) 0))
 
       by : (role : Option Role) → judged_by shown role ≡ judged_by tabled role
       by None = refl
       by (Some role) =
           reviewer-same role (λ asked. not asked.user.reviewer breaks rules.NotAssigned ∷ asked.written breaks rules.HasReview ∷ [])
-          (λ asked. unassignment_drawn (maker_of u) p (unwrap_or target 0) (unwrap_or asked.ordinal 0))
+          (λ asked. unassignment_drawn stamp p (unwrap_or target 0) (unwrap_or asked.ordinal 0))
 
 -- so what is shown makes no other judgement than what the tables hold
-command-same : (facts : Facts) (shown tabled : Shown) (u : Option ℕ) (command : Command) → Agree facts shown tabled → judge_by facts shown u command
-    ≡ judge_by facts tabled u command
-command-same facts shown tabled u (commands.Revise (Some p) title abstract) same = author-same facts shown tabled same p [] (λ _. revision_drawn (maker_of u) p title abstract)
-command-same facts shown tabled u (commands.Upload (Some p) content) same =
+command-same : (facts : Facts) (shown tabled : Shown) (stamp : Stamp) (command : Command) → Agree facts shown tabled → judge_by facts shown stamp command
+    ≡ judge_by facts tabled stamp command
+command-same facts shown tabled stamp (commands.Revise (Some p) title abstract) same = author-same facts shown tabled same p [] (λ _. revision_drawn stamp p title abstract)
+command-same facts shown tabled stamp (commands.Upload (Some p) content) same =
     author-same facts shown tabled same p (nat_lt 67108864 (facts.own_bytes + length content) breaks rules.QuotaBytes ∷ [])
-    (λ uploads. upload_drawn (maker_of u) p (length uploads + 1) content)
-command-same facts shown tabled u (commands.Withdraw (Some p)) same = author-same facts shown tabled same p [] (λ _. withdrawal_drawn (maker_of u) p)
-command-same facts shown tabled u (commands.SetConflict paper name on) same = conflict-same facts shown tabled u paper (user_among facts.accounts name) on same
-command-same facts shown tabled u (commands.Bid (Some p) value) same = bid-same facts shown tabled same p (bid_drawn (maker_of u) p value)
-command-same facts shown tabled u (commands.Assign (Some p) name kind) same = assign-same facts shown tabled same u p (user_among facts.accounts name) kind
-command-same facts shown tabled u (commands.Unassign (Some p) name) same = unassign-same facts shown tabled same u p (user_among facts.accounts name)
-command-same facts shown tabled u (commands.Review (Some p) form) same =
-    review-same facts shown tabled same p (review_drawn (maker_of u) p (unwrap_or (facts.own_ordinal p) 0) (length (facts.own_forms p) + 1) form)
-command-same facts shown tabled u (commands.Comment (Some p) text) same =
-    comment-same facts shown tabled same p facts.own_comments (λ n. comment_drawn (maker_of u) p (n + 1) (facts.own_ordinal p) text)
-command-same facts shown tabled u (commands.Tag (Some p) tag on) same = tag-same facts shown tabled same p (is_for_chairs tag) (tag_drawn (maker_of u) p tag on)
-command-same facts shown tabled u (commands.Decide (Some p) decision) same =
-    decide-same facts shown tabled same p (decision_drawn (maker_of u) p decision)
-command-same facts shown tabled u command same = refl
+    (λ uploads. upload_drawn stamp p (length uploads + 1) content)
+command-same facts shown tabled stamp (commands.Withdraw (Some p)) same = author-same facts shown tabled same p [] (λ _. withdrawal_drawn stamp p)
+command-same facts shown tabled stamp (commands.SetConflict paper name on) same = conflict-same facts shown tabled stamp paper (user_among facts.accounts name) on same
+command-same facts shown tabled stamp (commands.Bid (Some p) value) same = bid-same facts shown tabled same p (bid_drawn stamp p value)
+command-same facts shown tabled stamp (commands.Assign (Some p) name kind) same = assign-same facts shown tabled same stamp p (user_among facts.accounts name) kind
+command-same facts shown tabled stamp (commands.Unassign (Some p) name) same = unassign-same facts shown tabled same stamp p (user_among facts.accounts name)
+command-same facts shown tabled stamp (commands.Review (Some p) form) same =
+    review-same facts shown tabled same p (review_drawn stamp p (unwrap_or (facts.own_ordinal p) 0) (length (facts.own_forms p) + 1) form)
+command-same facts shown tabled stamp (commands.Comment (Some p) text) same =
+    comment-same facts shown tabled same p facts.own_comments (λ n. comment_drawn stamp p (n + 1) (facts.own_ordinal p) text)
+command-same facts shown tabled stamp (commands.Tag (Some p) tag on) same = tag-same facts shown tabled same p (is_for_chairs tag) (tag_drawn stamp p tag on)
+command-same facts shown tabled stamp (commands.Decide (Some p) decision) same =
+    decide-same facts shown tabled same p (decision_drawn stamp p decision)
+command-same facts shown tabled stamp command same = refl
 
 -- the judgement by any user's view is the one by the tables
-pub judge-tables : (u : Option ℕ) (H : History) (command : Command) → Invariants H → AreTold H → AreFormsTold H
-    → judge u (view u H) command ≡ judge_by_role (tables_of H) u command
-judge-tables u H command kept told forms =
-    ap (λ (facts : Facts). judge_by facts (shown_in_view u (view u H)) u command) (facts_in_view-tables u H told forms)
-    ∙ command-same (facts_of_tables (tables_of H) u) (shown_in_view u (view u H)) (shown_in_tables (tables_of H)) u command (record {
+pub judge-tables : (H : History) (call : Call) → Invariants H → AreTold H → AreFormsTold H
+    → judge (view call.caller H) call ≡ judge_by_role (tables_of H) call
+judge-tables H call kept told forms =
+    let u : Option ℕ = call.caller in
+    ap (λ (facts : Facts). judge_by facts (shown_in_view u (view u H)) (stamp_of call) call.command) (facts_in_view-tables u H told forms)
+    ∙ command-same (facts_of_tables (tables_of H) u) (shown_in_view u (view u H)) (shown_in_tables (tables_of H)) (stamp_of call) call.command (record {
       withdrawn = λ p may. withdrawn-tables u H told p may;
       authors = λ p may.
           authors-tables u H told p (also_accepted (standing_at (tables_of H) u (Some p)) (is_accepted_in (tables_of H) p) may);

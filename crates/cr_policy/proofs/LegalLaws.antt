@@ -1,14 +1,14 @@
 -- Histories that grow by allowed calls and bulks.
 use Rattle.std.proofs.Common.{ℕ, ◌≡◌, List, [], ◌∷◌, ◌++◌, refl, sym, ap, subst, Option, Some, None, Result, Ok, Err}
 use Rattle.cr_base.specs.declared.bulk.Broken.{Broken}
-use Rattle.cr_base.specs.declared.bulk.BulkRow.{BulkRow}
-use Rattle.cr_base.specs.declared.command.Command.{Command}
+use Rattle.cr_base.specs.declared.command.Call.{Call}
 use Rattle.cr_base.specs.declared.command.Query.{Query}
 use Rattle.cr_base.specs.declared.reply.Rule.{Rule}
 use Rattle.cr_base.specs.Accounts.{number_at, caller_at}
 use Rattle.cr_base.specs.HistoryFacts.{number_of, caller_of}
 use Rattle.cr_base.specs.History.{History}
 use Rattle.cr_base.specs.Answering.{answer_by_role, login_wanted}
+use Rattle.cr_base.specs.Calls.{BulkCall}
 use Rattle.cr_base.specs.Drawn.{Drawn, grouped}
 use Rattle.cr_base.specs.Bulk.{bulk_by_role}
 use Rattle.cr_base.specs.Judging.{judge_by_role}
@@ -25,7 +25,7 @@ use Rattle.cr_history.proofs.InOrder.{whole-append}
 use Rattle.cr_history.proofs.TableAgreement.{FitInTurn-behind}
 use Rattle.cr_policy.specs.View.{view}
 use Rattle.cr_policy.specs.Judge.{judge, judge_bulk, answer, needs_login}
-use Rattle.cr_policy.specs.Legal.{Call, IsUser, IsAllowed, followed_by, step, BulkCall, IsBulkAllowed, Move, calls, bulks, IsMoveAllowed, moved, LeadsTo, Legal}
+use Rattle.cr_policy.specs.Legal.{IsUser, IsAllowed, followed_by, step, IsBulkAllowed, Move, calls, bulks, IsMoveAllowed, moved, LeadsTo, Legal}
 use Rattle.cr_policy.specs.Laws.{ViewSuffices, DeclaredFromView, IsKept, LegalKeeps, DigestsAreOwn}
 use Rattle.cr_policy.specs.Triggers.{reader}
 use Rattle.cr_policy.proofs.AcceptedLaws.{Kept-told, accepted-adds, accepted-fits}
@@ -52,19 +52,18 @@ pub Legal-step : (H : History) (call : Call) → Legal H → IsAllowed H call �
 Legal-step H call legal allowed = Legal-moved H (calls call) legal allowed
 
 -- what is accepted goes behind the history
-pub step-Ok : (H : History) (call : Call) (drawn : Drawn) → judge call.caller (view call.caller H) call.command ≡ Ok drawn → step H call ≡ H ++ drawn.group
+pub step-Ok : (H : History) (call : Call) (drawn : Drawn) → judge (view call.caller H) call ≡ Ok drawn → step H call ≡ H ++ drawn.group
 step-Ok H call drawn accepted = ap (followed_by H) accepted
 
 -- the group of an accepted command goes on a legal history
-pub Legal-accepted : (H : History) (caller : Option ℕ) (command : Command) (drawn : Drawn) → Legal H
-    → IsAllowed H (record { caller = caller; command = command }) → judge caller (view caller H) command ≡ Ok drawn → Legal (H ++ drawn.group)
-Legal-accepted H caller command drawn legal allowed accepted =
-    let call : Call = record { caller = caller; command = command } in
+pub Legal-accepted : (H : History) (call : Call) (drawn : Drawn) → Legal H → IsAllowed H call
+    → judge (view call.caller H) call ≡ Ok drawn → Legal (H ++ drawn.group)
+Legal-accepted H call drawn legal allowed accepted =
     subst (λ (G : History). Legal G) (step-Ok H call drawn accepted) (Legal-step H call legal allowed)
 
 -- and so does that of an accepted bulk
 pub Legal-bulk_accepted : (H : History) (bulk : BulkCall) (drawn : Drawn) → Legal H → IsBulkAllowed H bulk
-    → judge_bulk bulk.user (view (Some bulk.user) H) bulk.rows ≡ Ok drawn → Legal (H ++ drawn.group)
+    → judge_bulk (view (Some bulk.stamp.maker) H) bulk ≡ Ok drawn → Legal (H ++ drawn.group)
 Legal-bulk_accepted H bulk drawn legal allowed accepted =
     subst (λ (G : History). Legal G) (ap (followed_by H) accepted) (Legal-moved H (bulks bulk) legal allowed)
 
@@ -72,35 +71,36 @@ Legal-bulk_accepted H bulk drawn legal allowed accepted =
 
 -- a history that a command follows keeps them
 call-keeps : (H : History) (call : Call) → IsKept H → IsAllowed H call → (r : Result Drawn Rule)
-    → judge call.caller (view call.caller H) call.command ≡ r → IsKept (followed_by H r)
+    → judge (view call.caller H) call ≡ r → IsKept (followed_by H r)
 call-keeps H call kept allowed (Err rule) is = kept
 call-keeps H call kept allowed (Ok drawn) is =
     let invariants : Invariants H = kept.invariants in
-    let added : Adds H drawn.group = accepted-adds H call.caller call.command drawn allowed.bounded allowed.caller is in
-    let fits = accepted-fits H call.caller call.command drawn invariants (Kept-told H invariants) (forms_tell H invariants) allowed.caller is in
+    let added : Adds H drawn.group = accepted-adds H call drawn allowed.bounded allowed.caller is in
+    let fits = accepted-fits H call drawn invariants (Kept-told H invariants) (forms_tell H invariants) allowed.caller is in
     record {
       invariants = growth_keeps.more H drawn.group invariants (adds drawn.group added) fits;
       whole = growth_keeps.whole H drawn.group kept.whole added;
     }
 
 -- and so does one that a bulk follows
-bulk-drawn_keeps : (H : History) (user : ℕ) (rows : List BulkRow) (drawn : Drawn) → IsKept H → IsRegistered H user
-    → judge_bulk user (view (Some user) H) rows ≡ Ok drawn → IsKept (H ++ drawn.group)
-bulk-drawn_keeps H user rows drawn kept registered accepted =
-    let draws = bulk-draws user H rows drawn accepted in
+bulk-drawn_keeps : (H : History) (bulk : BulkCall) (drawn : Drawn) → IsKept H → IsRegistered H bulk.stamp.maker
+    → judge_bulk (view (Some bulk.stamp.maker) H) bulk ≡ Ok drawn → IsKept (H ++ drawn.group)
+bulk-drawn_keeps H bulk drawn kept registered accepted =
+    let draws = bulk-draws bulk.stamp H bulk.rows drawn accepted in
+    let group : History = grouped bulk.stamp draws.entries in
     subst (λ (d : Drawn). IsKept (H ++ d.group)) draws.drawn_is (record {
-      invariants = rows-keep user rows 1 H draws.entries (record { kept = kept.invariants; registered = registered }) draws.accepted;
-      whole = whole-append H (grouped user draws.entries) kept.whole (grouped-whole user draws.entries);
+      invariants = rows-keep bulk.stamp bulk.rows 1 H draws.entries (record { kept = kept.invariants; registered = registered }) draws.accepted;
+      whole = whole-append H group kept.whole (grouped-whole bulk.stamp draws.entries);
     })
 
 bulk-keeps : (H : History) (bulk : BulkCall) → IsKept H → IsBulkAllowed H bulk → (r : Result Drawn Broken)
-    → judge_bulk bulk.user (view (Some bulk.user) H) bulk.rows ≡ r → IsKept (followed_by H r)
+    → judge_bulk (view (Some bulk.stamp.maker) H) bulk ≡ r → IsKept (followed_by H r)
 bulk-keeps H bulk kept allowed (Err refusal) is = kept
-bulk-keeps H bulk kept allowed (Ok drawn) is = bulk-drawn_keeps H bulk.user bulk.rows drawn kept allowed.caller is
+bulk-keeps H bulk kept allowed (Ok drawn) is = bulk-drawn_keeps H bulk drawn kept allowed.caller is
 
 move-keeps : (H : History) (move : Move) → IsKept H → IsMoveAllowed H move → IsKept (moved H move)
-move-keeps H (calls call) kept allowed = call-keeps H call kept allowed (judge call.caller (view call.caller H) call.command) refl
-move-keeps H (bulks bulk) kept allowed = bulk-keeps H bulk kept allowed (judge_bulk bulk.user (view (Some bulk.user) H) bulk.rows) refl
+move-keeps H (calls call) kept allowed = call-keeps H call kept allowed (judge (view call.caller H) call) refl
+move-keeps H (bulks bulk) kept allowed = bulk-keeps H bulk kept allowed (judge_bulk (view (Some bulk.stamp.maker) H) bulk) refl
 
 leads-keeps : (from to : History) (moves : List Move) → IsKept from → LeadsTo from moves to → IsKept to
 leads-keeps from to [] kept leads = subst (λ (H : History). IsKept H) leads kept
@@ -147,22 +147,22 @@ pub Legal-caller_registered : (name digest : List ℕ) (H : History) (u : ℕ) �
 Legal-caller_registered name digest H u is = caller-registered name digest H u is
 
 -- judgement and answer by any user's view are those by the tables
-pub Legal-judge : (u : Option ℕ) (H : History) (command : Command) → Legal H → judge u (view u H) command ≡ judge_by_role (tables_of H) u command
-Legal-judge u H command legal = let kept = legal_invariants H legal in judge-tables u H command kept (Kept-told H kept) (forms_tell H kept)
+pub Legal-judge : (H : History) (call : Call) → Legal H → judge (view call.caller H) call ≡ judge_by_role (tables_of H) call
+Legal-judge H call legal = let kept = legal_invariants H legal in judge-tables H call kept (Kept-told H kept) (forms_tell H kept)
 
 pub Legal-answer : (u : Option ℕ) (H : History) (query : Query) → Legal H → answer u (view u H) query ≡ answer_by_role (tables_of H) u query
 Legal-answer u H query legal = let kept = legal_invariants H legal in answer-tables u H kept (Kept-told H kept) (forms_tell H kept) query
 
 -- so it is of bulks
-pub Legal-judge_bulk : (user : ℕ) (H : History) (rows : List BulkRow) → Legal H → IsRegistered H user
-    → judge_bulk user (view (Some user) H) rows ≡ bulk_by_role (tables_of H) user rows
-Legal-judge_bulk user H rows legal registered = bulk-same user H rows (record { kept = legal_invariants H legal; registered = registered })
+pub Legal-judge_bulk : (H : History) (bulk : BulkCall) → Legal H → IsRegistered H bulk.stamp.maker
+    → judge_bulk (view (Some bulk.stamp.maker) H) bulk ≡ bulk_by_role (tables_of H) bulk
+Legal-judge_bulk H bulk legal registered = bulk-same bulk.stamp H bulk.rows (record { kept = legal_invariants H legal; registered = registered })
 
 -- and what an accepted bulk adds, the tables take
-pub Legal-bulk_fits : (user : ℕ) (H : History) (rows : List BulkRow) (drawn : Drawn) → Legal H → IsRegistered H user
-    → judge_bulk user (view (Some user) H) rows ≡ Ok drawn → FitInTurn (tables_of H) drawn.group
-Legal-bulk_fits user H rows drawn legal registered accepted =
-    FitInTurn-behind no_tables H drawn.group (bulk-drawn_keeps H user rows drawn (Legal-kept H legal) registered accepted).invariants.fits
+pub Legal-bulk_fits : (H : History) (bulk : BulkCall) (drawn : Drawn) → Legal H → IsRegistered H bulk.stamp.maker
+    → judge_bulk (view (Some bulk.stamp.maker) H) bulk ≡ Ok drawn → FitInTurn (tables_of H) drawn.group
+Legal-bulk_fits H bulk drawn legal registered accepted =
+    FitInTurn-behind no_tables H drawn.group (bulk-drawn_keeps H bulk drawn (Legal-kept H legal) registered accepted).invariants.fits
 
 -- so is whether a query wants a login
 pub Legal-needs_login : (H : History) (query : Query) → Legal H → needs_login (view None H) query ≡ login_wanted (facts_of_tables (tables_of H) None) query
@@ -176,7 +176,7 @@ Legal-declared u p H legal author = declared-seen_by_author u p H (Legal-in_time
 
 pub view_suffices : ViewSuffices
 view_suffices = record {
-  commands = λ u H command legal may. Legal-judge u H command legal;
-  bulks = λ user H rows legal registered. Legal-judge_bulk user H rows legal registered;
+  commands = λ H call legal may. Legal-judge H call legal;
+  bulks = λ H bulk legal registered. Legal-judge_bulk H bulk legal registered;
   queries = λ u H query legal may. Legal-answer u H query legal;
 }

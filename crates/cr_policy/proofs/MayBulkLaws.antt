@@ -7,6 +7,7 @@ use Rattle.cr_base.specs.declared.bulk.BulkRow.{BulkRow}
 use Rattle.cr_base.specs.declared.command.Command.{Command}
 use Rattle.cr_base.specs.declared.command.Command.TheVariants as commands
 use Rattle.cr_base.specs.declared.entry.Entry.{Entry}
+use Rattle.cr_base.specs.declared.entry.Stamp.{Stamp}
 use Rattle.cr_base.specs.declared.reply.Rule.{Rule}
 use Rattle.cr_base.specs.declared.reply.Rule.TheVariants as rules
 use Rattle.std.proofs.lemmas.Bool.{true≢false}
@@ -17,14 +18,14 @@ use Rattle.cr_base.specs.Bulk.{assigns, unassigns, turns_conflict, turns_tag}
 use Rattle.cr_base.specs.Bulk.{Action, command_told_by, row_command, turns_own_conflict, row_told_judged, entries_of, and_rows, and_behind, rows_judged}
 use Rattle.cr_base.specs.Bulk.{bulk_checks, bulk_of_rows, bulk_behind}
 use Rattle.cr_base.specs.Checks.{judged}
-use Rattle.cr_base.specs.Drawn.{Drawn}
+use Rattle.cr_base.specs.Calls.{BulkCall, call_by}
+use Rattle.cr_base.specs.Drawn.{Drawn, stamped}
 use Rattle.cr_base.specs.History.{History}
 use Rattle.cr_base.specs.HistoryFacts.{phase_of, role_of}
 use Rattle.cr_base.specs.Lists.{is_number}
 use Rattle.cr_base.specs.Phases.{committee_works}
 use Rattle.cr_base.specs.Sources.{Facts, Shown}
 use Rattle.cr_base.specs.Words.{is_chair}
-use Rattle.cr_history.proofs.LineAgreement.{stamp}
 use Rattle.cr_history.proofs.RuleLaws.{facts_of}
 use Rattle.cr_policy.specs.Added.{added}
 use Rattle.cr_policy.specs.Judge.{judge, view_basis, own_sightings, judge_bulk}
@@ -80,7 +81,10 @@ rows_as_said = record {
 
 -- ---- one row
 
-module _ (user : ℕ) where
+module _ (stamp : Stamp) where
+  abbrev user : ℕ
+  user = stamp.maker
+
   abbrev u : Option ℕ
   u = Some user
 
@@ -103,19 +107,19 @@ module _ (user : ℕ) where
   herself-same H legal _ = refl
 
   -- a row is accepted where she may do what it asks for, and it is no conflict of her own
-  row-ok : (H : History) → Legal H → (row : BulkRow) → is_ok (row_seen user H row) ≡ may_row user H (row_command row)
+  row-ok : (H : History) → Legal H → (row : BulkRow) → is_ok (row_seen stamp H row) ≡ may_row user H (row_command row)
   row-ok H legal row = by (row_command row)
     where
       not-ok : (b : Bool) (r : Result Drawn Rule) → is_ok {T = Drawn} {E = Rule} (cond b (Err rules.BulkSelf) r) ≡ (not b && is_ok r)
       not-ok true r = refl
       not-ok false r = refl
 
-      by : (asked : Result Command Rule) → is_ok (row_told_judged (seen_facts H) (seen_shown H) user asked) ≡ may_row user H asked
+      by : (asked : Result Command Rule) → is_ok (row_told_judged (seen_facts H) (seen_shown H) stamp asked) ≡ may_row user H asked
       by (Err rule) = refl
       by (Ok command) =
-          not-ok (turns_own_conflict (seen_facts H) user command) (judge u (view u H) command)
+          not-ok (turns_own_conflict (seen_facts H) user command) (judge (view u H) (call_by stamp command))
           ∙ (λ i. not ((ap (λ (facts : Facts). turns_own_conflict facts user command) (facts-seen H legal) ∙ herself-same H legal command) i)
-          && permissions_as_said u H command legal i)
+          && permissions_as_said H (call_by stamp command) legal i)
 
   -- ---- rows in their turn
 
@@ -123,69 +127,72 @@ module _ (user : ℕ) where
   and_rows-ok es (Ok more) = refl
   and_rows-ok es (Err refusal) = refl
 
-  rows-ok : (rows : List BulkRow) (n : ℕ) (H : History) → Legal H → IsReady user H → is_ok (seen user H n rows) ≡ may_rows user H rows
+  rows-ok : (rows : List BulkRow) (n : ℕ) (H : History) → Legal H → IsReady stamp H → is_ok (seen stamp H n rows) ≡ may_rows stamp H rows
   rows-ok [] n H legal ready = refl
-  rows-ok (row ∷ rows) n H legal ready = by (row_seen user H row) refl (rows-ok rows (n + 1))
+  rows-ok (row ∷ rows) n H legal ready = by (row_seen stamp H row) refl (rows-ok rows (n + 1))
     where
       view_goes : History → Result (List Entry) Broken
-      view_goes group = rows_judged (view_basis user) user (view u H ++ own_sightings group) (n + 1) rows
+      view_goes group = rows_judged (view_basis user) stamp (view u H ++ own_sightings group) (n + 1) rows
 
       behind : Bool
-      behind = may_rows user (with_row user H (row_command row)) rows
+      behind = may_rows stamp (with_row stamp H (row_command row)) rows
 
-      by : (r : Result Drawn Rule) → row_seen user H row ≡ r → ((G : History) → Legal G → IsReady user G → is_ok (seen user G (n + 1) rows) ≡ may_rows user G rows)
+      by : (r : Result Drawn Rule) → row_seen stamp H row ≡ r → ((G : History) → Legal G → IsReady stamp G → is_ok (seen stamp G (n + 1) rows) ≡ may_rows stamp G rows)
           → is_ok (and_behind n r view_goes) ≡ (may_row user H (row_command row) && behind)
       by (Err rule) is rest = ap (λ (b : Bool). b && behind) (sym (ap (λ (r : Result Drawn Rule). is_ok r) is) ∙ row-ok H legal row)
       by (Ok drawn) is rest =
           and_rows-ok (entries_of drawn.group) (view_goes drawn.group)
-          ∙ ap (λ (V : View). is_ok (rows_judged (view_basis user) user V (n + 1) rows)) (next-seen user H drawn ready first false)
-          ∙ rest after legal_after (next-ready user H drawn ready first false)
-          ∙ ap (λ (G : History). may_rows user G rows) after-is
+          ∙ ap (λ (V : View). is_ok (rows_judged (view_basis user) stamp V (n + 1) rows)) (next-seen stamp H drawn ready first false)
+          ∙ rest after legal_after (next-ready stamp H drawn ready first false)
+          ∙ ap (λ (G : History). may_rows stamp G rows) after-is
           ∙ ap (λ (b : Bool). b && behind) (sym (ap (λ (r : Result Drawn Rule). is_ok r) is) ∙ row-ok H legal row)
         where
-          first : RowAdds user H drawn
-          first = row-adds user H row drawn ready is
+          first : RowAdds stamp H drawn
+          first = row-adds stamp H row drawn ready is
 
-          calls : RowCalls user H row drawn
-          calls = row-calls user H row drawn ready is
+          calls : RowCalls stamp H row drawn
+          calls = row-calls stamp H row drawn ready is
 
           after : History
-          after = next user H drawn ready first false
+          after = next stamp H drawn ready first false
 
           legal_after : Legal after
           legal_after =
               subst (λ (g : History). Legal (H ++ g)) first.group
-              (Legal-accepted H u calls.command drawn legal (record { caller = calls.caller; bounded = calls.told.bounded }) calls.accepted)
+              (Legal-accepted H (call_by stamp calls.command) drawn legal (record { caller = calls.caller; bounded = calls.told.bounded }) calls.accepted)
 
           -- the one entry is what the command adds
           one : added u H calls.command ≡ first.entry ∷ []
           one =
-              sym (adds_as_said u H calls.command drawn legal calls.caller calls.accepted).entries
+              sym (adds_as_said H (call_by stamp calls.command) drawn legal calls.caller calls.accepted).entries
               ∙ ap (λ (g : History). entries_of g) first.group
 
-          after-is : after ≡ with_row user H (row_command row)
+          after-is : after ≡ with_row stamp H (row_command row)
           after-is =
-              ap (λ (es : List Entry). H ++ map (λ (e : Entry). stamp user false e) es) (sym one)
-              ∙ ap (with_row user H) (sym calls.is)
+              ap (λ (es : List Entry). H ++ map (λ (e : Entry). stamped stamp false e) es) (sym one)
+              ∙ ap (with_row stamp H) (sym calls.is)
 
   -- ---- the bulk
 
-  bulk-ok : (H : History) (rows : List BulkRow) → Legal H → IsReady user H → is_ok (judge_bulk user (view u H) rows) ≡ may_bulk user H rows
+  abbrev bulk : List BulkRow → BulkCall
+  bulk rows = record { stamp = stamp; rows = rows }
+
+  bulk-ok : (H : History) (rows : List BulkRow) → Legal H → IsReady stamp H → is_ok (judge_bulk (view u H) (bulk rows)) ≡ may_bulk H (bulk rows)
   bulk-ok H rows legal ready =
       behind (judged (bulk_checks ((seen_facts H).standing None)) tt)
       ∙ (λ i. (judged-none_broken (bulk_checks ((seen_facts H).standing None)) tt
       ∙ ap (λ (facts : Facts). none_broken (bulk_checks (facts.standing None))) (facts-seen H legal)
       ∙ said (is_chair (role_of u H)) (chairs user H) (committee_works (phase_of H)) (committee_at_work H)
       (chair-same (role_of u H)) (in_committee-same (phase_of H))) i && rows-ok rows 1 H legal ready i)
-      ∙ together (chairs user H) (committee_at_work H) (may_rows user H rows)
+      ∙ together (chairs user H) (committee_at_work H) (may_rows stamp H rows)
     where
-      of_rows : (r : Result (List Entry) Broken) → is_ok (bulk_of_rows user (length rows) r) ≡ is_ok r
+      of_rows : (r : Result (List Entry) Broken) → is_ok (bulk_of_rows stamp (length rows) r) ≡ is_ok r
       of_rows (Ok es) = refl
       of_rows (Err refusal) = refl
 
-      behind : (r : Result (Unit {0}) Rule) → is_ok (bulk_behind (view_basis user) user (view u H) rows r) ≡ (is_ok r && is_ok (seen user H 1 rows))
+      behind : (r : Result (Unit {0}) Rule) → is_ok (bulk_behind (view_basis user) (view u H) (bulk rows) r) ≡ (is_ok r && is_ok (seen stamp H 1 rows))
       behind (Err rule) = refl
-      behind (Ok done) = of_rows (seen user H 1 rows)
+      behind (Ok done) = of_rows (seen stamp H 1 rows)
 
       said : (k k' c c' : Bool) → k ≡ k' → c ≡ c' → (not (not k) && (not (not c) && true)) ≡ (k' && c')
       said k k' c c' hk hc = grind arith
@@ -195,4 +202,4 @@ module _ (user : ℕ) where
 
 pub bulks_as_said : BulksAsSaid
 bulks_as_said H bulk legal allowed =
-    bulk-ok bulk.user H bulk.rows legal (record { kept = legal_invariants H legal; registered = allowed.caller })
+    bulk-ok bulk.stamp H bulk.rows legal (record { kept = legal_invariants H legal; registered = allowed.caller })

@@ -4,7 +4,9 @@ use Rattle.std.specs.Prelude.{not, nat_le, nat_lt, is_ok, is_some, is_none, unwr
 use Rattle.std.specs.List.{list_any, list_all}
 use Rattle.std.specs.Option.{option_map}
 use Rattle.std.proofs.lemmas.Bool.{eqb-true}
+use Rattle.cr_base.specs.declared.command.Command.{Command}
 use Rattle.cr_base.specs.declared.command.Command.TheVariants as commands
+use Rattle.cr_base.specs.declared.entry.Stamp.{Stamp}
 use Rattle.cr_base.specs.declared.form.Form.{Form}
 use Rattle.cr_base.specs.declared.pairs.Order.TheVariants.{ByPaper}
 use Rattle.cr_base.specs.declared.words.Decision.{Decision}
@@ -17,6 +19,7 @@ use Rattle.cr_base.specs.declared.words.Phase.{Phase}
 use Rattle.cr_base.specs.declared.words.Phase.TheVariants.{Setup, Submission, Bidding, Reviewing, Discussion}
 use Rattle.cr_base.specs.declared.words.Role.{Role}
 use Rattle.cr_base.specs.declared.words.Role.TheVariants.{Account}
+use Rattle.cr_base.specs.Calls.{stamp_by, call_of}
 use Rattle.cr_base.specs.Checks.{Check, ◌breaks◌, judged, NamedPaper, phase_checks, mode_checks, submit_checks, revise_checks, upload_checks}
 use Rattle.cr_base.specs.Checks.{of_role, register_checks, name_checks, own_checks, other_checks, conflict_case, conflict_checks, assign_checks, unassign_checks}
 use Rattle.cr_base.specs.Checks.{bid_checks, review_checks, comment_checks, tag_checks, decide_checks}
@@ -27,7 +30,7 @@ use Rattle.cr_base.specs.History.{History}
 use Rattle.cr_base.specs.HistoryFacts.{standing_of, phase_of, role_of, is_conflicted, is_withdrawn, is_author, is_reviewer, authors_of, papers_of, ordinal_of, seats_of}
 use Rattle.cr_base.specs.HistoryFacts.{accounts_of, number_of, is_written, own_comments_of, own_bytes_of, own_papers_of}
 use Rattle.cr_base.specs.Phases.{is_phase, is_next, mode_may_be_set, accepts_submissions, papers_may_change, authors_have_declared, conflicts_are_final, roles_are_final, committee_works, bids_are_taken, comments_are_written, decisions_are_made}
-use Rattle.cr_base.specs.Sources.{maker_of, number_in, users_among, role_among, paper_named}
+use Rattle.cr_base.specs.Sources.{number_in, users_among, role_among, paper_named}
 use Rattle.cr_base.specs.Tables.{tables_of}
 use Rattle.cr_base.specs.TagTexts.{is_for_chairs}
 use Rattle.cr_base.specs.Words.{is_member, is_chair, role_number}
@@ -38,7 +41,7 @@ use Rattle.cr_policy.specs.Legal.{Legal}
 use Rattle.cr_policy.specs.View.{view}
 use Rattle.cr_policy.proofs.LegalLaws.{Legal-told}
 use Rattle.cr_policy.specs.MayDo.{may_register, may_name, may_set_mode, may_open, may_submit, may_change, may_upload, may_declare, may_take_back, may_bid, may_assign}
-use Rattle.cr_policy.specs.MayDo.{has_written, may_unassign, may_review, may_comment, may_tag, may_decide, PermissionsAsSaid}
+use Rattle.cr_policy.specs.MayDo.{has_written, may_unassign, may_review, may_comment, may_tag, may_decide, may_do, is_accepted_from, PermissionsAsSaid}
 use Rattle.cr_policy.specs.Sentences.{now, comes_behind, committee_at_work, is_over, is_members, is_chairs, is_above, is_paper, stands}
 use Rattle.cr_policy.specs.Sentences.{administers, of_some, user_named, is_somebody, is_for_chairs_alone}
 use Rattle.cr_policy.proofs.SentenceLaws.{none_broken, judged-none_broken, phase-same, next-same, member-same, chair-same, in_committee-same, above-same, over-same, early-same, none-same, at-same, fewer, up_to}
@@ -96,7 +99,7 @@ for_chairs-same (b ∷ c ∷ rest) = refl
 -- ---- registrations, whoever calls
 
 module _ (u : Option ℕ) (H : History) (legal : Legal H) where
-  registrations : (name digest : List ℕ) → is_ok (judge u (view u H) (commands.Register name digest)) ≡ may_register H name
+  registrations : (name digest : List ℕ) → is_ok (judge (view u H) (call_of u (commands.Register name digest))) ≡ may_register H name
   registrations name digest =
       accepted-checks u H legal (commands.Register name digest) (register_checks (is_some (number_in (accounts_of H) name)) (length (accounts_of H))) _ refl
       ∙ said (is_some (number_in (accounts_of H) name)) (is_none (number_of name H)) (nat_le 9999 (length (accounts_of H))) (nat_lt (length (accounts_of H)) 9999)
@@ -110,7 +113,10 @@ module _ (w : ℕ) (H : History) (legal : Legal H) where
   abbrev u : Option ℕ
   u = Some w
 
-  phases : (to : Phase) → is_ok (judge u (view u H) (commands.SetPhase to)) ≡ may_open w H to
+  abbrev stamp : Stamp
+  stamp = stamp_by w
+
+  phases : (to : Phase) → is_ok (judge (view u H) (call_of u (commands.SetPhase to))) ≡ may_open w H to
   phases to =
       accepted-checks u H legal (commands.SetPhase to) (phase_checks (standing_of u None H) (phase_of H) to) _ refl
       ∙ said (is_chair (role_of u H)) (is_next (phase_of H) to) (is_chairs (role_of u H)) (comes_behind (phase_of H) to)
@@ -119,7 +125,7 @@ module _ (w : ℕ) (H : History) (legal : Legal H) where
       said : (c n c' n' : Bool) → c ≡ c' → n ≡ n' → (not (not c) && (not (not n) && true)) ≡ (c' && n')
       said c n c' n' hc hn = grind arith
 
-  bids : (paper : Option ℕ) (value : ℕ) → is_ok (judge u (view u H) (commands.Bid paper value)) ≡ of_some paper (may_bid w H)
+  bids : (paper : Option ℕ) (value : ℕ) → is_ok (judge (view u H) (call_of u (commands.Bid paper value))) ≡ of_some paper (may_bid w H)
   bids None value = accepted-as u H legal (commands.Bid None value)
   bids (Some p) value =
       accepted-checks u H legal (commands.Bid (Some p) value) (bid_checks (standing_of u (Some p) H) (paper_named (facts_of u H) (shown_of H) (Some p))) _ refl
@@ -130,7 +136,7 @@ module _ (w : ℕ) (H : History) (legal : Legal H) where
           → (not (not t) && (not (not m) && (not c && (not (not n) && (not w && true))))) ≡ ((t && not w) && (m' && not c) && n')
       said t m c n w m' n' hm hn = grind arith
 
-  modes : (to : Mode) → is_ok (judge u (view u H) (commands.SetMode to)) ≡ may_set_mode w H
+  modes : (to : Mode) → is_ok (judge (view u H) (call_of u (commands.SetMode to))) ≡ may_set_mode w H
   modes to =
       accepted-checks u H legal (commands.SetMode to) (mode_checks (standing_of u None H) (phase_of H)) _ refl
       ∙ said (is_chair (role_of u H)) (mode_may_be_set (phase_of H)) (is_chairs (role_of u H)) (now Setup H)
@@ -149,19 +155,19 @@ module _ (w : ℕ) (H : History) (legal : Legal H) where
       said : (t a n w n' : Bool) → n ≡ n' → (not (not t) && (not (not a) && (not (not n) && (not w && true)))) ≡ ((t && not w) && a && n')
       said t a n w n' hn = grind arith
 
-  revisions : (paper : Option ℕ) (title abstract : List ℕ) → is_ok (judge u (view u H) (commands.Revise paper title abstract)) ≡ of_some paper (may_change w H)
+  revisions : (paper : Option ℕ) (title abstract : List ℕ) → is_ok (judge (view u H) (call_of u (commands.Revise paper title abstract))) ≡ of_some paper (may_change w H)
   revisions None title abstract = accepted-as u H legal (commands.Revise None title abstract)
   revisions (Some p) title abstract =
       accepted-checks u H legal (commands.Revise (Some p) title abstract) (revise_checks (standing_of u (Some p) H) (paper_named (facts_of u H) (shown_of H) (Some p))) _ refl
       ∙ by_author p
 
-  withdrawals : (paper : Option ℕ) → is_ok (judge u (view u H) (commands.Withdraw paper)) ≡ of_some paper (may_change w H)
+  withdrawals : (paper : Option ℕ) → is_ok (judge (view u H) (call_of u (commands.Withdraw paper))) ≡ of_some paper (may_change w H)
   withdrawals None = accepted-as u H legal (commands.Withdraw None)
   withdrawals (Some p) =
       accepted-checks u H legal (commands.Withdraw (Some p)) (revise_checks (standing_of u (Some p) H) (paper_named (facts_of u H) (shown_of H) (Some p))) _ refl
       ∙ by_author p
 
-  uploads : (paper : Option ℕ) (content : List ℕ) → is_ok (judge u (view u H) (commands.Upload paper content)) ≡ of_some paper (may_upload w H (length content))
+  uploads : (paper : Option ℕ) (content : List ℕ) → is_ok (judge (view u H) (call_of u (commands.Upload paper content))) ≡ of_some paper (may_upload w H (length content))
   uploads None content = accepted-as u H legal (commands.Upload None content)
   uploads (Some p) content =
       accepted-checks u H legal (commands.Upload (Some p) content)
@@ -174,7 +180,7 @@ module _ (w : ℕ) (H : History) (legal : Legal H) where
           → (not (not t) && (not (not a) && (not (not n) && (not w && (not q && true))))) ≡ (((t && not w) && a && n') && q')
       said t a n w n' q q' hn hq = grind arith
 
-  reviewing : (paper : Option ℕ) (form : Form) → is_ok (judge u (view u H) (commands.Review paper form)) ≡ of_some paper (may_review w H)
+  reviewing : (paper : Option ℕ) (form : Form) → is_ok (judge (view u H) (call_of u (commands.Review paper form))) ≡ of_some paper (may_review w H)
   reviewing None form = accepted-as u H legal (commands.Review None form)
   reviewing (Some p) form =
       accepted-checks u H legal (commands.Review (Some p) form) (review_checks (standing_of u (Some p) H) (paper_named (facts_of u H) (shown_of H) (Some p))) _ refl
@@ -188,7 +194,7 @@ module _ (w : ℕ) (H : History) (legal : Legal H) where
           ≡ ((t && not w) && (m' && not c) && r && (x' || y'))
       said t m c r x y w m' x' y' hm hx hy = grind arith
 
-  comments : (paper : Option ℕ) (text : List ℕ) → is_ok (judge u (view u H) (commands.Comment paper text)) ≡ of_some paper (may_comment w H)
+  comments : (paper : Option ℕ) (text : List ℕ) → is_ok (judge (view u H) (call_of u (commands.Comment paper text))) ≡ of_some paper (may_comment w H)
   comments None text = accepted-as u H legal (commands.Comment None text)
   comments (Some p) text =
       accepted-checks u H legal (commands.Comment (Some p) text)
@@ -201,7 +207,7 @@ module _ (w : ℕ) (H : History) (legal : Legal H) where
           → (not (not t) && (not (not m) && (not c && (not (not n) && (not w && (not q && true)))))) ≡ ((t && not w) && (m' && not c) && n' && q')
       said t m c n w q m' n' q' hm hn hq = grind arith
 
-  tags : (paper : Option ℕ) (tag : List ℕ) (on : Bool) → is_ok (judge u (view u H) (commands.Tag paper tag on)) ≡ of_some paper (may_tag w H tag)
+  tags : (paper : Option ℕ) (tag : List ℕ) (on : Bool) → is_ok (judge (view u H) (call_of u (commands.Tag paper tag on))) ≡ of_some paper (may_tag w H tag)
   tags None tag on = accepted-as u H legal (commands.Tag None tag on)
   tags (Some p) tag on =
       accepted-checks u H legal (commands.Tag (Some p) tag on)
@@ -215,7 +221,7 @@ module _ (w : ℕ) (H : History) (legal : Legal H) where
           ≡ ((t && not w) && (m' && not c) && n' && (k' || not f'))
       said t f f' k m c n w k' m' n' hk hm hn hf = grind arith
 
-  decisions : (paper : Option ℕ) (decision : Decision) → is_ok (judge u (view u H) (commands.Decide paper decision)) ≡ of_some paper (may_decide w H)
+  decisions : (paper : Option ℕ) (decision : Decision) → is_ok (judge (view u H) (call_of u (commands.Decide paper decision))) ≡ of_some paper (may_decide w H)
   decisions None decision = accepted-as u H legal (commands.Decide None decision)
   decisions (Some p) decision =
       accepted-checks u H legal (commands.Decide (Some p) decision) (decide_checks (standing_of u (Some p) H) (paper_named (facts_of u H) (shown_of H) (Some p))) _ refl
@@ -226,7 +232,7 @@ module _ (w : ℕ) (H : History) (legal : Legal H) where
           → (not (not t) && (not (not m) && (not c && (not (not n) && (not w && true))))) ≡ ((t && not w) && (m' && not c) && n')
       said t m c n w m' n' hm hn = grind arith
 
-  submissions : (title abstract : List ℕ) (names : List (Option (List ℕ))) → is_ok (judge u (view u H) (commands.Submit title abstract names)) ≡ may_submit w H names
+  submissions : (title abstract : List ℕ) (names : List (Option (List ℕ))) → is_ok (judge (view u H) (call_of u (commands.Submit title abstract names))) ≡ may_submit w H names
   submissions title abstract names =
       accepted-checks u H legal (commands.Submit title abstract names)
       (submit_checks (list_any is_none (users_among (accounts_of H) names)) (standing_of u None H) (length (papers_of H)) (own_papers_of u H)) _ refl
@@ -239,19 +245,19 @@ module _ (w : ℕ) (H : History) (legal : Legal H) where
           → (not x && (not (not n) && (not q && (not o && true)))) ≡ (n' && x' && q' && o')
       said x x' n n' q q' o o' hx hn hq ho = grind arith
 
-  namings : (name : Option (List ℕ)) (role : Role) → is_ok (judge u (view u H) (commands.Name name role)) ≡ of_some (user_named name H) (may_name w H role)
+  namings : (name : Option (List ℕ)) (role : Role) → is_ok (judge (view u H) (call_of u (commands.Name name role))) ≡ of_some (user_named name H) (may_name w H role)
   namings name role =
       accepted-as u H legal (commands.Name name role)
-      ∙ by_name u H legal (λ (target : Option ℕ). is_ok (name_judged (facts_of u H) u target (unwrap_or name []) role)) (may_name w H role) name refl each
+      ∙ by_name u H legal (λ (target : Option ℕ). is_ok (name_judged (facts_of u H) stamp target (unwrap_or name []) role)) (may_name w H role) name refl each
     where
       said : (c c' o o' b b' : Bool) → c ≡ c' → o ≡ o' → not b ≡ b' → (not (not c) && (not o && (not b && true))) ≡ (c' && not o' && b')
       said c c' o o' b b' hc ho hb = grind arith
 
       each : (v : ℕ) → role_among (accounts_of H) (Some v) ≡ Some (role_of (Some v) H)
-          → is_ok (name_judged (facts_of u H) u (Some v) (unwrap_or name []) role) ≡ may_name w H role v
+          → is_ok (name_judged (facts_of u H) stamp (Some v) (unwrap_or name []) role) ≡ may_name w H role v
       each v is =
-          ap (λ (o : Option Role). is_ok (judged (name_checks (standing_of u None H) (option_map of_role o) role) (naming_drawn (maker_of u) v (unwrap_or name []) role))) is
-          ∙ judged-none_broken (name_checks (standing_of u None H) (Some (of_role (role_of (Some v) H))) role) (naming_drawn (maker_of u) v (unwrap_or name []) role)
+          ap (λ (o : Option Role). is_ok (judged (name_checks (standing_of u None H) (option_map of_role o) role) (naming_drawn stamp v (unwrap_or name []) role))) is
+          ∙ judged-none_broken (name_checks (standing_of u None H) (Some (of_role (role_of (Some v) H))) role) (naming_drawn stamp v (unwrap_or name []) role)
           ∙ said (is_chair (role_of u H)) (is_chairs (role_of u H)) (roles_are_final (phase_of H)) (is_over H)
           (nat_le (role_number role) (role_number (role_of (Some v) H))) (is_above role (role_of (Some v) H))
           (chair-same (role_of u H)) (over-same (phase_of H)) (above-same role (role_of (Some v) H))
@@ -294,18 +300,18 @@ module _ (w : ℕ) (H : History) (legal : Legal H) where
   same_user v h = ap (λ (n : ℕ). role_of (Some n) H) (sym (eqb-true v w h))
 
   declarations : (paper : Option ℕ) (name : Option (List ℕ))
-      → is_ok (judge (Some w) (view (Some w) H) (commands.SetConflict paper name true)) ≡ of_some paper (λ p. of_some (user_named name H) (may_declare w H p))
+      → is_ok (judge (view (Some w) H) (call_of (Some w) (commands.SetConflict paper name true))) ≡ of_some paper (λ p. of_some (user_named name H) (may_declare w H p))
   declarations None name = accepted-as (Some w) H legal (commands.SetConflict None name true)
   declarations (Some p) name =
       accepted-as (Some w) H legal (commands.SetConflict (Some p) name true)
-      ∙ by_name (Some w) H legal (λ (target : Option ℕ). is_ok (conflict_judged (facts_of (Some w) H) (shown_of H) (Some w) (Some p) target true))
-      (may_declare w H p) name (nobody p [] (conflict_drawn w p 0 true)) each
+      ∙ by_name (Some w) H legal (λ (target : Option ℕ). is_ok (conflict_judged (facts_of (Some w) H) (shown_of H) stamp (Some p) target true))
+      (may_declare w H p) name (nobody p [] (conflict_drawn stamp p 0 true)) each
     where
       each : (v : ℕ) → role_among (accounts_of H) (Some v) ≡ Some (role_of (Some v) H)
-          → is_ok (conflict_judged (facts_of (Some w) H) (shown_of H) (Some w) (Some p) (Some v) true) ≡ may_declare w H p v
+          → is_ok (conflict_judged (facts_of (Some w) H) (shown_of H) stamp (Some p) (Some v) true) ≡ may_declare w H p v
       each v is =
-          ap (λ (o : Option Role). is_ok (judged (conflict_checks (by p) (named p) (option_map (user_at p v) o) true) (conflict_drawn w p v true))) is
-          ∙ judged-none_broken (conflict_checks (by p) (named p) (Some (user_at p v (role_of (Some v) H))) true) (conflict_drawn w p v true)
+          ap (λ (o : Option Role). is_ok (judged (conflict_checks (by p) (named p) (option_map (user_at p v) o) true) (conflict_drawn stamp p v true))) is
+          ∙ judged-none_broken (conflict_checks (by p) (named p) (Some (user_at p v (role_of (Some v) H))) true) (conflict_drawn stamp p v true)
           ∙ declared-said (authors_have_declared (phase_of H)) (conflicts_are_final (phase_of H)) (is_paper p H) (is_withdrawn p H) (by p)
           (user_at p v (role_of (Some v) H)) (same_user v)
           ∙ (λ i. stands p H && is_members (role_of (Some v) H)
@@ -325,42 +331,42 @@ module _ (w : ℕ) (H : History) (legal : Legal H) where
       (is_chairs (role_of (Some w) H)) (committee_at_work H) rest (chair-same (role_of (Some w) H)) (in_committee-same (phase_of H))
 
   taken_back : (paper : Option ℕ) (name : Option (List ℕ))
-      → is_ok (judge (Some w) (view (Some w) H) (commands.SetConflict paper name false)) ≡ of_some paper (λ p. of_some (user_named name H) (may_take_back w H p))
+      → is_ok (judge (view (Some w) H) (call_of (Some w) (commands.SetConflict paper name false))) ≡ of_some paper (λ p. of_some (user_named name H) (may_take_back w H p))
   taken_back None name = accepted-as (Some w) H legal (commands.SetConflict None name false)
   taken_back (Some p) name =
       accepted-as (Some w) H legal (commands.SetConflict (Some p) name false)
-      ∙ by_name (Some w) H legal (λ (target : Option ℕ). is_ok (conflict_judged (facts_of (Some w) H) (shown_of H) (Some w) (Some p) target false))
-      (may_take_back w H p) name (nobody p [] (conflict_drawn w p 0 false)) each
+      ∙ by_name (Some w) H legal (λ (target : Option ℕ). is_ok (conflict_judged (facts_of (Some w) H) (shown_of H) stamp (Some p) target false))
+      (may_take_back w H p) name (nobody p [] (conflict_drawn stamp p 0 false)) each
     where
       said : (x m m' a : Bool) → m ≡ m' → (x && (not (not m) && (not a && true))) ≡ (x && m' && not a)
       said x m m' a hm = grind arith
 
       each : (v : ℕ) → role_among (accounts_of H) (Some v) ≡ Some (role_of (Some v) H)
-          → is_ok (conflict_judged (facts_of (Some w) H) (shown_of H) (Some w) (Some p) (Some v) false) ≡ may_take_back w H p v
+          → is_ok (conflict_judged (facts_of (Some w) H) (shown_of H) stamp (Some p) (Some v) false) ≡ may_take_back w H p v
       each v is =
-          ap (λ (o : Option Role). is_ok (judged (conflict_checks (by p) (named p) (option_map (user_at p v) o) false) (conflict_drawn w p v false))) is
-          ∙ judged-none_broken (conflict_checks (by p) (named p) (Some (user_at p v (role_of (Some v) H))) false) (conflict_drawn w p v false)
+          ap (λ (o : Option Role). is_ok (judged (conflict_checks (by p) (named p) (option_map (user_at p v) o) false) (conflict_drawn stamp p v false))) is
+          ∙ judged-none_broken (conflict_checks (by p) (named p) (Some (user_at p v (role_of (Some v) H))) false) (conflict_drawn stamp p v false)
           ∙ chair-checks p (not (not (is_member (role_of (Some v) H))) && (not (is_author (Some v) p H) && true))
           ∙ said (stands p H && administers w p H && committee_at_work H) (is_member (role_of (Some v) H)) (is_members (role_of (Some v) H))
           (is_author (Some v) p H) (member-same (role_of (Some v) H))
 
   assignments : (paper : Option ℕ) (name : Option (List ℕ)) (kind : Kind)
-      → is_ok (judge (Some w) (view (Some w) H) (commands.Assign paper name kind)) ≡ of_some paper (λ p. of_some (user_named name H) (may_assign w H p))
+      → is_ok (judge (view (Some w) H) (call_of (Some w) (commands.Assign paper name kind))) ≡ of_some paper (λ p. of_some (user_named name H) (may_assign w H p))
   assignments None name kind = accepted-as (Some w) H legal (commands.Assign None name kind)
   assignments (Some p) name kind =
       accepted-as (Some w) H legal (commands.Assign (Some p) name kind)
-      ∙ by_name (Some w) H legal (λ (target : Option ℕ). is_ok (assignment_judged (facts_of (Some w) H) (shown_of H) (Some w) (Some p) target kind))
-      (may_assign w H p) name (nobody p [] (assignment_drawn w p 0 kind 0)) each
+      ∙ by_name (Some w) H legal (λ (target : Option ℕ). is_ok (assignment_judged (facts_of (Some w) H) (shown_of H) stamp (Some p) target kind))
+      (may_assign w H p) name (nobody p [] (assignment_drawn stamp p 0 kind 0)) each
     where
       said : (x m m' c c' r q q' : Bool) → m ≡ m' → c ≡ c' → not q ≡ q'
           → (x && (not (not m) && (not c && (not r && (not q && true))))) ≡ (x && (m' && not c') && not r && q')
       said x m m' c c' r q q' hm hc hq = grind arith
 
       each : (v : ℕ) → role_among (accounts_of H) (Some v) ≡ Some (role_of (Some v) H)
-          → is_ok (assignment_judged (facts_of (Some w) H) (shown_of H) (Some w) (Some p) (Some v) kind) ≡ may_assign w H p v
+          → is_ok (assignment_judged (facts_of (Some w) H) (shown_of H) stamp (Some p) (Some v) kind) ≡ may_assign w H p v
       each v is =
-          ap (λ (o : Option Role). is_ok (judged (assign_checks (by p) (named p) (option_map (user_at p v) o) (length (seats_of p H))) (assignment_drawn w p v kind (length (seats_of p H) + 1)))) is
-          ∙ judged-none_broken (assign_checks (by p) (named p) (Some (user_at p v (role_of (Some v) H))) (length (seats_of p H))) (assignment_drawn w p v kind (length (seats_of p H) + 1))
+          ap (λ (o : Option Role). is_ok (judged (assign_checks (by p) (named p) (option_map (user_at p v) o) (length (seats_of p H))) (assignment_drawn stamp p v kind (length (seats_of p H) + 1)))) is
+          ∙ judged-none_broken (assign_checks (by p) (named p) (Some (user_at p v (role_of (Some v) H))) (length (seats_of p H))) (assignment_drawn stamp p v kind (length (seats_of p H) + 1))
           ∙ chair-checks p (not (not (is_member (role_of (Some v) H))) && (not ((user_at p v Account).conflicted)
           && (not (is_reviewer (Some v) p H) && (not (nat_le 26 (length (seats_of p H))) && true))))
           ∙ said (stands p H && administers w p H && committee_at_work H) (is_member (role_of (Some v) H)) (is_members (role_of (Some v) H))
@@ -369,23 +375,23 @@ module _ (w : ℕ) (H : History) (legal : Legal H) where
           (member-same (role_of (Some v) H)) (clash-same p v) (fewer 26 (length (seats_of p H)))
 
   unassignments : (paper : Option ℕ) (name : Option (List ℕ))
-      → is_ok (judge (Some w) (view (Some w) H) (commands.Unassign paper name)) ≡ of_some paper (λ p. of_some (user_named name H) (may_unassign w H p))
+      → is_ok (judge (view (Some w) H) (call_of (Some w) (commands.Unassign paper name))) ≡ of_some paper (λ p. of_some (user_named name H) (may_unassign w H p))
   unassignments None name = accepted-as (Some w) H legal (commands.Unassign None name)
   unassignments (Some p) name =
       accepted-as (Some w) H legal (commands.Unassign (Some p) name)
-      ∙ by_name (Some w) H legal (λ (target : Option ℕ). is_ok (unassignment_judged (facts_of (Some w) H) (shown_of H) (Some w) (Some p) target))
-      (may_unassign w H p) name (nobody p [] (unassignment_drawn w p 0 0)) each
+      ∙ by_name (Some w) H legal (λ (target : Option ℕ). is_ok (unassignment_judged (facts_of (Some w) H) (shown_of H) stamp (Some p) target))
+      (may_unassign w H p) name (nobody p [] (unassignment_drawn stamp p 0 0)) each
     where
       said : (x r f f' : Bool) → f ≡ f' → (x && (not (not r) && (not f && true))) ≡ (x && r && not f')
       said x r f f' hf = grind arith
 
       each : (v : ℕ) → role_among (accounts_of H) (Some v) ≡ Some (role_of (Some v) H)
-          → is_ok (unassignment_judged (facts_of (Some w) H) (shown_of H) (Some w) (Some p) (Some v)) ≡ may_unassign w H p v
+          → is_ok (unassignment_judged (facts_of (Some w) H) (shown_of H) stamp (Some p) (Some v)) ≡ may_unassign w H p v
       each v is =
           ap (λ (o : Option Role). is_ok (judged (unassign_checks (by p) (named p) (option_map (user_at p v) o) (at_some (λ o. is_written p o H) (ordinal_of (Some v) p H)))
-          (unassignment_drawn w p v (unwrap_or (ordinal_of (Some v) p H) 0)))) is
+          (unassignment_drawn stamp p v (unwrap_or (ordinal_of (Some v) p H) 0)))) is
           ∙ judged-none_broken (unassign_checks (by p) (named p) (Some (user_at p v (role_of (Some v) H))) (at_some (λ o. is_written p o H) (ordinal_of (Some v) p H)))
-          (unassignment_drawn w p v (unwrap_or (ordinal_of (Some v) p H) 0))
+          (unassignment_drawn stamp p v (unwrap_or (ordinal_of (Some v) p H) 0))
           ∙ chair-checks p (not (not (is_reviewer (Some v) p H)) && (not (at_some (λ o. is_written p o H) (ordinal_of (Some v) p H)) && true))
           ∙ said (stands p H && administers w p H && committee_at_work H) (is_reviewer (Some v) p H)
           (at_some (λ o. is_written p o H) (ordinal_of (Some v) p H)) (has_written v p H) (at-same (λ o. is_written p o H) (ordinal_of (Some v) p H))
@@ -393,26 +399,29 @@ module _ (w : ℕ) (H : History) (legal : Legal H) where
 -- ---- the law
 
 pub permissions_as_said : PermissionsAsSaid
-permissions_as_said None H (commands.Register name digest) legal = registrations None H legal name digest
-permissions_as_said None H (commands.SetConflict paper name true) legal = refl
-permissions_as_said None H (commands.SetConflict paper name false) legal = refl
-permissions_as_said None H (commands.Tag paper tag true) legal = refl
-permissions_as_said None H (commands.Tag paper tag false) legal = refl
-permissions_as_said None H _ legal = refl
-permissions_as_said (Some w) H (commands.Register name digest) legal = registrations (Some w) H legal name digest
-permissions_as_said (Some w) H (commands.SetPhase to) legal = phases w H legal to
-permissions_as_said (Some w) H (commands.Submit title abstract names) legal = submissions w H legal title abstract names
-permissions_as_said (Some w) H (commands.Revise paper title abstract) legal = revisions w H legal paper title abstract
-permissions_as_said (Some w) H (commands.Upload paper content) legal = uploads w H legal paper content
-permissions_as_said (Some w) H (commands.Withdraw paper) legal = withdrawals w H legal paper
-permissions_as_said (Some w) H (commands.Name name role) legal = namings w H legal name role
-permissions_as_said (Some w) H (commands.SetMode to) legal = modes w H legal to
-permissions_as_said (Some w) H (commands.SetConflict paper name true) legal = declarations w H legal paper name
-permissions_as_said (Some w) H (commands.SetConflict paper name false) legal = taken_back w H legal paper name
-permissions_as_said (Some w) H (commands.Bid paper value) legal = bids w H legal paper value
-permissions_as_said (Some w) H (commands.Assign paper name kind) legal = assignments w H legal paper name kind
-permissions_as_said (Some w) H (commands.Unassign paper name) legal = unassignments w H legal paper name
-permissions_as_said (Some w) H (commands.Review paper form) legal = reviewing w H legal paper form
-permissions_as_said (Some w) H (commands.Comment paper text) legal = comments w H legal paper text
-permissions_as_said (Some w) H (commands.Tag paper tag on) legal = tags w H legal paper tag on
-permissions_as_said (Some w) H (commands.Decide paper decision) legal = decisions w H legal paper decision
+permissions_as_said H call legal = by call.caller call.command
+  where
+    by : (caller : Option ℕ) (command : Command) → is_accepted_from H (call_of caller command) ≡ may_do caller H command
+    by None (commands.Register name digest) = registrations None H legal name digest
+    by None (commands.SetConflict paper name true) = refl
+    by None (commands.SetConflict paper name false) = refl
+    by None (commands.Tag paper tag true) = refl
+    by None (commands.Tag paper tag false) = refl
+    by None _ = refl
+    by (Some w) (commands.Register name digest) = registrations (Some w) H legal name digest
+    by (Some w) (commands.SetPhase to) = phases w H legal to
+    by (Some w) (commands.Submit title abstract names) = submissions w H legal title abstract names
+    by (Some w) (commands.Revise paper title abstract) = revisions w H legal paper title abstract
+    by (Some w) (commands.Upload paper content) = uploads w H legal paper content
+    by (Some w) (commands.Withdraw paper) = withdrawals w H legal paper
+    by (Some w) (commands.Name name role) = namings w H legal name role
+    by (Some w) (commands.SetMode to) = modes w H legal to
+    by (Some w) (commands.SetConflict paper name true) = declarations w H legal paper name
+    by (Some w) (commands.SetConflict paper name false) = taken_back w H legal paper name
+    by (Some w) (commands.Bid paper value) = bids w H legal paper value
+    by (Some w) (commands.Assign paper name kind) = assignments w H legal paper name kind
+    by (Some w) (commands.Unassign paper name) = unassignments w H legal paper name
+    by (Some w) (commands.Review paper form) = reviewing w H legal paper form
+    by (Some w) (commands.Comment paper text) = comments w H legal paper text
+    by (Some w) (commands.Tag paper tag on) = tags w H legal paper tag on
+    by (Some w) (commands.Decide paper decision) = decisions w H legal paper decision

@@ -42,8 +42,8 @@ title-seen u p H told =
     → (is_author u p H || ((none && members (reader u H) && begun) || ((none && is_accepted p H) || (own || false)))) ≡ true =
     λ own. text_shown (is_author u p H) none (members (reader u H)) begun (is_accepted p H) own last told in
     title_value (reader u H) at p (record {
-      submitted = λ maker more title abstract. shown (user_named (reader u H) maker);
-      revised = λ maker more title abstract. shown (user_named (reader u H) maker);
+      submitted = λ stamp more title abstract. shown (user_named (reader u H) stamp.maker);
+      revised = λ stamp more title abstract. shown (user_named (reader u H) stamp.maker);
     }) e) [] H
 
 -- ---- abstracts
@@ -79,8 +79,8 @@ abstract-seen u p H told =
     let shown : (own : Bool) → (is_author u p H || ((none && clear && begun) || ((none && out) || (own || false)))) ≡ true =
     λ own. text_shown (is_author u p H) none clear begun out own (same_nothing p at.after ∙ last) told in
     abstract_value (reader u H) at p (record {
-      submitted = λ maker more title abstract. shown (user_named (reader u H) maker);
-      revised = λ maker more title abstract. shown (user_named (reader u H) maker);
+      submitted = λ stamp more title abstract. shown (user_named (reader u H) stamp.maker);
+      revised = λ stamp more title abstract. shown (user_named (reader u H) stamp.maker);
     }) e) [] H
 
 -- ---- uploads
@@ -89,7 +89,7 @@ abstract-seen u p H told =
 pub uploads-seen_by_author : (u : Option ℕ) (p : ℕ) (H : History) → is_author u p H ≡ true → uploads_in_view p (view u H) ≡ uploads_of p H
 uploads-seen_by_author u p H h =
     fold_all (reader u H) (upload_seen p) (λ (e : Stamped). upload_told p e.entry) (passes part.content (reader u H)) (upload_tells (reader u H) p)
-    (λ at e. upload_value (reader u H) at p (λ maker more version content. first_of (is_author u p H) _ h) e) [] H
+    (λ at e. upload_value (reader u H) at p (λ stamp more version content. first_of (is_author u p H) _ h) e) [] H
 
 -- of what others who are told see of it, the last is the last
 last_upload-seen : (u : Option ℕ) (p : ℕ) (H : History) → gets_versions (standing_of u (Some p) H) (is_accepted p H) ≡ true
@@ -98,9 +98,9 @@ last_upload-seen u p H told =
     fold_last (reader u H) (upload_seen p) (λ (e : Stamped). upload_told p e.entry) (passes part.content (reader u H)) (upload_tells (reader u H) p)
     (λ at e last.
     let clear : Bool = is_clear_member (standing_to (reader u H) p) in
-    upload_value (reader u H) at p (λ maker more version content.
+    upload_value (reader u H) at p (λ stamp more version content.
     text_shown (is_author u p H) (none_in (upload_told p) at.after) clear (members_see_papers (phase_of H)) (published (reader u H) p)
-    (user_named (reader u H) maker) last told) e) [] H
+    (user_named (reader u H) stamp.maker) last told) e) [] H
 
 -- so what she is told of it is what the history tells her
 pub uploads-seen : (u : Option ℕ) (p : ℕ) (H : History) → gets_versions (standing_of u (Some p) H) (is_accepted p H) ≡ true
@@ -119,8 +119,8 @@ withdrawal_shown a m f own told = grind arith
 pub withdrawn-seen : (u : Option ℕ) (p : ℕ) (H : History) → gets_withdrawn (standing_of u (Some p) H) ≡ true → is_withdrawn_in_view p (view u H) ≡ is_withdrawn p H
 withdrawn-seen u p H told =
     ap (last_or false) (fold_all (reader u H) (withdrawal_seen p) (λ (e : Stamped). withdrawal_told p e.entry) (is_seen (reader u H)) (withdrawal_tells (reader u H) p)
-    (λ at e. withdrawal_value (reader u H) at p (λ maker more.
-    withdrawal_shown (is_author u p H) (members (reader u H)) (members_see_papers (phase_of H)) (user_named (reader u H) maker) told) e) [] H)
+    (λ at e. withdrawal_value (reader u H) at p (λ stamp more.
+    withdrawal_shown (is_author u p H) (members (reader u H)) (members_see_papers (phase_of H)) (user_named (reader u H) stamp.maker) told) e) [] H)
 
 -- ---- authors
 
@@ -134,8 +134,8 @@ pub authors-seen : (u : Option ℕ) (p : ℕ) (H : History) → shows_author (st
 authors-seen u p H told =
     fold_all (reader u H) (author_seen p) (λ (e : Stamped). author_told p e.stamp.maker e.entry) (names_author (reader u H)) (author_tells (reader u H) p)
     (λ at e. author_value (reader u H) at p (record {
-      submitted = λ maker more title abstract. shown false;
-      coauthor = λ maker more user. shown (user_named (reader u H) maker || false);
+      submitted = λ stamp more title abstract. shown false;
+      coauthor = λ stamp more user. shown (user_named (reader u H) stamp.maker || false);
     }) e) [] H
   where
     chair : Bool
@@ -168,4 +168,4 @@ third n w c own h = grind arith
 -- a clear chair sees each entry on a conflict with the paper from the bidding on
 pub conflicts-seen : (u : Option ℕ) (p : ℕ) (H : History) → gets_conflicts (standing_of u (Some p) H) ≡ true → (v : Option ℕ) → is_conflict_on_in_view v p (view u H) ≡ is_conflict_on v p H
 conflicts-seen u p H told v =
-    declared-seen_where u v p H (λ at maker more user on _. third (user_named (reader u H) user) (is_author (Some maker) p H && is_author u p H) (is_clear_chair (standing_to (reader u H) p) && chairs_see_conflicts (phase_of H)) (user_named (reader u H) maker) told)
+    declared-seen_where u v p H (λ at stamp more user on _. third (user_named (reader u H) user) (is_author (Some stamp.maker) p H && is_author u p H) (is_clear_chair (standing_to (reader u H) p) && chairs_see_conflicts (phase_of H)) (user_named (reader u H) stamp.maker) told)

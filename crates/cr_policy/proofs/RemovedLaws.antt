@@ -89,7 +89,7 @@ module _ (u : Option ℕ) (before after : History) (gone : Stamped) where
     conflict-without p =
         ap (last_or false)
         (told-without (λ (e : Stamped). conflict_told u p e.entry) before after gone
-        (sym (conflict_value (reader u with_it) there u p gone (λ maker more user on hers. first_of (is_number u user) _ hers))
+        (sym (conflict_value (reader u with_it) there u p gone (λ stamp more user on hers. first_of (is_number u user) _ hers))
         ∙ sym (conflict_tells (reader u with_it) u p there gone)
         ∙ ap (flat_map (conflict_seen u p)) nothing))
 
@@ -98,8 +98,8 @@ module _ (u : Option ℕ) (before after : History) (gone : Stamped) where
     authors-without p h =
         told-without (λ (e : Stamped). author_told p e.stamp.maker e.entry) before after gone
         (sym (author_value (reader u with_it) there p (record {
-          submitted = λ maker more title abstract. first_of (is_author u p with_it) _ h;
-          coauthor = λ maker more user. first_of (is_author u p with_it) _ h;
+          submitted = λ stamp more title abstract. first_of (is_author u p with_it) _ h;
+          coauthor = λ stamp more user. first_of (is_author u p with_it) _ h;
         }) gone)
         ∙ sym (author_tells (reader u with_it) p there gone)
         ∙ ap (flat_map (author_seen p)) nothing)

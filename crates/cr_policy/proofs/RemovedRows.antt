@@ -8,13 +8,14 @@ use Rattle.std.proofs.lemmas.List.Concat.{flat_map-append}
 use Rattle.std.proofs.lemmas.List.Folds.{list_any-append}
 use Rattle.cr_base.specs.declared.entry.Entry.{Entry}
 use Rattle.cr_base.specs.declared.entry.Entry.TheVariants.{PhaseSet, Submitted, Revised, Uploaded, Reviewed, Decided}
+use Rattle.cr_base.specs.declared.entry.Stamp.{Stamp}
 use Rattle.cr_base.specs.declared.entry.Stamped.{Stamped}
 use Rattle.cr_base.specs.Lists.{given, is_nothing, until}
+use Rattle.cr_base.specs.Drawn.{stamped}
 use Rattle.cr_base.specs.History.{History, opens_discussion, title_told, upload_told, form_told, decision_told}
 use Rattle.cr_base.specs.Page.{is_clear_member, is_clear_chair}
 use Rattle.cr_base.specs.Phases.{members_see_papers, authors_read_reviews, authors_read_decisions}
 use Rattle.cr_history.proofs.ListCuts.{until-append, until-before}
-use Rattle.cr_history.proofs.LineAgreement.{stamp}
 use Rattle.cr_policy.specs.Part.{Part}
 use Rattle.cr_policy.specs.Triggers.{Reader, Around, Position, position_of, standing_to, members, authors, TriggerRow, rows, applies_any, none_in, none_alike, published, reads_reviews}
 use Rattle.cr_policy.specs.View.{is_seen, rows_at}
@@ -212,7 +213,7 @@ none_alike-alike e gone H h = absurd (true≢false h)
 no-opening : (e : Stamped) (gone : Stamped) → none_alike e.entry (gone ∷ []) ≡ false → opens_discussion e ≡ false
 no-opening e gone = of e.entry
   where
-    of : (entry : Entry) → none_alike entry (gone ∷ []) ≡ false → opens_discussion (stamp e.stamp.maker e.more entry) ≡ false
+    of : (entry : Entry) → none_alike entry (gone ∷ []) ≡ false → opens_discussion (stamped e.stamp e.more entry) ≡ false
     of (PhaseSet phase) h = absurd (true≢false h)
     of entry h = refl
 
@@ -220,7 +221,7 @@ no-opening e gone = of e.entry
 unseen-opens : (r : Reader) (at : Around) (e : Stamped) → is_seen r at e ≡ false → opens_discussion e ≡ false
 unseen-opens r at e = of e.entry
   where
-    of : (entry : Entry) → is_seen r at (stamp e.stamp.maker e.more entry) ≡ false → opens_discussion (stamp e.stamp.maker e.more entry) ≡ false
+    of : (entry : Entry) → is_seen r at (stamped e.stamp e.more entry) ≡ false → opens_discussion (stamped e.stamp e.more entry) ≡ false
     of (PhaseSet phase) h = absurd (true≢false h)
     of entry h = refl
 
@@ -253,37 +254,37 @@ record SilentDecision (r : Reader) (last : Bool) (p : ℕ) : Type 0 where
   outcome : (last && authors r p && authors_read_decisions r.now) ≡ false
   accepted : (last && r.accepted p) ≡ false
 
-module _ (r : Reader) (at : Around) (maker : ℕ) (more : Bool) where
-  silent-texts : (p : ℕ) (e : Entry) → is_seen r at (stamp maker more e) ≡ false → is_nothing (title_told p e ++ []) ≡ false
+module _ (r : Reader) (at : Around) (stamp : Stamp) (more : Bool) where
+  silent-texts : (p : ℕ) (e : Entry) → is_seen r at (stamped stamp more e) ≡ false → is_nothing (title_told p e ++ []) ≡ false
       → SilentTexts r (none_alike e at.after) p
   silent-texts p (Submitted paper title abstract) unseen told = absurd (true≢false unseen)
   silent-texts p (Revised paper title abstract) unseen told =
-      let none = none-applies (rows_at r at (stamp maker more (Revised paper title abstract))) unseen in
+      let none = none-applies (rows_at r at (stamped stamp more (Revised paper title abstract))) unseen in
       subst (λ q. SilentTexts r (none_alike (Revised paper title abstract) at.after) q) (eqb-true paper p (on_paper (eqb paper p) title told))
       (record { title = none.1.0; abstract = none.1.1.0; accepted = none.1.1.1.0; published = none.1.1.1.1.0 })
   silent-texts p e unseen told = absurd (true≢false told)
 
-  silent-upload : (p : ℕ) (e : Entry) → is_seen r at (stamp maker more e) ≡ false → is_nothing (upload_told p e ++ []) ≡ false
+  silent-upload : (p : ℕ) (e : Entry) → is_seen r at (stamped stamp more e) ≡ false → is_nothing (upload_told p e ++ []) ≡ false
       → SilentUpload r (none_alike e at.after) p
   silent-upload p (Uploaded paper version content) unseen told =
-      let none = none-applies (rows_at r at (stamp maker more (Uploaded paper version content))) unseen in
+      let none = none-applies (rows_at r at (stamped stamp more (Uploaded paper version content))) unseen in
       subst (λ q. SilentUpload r (none_alike (Uploaded paper version content) at.after) q) (eqb-true paper p (on_paper (eqb paper p) _ told))
       (record { content = none.1.0; published = none.1.1.0 })
   silent-upload p e unseen told = absurd (true≢false told)
 
-  silent-form : (p o : ℕ) (e : Entry) → is_seen r at (stamp maker more e) ≡ false → is_nothing (form_told p o e ++ []) ≡ false
+  silent-form : (p o : ℕ) (e : Entry) → is_seen r at (stamped stamp more e) ≡ false → is_nothing (form_told p o e ++ []) ≡ false
       → SilentForm r (position_of at e) p
   silent-form p o (Reviewed paper ordinal version form) unseen told =
-      let none = none-applies (rows_at r at (stamp maker more (Reviewed paper ordinal version form))) unseen in
+      let none = none-applies (rows_at r at (stamped stamp more (Reviewed paper ordinal version form))) unseen in
       let both = and_parts (eqb paper p) (eqb ordinal o) (on_paper (eqb paper p && eqb ordinal o) _ told) in
       subst (λ q. SilentForm r (position_of at (Reviewed paper ordinal version form)) q) (eqb-true paper p both.0)
       (record { done = none.0; discussed = none.1.0; told = none.1.1.0 })
   silent-form p o e unseen told = absurd (true≢false told)
 
-  silent-decision : (p : ℕ) (e : Entry) → is_seen r at (stamp maker more e) ≡ false → is_nothing (decision_told p e ++ []) ≡ false
+  silent-decision : (p : ℕ) (e : Entry) → is_seen r at (stamped stamp more e) ≡ false → is_nothing (decision_told p e ++ []) ≡ false
       → SilentDecision r (none_alike e at.after) p
   silent-decision p (Decided paper decision) unseen told =
-      let none = none-applies (rows_at r at (stamp maker more (Decided paper decision))) unseen in
+      let none = none-applies (rows_at r at (stamped stamp more (Decided paper decision))) unseen in
       subst (λ q. SilentDecision r (none_alike (Decided paper decision) at.after) q) (eqb-true paper p (on_paper (eqb paper p) decision told))
       (record { outcome = none.1.0; accepted = none.1.1.0 })
   silent-decision p e unseen told = absurd (true≢false told)
@@ -306,7 +307,7 @@ module _ (r : Reader) (at : Around) (gone : Stamped) (unseen : is_seen r at gone
   moved-texts : (p : ℕ) → Moved (none_in (title_told p) (gone ∷ [])) with without place → MovedTexts p
   moved-texts p moved =
       let apart : Bool = none_in (title_told p) (gone ∷ []) in
-      let silent = silent-texts r at gone.stamp.maker gone.more p gone.entry unseen in
+      let silent = silent-texts r at gone.stamp gone.more p gone.entry unseen in
       record {
         title = stands-row_both apart with.last without.last place.last (members r) bidding moved.last (λ no. (silent no).title);
         abstract = stands-row_both apart with.last without.last place.last (is_clear_member (standing_to r p)) bidding moved.last (λ no. (silent no).abstract);
@@ -324,7 +325,7 @@ module _ (r : Reader) (at : Around) (gone : Stamped) (unseen : is_seen r at gone
       alike-rows _ _ refl (refl, (texts.title, (texts.abstract, (texts.accepted, (texts.published, tt)))))
   moved-rows by (Uploaded paper version content) moved =
       let apart : Bool = none_in (upload_told paper) (gone ∷ []) in
-      let silent = silent-upload r at gone.stamp.maker gone.more paper gone.entry unseen in
+      let silent = silent-upload r at gone.stamp gone.more paper gone.entry unseen in
       alike-rows _ _ refl (
         refl,
         (
@@ -334,7 +335,7 @@ module _ (r : Reader) (at : Around) (gone : Stamped) (unseen : is_seen r at gone
       )
   moved-rows by (Reviewed paper ordinal version form) moved =
       let apart : Bool = none_in (form_told paper ordinal) (gone ∷ []) in
-      let silent = silent-form r at gone.stamp.maker gone.more paper ordinal gone.entry unseen in
+      let silent = silent-form r at gone.stamp gone.more paper ordinal gone.entry unseen in
       alike-rows _ _ refl (
         stands-row apart with.first without.first place.first (is_clear_chair (standing_to r paper)) moved.first (λ no. (silent no).done),
         (
@@ -348,7 +349,7 @@ module _ (r : Reader) (at : Around) (gone : Stamped) (unseen : is_seen r at gone
       )
   moved-rows by (Decided paper decision) moved =
       let apart : Bool = none_in (decision_told paper) (gone ∷ []) in
-      let silent = silent-decision r at gone.stamp.maker gone.more paper gone.entry unseen in
+      let silent = silent-decision r at gone.stamp gone.more paper gone.entry unseen in
       alike-rows _ _ refl (
         refl,
         (

@@ -13,11 +13,11 @@ use Rattle.cr_base.specs.declared.standing.Standing.{Standing}
 use Rattle.cr_base.specs.declared.words.Phase.TheVariants.{Discussion}
 use Rattle.cr_base.specs.Answering.{review_told}
 use Rattle.cr_base.specs.Lists.{is_nothing, last, last_from, last_or, listed, since, until}
+use Rattle.cr_base.specs.Drawn.{stamped}
 use Rattle.cr_base.specs.History.{History, FormTold, form_told, own_form_told, opens_discussion, whole_form}
 use Rattle.cr_base.specs.HistoryFacts.{standing_of, forms_of, last_form_of, forms_discussed_of, own_forms_of, is_written}
 use Rattle.cr_base.specs.Page.{is_clear_member, is_clear_chair, where_told}
 use Rattle.cr_base.specs.Phases.{members_read_reviews, authors_read_reviews}
-use Rattle.cr_history.proofs.LineAgreement.{stamp}
 use Rattle.cr_policy.specs.Part as part
 use Rattle.cr_policy.specs.Triggers.{Reader, reader, Around, user_named, standing_to}
 use Rattle.cr_policy.specs.View.{view}
@@ -55,7 +55,7 @@ written-seen u p o H told =
     ∙ ap not
     (is_nothing-kept (passes part.done r) forms
     (λ at e none. form_kept part.done r at p o
-    (λ maker more version form. shown (is_nothing (flat_map forms at.before)) (is_clear_chair (standing_to r p)) none told) e) [] H refl)
+    (λ stamp more version form. shown (is_nothing (flat_map forms at.before)) (is_clear_chair (standing_to r p)) none told) e) [] H refl)
   where
     r : Reader
     r = reader u H
@@ -105,9 +105,9 @@ module _ (u : Option ℕ) (p : ℕ) (H : History) (accounts : List AccountLine) 
 
   -- whoever isn't an author is shown all of a form or no grade of it
   shows-form : (at : Around) → ShowsForm tell r at p
-  shows-form at maker more ordinal version form graded =
-      told_alike by accounts named user o (passes part.version r at (stamp maker more (Reviewed p ordinal version form))) version form
-      (λ member. whole _ _ by.author _ (user_named r maker) member graded)
+  shows-form at stamp more ordinal version form graded =
+      told_alike by accounts named user o (passes part.version r at (stamped stamp more (Reviewed p ordinal version form))) version form
+      (λ member. whole _ _ by.author _ (user_named r stamp.maker) member graded)
     where
       whole : (d n a f own : Bool) → not a ≡ true → (d || ((n && a && f) || (own || false))) ≡ true → (d || (own || false)) ≡ true
       whole d n a f own hn h = grind arith
@@ -118,7 +118,7 @@ module _ (u : Option ℕ) (p : ℕ) (H : History) (accounts : List AccountLine) 
   last_form-seen author notified =
       last_as tell r (form_seen p o) told (passes part.score r) (form_tells tell r p o shows-form)
       (λ at e last. form_kept part.score r at p o
-      (λ maker more version form. shown _ (is_nothing (flat_map told at.after)) by.author (authors_read_reviews by.phase) (user_named r maker)
+      (λ stamp more version form. shown _ (is_nothing (flat_map told at.after)) by.author (authors_read_reviews by.phase) (user_named r stamp.maker)
       last author notified) e) [] H
     where
       shown : (d n a f own : Bool) → n ≡ true → a ≡ true → f ≡ true → (d || ((n && a && f) || (own || false))) ≡ true
@@ -131,7 +131,7 @@ module _ (u : Option ℕ) (p : ℕ) (H : History) (accounts : List AccountLine) 
         → ((not (list_any opens_discussion at.before) && none) || list_any opens_discussion at.before) ≡ true
         → only (passes part.score r at e) (told e) ≡ told e
     kept_at at e none is placed =
-        form_kept part.score r at p o (λ maker more version form.
+        form_kept part.score r at p o (λ stamp more version form.
         shown (list_any opens_discussion at.before) none _ (is_clear_member by) (members_read_reviews by.phase) _ is placed clear discussed) e
       where
         shown : (opened none n c d rest : Bool) → none ≡ n → ((not opened && none) || opened) ≡ true → c ≡ true → d ≡ true

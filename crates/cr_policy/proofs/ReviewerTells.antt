@@ -15,13 +15,13 @@ use Rattle.cr_base.specs.declared.words.Role.{Role}
 use Rattle.cr_base.specs.declared.words.Role.TheVariants.{Account, Member, Chair}
 use Rattle.cr_base.specs.Answering.{reviewer_told}
 use Rattle.cr_base.specs.Lists.{last}
+use Rattle.cr_base.specs.Drawn.{stamped}
 use Rattle.cr_base.specs.History.{History, SeatTold, bid_told, assigned_told, unassigned_told}
 use Rattle.cr_base.specs.HistoryFacts.{phase_of, standing_of, is_conflict_on, bid_of, ordinal_of, seats_of, seats_left, reviewers_of, assigned_under}
 use Rattle.cr_base.specs.Page.{is_clear_member, is_clear_chair, gets_bids, gets_conflicts, gets_reviewers, shows_reviewer, where_told}
 use Rattle.cr_base.specs.Phases.{chairs_see_conflicts, chairs_see_reviewers, members_see_reviewers, authors_see_reviewers}
 use Rattle.cr_base.specs.Sources.{name_in}
 use Rattle.cr_base.specs.Words.{is_overt, is_chair, is_member}
-use Rattle.cr_history.proofs.LineAgreement.{stamp}
 use Rattle.cr_policy.specs.Part as part
 use Rattle.cr_policy.specs.Sighting.{Sighting, where_shown}
 use Rattle.cr_policy.specs.Triggers.{reader, Around, user_named, standing_to, unless_anonymous}
@@ -39,7 +39,7 @@ pub bid-seen : (u v : Option ℕ) (p : ℕ) (H : History) → gets_bids (standin
 bid-seen u v p H told =
     ap last
     (fold_all (reader u H) (bid_seen v p) (λ (e : Stamped). bid_told v p e.stamp.maker e.entry) (passes_both part.by part.value (reader u H))
-    (bid_tells (reader u H) v p) (λ at e. bid_value (reader u H) at v p (λ maker more value. both_true (clear _) (clear _)) e) [] H)
+    (bid_tells (reader u H) v p) (λ at e. bid_value (reader u H) at v p (λ stamp more value. both_true (clear _) (clear _)) e) [] H)
   where
     clear : (rest : Bool) → (gets_bids (standing_of u (Some p) H) || rest) ≡ true
     clear rest = first_of (gets_bids (standing_of u (Some p) H)) rest told
@@ -49,8 +49,8 @@ bid-seen u v p H told =
 -- and each entry by which anybody is assigned to it, or unassigned from it
 pub seat-seen_by_chair : (u v : Option ℕ) (p : ℕ) (H : History) → gets_conflicts (standing_of u (Some p) H) ≡ true → ordinal_in_view v p (view u H) ≡ ordinal_of v p H
 seat-seen_by_chair u v p H told = seat-seen_where u v p H (λ at. record {
-  assigned = λ maker more user kind ordinal hers. both_true (clear (user_named (reader u H) user) _) (clear (user_named (reader u H) user) _);
-  unassigned = λ maker more user ordinal hers. both_true (clear (user_named (reader u H) user) _) (clear (user_named (reader u H) user) _);
+  assigned = λ stamp more user kind ordinal hers. both_true (clear (user_named (reader u H) user) _) (clear (user_named (reader u H) user) _);
+  unassigned = λ stamp more user ordinal hers. both_true (clear (user_named (reader u H) user) _) (clear (user_named (reader u H) user) _);
 })
   where
     chair : Bool
@@ -155,10 +155,10 @@ module _ (u : Option ℕ) (p : ℕ) (H : History) (accounts : List AccountLine) 
       shown c b m a named own h = grind arith
 
   assigned-shown : (at : Around) → ShowsAssigned tell (reader u H) at p
-  assigned-shown at maker more user kind ordinal =
+  assigned-shown at stamp more user kind ordinal =
       let named : Bool = user_named (reader u H) user in
-      let own : Bool = user_named (reader u H) maker in
-      let e : Stamped = stamp maker more (Assigned p user kind ordinal) in
+      let own : Bool = user_named (reader u H) stamp.maker in
+      let e : Stamped = stamped stamp more (Assigned p user kind ordinal) in
       let shown_kind = where_shown (passes part.review_kind (reader u H) at e) (Some kind) in
       let shown_user = where_shown (passes part.user (reader u H) at e) (Some user) in
       let name : Option ℕ → Option (List ℕ) = option_and_then (name_in accounts) in
@@ -182,7 +182,7 @@ module _ (u : Option ℕ) (p : ℕ) (H : History) (accounts : List AccountLine) 
       fold_all (reader u H) (unassigned_seen p) (λ (e : Stamped). unassigned_told p e.entry) (passes part.ordinal (reader u H))
       (unassigned_tells (reader u H) p)
       (λ at e. unassigned_value (reader u H) at u p
-      (λ maker more user ordinal. label_shown (user_named (reader u H) user) (user_named (reader u H) maker)) e) [] H
+      (λ stamp more user ordinal. label_shown (user_named (reader u H) user) (user_named (reader u H) stamp.maker)) e) [] H
 
   pub reviewers-seen : map tell (reviewers_in_view p (view u H)) ≡ map tell (reviewers_of p H)
   reviewers-seen =
@@ -204,17 +204,17 @@ module _ (u : Option ℕ) (p : ℕ) (H : History) (accounts : List AccountLine) 
       ∙ under-named o (seats_of p H)
     where
       shown : (at : Around) → ShowsAssigned named_alone (reader u H) at p
-      shown at maker more user kind ordinal =
+      shown at stamp more user kind ordinal =
           let named : Bool = user_named (reader u H) user in
-          let own : Bool = user_named (reader u H) maker in
+          let own : Bool = user_named (reader u H) stamp.maker in
           (label_shown named own, ap (λ b. record { ordinal = ordinal; kind = None; user = where_shown b (Some user) }) (user_shown named own names))
 
   -- a clear member who is told who reviews the paper sees all of each seat
   module _ (names : shows_reviewer by ≡ true) (clear : member ≡ true) where
     seat-shown : (at : Around) → ShowsAssigned (λ (seat : SeatTold). seat) (reader u H) at p
-    seat-shown at maker more user kind ordinal =
+    seat-shown at stamp more user kind ordinal =
         let named : Bool = user_named (reader u H) user in
-        let own : Bool = user_named (reader u H) maker in
+        let own : Bool = user_named (reader u H) stamp.maker in
         let kinds = ap (λ b. where_shown b (Some kind)) (kind_shown named own clear) in
         let users = ap (λ b. where_shown b (Some user)) (user_shown named own names) in
         (label_shown named own, λ i. record { ordinal = ordinal; kind = kinds i; user = users i })

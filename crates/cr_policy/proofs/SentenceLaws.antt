@@ -8,6 +8,7 @@ use Rattle.std.specs.Str.{bytes_eq}
 use Rattle.std.proofs.lemmas.Bool.{eqb-true, eq-eqb, or_left, or_right}
 use Rattle.std.proofs.lemmas.Bool.Decides.{nat_tests}
 use Rattle.cr_base.specs.declared.command.Command.{Command}
+use Rattle.cr_base.specs.declared.entry.Stamp.{Stamp}
 use Rattle.cr_base.specs.declared.command.Query.{Query}
 use Rattle.cr_base.specs.declared.reply.AccountLine.{AccountLine}
 use Rattle.cr_base.specs.declared.reply.Reply.{Reply}
@@ -17,6 +18,7 @@ use Rattle.cr_base.specs.declared.words.Phase.TheVariants.{Setup, Submission, Bi
 use Rattle.cr_base.specs.declared.words.Role.{Role}
 use Rattle.cr_base.specs.declared.words.Role.TheVariants.{Account, Member, Chair}
 use Rattle.cr_base.specs.Answering.{query_checks, reply_or_rule, told_by, answer_by}
+use Rattle.cr_base.specs.Calls.{stamp_of, call_of}
 use Rattle.cr_base.specs.Checks.{Check, judged}
 use Rattle.cr_base.specs.Drawn.{Drawn}
 use Rattle.cr_base.specs.Judging.{judge_by}
@@ -261,15 +263,20 @@ module _ (u : Option ℕ) (H : History) (legal : Legal H) where
   }
 
   -- judgement by the view is that by the facts of the history
-  pub judge-history : (command : Command) → judge u (view u H) command ≡ judge_by (facts_of u H) (shown_of H) u command
-  judge-history command = Legal-judge u H command legal ∙ sym (λ i. judge_by (facts-same i) (shown-same i) u command)
+  abbrev pub judged_on : Command → Result Drawn Rule
+  judged_on command = judge_by (facts_of u H) (shown_of H) (stamp_of (call_of u command)) command
 
-  pub accepted-as : (command : Command) → is_ok (judge u (view u H) command) ≡ is_ok (judge_by (facts_of u H) (shown_of H) u command)
+  pub judge-history : (command : Command) → judge (view u H) (call_of u command) ≡ judged_on command
+  judge-history command =
+      let stamp : Stamp = stamp_of (call_of u command) in
+      Legal-judge H (call_of u command) legal ∙ sym (λ i. judge_by (facts-same i) (shown-same i) stamp command)
+
+  pub accepted-as : (command : Command) → is_ok (judge (view u H) (call_of u command)) ≡ is_ok (judged_on command)
   accepted-as command = ap (λ (r : Result Drawn Rule). is_ok r) (judge-history command)
 
   -- and accepts what breaks none of these checks
   pub accepted-checks : (command : Command) (checks : List Check) (drawn : Drawn)
-      → judge_by (facts_of u H) (shown_of H) u command ≡ judged checks drawn → is_ok (judge u (view u H) command) ≡ none_broken checks
+      → judged_on command ≡ judged checks drawn → is_ok (judge (view u H) (call_of u command)) ≡ none_broken checks
   accepted-checks command checks drawn is =
       accepted-as command ∙ ap (λ (r : Result Drawn Rule). is_ok r) is ∙ judged-none_broken checks drawn
 

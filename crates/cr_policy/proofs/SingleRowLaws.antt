@@ -5,17 +5,19 @@ use Rattle.std.proofs.lemmas.List.{map-append}
 use Rattle.cr_base.specs.declared.bulk.Broken.{Broken}
 use Rattle.cr_base.specs.declared.bulk.Broken.TheVariants as broken
 use Rattle.cr_base.specs.declared.bulk.BulkRow.{BulkRow}
+use Rattle.cr_base.specs.declared.command.Call.{Call}
 use Rattle.cr_base.specs.declared.command.Command.{Command}
 use Rattle.cr_base.specs.declared.entry.Entry.{Entry}
+use Rattle.cr_base.specs.declared.entry.Stamp.{Stamp}
 use Rattle.cr_base.specs.declared.entry.Stamped.{Stamped}
 use Rattle.cr_base.specs.declared.reply.Rule.{Rule}
 use Rattle.cr_base.specs.Bulk.{entries_of, and_rows, and_behind, rows_judged, bulk_checks, bulk_of_rows, bulk_behind}
 use Rattle.cr_base.specs.Checks.{judged}
-use Rattle.cr_base.specs.Drawn.{Drawn, grouped}
+use Rattle.cr_base.specs.Calls.{BulkCall, call_by}
+use Rattle.cr_base.specs.Drawn.{Drawn, stamped, grouped}
 use Rattle.cr_base.specs.History.{History}
-use Rattle.cr_history.proofs.LineAgreement.{stamp}
 use Rattle.cr_policy.specs.Judge.{view_basis, own_sightings, judge_bulk}
-use Rattle.cr_policy.specs.Legal.{Call, followed_by, step}
+use Rattle.cr_policy.specs.Legal.{followed_by, step}
 use Rattle.cr_policy.specs.SingleRows.{call_told, row_calls, IsAccepted, AcceptedInTurn, LeadSingly, unmarked, BulkIsItsRows}
 use Rattle.cr_policy.specs.View.{View, view}
 use Rattle.cr_policy.specs.ViewFacts.{facts_in_view}
@@ -24,68 +26,74 @@ use Rattle.cr_policy.proofs.LegalLaws.{legal_invariants}
 
 -- ---- marks
 
--- entries of one maker, each of a command of its own
-abbrev alone : ℕ → List Entry → History
-alone user es = map (λ (e : Entry). stamp user false e) es
+-- entries under one stamp, each of a command of its own
+abbrev alone : Stamp → List Entry → History
+alone stamp es = map (λ (e : Entry). stamped stamp false e) es
 
-unmarked-grouped : (user : ℕ) (es : List Entry) → unmarked (grouped user es) ≡ alone user es
-unmarked-grouped user [] = refl
-unmarked-grouped user (e ∷ []) = refl
-unmarked-grouped user (e ∷ next ∷ es) = ap (λ (g : History). stamp user false e ∷ g) (unmarked-grouped user (next ∷ es))
+unmarked-grouped : (stamp : Stamp) (es : List Entry) → unmarked (grouped stamp es) ≡ alone stamp es
+unmarked-grouped stamp [] = refl
+unmarked-grouped stamp (e ∷ []) = refl
+unmarked-grouped stamp (e ∷ next ∷ es) = ap (λ (g : History). stamped stamp false e ∷ g) (unmarked-grouped stamp (next ∷ es))
 
-unmarked-alone : (user : ℕ) (es : List Entry) → unmarked (alone user es) ≡ alone user es
-unmarked-alone user [] = refl
-unmarked-alone user (e ∷ es) = ap (λ (g : History). stamp user false e ∷ g) (unmarked-alone user es)
+unmarked-alone : (stamp : Stamp) (es : List Entry) → unmarked (alone stamp es) ≡ alone stamp es
+unmarked-alone stamp [] = refl
+unmarked-alone stamp (e ∷ es) = ap (λ (g : History). stamped stamp false e ∷ g) (unmarked-alone stamp es)
 
 abbrev unmark : Stamped → Stamped
-unmark e = record { stamp = e.stamp; more = false; entry = e.entry }
+unmark e = stamped e.stamp false e.entry
 
-same-unmarked : (user : ℕ) (H : History) (es : List Entry) → unmarked (H ++ grouped user es) ≡ unmarked (H ++ alone user es)
-same-unmarked user H es =
-    map-append unmark H (grouped user es)
-    ∙ ap (λ (g : History). unmarked H ++ g) (unmarked-grouped user es ∙ sym (unmarked-alone user es))
-    ∙ sym (map-append unmark H (alone user es))
+same-unmarked : (stamp : Stamp) (H : History) (es : List Entry) → unmarked (H ++ grouped stamp es) ≡ unmarked (H ++ alone stamp es)
+same-unmarked stamp H es =
+    map-append unmark H (grouped stamp es)
+    ∙ ap (λ (g : History). unmarked H ++ g) (unmarked-grouped stamp es ∙ sym (unmarked-alone stamp es))
+    ∙ sym (map-append unmark H (alone stamp es))
 
 -- ---- one row before others
 
-module _ (user : ℕ) where
+module _ (stamp : Stamp) where
+  abbrev user : ℕ
+  user = stamp.maker
+
+  abbrev bulk : List BulkRow → BulkCall
+  bulk rows = record { stamp = stamp; rows = rows }
+
   -- an accepted row's command leads to the history with its entry behind it
-  row-leads : (H : History) (row : BulkRow) (rows : List BulkRow) (drawn : Drawn) (ready : IsReady user H) (first : RowAdds user H drawn) (to : History)
-      → row_seen user H row ≡ Ok drawn → LeadSingly (next user H drawn ready first false) user rows to → LeadSingly H user (row ∷ rows) to
+  row-leads : (H : History) (row : BulkRow) (rows : List BulkRow) (drawn : Drawn) (ready : IsReady stamp H) (first : RowAdds stamp H drawn) (to : History)
+      → row_seen stamp H row ≡ Ok drawn → LeadSingly (next stamp H drawn ready first false) stamp rows to → LeadSingly H stamp (row ∷ rows) to
   row-leads H row rows drawn ready first to accepted leads =
       record {
-        commands = subst (λ (told : Result Command Rule). length (call_told user told ++ row_calls user rows) ≡ suc (length rows)) (sym calls.is) (ap suc leads.commands);
-        accepted = subst (λ (told : Result Command Rule). AcceptedInTurn H (call_told user told ++ row_calls user rows) to) (sym calls.is) (call_accepted, behind);
+        commands = subst (λ (told : Result Command Rule). length (call_told stamp told ++ row_calls stamp rows) ≡ suc (length rows)) (sym calls.is) (ap suc leads.commands);
+        accepted = subst (λ (told : Result Command Rule). AcceptedInTurn H (call_told stamp told ++ row_calls stamp rows) to) (sym calls.is) (call_accepted, behind);
       }
     where
-      calls : RowCalls user H row drawn
-      calls = row-calls user H row drawn ready accepted
+      calls : RowCalls stamp H row drawn
+      calls = row-calls stamp H row drawn ready accepted
 
       call : Call
-      call = record { caller = Some user; command = calls.command }
+      call = call_by stamp calls.command
 
       call_accepted : IsAccepted H call
       call_accepted = record { allowed = record { caller = calls.caller; bounded = calls.told.bounded }; drawn = drawn; accepted = calls.accepted }
 
-      behind : AcceptedInTurn (step H call) (row_calls user rows) to
-      behind = subst (λ (G : History). AcceptedInTurn G (row_calls user rows) to)
+      behind : AcceptedInTurn (step H call) (row_calls stamp rows) to
+      behind = subst (λ (G : History). AcceptedInTurn G (row_calls stamp rows) to)
           (sym (ap (followed_by H) calls.accepted ∙ ap (λ (g : History). H ++ g) first.group)) leads.accepted
 
   -- ---- accepted rows
 
-  rows-lead : (rows : List BulkRow) (n : ℕ) (H : History) (es : List Entry) → IsReady user H → seen user H n rows ≡ Ok es
-      → LeadSingly H user rows (H ++ alone user es)
+  rows-lead : (rows : List BulkRow) (n : ℕ) (H : History) (es : List Entry) → IsReady stamp H → seen stamp H n rows ≡ Ok es
+      → LeadSingly H stamp rows (H ++ alone stamp es)
   rows-lead [] n H es ready accepted =
-      subst (λ (es : List Entry). LeadSingly H user [] (H ++ alone user es)) (no_rows user es accepted)
+      subst (λ (es : List Entry). LeadSingly H stamp [] (H ++ alone stamp es)) (no_rows stamp es accepted)
       (record { commands = refl; accepted = sym (append-nil H) })
   rows-lead (row ∷ rows) n H es ready accepted =
-      let all : AreAccepted user H n row rows es = rows-accepted user H n row rows es ready accepted in
-      let after : History = next user H all.drawn ready all.first false in
-      let leads : LeadSingly after user rows (after ++ alone user all.more) =
-      rows-lead rows (n + 1) after all.more (next-ready user H all.drawn ready all.first false) (all.rest false) in
-      subst (λ (es : List Entry). LeadSingly H user (row ∷ rows) (H ++ alone user es)) (sym all.all)
-      (row-leads H row rows all.drawn ready all.first (H ++ stamp user false all.first.entry ∷ alone user all.more) all.judged
-      (subst (LeadSingly after user rows) (append_assoc H (stamp user false all.first.entry ∷ []) (alone user all.more)) leads))
+      let all : AreAccepted stamp H n row rows es = rows-accepted stamp H n row rows es ready accepted in
+      let after : History = next stamp H all.drawn ready all.first false in
+      let leads : LeadSingly after stamp rows (after ++ alone stamp all.more) =
+      rows-lead rows (n + 1) after all.more (next-ready stamp H all.drawn ready all.first false) (all.rest false) in
+      subst (λ (es : List Entry). LeadSingly H stamp (row ∷ rows) (H ++ alone stamp es)) (sym all.all)
+      (row-leads H row rows all.drawn ready all.first (H ++ stamped stamp false all.first.entry ∷ alone stamp all.more) all.judged
+      (subst (LeadSingly after stamp rows) (append_assoc H (stamped stamp false all.first.entry ∷ []) (alone stamp all.more)) leads))
 
   -- ---- the first broken row
 
@@ -97,19 +105,19 @@ module _ (user : ℕ) where
     rule : Rule
     refusal_is : refusal ≡ broken.Row (length before + n) rule
     singly : History
-    leads : LeadSingly H user before singly
-    breaks : row_seen user singly row ≡ Err rule
+    leads : LeadSingly H stamp before singly
+    breaks : row_seen stamp singly row ≡ Err rule
 
-  first-broken : (rows : List BulkRow) (n : ℕ) (H : History) (refusal : Broken) → IsReady user H → seen user H n rows ≡ Err refusal
+  first-broken : (rows : List BulkRow) (n : ℕ) (H : History) (refusal : Broken) → IsReady stamp H → seen stamp H n rows ≡ Err refusal
       → FirstBroken H n rows refusal
   first-broken [] n H refusal ready refused = cc
-  first-broken (row ∷ rows) n H refusal ready refused = by (row_seen user H row) refl refused (first-broken rows (n + 1))
+  first-broken (row ∷ rows) n H refusal ready refused = by (row_seen stamp H row) refl refused (first-broken rows (n + 1))
     where
       view_goes : History → Result (List Entry) Broken
-      view_goes group = rows_judged (view_basis user) user (view (Some user) H ++ own_sightings group) (n + 1) rows
+      view_goes group = rows_judged (view_basis user) stamp (view (Some user) H ++ own_sightings group) (n + 1) rows
 
-      by : (r : Result Drawn Rule) → row_seen user H row ≡ r → and_behind n r view_goes ≡ Err refusal
-          → ((G : History) (refusal : Broken) → IsReady user G → seen user G (n + 1) rows ≡ Err refusal → FirstBroken G (n + 1) rows refusal)
+      by : (r : Result Drawn Rule) → row_seen stamp H row ≡ r → and_behind n r view_goes ≡ Err refusal
+          → ((G : History) (refusal : Broken) → IsReady stamp G → seen stamp G (n + 1) rows ≡ Err refusal → FirstBroken G (n + 1) rows refusal)
           → FirstBroken H n (row ∷ rows) refusal
       by (Err rule) is refused rest = record {
         before = [];
@@ -130,10 +138,10 @@ module _ (user : ℕ) where
           none_more n = omega arith
       by (Ok drawn) is refused rest = behind (view_goes drawn.group) refl refused
         where
-          first : RowAdds user H drawn
-          first = row-adds user H row drawn ready is
+          first : RowAdds stamp H drawn
+          first = row-adds stamp H row drawn ready is
 
-          later : FirstBroken (next user H drawn ready first false) (n + 1) rows refusal → FirstBroken H n (row ∷ rows) refusal
+          later : FirstBroken (next stamp H drawn ready first false) (n + 1) rows refusal → FirstBroken H n (row ∷ rows) refusal
           later found = record {
             before = row ∷ found.before;
             row = found.row;
@@ -154,40 +162,40 @@ module _ (user : ℕ) where
           behind (Ok more) goes refused = cc
           behind (Err other) goes refused =
               let same : other ≡ refusal = cc in
-              later (rest (next user H drawn ready first false) refusal (next-ready user H drawn ready first false)
-              (ap (λ (V : View). rows_judged (view_basis user) user V (n + 1) rows) (sym (next-seen user H drawn ready first false))
+              later (rest (next stamp H drawn ready first false) refusal (next-ready stamp H drawn ready first false)
+              (ap (λ (V : View). rows_judged (view_basis user) stamp V (n + 1) rows) (sym (next-seen stamp H drawn ready first false))
               ∙ goes ∙ ap (λ (b : Broken). Err b) same))
 
   -- a bulk that is refused for a row is refused by its rows
-  refused-by_rows : (H : History) (rows : List BulkRow) (n : ℕ) (rule : Rule) → judge_bulk user (view (Some user) H) rows ≡ Err (broken.Row n rule)
-      → seen user H 1 rows ≡ Err (broken.Row n rule)
+  refused-by_rows : (H : History) (rows : List BulkRow) (n : ℕ) (rule : Rule) → judge_bulk (view (Some user) H) (bulk rows) ≡ Err (broken.Row n rule)
+      → seen stamp H 1 rows ≡ Err (broken.Row n rule)
   refused-by_rows H rows n rule refused = by (judged (bulk_checks ((facts_in_view (Some user) (view (Some user) H)).standing None)) tt) refused
     where
-      all : (r : Result (List Entry) Broken) → ◌≡◌ {A = Result Drawn Broken} (bulk_of_rows user (length rows) r) (Err (broken.Row n rule))
+      all : (r : Result (List Entry) Broken) → ◌≡◌ {A = Result Drawn Broken} (bulk_of_rows stamp (length rows) r) (Err (broken.Row n rule))
           → r ≡ Err (broken.Row n rule)
       all (Ok es) refused = cc
       all (Err refusal) refused = cc
 
-      by : (r : Result (Unit {0}) Rule) → bulk_behind (view_basis user) user (view (Some user) H) rows r ≡ Err (broken.Row n rule)
-          → seen user H 1 rows ≡ Err (broken.Row n rule)
+      by : (r : Result (Unit {0}) Rule) → bulk_behind (view_basis user) (view (Some user) H) (bulk rows) r ≡ Err (broken.Row n rule)
+          → seen stamp H 1 rows ≡ Err (broken.Row n rule)
       by (Err first) refused = cc
-      by (Ok done) refused = all (seen user H 1 rows) refused
+      by (Ok done) refused = all (seen stamp H 1 rows) refused
 
 -- ---- the law
 
 pub bulk_is_its_rows : BulkIsItsRows
 bulk_is_its_rows = record {
   accepted = λ H bulk drawn legal allowed accepted.
-      let draws = bulk-draws bulk.user H bulk.rows drawn accepted in
+      let draws = bulk-draws bulk.stamp H bulk.rows drawn accepted in
       record {
-        singly = H ++ alone bulk.user draws.entries;
-        leads = rows-lead bulk.user bulk.rows 1 H draws.entries (record { kept = legal_invariants H legal; registered = allowed.caller }) draws.accepted;
-        same = ap (λ (d : Drawn). unmarked (H ++ d.group)) (sym draws.drawn_is) ∙ same-unmarked bulk.user H draws.entries;
+        singly = H ++ alone bulk.stamp draws.entries;
+        leads = rows-lead bulk.stamp bulk.rows 1 H draws.entries (record { kept = legal_invariants H legal; registered = allowed.caller }) draws.accepted;
+        same = ap (λ (d : Drawn). unmarked (H ++ d.group)) (sym draws.drawn_is) ∙ same-unmarked bulk.stamp H draws.entries;
         receipt = ap (λ (d : Drawn). d.receipt) (sym draws.drawn_is);
       };
   refused = λ H bulk n rule legal allowed refused.
-      let first = first-broken bulk.user bulk.rows 1 H (broken.Row n rule) (record { kept = legal_invariants H legal; registered = allowed.caller })
-      (refused-by_rows bulk.user H bulk.rows n rule refused) in
+      let first = first-broken bulk.stamp bulk.rows 1 H (broken.Row n rule) (record { kept = legal_invariants H legal; registered = allowed.caller })
+      (refused-by_rows bulk.stamp H bulk.rows n rule refused) in
       record {
         before = first.before;
         row = first.row;

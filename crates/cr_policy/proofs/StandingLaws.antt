@@ -4,6 +4,7 @@ use Rattle.std.specs.Prelude.{map, is_some}
 use Rattle.std.specs.Cmp.Derive.{both_true}
 use Rattle.std.specs.List.{list_any}
 use Rattle.cr_base.specs.declared.entry.Entry.TheVariants.{Conflict}
+use Rattle.cr_base.specs.declared.entry.Stamp.{Stamp}
 use Rattle.cr_base.specs.declared.entry.Stamped.{Stamped}
 use Rattle.cr_base.specs.declared.words.Phase.TheVariants.{Setup}
 use Rattle.cr_base.specs.declared.words.Mode.TheVariants.{Blind}
@@ -11,6 +12,7 @@ use Rattle.cr_base.specs.declared.words.Role.{Role}
 use Rattle.cr_base.specs.declared.words.Role.TheVariants.{Account}
 use Rattle.cr_base.specs.declared.reply.AccountLine.{AccountLine}
 use Rattle.cr_base.specs.Lists.{last, last_or, total, is_number, at_some}
+use Rattle.cr_base.specs.Drawn.{stamped}
 use Rattle.cr_base.specs.History.{History, Registration, all_told, phase_told, mode_told, paper_told, own_paper_told, own_bytes_told, own_comment_told, author_told}
 use Rattle.cr_base.specs.History.{conflict_told, registration_told, role_told, number_told, bid_told, ordinal_told}
 use Rattle.cr_base.specs.HistoryFacts.{phase_of, mode_of, role_of, papers_of, own_papers_of, own_bytes_of, own_comments_of, accounts_of, number_of, authors_of}
@@ -26,7 +28,6 @@ use Rattle.cr_policy.specs.ViewFacts.{is_conflicted_in_view}
 use Rattle.cr_policy.specs.Laws.{StandingFromView, PublicFactsFromView}
 use Rattle.cr_policy.proofs.DecisionTells.{accepted-seen}
 use Rattle.cr_policy.proofs.Walk.{sights-all, sights-kept, fold_all, list_any-kept}
-use Rattle.cr_history.proofs.LineAgreement.{stamp}
 use Rattle.cr_policy.proofs.SeatTells.{ShowsSeat, own_bid_tells, seat_tells, seat_value}
 use Rattle.cr_policy.proofs.Tells.{passes, passes_both, names_author, phase_tells, mode_tells, paper_tells, own_paper_tells, own_bytes_tells, own_comment_tells}
 use Rattle.cr_policy.proofs.Tells.{author_tells, author_value, conflict_tells, conflict_value, registration_tells, role_tells, number_tells}
@@ -78,8 +79,8 @@ authors-seen_by_author : (u : Option ℕ) (p : ℕ) (H : History) → is_author 
 authors-seen_by_author u p H h =
     fold_all (reader u H) (author_seen p) (λ (e : Stamped). author_told p e.stamp.maker e.entry) (names_author (reader u H)) (author_tells (reader u H) p)
     (λ at e. author_value (reader u H) at p (record {
-      submitted = λ maker more title abstract. first_of (is_author u p H) _ h;
-      coauthor = λ maker more user. first_of (is_author u p H) _ h;
+      submitted = λ stamp more title abstract. first_of (is_author u p H) _ h;
+      coauthor = λ stamp more user. first_of (is_author u p H) _ h;
     }) e) [] H
 
 -- the reader is told exactly where she is an author
@@ -94,14 +95,14 @@ author-seen u p H = by (is_author u p H) refl
 
 -- a user's conflicts are told the reader, where she is shown each entry on them
 pub declared-seen_where : (u v : Option ℕ) (p : ℕ) (H : History)
-    → ((at : Around) (maker : ℕ) (more : Bool) (user : ℕ) (on : Bool) → is_number v user ≡ true
-    → passes part.on (reader u H) at (stamp maker more (Conflict p user on)) ≡ true) → is_conflict_on_in_view v p (view u H) ≡ is_conflict_on v p H
+    → ((at : Around) (stamp : Stamp) (more : Bool) (user : ℕ) (on : Bool) → is_number v user ≡ true
+    → passes part.on (reader u H) at (stamped stamp more (Conflict p user on)) ≡ true) → is_conflict_on_in_view v p (view u H) ≡ is_conflict_on v p H
 declared-seen_where u v p H shown =
     ap (last_or false) (fold_all (reader u H) (conflict_seen v p) (λ (e : Stamped). conflict_told v p e.entry) (passes part.on (reader u H)) (conflict_tells (reader u H) v p) (λ at e. conflict_value (reader u H) at v p e (shown at)) [] H)
 
 -- each entry on her own conflicts is shown a user; nobody has any
 declared-seen : (u : Option ℕ) (p : ℕ) (H : History) → is_conflict_on_in_view u p (view u H) ≡ is_conflict_on u p H
-declared-seen u p H = declared-seen_where u u p H (λ at maker more user on hers. first_of (is_number u user) _ hers)
+declared-seen u p H = declared-seen_where u u p H (λ at stamp more user on hers. first_of (is_number u user) _ hers)
 
 -- ---- bids and seats
 
@@ -119,8 +120,8 @@ seat-seen_where u v p H shown =
 -- each entry by which she is assigned or unassigned is shown a user
 pub seat-seen : (u : Option ℕ) (p : ℕ) (H : History) → ordinal_in_view u p (view u H) ≡ ordinal_of u p H
 seat-seen u p H = seat-seen_where u u p H (λ at. record {
-  assigned = λ maker more user kind ordinal hers. both_true (first_of (is_number u user) _ hers) (first_of (is_number u user) _ hers);
-  unassigned = λ maker more user ordinal hers. both_true (first_of (is_number u user) _ hers) (first_of (is_number u user) _ hers);
+  assigned = λ stamp more user kind ordinal hers. both_true (first_of (is_number u user) _ hers) (first_of (is_number u user) _ hers);
+  unassigned = λ stamp more user ordinal hers. both_true (first_of (is_number u user) _ hers) (first_of (is_number u user) _ hers);
 })
 
 conflicted-seen : (u : Option ℕ) (p : ℕ) (H : History) → is_conflicted_in_view u p (view u H) ≡ is_conflicted u p H

@@ -7,10 +7,12 @@ use Rattle.std.proofs.lemmas.List.Elements.{All-nil, All-cons, All-append}
 use Rattle.cr_base.specs.declared.entry.Entry.{Entry}
 use Rattle.cr_base.specs.declared.entry.Entry.TheVariants.{Tagged}
 use Rattle.cr_base.specs.declared.entry.EntryKind.TheVariants as kinds
+use Rattle.cr_base.specs.declared.entry.Stamp.{Stamp}
 use Rattle.cr_base.specs.declared.entry.Stamped.{Stamped}
 use Rattle.cr_base.specs.declared.standing.Standing.{Standing}
 use Rattle.cr_base.specs.declared.tag.SetTag.{SetTag}
 use Rattle.cr_base.specs.Lists.{given, is_number}
+use Rattle.cr_base.specs.Drawn.{stamped}
 use Rattle.cr_base.specs.History.{History, TagTold, tag_told}
 use Rattle.cr_base.specs.HistoryFacts.{standing_of, tags_left, tags_of}
 use Rattle.cr_base.specs.Page.{is_clear_member, gets_tags}
@@ -19,7 +21,6 @@ use Rattle.cr_base.specs.Tags.{tag_owner, is_owner, is_tag_for, tags_for}
 use Rattle.cr_base.specs.TagTexts.{is_tilded, is_private, is_for_chairs, is_for_all}
 use Rattle.cr_base.specs.Words.{is_chair, is_member}
 use Rattle.cr_base.proofs.TagLaws.{IsOwned, owned-by_reader, owned-turned, tags_left-for}
-use Rattle.cr_history.proofs.LineAgreement.{stamp}
 use Rattle.cr_policy.specs.Part as part
 use Rattle.cr_policy.specs.Sighting.{Sighting, where_shown}
 use Rattle.cr_policy.specs.Triggers.{Reader, reader, Around}
@@ -132,44 +133,44 @@ module _ (u : Option ℕ) (chair : Bool) (tag : List ℕ) (on : Bool) where
 module _ (r : Reader) (at : Around) (chair : Bool) where
   -- each plain tag on the paper is shown, and each for chairs where she is one
   record ShowsTags (p : ℕ) : Type 0 where
-    plain : (maker : ℕ) (more : Bool) (tag : List ℕ) (on : Bool) → is_for_all tag ≡ true → passes part.tag r at (stamp maker more (Tagged p tag on)) ≡ true
-    chairs : (maker : ℕ) (more : Bool) (tag : List ℕ) (on : Bool) → is_for_chairs tag ≡ true → chair ≡ true
-        → passes part.tag r at (stamp maker more (Tagged p tag on)) ≡ true
+    plain : (stamp : Stamp) (more : Bool) (tag : List ℕ) (on : Bool) → is_for_all tag ≡ true → passes part.tag r at (stamped stamp more (Tagged p tag on)) ≡ true
+    chairs : (stamp : Stamp) (more : Bool) (tag : List ℕ) (on : Bool) → is_for_chairs tag ≡ true → chair ≡ true
+        → passes part.tag r at (stamped stamp more (Tagged p tag on)) ≡ true
 
-  tag_at : (p : ℕ) → ShowsTags p → (maker : ℕ) (more : Bool) (e : Entry)
-      → flat_map (λ (s : Sighting). filter (is_for r.number chair) (tag_seen r.number p s)) (sight r at (stamp maker more e))
-      ≡ filter (is_for r.number chair) (tag_told p maker e)
-  tag_at p shown maker more (Tagged paper tag on) =
+  tag_at : (p : ℕ) → ShowsTags p → (stamp : Stamp) (more : Bool) (e : Entry)
+      → flat_map (λ (s : Sighting). filter (is_for r.number chair) (tag_seen r.number p s)) (sight r at (stamped stamp more e))
+      ≡ filter (is_for r.number chair) (tag_told p stamp.maker e)
+  tag_at p shown stamp more (Tagged paper tag on) =
       flat_map-given (λ (s : Sighting). filter (is_for r.number chair) (tag_seen r.number p s)) (is_seen r at e) (joined r at e) ∙ by (eqb paper p) refl
     where
       e : Stamped
-      e = stamp maker more (Tagged paper tag on)
+      e = stamped stamp more (Tagged paper tag on)
 
       own : Bool
-      own = is_number r.number maker
+      own = is_number r.number stamp.maker
 
       told : TagTold
-      told = record { tag = record { tag = tag; owner = tag_owner tag maker }; on = on }
+      told = record { tag = record { tag = tag; owner = tag_owner tag stamp.maker }; on = on }
 
       seen : List TagTold
       seen = tag_shown r.number own (where_shown (is_seen r at e) (Some tag)) (where_shown (is_seen r at e) (Some on))
 
       by : (b : Bool) → eqb paper p ≡ b → only (is_seen r at e) (filter (is_for r.number chair) (only b seen)) ≡ filter (is_for r.number chair) (given b told)
       by true same =
-          let on_paper : (n : ℕ) → is_seen r at (stamp maker more (Tagged n tag on)) ≡ true → paper ≡ n → is_seen r at e ≡ true =
-          λ n h is. ap (λ k. is_seen r at (stamp maker more (Tagged k tag on))) is ∙ h in
+          let on_paper : (n : ℕ) → is_seen r at (stamped stamp more (Tagged n tag on)) ≡ true → paper ≡ n → is_seen r at e ≡ true =
+          λ n h is. ap (λ k. is_seen r at (stamped stamp more (Tagged k tag on))) is ∙ h in
           ap (λ ts. only (is_seen r at e) (filter (is_for r.number chair) ts)) (only-true seen)
-          ∙ tag_value r.number chair tag on maker (is_seen r at e)
-          (λ all. on_paper p (shown.plain maker more tag on all) (eqb-true paper p same))
-          (λ of_chairs is. on_paper p (shown.chairs maker more tag on of_chairs is) (eqb-true paper p same))
+          ∙ tag_value r.number chair tag on stamp.maker (is_seen r at e)
+          (λ all. on_paper p (shown.plain stamp more tag on all) (eqb-true paper p same))
+          (λ of_chairs is. on_paper p (shown.chairs stamp more tag on of_chairs is) (eqb-true paper p same))
           (λ hers. or_right _ _ (or_right _ _ (or_left own false hers)))
       by false same = ap (λ ts. only (is_seen r at e) (filter (is_for r.number chair) ts)) (only-false seen)
-  tag_at p shown maker more e = silent r at maker more (λ (s : Sighting). filter (is_for r.number chair) (tag_seen r.number p s)) e refl
+  tag_at p shown stamp more e = silent r at stamp more (λ (s : Sighting). filter (is_for r.number chair) (tag_seen r.number p s)) e refl
 
 tag_tells : (r : Reader) (chair : Bool) (p : ℕ) → ((at : Around) → ShowsTags r at chair p)
     → TellsAll r (λ (s : Sighting). filter (is_for r.number chair) (tag_seen r.number p s))
     (λ (e : Stamped). filter (is_for r.number chair) (tag_told p e.stamp.maker e.entry))
-tag_tells r chair p shown at e = tag_at r at chair p (shown at) e.stamp.maker e.more e.entry
+tag_tells r chair p shown at e = tag_at r at chair p (shown at) e.stamp e.more e.entry
 
 -- ---- what a view says of tags
 
@@ -237,7 +238,7 @@ tags-seen u p H told =
 
     shown : (at : Around) → ShowsTags (reader u H) at chair p
     shown at = record {
-      plain = λ maker more tag on all. first (is_for_all tag) (is_clear_member by) begun _ told all;
-      chairs = λ maker more tag on of_chairs is.
+      plain = λ stamp more tag on all. first (is_for_all tag) (is_clear_member by) begun _ told all;
+      chairs = λ stamp more tag on of_chairs is.
           second _ (is_for_chairs tag) (is_member by.role) by.conflicted chair begun _ told of_chairs is;
     }

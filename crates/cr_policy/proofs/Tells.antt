@@ -8,11 +8,12 @@ use Rattle.std.proofs.lemmas.List.Folds.{list_any-append}
 use Rattle.cr_base.specs.declared.entry.Entry.{Entry}
 use Rattle.cr_base.specs.declared.entry.Entry.TheVariants.{Registered, Named, PhaseSet, ModeSet, Submitted}
 use Rattle.cr_base.specs.declared.entry.Entry.TheVariants.{Coauthor, Revised, Uploaded, Withdrawn, Conflict, Commented}
+use Rattle.cr_base.specs.declared.entry.Stamp.{Stamp}
 use Rattle.cr_base.specs.declared.entry.Stamped.{Stamped}
 use Rattle.cr_base.specs.Lists.{given, listed, is_number}
+use Rattle.cr_base.specs.Drawn.{stamped}
 use Rattle.cr_base.specs.History.{phase_told, mode_told, paper_told, own_paper_told, own_bytes_told, own_comment_told, author_told, conflict_told}
 use Rattle.cr_base.specs.History.{title_told, abstract_told, upload_told, withdrawal_told, registration_told, role_told, number_told}
-use Rattle.cr_history.proofs.LineAgreement.{stamp}
 use Rattle.cr_policy.specs.Part as part
 use Rattle.cr_policy.specs.Part.{Part, whole}
 use Rattle.cr_policy.specs.Sighting.{Sighting, where_shown}
@@ -108,25 +109,25 @@ seen_where r at p e h = by (is_seen r at e) refl
     by false is = absurd (true≢false (sym h ∙ hidden (rows_at r at e) p is))
 
 -- what the reader made is seen, whatever the other rows say
-own_seen : (r : Reader) (at : Around) (maker : ℕ) (more : Bool) (e : Entry) → is_number r.number maker ≡ true
-    → is_seen r at (stamp maker more e) ≡ true
-own_seen r at maker more e own =
-    let others : List TriggerRow = rows r (position_of at e) maker e in
-    list_any-append (λ (row : TriggerRow). row.applies) others (is_number r.number maker see whole ∷ [])
-    ∙ or_right (applies_any others) _ (or_left (is_number r.number maker) false own)
+own_seen : (r : Reader) (at : Around) (stamp : Stamp) (more : Bool) (e : Entry) → is_number r.number stamp.maker ≡ true
+    → is_seen r at (stamped stamp more e) ≡ true
+own_seen r at stamp more e own =
+    let others : List TriggerRow = rows r (position_of at e) stamp.maker e in
+    list_any-append (λ (row : TriggerRow). row.applies) others (is_number r.number stamp.maker see whole ∷ [])
+    ∙ or_right (applies_any others) _ (or_left (is_number r.number stamp.maker) false own)
 
-module _ (r : Reader) (at : Around) (maker : ℕ) (more : Bool) where
+module _ (r : Reader) (at : Around) (stamp : Stamp) (more : Bool) where
   -- a sighting that tells nothing tells nothing, whether it is there or not
-  pub silent : {A : Type 0} (f : Sighting → List A) (e : Entry) → f (joined r at (stamp maker more e)) ≡ [] → flat_map f (sight r at (stamp maker more e)) ≡ []
-  silent f e h = flat_map-given f (is_seen r at (stamp maker more e)) (joined r at (stamp maker more e)) ∙ ap (only (is_seen r at (stamp maker more e))) h
+  pub silent : {A : Type 0} (f : Sighting → List A) (e : Entry) → f (joined r at (stamped stamp more e)) ≡ [] → flat_map f (sight r at (stamped stamp more e)) ≡ []
+  silent f e h = flat_map-given f (is_seen r at (stamped stamp more e)) (joined r at (stamped stamp more e)) ∙ ap (only (is_seen r at (stamped stamp more e))) h
 
   -- what a sighting tells where this holds, of an entry that may show nothing: it doesn't hold then
-  told_if : {A : Type 0} (f : Sighting → List A) (c : Bool) (e : Entry) (xs : List A) → (is_seen r at (stamp maker more e) ≡ false → c ≡ false)
-      → f (joined r at (stamp maker more e)) ≡ only c xs → flat_map f (sight r at (stamp maker more e)) ≡ only c xs
+  told_if : {A : Type 0} (f : Sighting → List A) (c : Bool) (e : Entry) (xs : List A) → (is_seen r at (stamped stamp more e) ≡ false → c ≡ false)
+      → f (joined r at (stamped stamp more e)) ≡ only c xs → flat_map f (sight r at (stamped stamp more e)) ≡ only c xs
   told_if {A} f c e xs none h =
-      flat_map-given f (is_seen r at (stamp maker more e)) (joined r at (stamp maker more e))
-      ∙ ap (only (is_seen r at (stamp maker more e))) h
-      ∙ by (is_seen r at (stamp maker more e)) c none
+      flat_map-given f (is_seen r at (stamped stamp more e)) (joined r at (stamped stamp more e))
+      ∙ ap (only (is_seen r at (stamped stamp more e))) h
+      ∙ by (is_seen r at (stamped stamp more e)) c none
     where
       by : (seen c : Bool) → (seen ≡ false → c ≡ false) → only seen (only c xs) ≡ only c xs
       by true c none = only-true (only c xs)
@@ -134,161 +135,161 @@ module _ (r : Reader) (at : Around) (maker : ℕ) (more : Bool) where
 
   -- the same where a part is shown
   pub told_where : {A : Type 0} (f : Sighting → List A) (p : Part) (e : Entry) (xs : List A)
-      → f (joined r at (stamp maker more e)) ≡ only (passes p r at (stamp maker more e)) xs
-      → flat_map f (sight r at (stamp maker more e)) ≡ only (passes p r at (stamp maker more e)) xs
-  told_where f p e xs h = told_if f (passes p r at (stamp maker more e)) e xs (hidden (rows_at r at (stamp maker more e)) p) h
+      → f (joined r at (stamped stamp more e)) ≡ only (passes p r at (stamped stamp more e)) xs
+      → flat_map f (sight r at (stamped stamp more e)) ≡ only (passes p r at (stamped stamp more e)) xs
+  told_where f p e xs h = told_if f (passes p r at (stamped stamp more e)) e xs (hidden (rows_at r at (stamped stamp more e)) p) h
 
   -- and where two are
   pub told_both : {A : Type 0} (f : Sighting → List A) (p q : Part) (e : Entry) (xs : List A)
-      → f (joined r at (stamp maker more e)) ≡ only (passes_both p q r at (stamp maker more e)) xs
-      → flat_map f (sight r at (stamp maker more e)) ≡ only (passes_both p q r at (stamp maker more e)) xs
+      → f (joined r at (stamped stamp more e)) ≡ only (passes_both p q r at (stamped stamp more e)) xs
+      → flat_map f (sight r at (stamped stamp more e)) ≡ only (passes_both p q r at (stamped stamp more e)) xs
   told_both f p q e xs h =
-      told_if f (passes_both p q r at (stamp maker more e)) e xs
-      (λ none. ap (λ b. b && passes q r at (stamp maker more e)) (hidden (rows_at r at (stamp maker more e)) p none)) h
+      told_if f (passes_both p q r at (stamped stamp more e)) e xs
+      (λ none. ap (λ b. b && passes q r at (stamped stamp more e)) (hidden (rows_at r at (stamped stamp more e)) p none)) h
 
   -- ---- what everyone is shown
 
-  phase_at : (e : Entry) → flat_map phase_seen (sight r at (stamp maker more e)) ≡ phase_told e
+  phase_at : (e : Entry) → flat_map phase_seen (sight r at (stamped stamp more e)) ≡ phase_told e
   phase_at (PhaseSet phase) = refl
   phase_at e = silent phase_seen e refl
 
-  mode_at : (e : Entry) → flat_map mode_seen (sight r at (stamp maker more e)) ≡ mode_told e
+  mode_at : (e : Entry) → flat_map mode_seen (sight r at (stamped stamp more e)) ≡ mode_told e
   mode_at (ModeSet mode) = refl
   mode_at e = silent mode_seen e refl
 
-  paper_at : (e : Entry) → flat_map paper_seen (sight r at (stamp maker more e)) ≡ paper_told e
+  paper_at : (e : Entry) → flat_map paper_seen (sight r at (stamped stamp more e)) ≡ paper_told e
   paper_at (Submitted paper title abstract) = refl
   paper_at e = silent paper_seen e refl
 
-  registration_at : (e : Entry) → flat_map registration_seen (sight r at (stamp maker more e)) ≡ registration_told e
+  registration_at : (e : Entry) → flat_map registration_seen (sight r at (stamped stamp more e)) ≡ registration_told e
   registration_at (Registered user name digest) = refl
   registration_at e = silent registration_seen e refl
 
-  role_at : (u : Option ℕ) (e : Entry) → flat_map (role_seen u) (sight r at (stamp maker more e)) ≡ role_told u e
+  role_at : (u : Option ℕ) (e : Entry) → flat_map (role_seen u) (sight r at (stamped stamp more e)) ≡ role_told u e
   role_at u (Named user role) = append-nil (given (is_number u user) role)
   role_at u e = silent (role_seen u) e refl
 
-  number_at : (name : List ℕ) (e : Entry) → flat_map (number_seen name) (sight r at (stamp maker more e)) ≡ number_told name e
+  number_at : (name : List ℕ) (e : Entry) → flat_map (number_seen name) (sight r at (stamped stamp more e)) ≡ number_told name e
   number_at name (Registered user name' digest) = append-nil (given (bytes_eq name' name) user)
   number_at name e = silent (number_seen name) e refl
 
   -- ---- what the maker is shown
 
-  own_paper_at : (e : Entry) → flat_map own_paper_seen (sight r at (stamp maker more e)) ≡ own_paper_told r.number maker e
-  own_paper_at (Submitted paper title abstract) = append-nil (given (is_number r.number maker) paper)
+  own_paper_at : (e : Entry) → flat_map own_paper_seen (sight r at (stamped stamp more e)) ≡ own_paper_told r.number stamp.maker e
+  own_paper_at (Submitted paper title abstract) = append-nil (given (is_number r.number stamp.maker) paper)
   own_paper_at e = silent own_paper_seen e refl
 
-  own_bytes_at : (e : Entry) → flat_map own_bytes_seen (sight r at (stamp maker more e)) ≡ own_bytes_told r.number maker e
+  own_bytes_at : (e : Entry) → flat_map own_bytes_seen (sight r at (stamped stamp more e)) ≡ own_bytes_told r.number stamp.maker e
   own_bytes_at (Uploaded paper version content) =
-      flat_map-given own_bytes_seen (is_seen r at (stamp maker more (Uploaded paper version content))) (joined r at (stamp maker more (Uploaded paper version content)))
-      ∙ own_value (is_seen r at (stamp maker more (Uploaded paper version content))) true (is_number r.number maker) (length content) _
+      flat_map-given own_bytes_seen (is_seen r at (stamped stamp more (Uploaded paper version content))) (joined r at (stamped stamp more (Uploaded paper version content)))
+      ∙ own_value (is_seen r at (stamped stamp more (Uploaded paper version content))) true (is_number r.number stamp.maker) (length content) _
       (λ own. ap (λ b. map length (listed (where_shown b (Some content)))) (hers own)) hers
     where
-      hers : is_number r.number maker ≡ true → is_seen r at (stamp maker more (Uploaded paper version content)) ≡ true
-      hers own = own_seen r at maker more (Uploaded paper version content) own
+      hers : is_number r.number stamp.maker ≡ true → is_seen r at (stamped stamp more (Uploaded paper version content)) ≡ true
+      hers own = own_seen r at stamp more (Uploaded paper version content) own
   own_bytes_at e = silent own_bytes_seen e refl
 
-  own_comment_at : (e : Entry) → flat_map own_comment_seen (sight r at (stamp maker more e)) ≡ own_comment_told r.number maker e
+  own_comment_at : (e : Entry) → flat_map own_comment_seen (sight r at (stamped stamp more e)) ≡ own_comment_told r.number stamp.maker e
   own_comment_at (Commented paper n ordinal text) =
       flat_map-given own_comment_seen (is_seen r at e) (joined r at e)
-      ∙ own_value (is_seen r at e) true (is_number r.number maker) n _
+      ∙ own_value (is_seen r at e) true (is_number r.number stamp.maker) n _
       (λ own. ap (λ b. listed (where_shown b (Some n))) (numbered own)) (λ own. seen_where r at part.n e (numbered own))
     where
       e : Stamped
-      e = stamp maker more (Commented paper n ordinal text)
+      e = stamped stamp more (Commented paper n ordinal text)
 
-      numbered : is_number r.number maker ≡ true → passes part.n r at e ≡ true
-      numbered own = or_right _ _ (or_left (is_number r.number maker) false own)
+      numbered : is_number r.number stamp.maker ≡ true → passes part.n r at e ≡ true
+      numbered own = or_right _ _ (or_left (is_number r.number stamp.maker) false own)
   own_comment_at e = silent own_comment_seen e refl
 
   -- ---- what is shown to some
 
-  author_at : (p : ℕ) (e : Entry) → flat_map (author_seen p) (sight r at (stamp maker more e))
-      ≡ only (names_author r at (stamp maker more e)) (author_told p maker e)
-  author_at p (Submitted paper title abstract) = append-nil _ ∙ paper_value (eqb paper p) _ maker
-  author_at p (Coauthor paper user) = told_where (author_seen p) part.user (Coauthor paper user) (author_told p maker (Coauthor paper user)) (paper_value (eqb paper p) _ user)
+  author_at : (p : ℕ) (e : Entry) → flat_map (author_seen p) (sight r at (stamped stamp more e))
+      ≡ only (names_author r at (stamped stamp more e)) (author_told p stamp.maker e)
+  author_at p (Submitted paper title abstract) = append-nil _ ∙ paper_value (eqb paper p) _ stamp.maker
+  author_at p (Coauthor paper user) = told_where (author_seen p) part.user (Coauthor paper user) (author_told p stamp.maker (Coauthor paper user)) (paper_value (eqb paper p) _ user)
   author_at p e = silent (author_seen p) e refl
 
-  title_at : (p : ℕ) (e : Entry) → flat_map (title_seen p) (sight r at (stamp maker more e))
-      ≡ only (passes part.title r at (stamp maker more e)) (title_told p e)
+  title_at : (p : ℕ) (e : Entry) → flat_map (title_seen p) (sight r at (stamped stamp more e))
+      ≡ only (passes part.title r at (stamped stamp more e)) (title_told p e)
   title_at p (Submitted paper title abstract) = append-nil _ ∙ paper_value (eqb paper p) _ title
   title_at p (Revised paper title abstract) = told_where (title_seen p) part.title (Revised paper title abstract) (title_told p (Revised paper title abstract)) (paper_value (eqb paper p) _ title)
   title_at p e = silent (title_seen p) e refl
 
-  abstract_at : (p : ℕ) (e : Entry) → flat_map (abstract_seen p) (sight r at (stamp maker more e))
-      ≡ only (passes part.abstract r at (stamp maker more e)) (abstract_told p e)
+  abstract_at : (p : ℕ) (e : Entry) → flat_map (abstract_seen p) (sight r at (stamped stamp more e))
+      ≡ only (passes part.abstract r at (stamped stamp more e)) (abstract_told p e)
   abstract_at p (Submitted paper title abstract) = append-nil _ ∙ paper_value (eqb paper p) _ abstract
   abstract_at p (Revised paper title abstract) =
       told_where (abstract_seen p) part.abstract (Revised paper title abstract) (abstract_told p (Revised paper title abstract)) (paper_value (eqb paper p) _ abstract)
   abstract_at p e = silent (abstract_seen p) e refl
 
-  upload_at : (p : ℕ) (e : Entry) → flat_map (upload_seen p) (sight r at (stamp maker more e))
-      ≡ only (passes part.content r at (stamp maker more e)) (upload_told p e)
+  upload_at : (p : ℕ) (e : Entry) → flat_map (upload_seen p) (sight r at (stamped stamp more e))
+      ≡ only (passes part.content r at (stamped stamp more e)) (upload_told p e)
   upload_at p (Uploaded paper version content) =
       told_where (upload_seen p) part.content (Uploaded paper version content) (upload_told p (Uploaded paper version content)) (upload_pair (eqb paper p) _ version content)
   upload_at p e = silent (upload_seen p) e refl
 
   -- a withdrawal has no part beside its paper
-  withdrawal_at : (p : ℕ) (e : Entry) → flat_map (withdrawal_seen p) (sight r at (stamp maker more e))
-      ≡ only (is_seen r at (stamp maker more e)) (withdrawal_told p e)
+  withdrawal_at : (p : ℕ) (e : Entry) → flat_map (withdrawal_seen p) (sight r at (stamped stamp more e))
+      ≡ only (is_seen r at (stamped stamp more e)) (withdrawal_told p e)
   withdrawal_at p (Withdrawn paper) =
-      flat_map-given (withdrawal_seen p) (is_seen r at (stamp maker more (Withdrawn paper))) (joined r at (stamp maker more (Withdrawn paper)))
-      ∙ ap (only (is_seen r at (stamp maker more (Withdrawn paper)))) (by (eqb paper p))
+      flat_map-given (withdrawal_seen p) (is_seen r at (stamped stamp more (Withdrawn paper))) (joined r at (stamped stamp more (Withdrawn paper)))
+      ∙ ap (only (is_seen r at (stamped stamp more (Withdrawn paper)))) (by (eqb paper p))
     where
       by : (b : Bool) → only b (true ∷ []) ≡ given b true
       by true = refl
       by false = refl
   withdrawal_at p e = silent (withdrawal_seen p) e refl
 
-  conflict_at : (u : Option ℕ) (p : ℕ) (e : Entry) → flat_map (conflict_seen u p) (sight r at (stamp maker more e))
-      ≡ only (passes part.on r at (stamp maker more e)) (conflict_told u p e)
+  conflict_at : (u : Option ℕ) (p : ℕ) (e : Entry) → flat_map (conflict_seen u p) (sight r at (stamped stamp more e))
+      ≡ only (passes part.on r at (stamped stamp more e)) (conflict_told u p e)
   conflict_at u p (Conflict paper user on) = told_where (conflict_seen u p) part.on (Conflict paper user on) (conflict_told u p (Conflict paper user on)) (user_value (eqb paper p) _ u user on)
   conflict_at u p e = silent (conflict_seen u p) e refl
 
 pub phase_tells : (r : Reader) → TellsAll r phase_seen (λ (e : Stamped). phase_told e.entry)
-phase_tells r at e = phase_at r at e.stamp.maker e.more e.entry
+phase_tells r at e = phase_at r at e.stamp e.more e.entry
 
 pub mode_tells : (r : Reader) → TellsAll r mode_seen (λ (e : Stamped). mode_told e.entry)
-mode_tells r at e = mode_at r at e.stamp.maker e.more e.entry
+mode_tells r at e = mode_at r at e.stamp e.more e.entry
 
 pub paper_tells : (r : Reader) → TellsAll r paper_seen (λ (e : Stamped). paper_told e.entry)
-paper_tells r at e = paper_at r at e.stamp.maker e.more e.entry
+paper_tells r at e = paper_at r at e.stamp e.more e.entry
 
 pub registration_tells : (r : Reader) → TellsAll r registration_seen (λ (e : Stamped). registration_told e.entry)
-registration_tells r at e = registration_at r at e.stamp.maker e.more e.entry
+registration_tells r at e = registration_at r at e.stamp e.more e.entry
 
 pub role_tells : (r : Reader) (u : Option ℕ) → TellsAll r (role_seen u) (λ (e : Stamped). role_told u e.entry)
-role_tells r u at e = role_at r at e.stamp.maker e.more u e.entry
+role_tells r u at e = role_at r at e.stamp e.more u e.entry
 
 pub number_tells : (r : Reader) (name : List ℕ) → TellsAll r (number_seen name) (λ (e : Stamped). number_told name e.entry)
-number_tells r name at e = number_at r at e.stamp.maker e.more name e.entry
+number_tells r name at e = number_at r at e.stamp e.more name e.entry
 
 pub own_paper_tells : (r : Reader) → TellsAll r own_paper_seen (λ (e : Stamped). own_paper_told r.number e.stamp.maker e.entry)
-own_paper_tells r at e = own_paper_at r at e.stamp.maker e.more e.entry
+own_paper_tells r at e = own_paper_at r at e.stamp e.more e.entry
 
 pub own_bytes_tells : (r : Reader) → TellsAll r own_bytes_seen (λ (e : Stamped). own_bytes_told r.number e.stamp.maker e.entry)
-own_bytes_tells r at e = own_bytes_at r at e.stamp.maker e.more e.entry
+own_bytes_tells r at e = own_bytes_at r at e.stamp e.more e.entry
 
 pub own_comment_tells : (r : Reader) → TellsAll r own_comment_seen (λ (e : Stamped). own_comment_told r.number e.stamp.maker e.entry)
-own_comment_tells r at e = own_comment_at r at e.stamp.maker e.more e.entry
+own_comment_tells r at e = own_comment_at r at e.stamp e.more e.entry
 
 pub author_tells : (r : Reader) (p : ℕ) → Tells r (author_seen p) (λ (e : Stamped). author_told p e.stamp.maker e.entry) (names_author r)
-author_tells r p at e = author_at r at e.stamp.maker e.more p e.entry
+author_tells r p at e = author_at r at e.stamp e.more p e.entry
 
 pub title_tells : (r : Reader) (p : ℕ) → Tells r (title_seen p) (λ (e : Stamped). title_told p e.entry) (passes part.title r)
-title_tells r p at e = title_at r at e.stamp.maker e.more p e.entry
+title_tells r p at e = title_at r at e.stamp e.more p e.entry
 
 pub abstract_tells : (r : Reader) (p : ℕ) → Tells r (abstract_seen p) (λ (e : Stamped). abstract_told p e.entry) (passes part.abstract r)
-abstract_tells r p at e = abstract_at r at e.stamp.maker e.more p e.entry
+abstract_tells r p at e = abstract_at r at e.stamp e.more p e.entry
 
 pub upload_tells : (r : Reader) (p : ℕ) → Tells r (upload_seen p) (λ (e : Stamped). upload_told p e.entry) (passes part.content r)
-upload_tells r p at e = upload_at r at e.stamp.maker e.more p e.entry
+upload_tells r p at e = upload_at r at e.stamp e.more p e.entry
 
 pub withdrawal_tells : (r : Reader) (p : ℕ) → Tells r (withdrawal_seen p) (λ (e : Stamped). withdrawal_told p e.entry) (is_seen r)
-withdrawal_tells r p at e = withdrawal_at r at e.stamp.maker e.more p e.entry
+withdrawal_tells r p at e = withdrawal_at r at e.stamp e.more p e.entry
 
 pub conflict_tells : (r : Reader) (u : Option ℕ) (p : ℕ) → Tells r (conflict_seen u p) (λ (e : Stamped). conflict_told u p e.entry) (passes part.on r)
-conflict_tells r u p at e = conflict_at r at e.stamp.maker e.more u p e.entry
+conflict_tells r u p at e = conflict_at r at e.stamp e.more u p e.entry
 
 -- ---- who is shown a part of a paper
 
@@ -303,80 +304,80 @@ of_paper passing paper p x h = shown_value (passing paper) (eqb paper p) x (λ s
 
 -- whoever made them, the entries that give paper p authors name them
 pub record NamesAuthors (r : Reader) (at : Around) (p : ℕ) : Type 0 where
-  pub submitted : (maker : ℕ) (more : Bool) (title abstract : List ℕ) → passes part.by r at (stamp maker more (Submitted p title abstract)) ≡ true
-  pub coauthor : (maker : ℕ) (more : Bool) (user : ℕ) → passes part.user r at (stamp maker more (Coauthor p user)) ≡ true
+  pub submitted : (stamp : Stamp) (more : Bool) (title abstract : List ℕ) → passes part.by r at (stamped stamp more (Submitted p title abstract)) ≡ true
+  pub coauthor : (stamp : Stamp) (more : Bool) (user : ℕ) → passes part.user r at (stamped stamp more (Coauthor p user)) ≡ true
 
 -- and those that give it texts show this one
 pub record ShowsText (which : Part) (r : Reader) (at : Around) (p : ℕ) : Type 0 where
-  pub submitted : (maker : ℕ) (more : Bool) (title abstract : List ℕ) → passes which r at (stamp maker more (Submitted p title abstract)) ≡ true
-  pub revised : (maker : ℕ) (more : Bool) (title abstract : List ℕ) → passes which r at (stamp maker more (Revised p title abstract)) ≡ true
+  pub submitted : (stamp : Stamp) (more : Bool) (title abstract : List ℕ) → passes which r at (stamped stamp more (Submitted p title abstract)) ≡ true
+  pub revised : (stamp : Stamp) (more : Bool) (title abstract : List ℕ) → passes which r at (stamped stamp more (Revised p title abstract)) ≡ true
 
 -- those that give it content show that
 abbrev pub ShowsUpload : Reader → Around → ℕ → Type 0
-ShowsUpload r at p = (maker : ℕ) (more : Bool) (version : ℕ) (content : List ℕ) → passes part.content r at (stamp maker more (Uploaded p version content))
+ShowsUpload r at p = (stamp : Stamp) (more : Bool) (version : ℕ) (content : List ℕ) → passes part.content r at (stamped stamp more (Uploaded p version content))
     ≡ true
 
 -- those that withdraw it are seen
 abbrev pub ShowsWithdrawal : Reader → Around → ℕ → Type 0
-ShowsWithdrawal r at p = (maker : ℕ) (more : Bool) → is_seen r at (stamp maker more (Withdrawn p)) ≡ true
+ShowsWithdrawal r at p = (stamp : Stamp) (more : Bool) → is_seen r at (stamped stamp more (Withdrawn p)) ≡ true
 
 module _ (r : Reader) (at : Around) (p : ℕ) where
-  author_kept : NamesAuthors r at p → (maker : ℕ) (more : Bool) (e : Entry) → only (names_author r at (stamp maker more e)) (author_told p maker e)
-      ≡ author_told p maker e
-  author_kept shown maker more (Submitted paper title abstract) = of_paper (λ n. passes part.by r at (stamp maker more (Submitted n title abstract))) paper p maker (shown.submitted maker more title abstract)
-  author_kept shown maker more (Coauthor paper user) = of_paper (λ n. passes part.user r at (stamp maker more (Coauthor n user))) paper p user (shown.coauthor maker more user)
-  author_kept shown maker more e = refl
+  author_kept : NamesAuthors r at p → (stamp : Stamp) (more : Bool) (e : Entry) → only (names_author r at (stamped stamp more e)) (author_told p stamp.maker e)
+      ≡ author_told p stamp.maker e
+  author_kept shown stamp more (Submitted paper title abstract) = of_paper (λ n. passes part.by r at (stamped stamp more (Submitted n title abstract))) paper p stamp.maker (shown.submitted stamp more title abstract)
+  author_kept shown stamp more (Coauthor paper user) = of_paper (λ n. passes part.user r at (stamped stamp more (Coauthor n user))) paper p user (shown.coauthor stamp more user)
+  author_kept shown stamp more e = refl
 
-  title_kept : ShowsText part.title r at p → (maker : ℕ) (more : Bool) (e : Entry) → only (passes part.title r at (stamp maker more e)) (title_told p e)
+  title_kept : ShowsText part.title r at p → (stamp : Stamp) (more : Bool) (e : Entry) → only (passes part.title r at (stamped stamp more e)) (title_told p e)
       ≡ title_told p e
-  title_kept shown maker more (Submitted paper title abstract) = of_paper (λ n. passes part.title r at (stamp maker more (Submitted n title abstract))) paper p title (shown.submitted maker more title abstract)
-  title_kept shown maker more (Revised paper title abstract) = of_paper (λ n. passes part.title r at (stamp maker more (Revised n title abstract))) paper p title (shown.revised maker more title abstract)
-  title_kept shown maker more e = refl
+  title_kept shown stamp more (Submitted paper title abstract) = of_paper (λ n. passes part.title r at (stamped stamp more (Submitted n title abstract))) paper p title (shown.submitted stamp more title abstract)
+  title_kept shown stamp more (Revised paper title abstract) = of_paper (λ n. passes part.title r at (stamped stamp more (Revised n title abstract))) paper p title (shown.revised stamp more title abstract)
+  title_kept shown stamp more e = refl
 
-  abstract_kept : ShowsText part.abstract r at p → (maker : ℕ) (more : Bool) (e : Entry)
-      → only (passes part.abstract r at (stamp maker more e)) (abstract_told p e) ≡ abstract_told p e
-  abstract_kept shown maker more (Submitted paper title abstract) = of_paper (λ n. passes part.abstract r at (stamp maker more (Submitted n title abstract))) paper p abstract (shown.submitted maker more title abstract)
-  abstract_kept shown maker more (Revised paper title abstract) = of_paper (λ n. passes part.abstract r at (stamp maker more (Revised n title abstract))) paper p abstract (shown.revised maker more title abstract)
-  abstract_kept shown maker more e = refl
+  abstract_kept : ShowsText part.abstract r at p → (stamp : Stamp) (more : Bool) (e : Entry)
+      → only (passes part.abstract r at (stamped stamp more e)) (abstract_told p e) ≡ abstract_told p e
+  abstract_kept shown stamp more (Submitted paper title abstract) = of_paper (λ n. passes part.abstract r at (stamped stamp more (Submitted n title abstract))) paper p abstract (shown.submitted stamp more title abstract)
+  abstract_kept shown stamp more (Revised paper title abstract) = of_paper (λ n. passes part.abstract r at (stamped stamp more (Revised n title abstract))) paper p abstract (shown.revised stamp more title abstract)
+  abstract_kept shown stamp more e = refl
 
-  upload_kept : ShowsUpload r at p → (maker : ℕ) (more : Bool) (e : Entry) → only (passes part.content r at (stamp maker more e)) (upload_told p e)
+  upload_kept : ShowsUpload r at p → (stamp : Stamp) (more : Bool) (e : Entry) → only (passes part.content r at (stamped stamp more e)) (upload_told p e)
       ≡ upload_told p e
-  upload_kept shown maker more (Uploaded paper version content) =
-      of_paper (λ n. passes part.content r at (stamp maker more (Uploaded n version content))) paper p (record { version = version; content = content }) (shown maker more version content)
-  upload_kept shown maker more e = refl
+  upload_kept shown stamp more (Uploaded paper version content) =
+      of_paper (λ n. passes part.content r at (stamped stamp more (Uploaded n version content))) paper p (record { version = version; content = content }) (shown stamp more version content)
+  upload_kept shown stamp more e = refl
 
-  withdrawal_kept : ShowsWithdrawal r at p → (maker : ℕ) (more : Bool) (e : Entry) → only (is_seen r at (stamp maker more e)) (withdrawal_told p e)
+  withdrawal_kept : ShowsWithdrawal r at p → (stamp : Stamp) (more : Bool) (e : Entry) → only (is_seen r at (stamped stamp more e)) (withdrawal_told p e)
       ≡ withdrawal_told p e
-  withdrawal_kept shown maker more (Withdrawn paper) = of_paper (λ n. is_seen r at (stamp maker more (Withdrawn n))) paper p true (shown maker more)
-  withdrawal_kept shown maker more e = refl
+  withdrawal_kept shown stamp more (Withdrawn paper) = of_paper (λ n. is_seen r at (stamped stamp more (Withdrawn n))) paper p true (shown stamp more)
+  withdrawal_kept shown stamp more e = refl
 
   -- so what is told of paper p is kept
   pub author_value : NamesAuthors r at p → (e : Stamped) → only (names_author r at e) (author_told p e.stamp.maker e.entry) ≡ author_told p e.stamp.maker e.entry
-  author_value shown e = author_kept shown e.stamp.maker e.more e.entry
+  author_value shown e = author_kept shown e.stamp e.more e.entry
 
   pub title_value : ShowsText part.title r at p → (e : Stamped) → only (passes part.title r at e) (title_told p e.entry) ≡ title_told p e.entry
-  title_value shown e = title_kept shown e.stamp.maker e.more e.entry
+  title_value shown e = title_kept shown e.stamp e.more e.entry
 
   pub abstract_value : ShowsText part.abstract r at p → (e : Stamped) → only (passes part.abstract r at e) (abstract_told p e.entry) ≡ abstract_told p e.entry
-  abstract_value shown e = abstract_kept shown e.stamp.maker e.more e.entry
+  abstract_value shown e = abstract_kept shown e.stamp e.more e.entry
 
   pub upload_value : ShowsUpload r at p → (e : Stamped) → only (passes part.content r at e) (upload_told p e.entry) ≡ upload_told p e.entry
-  upload_value shown e = upload_kept shown e.stamp.maker e.more e.entry
+  upload_value shown e = upload_kept shown e.stamp e.more e.entry
 
   pub withdrawal_value : ShowsWithdrawal r at p → (e : Stamped) → only (is_seen r at e) (withdrawal_told p e.entry) ≡ withdrawal_told p e.entry
-  withdrawal_value shown e = withdrawal_kept shown e.stamp.maker e.more e.entry
+  withdrawal_value shown e = withdrawal_kept shown e.stamp e.more e.entry
 
 -- ---- who is shown a conflict
 
 -- where each conflict of the user with the paper is shown, what is told of them is kept
 pub conflict_value : (r : Reader) (at : Around) (u : Option ℕ) (p : ℕ) (e : Stamped)
-    → ((maker : ℕ) (more : Bool) (user : ℕ) (on : Bool) → is_number u user ≡ true → passes part.on r at (stamp maker more (Conflict p user on)) ≡ true)
+    → ((stamp : Stamp) (more : Bool) (user : ℕ) (on : Bool) → is_number u user ≡ true → passes part.on r at (stamped stamp more (Conflict p user on)) ≡ true)
     → only (passes part.on r at e) (conflict_told u p e.entry) ≡ conflict_told u p e.entry
-conflict_value r at u p e h = by e.stamp.maker e.more e.entry
+conflict_value r at u p e h = by e.stamp e.more e.entry
   where
-    by : (maker : ℕ) (more : Bool) (e : Entry) → only (passes part.on r at (stamp maker more e)) (conflict_told u p e) ≡ conflict_told u p e
-    by maker more (Conflict paper user on) =
+    by : (stamp : Stamp) (more : Bool) (e : Entry) → only (passes part.on r at (stamped stamp more e)) (conflict_told u p e) ≡ conflict_told u p e
+    by stamp more (Conflict paper user on) =
         shown_value _ (eqb paper p && is_number u user) on (λ same.
         let parts = and_parts (eqb paper p) (is_number u user) same in
-        ap (λ n. passes part.on r at (stamp maker more (Conflict n user on))) (eqb-true paper p parts.0) ∙ h maker more user on parts.1)
-    by maker more e = refl
+        ap (λ n. passes part.on r at (stamped stamp more (Conflict n user on))) (eqb-true paper p parts.0) ∙ h stamp more user on parts.1)
+    by stamp more e = refl

@@ -6,6 +6,7 @@ use Rattle.std.specs.Str.{is_utf8, IsAscii}
 use Rattle.std.proofs.lemmas.Bool.{and_parts}
 use Rattle.std.proofs.lemmas.Bool.Decides.{nat_tests}
 use Rattle.std.proofs.lemmas.Str.{IsUtf8-from_ascii, is_utf8-from_IsUtf8}
+use Rattle.cr_base.specs.declared.command.Call.{Call}
 use Rattle.cr_base.specs.declared.command.Command.TheVariants.{Register, SetPhase, Submit, Name, SetMode, SetConflict}
 use Rattle.cr_base.specs.declared.entry.Entry.TheVariants.{Registered, Named}
 use Rattle.cr_base.specs.declared.reply.Receipt.TheVariants as receipts
@@ -14,14 +15,16 @@ use Rattle.cr_base.specs.declared.words.Phase.TheVariants.{Submission, Bidding}
 use Rattle.cr_base.specs.declared.words.Role.TheVariants.{Member}
 use Rattle.cr_base.specs.Bulk.{row_command}
 use Rattle.cr_base.specs.Drawn.{Drawn}
+use Rattle.cr_base.specs.Calls.{stamp_by, call_of, bulk_by}
+use Rattle.cr_base.specs.Drawn.{stamped}
 use Rattle.cr_base.specs.History.{History}
-use Rattle.cr_policy.specs.Legal.{Call, IsAllowed, step, calls, Legal}
+use Rattle.cr_policy.specs.Legal.{IsAllowed, step, calls, Legal}
 use Rattle.cr_policy.specs.Witness.{two_registrations, made_anonymous, submission_opened, one_submission, four_registrations, two_members, one_conflict, bidding_opened, four_rows, rows_added}
 use Rattle.cr_policy.specs.WitnessLaws.{TwoRegistrations, DigestsHidden, OneSubmission, OneConflict, OneBulk}
 use Rattle.cr_policy.proofs.LegalLaws.{Legal-step, Legal-bulk_accepted}
 
 abbrev pub register : List ℕ → List ℕ → Call
-register name digest = record { caller = None; command = Register name digest }
+register name digest = call_of None (Register name digest)
 
 two_calls : (alice bob : List ℕ) → length alice ≡ 32 → length bob ≡ 32 → Legal (two_registrations alice bob)
 two_calls alice bob ha hb = (
@@ -61,17 +64,17 @@ ascii-utf8 bytes h = is_utf8-from_IsUtf8 bytes (IsUtf8-from_ascii bytes (ascii b
 
 hides : (alice bob : List ℕ) → Legal (two_registrations alice bob) → Legal (made_anonymous alice bob)
 hides alice bob legal =
-    called (two_registrations alice bob) (made_anonymous alice bob) (record { caller = Some 1; command = SetMode Anonymous }) legal
+    called (two_registrations alice bob) (made_anonymous alice bob) (call_of (Some 1) (SetMode Anonymous)) legal
     (record { caller = refl; bounded = tt }) refl
 
 opens : (alice bob : List ℕ) → Legal (made_anonymous alice bob) → Legal (submission_opened alice bob)
 opens alice bob legal =
-    called (made_anonymous alice bob) (submission_opened alice bob) (record { caller = Some 1; command = SetPhase Submission }) legal
+    called (made_anonymous alice bob) (submission_opened alice bob) (call_of (Some 1) (SetPhase Submission)) legal
     (record { caller = refl; bounded = tt }) refl
 
 submits : (alice bob : List ℕ) → Legal (submission_opened alice bob) → Legal (one_submission alice bob)
 submits alice bob legal =
-    called (submission_opened alice bob) (one_submission alice bob) (record { caller = Some 2; command = Submit (codes "Proofs") (codes "We prove.") [] }) legal
+    called (submission_opened alice bob) (one_submission alice bob) (call_of (Some 2) (Submit (codes "Proofs") (codes "We prove.") [])) legal
     (record { caller = refl; bounded = (record { some = omega arith; few = omega arith; bytes = refl; utf8 = ascii-utf8 (codes "Proofs") refl }, record { few = omega arith; utf8 = ascii-utf8 (codes "We prove.") refl }, omega arith) }) refl
 
 one_submission-follows : (alice bob : List ℕ) → length alice ≡ 32 → length bob ≡ 32 → Legal (one_submission alice bob)
@@ -91,26 +94,26 @@ one_submission-legal alice bob ha hb = record {
 module _ (alice bob carol dave : List ℕ) where
   registers : length carol ≡ 32 → length dave ≡ 32 → Legal (one_submission alice bob) → Legal (four_registrations alice bob carol dave)
   registers hc hd legal =
-      let three : History = one_submission alice bob ++ record { stamp = record { maker = 3 }; more = false; entry = Registered 3 (codes "carol") carol } ∷ [] in
+      let three : History = one_submission alice bob ++ stamped (stamp_by 3) false (Registered 3 (codes "carol") carol) ∷ [] in
       called three (four_registrations alice bob carol dave) (register (codes "dave") dave)
       (called (one_submission alice bob) three (register (codes "carol") carol) legal (record { caller = refl; bounded = (record { some = omega arith; few = omega arith; bytes = refl }, hc) }) refl)
       (record { caller = refl; bounded = (record { some = omega arith; few = omega arith; bytes = refl }, hd) }) refl
 
   names : Legal (four_registrations alice bob carol dave) → Legal (two_members alice bob carol dave)
   names legal =
-      let one : History = four_registrations alice bob carol dave ++ record { stamp = record { maker = 1 }; more = false; entry = Named 3 Member } ∷ [] in
-      called one (two_members alice bob carol dave) (record { caller = Some 1; command = Name (Some (codes "dave")) Member })
-      (called (four_registrations alice bob carol dave) one (record { caller = Some 1; command = Name (Some (codes "carol")) Member }) legal (record { caller = refl; bounded = refl }) refl)
+      let one : History = four_registrations alice bob carol dave ++ stamped (stamp_by 1) false (Named 3 Member) ∷ [] in
+      called one (two_members alice bob carol dave) (call_of (Some 1) (Name (Some (codes "dave")) Member))
+      (called (four_registrations alice bob carol dave) one (call_of (Some 1) (Name (Some (codes "carol")) Member)) legal (record { caller = refl; bounded = refl }) refl)
       (record { caller = refl; bounded = refl }) refl
 
   declares : Legal (two_members alice bob carol dave) → Legal (one_conflict alice bob carol dave)
   declares legal =
-      called (two_members alice bob carol dave) (one_conflict alice bob carol dave) (record { caller = Some 2; command = SetConflict (Some 1) (Some (codes "carol")) true }) legal
+      called (two_members alice bob carol dave) (one_conflict alice bob carol dave) (call_of (Some 2) (SetConflict (Some 1) (Some (codes "carol")) true)) legal
       (record { caller = refl; bounded = tt }) refl
 
   bids : Legal (one_conflict alice bob carol dave) → Legal (bidding_opened alice bob carol dave)
   bids legal =
-      called (one_conflict alice bob carol dave) (bidding_opened alice bob carol dave) (record { caller = Some 1; command = SetPhase Bidding }) legal
+      called (one_conflict alice bob carol dave) (bidding_opened alice bob carol dave) (call_of (Some 1) (SetPhase Bidding)) legal
       (record { caller = refl; bounded = tt }) refl
 
 pub one_conflict-legal : OneConflict
@@ -134,7 +137,7 @@ one_bulk-legal alice bob carol dave ha hb hc hd =
     let drawn : Drawn = record { group = rows_added; receipt = receipts.Rows 4 } in
     record {
       accepted = refl;
-      legal = Legal-bulk_accepted before (record { user = 1; rows = four_rows }) drawn (one_conflict-legal alice bob carol dave ha hb hc hd).legal
+      legal = Legal-bulk_accepted before (bulk_by 1 four_rows) drawn (one_conflict-legal alice bob carol dave ha hb hc hd).legal
           (record { caller = refl; bounded = omega arith }) refl;
       refused = refl;
     }

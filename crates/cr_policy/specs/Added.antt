@@ -4,6 +4,7 @@ use Rattle.std.specs.Prelude.{ℕ, Bool, true, false, not, ◌+◌, ◌==◌, �
 use Rattle.std.specs.Prelude.{Some, None, Ok}
 use Rattle.std.specs.List.{AllByRecursion, flat_map}
 use Rattle.std.specs.Option.{option_map}
+use Rattle.cr_base.specs.declared.command.Call.{Call}
 use Rattle.cr_base.specs.declared.command.Command.{Command}
 use Rattle.cr_base.specs.declared.command.Command.TheVariants as commands
 use Rattle.cr_base.specs.declared.entry.Entry.{Entry}
@@ -11,10 +12,12 @@ use Rattle.cr_base.specs.declared.entry.Entry.TheVariants.{Registered, Named, Ph
 use Rattle.cr_base.specs.declared.entry.Entry.TheVariants.{Coauthor, Revised, Uploaded, Withdrawn, Conflict}
 use Rattle.cr_base.specs.declared.entry.Entry.TheVariants.{Bid, Assigned, Unassigned, Reviewed, Commented, Tagged}
 use Rattle.cr_base.specs.declared.entry.Entry.TheVariants.{Decided}
+use Rattle.cr_base.specs.declared.entry.Stamp.{Stamp}
 use Rattle.cr_base.specs.declared.entry.Stamped.{Stamped}
 use Rattle.cr_base.specs.declared.reply.Receipt.{Receipt}
 use Rattle.cr_base.specs.declared.reply.Receipt.TheVariants as receipts
 use Rattle.cr_base.specs.declared.words.Role.TheVariants.{Chair}
+use Rattle.cr_base.specs.Calls.{stamp_of}
 use Rattle.cr_base.specs.Drawn.{Drawn}
 use Rattle.cr_base.specs.History.{History}
 use Rattle.cr_base.specs.HistoryFacts.{accounts_of, papers_of, uploads_of, ordinal_of, seats_of, forms_of, comments_of}
@@ -102,6 +105,10 @@ made_by caller H (commands.Register name digest) = next_user H
 made_by (Some u) H _ = u
 made_by None H _ = 0
 
+-- so under its call's stamp, with this maker
+abbrev pub stamp_added : History → Call → Stamp
+stamp_added H call = record (stamp_of call) { maker = made_by call.caller H call.command }
+
 -- ---- the answer
 
 -- what was numbered anew, its number; what was changed, its paper; what was set, that
@@ -133,16 +140,16 @@ marks [] = []
 marks (e ∷ []) = false ∷ []
 marks (e ∷ next ∷ es) = true ∷ marks (next ∷ es)
 
--- these entries are added, all by this maker, and marked so; and the command is answered this
-pub record IsAdded (maker : ℕ) (es : List Entry) (told : List Receipt) (drawn : Drawn) : Type 0 where
+-- these entries are added, all under this stamp, and marked so; and the command is answered this
+pub record IsAdded (stamp : Stamp) (es : List Entry) (told : List Receipt) (drawn : Drawn) : Type 0 where
   pub entries : map (λ (e : Stamped). e.entry) drawn.group ≡ es
-  pub makers : AllByRecursion (λ (e : Stamped). e.stamp.maker ≡ maker) drawn.group
+  pub stamps : AllByRecursion (λ (e : Stamped). e.stamp ≡ stamp) drawn.group
   pub marks : map (λ (e : Stamped). e.more) drawn.group ≡ marks es
   pub receipt : drawn.receipt ∷ [] ≡ told
 
 -- AddsAsSaid: on a legal history an accepted command adds what its line says
 abbrev pub AddsAsSaid : Type 0
 AddsAsSaid =
-    (caller : Option ℕ) (H : History) (command : Command) (drawn : Drawn) → Legal H → IsCaller H caller command
-    → judge caller (view caller H) command ≡ Ok drawn
-    → IsAdded (made_by caller H command) (added caller H command) (answered caller H command) drawn
+    (H : History) (call : Call) (drawn : Drawn) → Legal H → IsCaller H call.caller call.command
+    → judge (view call.caller H) call ≡ Ok drawn
+    → IsAdded (stamp_added H call) (added call.caller H call.command) (answered call.caller H call.command) drawn

@@ -19,6 +19,7 @@ use Rattle.cr_base.specs.declared.words.Kind.TheVariants.{Primary}
 use Rattle.cr_base.specs.declared.words.Mode.TheVariants.{Overt, Blind}
 use Rattle.cr_base.specs.declared.words.Phase.TheVariants.{Closed}
 use Rattle.cr_base.specs.declared.words.Role.TheVariants.{Member, Chair}
+use Rattle.cr_base.specs.Calls.{call_of, bulk_by}
 use Rattle.cr_base.specs.History.{History}
 use Rattle.cr_policy.specs.Conference.{alice, bob, carol, dave, erin, fay, gus, hal, Digests, AreDigests, Asides}
 use Rattle.cr_policy.specs.Conference.{AreAsides, ◌adds◌, types, we_type, hot, chairs_tag, first_form, agreed}
@@ -70,13 +71,13 @@ pub record AreStagesLegal (d : Digests) (a : Asides) : Type 0 where
 -- ---- who asks, where, for what, and what she is told
 
 abbrev pub Refused : ℕ → History → Command → Rule → Type 0
-Refused u H command rule = judge (Some u) (view (Some u) H) command ≡ Err rule
+Refused u H command rule = judge (view (Some u) H) (call_of (Some u) command) ≡ Err rule
 
 abbrev pub Unanswered : ℕ → History → Query → Rule → Type 0
 Unanswered u H query rule = answer (Some u) (view (Some u) H) query ≡ replies.Refused rule
 
 abbrev pub BulkRefused : ℕ → History → List BulkRow → Broken → Type 0
-BulkRefused u H rows refusal = judge_bulk u (view (Some u) H) rows ≡ Err refusal
+BulkRefused u H rows refusal = judge_bulk (view (Some u) H) (bulk_by u rows) ≡ Err refusal
 
 abbrev pub zoe : Option (List ℕ)
 zoe = Some (codes "zoe")

@@ -4,6 +4,7 @@ use Rattle.std.specs.Prelude.{ℕ, Some, is_ok, IsTrue, IsFalse}
 use Rattle.cr_base.specs.declared.command.Command.TheVariants.{SetPhase}
 use Rattle.cr_base.specs.declared.words.Phase.{Phase}
 use Rattle.cr_base.specs.declared.words.Phase.TheVariants.{Closed}
+use Rattle.cr_base.specs.Calls.{call_of}
 use Rattle.cr_base.specs.History.{History}
 use Rattle.cr_base.specs.HistoryFacts.{phase_of}
 use Rattle.cr_history.specs.Invariants.{IsRegistered}
@@ -16,7 +17,7 @@ use Rattle.cr_policy.specs.View.{view}
 pub record CanGoOn (H : History) (u : ℕ) : Type 0 where
   pub next : Phase
   pub comes : IsTrue (comes_behind (phase_of H) next)
-  pub accepted : IsTrue (is_ok (judge (Some u) (view (Some u) H) (SetPhase next)))
+  pub accepted : IsTrue (is_ok (judge (view (Some u) H) (call_of (Some u) (SetPhase next))))
 
 -- the first user has registered and is a chair; and before the end she can go on
 pub record HasChair (H : History) : Type 0 where

@@ -13,6 +13,8 @@ use Rattle.cr_base.specs.declared.words.Mode.{Mode}
 use Rattle.cr_base.specs.declared.words.Mode.TheVariants.{Blind, Anonymous}
 use Rattle.cr_base.specs.declared.words.Phase.TheVariants.{Bidding, Reviewing, Discussion, Notification}
 use Rattle.cr_base.specs.declared.words.Role.TheVariants.{Member, Chair}
+use Rattle.cr_base.specs.Calls.{stamp_by}
+use Rattle.cr_base.specs.Drawn.{stamped}
 use Rattle.cr_base.specs.History.{History}
 use Rattle.cr_policy.specs.Conference.{alice, bob, carol, dave, erin, fay, gus, hal, Digests, AreDigests, ◌adds◌}
 use Rattle.cr_policy.specs.Conference.{proofs, we_prove, types, we_type, fewer_proofs}
@@ -116,7 +118,7 @@ SubmitterHidden = AlikeTo dave alice (in_submission Anonymous)
 
 abbrev pub submitted_with : ℕ → History
 submitted_with coauthor =
-    record { stamp = record { maker = bob }; more = true; entry = Submitted 1 proofs we_prove } ∷ bob adds Coauthor 1 coauthor ∷ []
+    stamped (stamp_by bob) true (Submitted 1 proofs we_prove) ∷ bob adds Coauthor 1 coauthor ∷ []
 
 abbrev pub CoauthorHidden : Type 0
 CoauthorHidden = AllAlikeTo dave alice (in_submission Anonymous) (submitted_with gus) (submitted_with erin) bids_open

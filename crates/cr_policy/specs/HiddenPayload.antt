@@ -14,7 +14,7 @@ use Rattle.cr_policy.specs.ViewFacts.{is_user}
 
 -- all parts of an entry
 abbrev pub all_of : Stamped → Sighting
-all_of e = entire e.stamp.maker e.entry
+all_of e = entire e.stamp e.entry
 
 -- what is never hidden by this law: of which kind an entry is, and its paper, ordinal, version,
 -- number and tag, where it has one
@@ -77,7 +77,8 @@ IsDeclaredAlike u H H' _ maker other = Unit {0}
 
 -- the fourth: that holds of each conflict
 abbrev pub DeclaredAlike : Option ℕ → History → History → Type 0
-DeclaredAlike u H H' = PlaceByPlace (λ at e other. IsDeclaredAlike u H H' e.entry e.stamp.maker other.stamp.maker) [] H H'
+DeclaredAlike u H H' =
+    PlaceByPlace (λ at e other. IsDeclaredAlike u H H' e.entry e.stamp.maker other.stamp.maker) [] H H'
 
 -- all four
 pub record DiffersHidden (u : Option ℕ) (H H' : History) : Type 0 where

@@ -1,14 +1,16 @@
 -- Judge and Answer: a command's and a bulk's judgement and a query's answer, computed from the caller's view alone.
-use Rattle.std.specs.Prelude.{ℕ, Bool, true, List, ◌++◌, map, Option, Some, None, Result}
+use Rattle.std.specs.Prelude.{ℕ, Bool, true, ◌++◌, map, Option, Some, None, Result}
 use Rattle.cr_base.specs.declared.bulk.Broken.{Broken}
 use Rattle.cr_base.specs.declared.bulk.BulkRow.{BulkRow}
-use Rattle.cr_base.specs.declared.command.Command.{Command}
+use Rattle.cr_base.specs.declared.command.Call.{Call}
 use Rattle.cr_base.specs.declared.command.Query.{Query}
+use Rattle.cr_base.specs.declared.entry.Stamp.{Stamp}
 use Rattle.cr_base.specs.declared.entry.Stamped.{Stamped}
 use Rattle.cr_base.specs.declared.reply.Reply.{Reply}
 use Rattle.cr_base.specs.declared.reply.Rule.{Rule}
 use Rattle.cr_base.specs.Answering.{answer_by, login_wanted}
 use Rattle.cr_base.specs.Bulk.{Basis, row_judged, bulk_judged}
+use Rattle.cr_base.specs.Calls.{BulkCall, stamp_of}
 use Rattle.cr_base.specs.Drawn.{Drawn}
 use Rattle.cr_base.specs.History.{History}
 use Rattle.cr_base.specs.Judging.{judge_by}
@@ -17,9 +19,10 @@ use Rattle.cr_policy.specs.Sighting.{sighting}
 use Rattle.cr_policy.specs.View.{View}
 use Rattle.cr_policy.specs.ViewFacts.{facts_in_view, shown_in_view}
 
--- Judge: the first broken rule of the command's list, or the entries that it adds and its receipt
-abbrev pub judge : Option ℕ → View → Command → Result Drawn Rule
-judge u V command = judge_by (facts_in_view u V) (shown_in_view u V) u command
+-- Judge, on the caller's view: the first broken rule of the command's list, or the entries that it adds and its receipt
+abbrev pub judge : View → Call → Result Drawn Rule
+judge V call =
+    judge_by (facts_in_view call.caller V) (shown_in_view call.caller V) (stamp_of call) call.command
 
 -- Answer: the answer to the query
 abbrev pub answer : Option ℕ → View → Query → Reply
@@ -43,11 +46,12 @@ view_basis user = record {
   behind = λ V group. V ++ own_sightings group;
 }
 
--- Judge of one row
-abbrev pub judge_row : ℕ → View → BulkRow → Result Drawn Rule
-judge_row user V row = row_judged (facts_in_view (Some user) V) (shown_in_view (Some user) V) user row
+-- Judge of one row of a bulk under this stamp
+abbrev pub judge_row : View → Stamp → BulkRow → Result Drawn Rule
+judge_row V stamp row =
+    row_judged (facts_in_view (Some stamp.maker) V) (shown_in_view (Some stamp.maker) V) stamp row
 
 -- Judge of a bulk: the first rule that it breaks as a whole, or the first row that breaks one, or the
 -- entries of all rows and the receipt
-abbrev pub judge_bulk : ℕ → View → List BulkRow → Result Drawn Broken
-judge_bulk user V rows = bulk_judged (view_basis user) user V rows
+abbrev pub judge_bulk : View → BulkCall → Result Drawn Broken
+judge_bulk V bulk = bulk_judged (view_basis bulk.stamp.maker) V bulk

@@ -2,8 +2,7 @@
 -- history keeps.
 use Rattle.std.specs.Prelude.{ℕ, ◌≡◌, List, Option, Some, None, is_some, IsTrue}
 use Rattle.std.specs.List.{AllByRecursion}
-use Rattle.cr_base.specs.declared.bulk.BulkRow.{BulkRow}
-use Rattle.cr_base.specs.declared.command.Command.{Command}
+use Rattle.cr_base.specs.declared.command.Call.{Call}
 use Rattle.cr_base.specs.declared.command.Query.{Query}
 use Rattle.cr_base.specs.History.{History}
 use Rattle.cr_base.specs.HistoryFacts.{standing_of, is_author, declared_by_authors, accounts_of}
@@ -12,6 +11,7 @@ use Rattle.cr_base.specs.HistoryFacts.{own_comments_of, is_accepted}
 use Rattle.cr_base.specs.Tables.{tables_of}
 use Rattle.cr_base.specs.Answering.{answer_by_role}
 use Rattle.cr_base.specs.Bulk.{bulk_by_role}
+use Rattle.cr_base.specs.Calls.{BulkCall}
 use Rattle.cr_base.specs.Judging.{judge_by_role}
 use Rattle.cr_base.specs.Logins.{command_wants_login}
 use Rattle.cr_history.specs.Invariants.{IsRegistered, Invariants, IsWhole}
@@ -42,10 +42,10 @@ pub record PublicFactsFromView (u : Option ℕ) (H : History) : Type 0 where
 -- ViewSuffices: on a legal history, what checks of role on the tables give of a command, of a bulk or of a query is
 -- what the caller's view alone gives
 pub record ViewSuffices : Type 0 where
-  pub commands : (u : Option ℕ) (H : History) (command : Command) → Legal H
-      → MayAsk H (command_wants_login command) u → judge u (view u H) command ≡ judge_by_role (tables_of H) u command
-  pub bulks : (user : ℕ) (H : History) (rows : List BulkRow) → Legal H
-      → IsRegistered H user → judge_bulk user (view (Some user) H) rows ≡ bulk_by_role (tables_of H) user rows
+  pub commands : (H : History) (call : Call) → Legal H → MayAsk H (command_wants_login call.command) call.caller
+      → judge (view call.caller H) call ≡ judge_by_role (tables_of H) call
+  pub bulks : (H : History) (bulk : BulkCall) → Legal H → IsRegistered H bulk.stamp.maker
+      → judge_bulk (view (Some bulk.stamp.maker) H) bulk ≡ bulk_by_role (tables_of H) bulk
   pub queries : (u : Option ℕ) (H : History) (query : Query) → Legal H
       → MayAsk H (needs_login (view None H) query) u → answer u (view u H) query ≡ answer_by_role (tables_of H) u query
 

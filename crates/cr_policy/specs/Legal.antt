@@ -1,9 +1,10 @@
 -- Legal: which histories come of commands and bulks.
 use Rattle.std.specs.Prelude.{ℕ, Bool, true, false, ◌≡◌, List, [], ◌∷◌, ◌++◌}
 use Rattle.std.specs.Prelude.{Option, Some, None, Result, Ok, Err, IsFalse}
-use Rattle.cr_base.specs.declared.bulk.BulkRow.{BulkRow}
+use Rattle.cr_base.specs.declared.command.Call.{Call}
 use Rattle.cr_base.specs.declared.command.Command.{Command}
 use Rattle.cr_base.specs.History.{History}
+use Rattle.cr_base.specs.Calls.{BulkCall}
 use Rattle.cr_base.specs.Drawn.{Drawn}
 use Rattle.cr_base.specs.Logins.{command_wants_login}
 use Rattle.cr_base.specs.Bounds.{IsBoundedCommand}
@@ -35,11 +36,6 @@ IsCaller H caller command = CallsAs H (command_wants_login command) caller
 
 -- ---- one call
 
--- a command and who gives it
-pub record Call : Type 0 where
-  pub caller : Option ℕ
-  pub command : Command
-
 -- the caller may give it, and its parts are within the bounds
 pub record IsAllowed (H : History) (call : Call) : Type 0 where
   pub caller : IsCaller H call.caller call.command
@@ -52,23 +48,18 @@ followed_by H (Err refusal) = H
 
 -- Step: the history after the call, by what Judge gives on the caller's view
 abbrev pub step : History → Call → History
-step H call = followed_by H (judge call.caller (view call.caller H) call.command)
+step H call = followed_by H (judge (view call.caller H) call)
 
 -- ---- one bulk
 
--- the rows of a bulk and who gives it
-pub record BulkCall : Type 0 where
-  pub user : ℕ
-  pub rows : List BulkRow
-
 -- she is a user who has registered, and there are no more rows than a bulk may have
 pub record IsBulkAllowed (H : History) (bulk : BulkCall) : Type 0 where
-  pub caller : IsRegistered H bulk.user
+  pub caller : IsRegistered H bulk.stamp.maker
   pub bounded : IsBoundedBulk bulk.rows
 
 -- Step of a bulk: the history behind it, by what Judge gives on the caller's view
 abbrev pub bulk_step : History → BulkCall → History
-bulk_step H bulk = followed_by H (judge_bulk bulk.user (view (Some bulk.user) H) bulk.rows)
+bulk_step H bulk = followed_by H (judge_bulk (view (Some bulk.stamp.maker) H) bulk)
 
 -- ---- many calls
 

@@ -7,16 +7,19 @@ use Rattle.cr_base.specs.declared.bulk.BulkRow.{BulkRow}
 use Rattle.cr_base.specs.declared.command.Command.{Command}
 use Rattle.cr_base.specs.declared.command.Command.TheVariants as commands
 use Rattle.cr_base.specs.declared.entry.Entry.{Entry}
+use Rattle.cr_base.specs.declared.entry.Stamp.{Stamp}
 use Rattle.cr_base.specs.declared.reply.Rule.{Rule}
 use Rattle.cr_base.specs.declared.reply.Rule.TheVariants as rules
 use Rattle.cr_base.specs.declared.words.Kind.TheVariants.{Primary, Secondary, Pc}
 use Rattle.cr_base.specs.Bulk.{row_command}
+use Rattle.cr_base.specs.Calls.{BulkCall}
+use Rattle.cr_base.specs.Drawn.{stamped}
 use Rattle.cr_base.specs.History.{History}
 use Rattle.cr_base.specs.Parse.{parse_paper, parse_name}
 use Rattle.cr_base.specs.TagTexts.{is_tag}
 use Rattle.cr_policy.specs.Added.{added}
 use Rattle.cr_policy.specs.Judge.{judge_bulk}
-use Rattle.cr_policy.specs.Legal.{BulkCall, IsBulkAllowed, Legal}
+use Rattle.cr_policy.specs.Legal.{IsBulkAllowed, Legal}
 use Rattle.cr_policy.specs.MayDo.{may_do}
 use Rattle.cr_policy.specs.Sentences.{committee_at_work, chairs, of_some, user_named}
 use Rattle.cr_policy.specs.View.{view}
@@ -79,21 +82,21 @@ may_row u H (Err rule) = false
 may_row u H (Ok command) = not (is_of_herself u H command) && may_do (Some u) H command
 
 -- the history with what she asks for behind it
-abbrev pub with_row : ℕ → History → Result Command Rule → History
-with_row u H (Err rule) = H
-with_row u H (Ok command) =
-    H ++ map (λ (e : Entry). record { stamp = record { maker = u }; more = false; entry = e }) (added (Some u) H command)
+abbrev pub with_row : Stamp → History → Result Command Rule → History
+with_row stamp H (Err rule) = H
+with_row stamp H (Ok command) = H ++ map (λ (e : Entry). stamped stamp false e) (added (Some stamp.maker) H command)
 
 -- each row may in its turn, as if those before it were done already
-abbrev pub may_rows : ℕ → History → List BulkRow → Bool
-may_rows u H [] = true
-may_rows u H (row ∷ rows) = may_row u H (row_command row) && may_rows u (with_row u H (row_command row)) rows
+abbrev pub may_rows : Stamp → History → List BulkRow → Bool
+may_rows stamp H [] = true
+may_rows stamp H (row ∷ rows) =
+    may_row stamp.maker H (row_command row) && may_rows stamp (with_row stamp H (row_command row)) rows
 
 -- a chair sends a bulk while the committee works, where she may do each of its rows in its turn
-abbrev pub may_bulk : ℕ → History → List BulkRow → Bool
-may_bulk u H rows = chairs u H && committee_at_work H && may_rows u H rows
+abbrev pub may_bulk : History → BulkCall → Bool
+may_bulk H bulk = chairs bulk.stamp.maker H && committee_at_work H && may_rows bulk.stamp H bulk.rows
 
 -- BulksAsSaid: on a legal history a user's bulk is accepted exactly where it is so
 abbrev pub BulksAsSaid : Type 0
 BulksAsSaid = (H : History) (bulk : BulkCall) → Legal H → IsBulkAllowed H bulk
-    → is_ok (judge_bulk bulk.user (view (Some bulk.user) H) bulk.rows) ≡ may_bulk bulk.user H bulk.rows
+    → is_ok (judge_bulk (view (Some bulk.stamp.maker) H) bulk) ≡ may_bulk H bulk

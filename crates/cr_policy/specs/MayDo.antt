@@ -3,6 +3,7 @@
 use Rattle.std.specs.Prelude.{ℕ, Bool, true, false, not, ◌&&◌, ◌||◌, ◌+◌, ◌==◌, ◌≡◌, nat_le, nat_lt, List, length}
 use Rattle.std.specs.Prelude.{Option, Some, is_none, is_some, is_ok}
 use Rattle.std.specs.List.{list_all}
+use Rattle.cr_base.specs.declared.command.Call.{Call}
 use Rattle.cr_base.specs.declared.command.Command.{Command}
 use Rattle.cr_base.specs.declared.command.Command.TheVariants as commands
 use Rattle.cr_base.specs.declared.words.Phase.{Phase}
@@ -88,7 +89,8 @@ has_written v p H = of_some (ordinal_of (Some v) p H) (λ o. is_written p o H)
 
 -- and takes a reviewer off it under whose label there is no form yet
 abbrev pub may_unassign : ℕ → History → ℕ → ℕ → Bool
-may_unassign u H p v = stands p H && administers u p H && committee_at_work H && reviews v p H && not (has_written v p H)
+may_unassign u H p v =
+    stands p H && administers u p H && committee_at_work H && reviews v p H && not (has_written v p H)
 
 -- ---- reviews, comments, tags and decisions
 
@@ -142,12 +144,11 @@ may_do caller H (commands.Decide paper decision) = of_some caller (λ u. of_some
 -- ---- the law
 
 -- a caller's command is accepted: somebody calls, where a login is wanted for it, and no rule is broken
-abbrev pub is_accepted_from : Option ℕ → History → Command → Bool
-is_accepted_from caller H command =
-    (is_some caller || not (command_wants_login command)) && is_ok (judge caller (view caller H) command)
+abbrev pub is_accepted_from : History → Call → Bool
+is_accepted_from H call =
+    (is_some call.caller || not (command_wants_login call.command)) && is_ok (judge (view call.caller H) call)
 
 -- PermissionsAsSaid: on a legal history a command is accepted, whoever calls, exactly where its sentence holds
 abbrev pub PermissionsAsSaid : Type 0
 PermissionsAsSaid =
-    (caller : Option ℕ) (H : History) (command : Command) → Legal H
-    → is_accepted_from caller H command ≡ may_do caller H command
+    (H : History) (call : Call) → Legal H → is_accepted_from H call ≡ may_do call.caller H call.command

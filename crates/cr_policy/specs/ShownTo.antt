@@ -15,6 +15,7 @@ use Rattle.cr_base.specs.declared.entry.Entry.TheVariants.{Bid, Assigned, Unassi
 use Rattle.cr_base.specs.declared.entry.Entry.TheVariants.{Commented, Tagged, Decided}
 use Rattle.cr_base.specs.declared.entry.EntryKind.{EntryKind}
 use Rattle.cr_base.specs.declared.entry.Stamped.{Stamped}
+use Rattle.cr_base.specs.declared.entry.Stamp.{Stamp}
 use Rattle.cr_base.specs.declared.words.Decision.{Decision}
 use Rattle.cr_base.specs.declared.words.Decision.TheVariants.{Accept, Reject}
 use Rattle.cr_base.specs.declared.words.Kind.{Kind}
@@ -281,9 +282,9 @@ is_told u H before later maker (Decided paper decision) =
 -- ---- the parts of an entry that she is told of
 
 -- what a part is for a user at the end of a history: of an entry that stands behind these
--- and before those, by this maker
+-- and before those, under this stamp
 abbrev pub PartFor : Type 0 → Type 0
-PartFor A = Option ℕ → History → History → History → ℕ → Entry → A
+PartFor A = Option ℕ → History → History → History → Stamp → Entry → A
 
 -- the part, where she may know it
 abbrev pub where_known : {A : Type 0} → Bool → A → Option A
@@ -291,27 +292,27 @@ where_known known x = if known then Some x else None
 
 -- the kind, and whether it is her own: always
 abbrev pub kind_for : PartFor EntryKind
-kind_for u H before later maker e = kind_of e
+kind_for u H before later stamp e = kind_of e
 
 abbrev pub mark_for : PartFor Bool
-mark_for u H before later maker e = is_number u maker
+mark_for u H before later stamp e = is_number u stamp.maker
 
 -- the paper's number: always
 abbrev pub paper_for : PartFor (Option ℕ)
-paper_for u H before later maker (Submitted paper title abstract) = Some paper
-paper_for u H before later maker (Coauthor paper user) = Some paper
-paper_for u H before later maker (Revised paper title abstract) = Some paper
-paper_for u H before later maker (Uploaded paper version content) = Some paper
-paper_for u H before later maker (Withdrawn paper) = Some paper
-paper_for u H before later maker (Conflict paper user on) = Some paper
-paper_for u H before later maker (Bid paper value) = Some paper
-paper_for u H before later maker (Assigned paper user review_kind ordinal) = Some paper
-paper_for u H before later maker (Unassigned paper user ordinal) = Some paper
-paper_for u H before later maker (Reviewed paper ordinal version form) = Some paper
-paper_for u H before later maker (Commented paper n ordinal text) = Some paper
-paper_for u H before later maker (Tagged paper tag on) = Some paper
-paper_for u H before later maker (Decided paper decision) = Some paper
-paper_for u H before later maker _ = None
+paper_for u H before later stamp (Submitted paper title abstract) = Some paper
+paper_for u H before later stamp (Coauthor paper user) = Some paper
+paper_for u H before later stamp (Revised paper title abstract) = Some paper
+paper_for u H before later stamp (Uploaded paper version content) = Some paper
+paper_for u H before later stamp (Withdrawn paper) = Some paper
+paper_for u H before later stamp (Conflict paper user on) = Some paper
+paper_for u H before later stamp (Bid paper value) = Some paper
+paper_for u H before later stamp (Assigned paper user review_kind ordinal) = Some paper
+paper_for u H before later stamp (Unassigned paper user ordinal) = Some paper
+paper_for u H before later stamp (Reviewed paper ordinal version form) = Some paper
+paper_for u H before later stamp (Commented paper n ordinal text) = Some paper
+paper_for u H before later stamp (Tagged paper tag on) = Some paper
+paper_for u H before later stamp (Decided paper decision) = Some paper
+paper_for u H before later stamp _ = None
 
 -- who reviews a paper: to the parties of the assignment, to authors who are named the reviewers, and to those who
 -- discuss the paper unless reviewers are hidden
@@ -323,38 +324,38 @@ reviewer_for u H maker paper user =
 -- the user registered, named to a role, named as a co-author or in a conflict: always; and
 -- one who is assigned or unassigned
 abbrev pub user_for : PartFor (Option ℕ)
-user_for u H before later maker (Registered user name digest) = Some user
-user_for u H before later maker (Named user role) = Some user
-user_for u H before later maker (Coauthor paper user) = Some user
-user_for u H before later maker (Conflict paper user on) = Some user
-user_for u H before later maker (Assigned paper user review_kind ordinal) = reviewer_for u H maker paper user
-user_for u H before later maker (Unassigned paper user ordinal) = reviewer_for u H maker paper user
-user_for u H before later maker _ = None
+user_for u H before later stamp (Registered user name digest) = Some user
+user_for u H before later stamp (Named user role) = Some user
+user_for u H before later stamp (Coauthor paper user) = Some user
+user_for u H before later stamp (Conflict paper user on) = Some user
+user_for u H before later stamp (Assigned paper user review_kind ordinal) = reviewer_for u H stamp.maker paper user
+user_for u H before later stamp (Unassigned paper user ordinal) = reviewer_for u H stamp.maker paper user
+user_for u H before later stamp _ = None
 
 -- a user's name: always
 abbrev pub name_for : PartFor (Option (List ℕ))
-name_for u H before later maker (Registered user name digest) = Some name
-name_for u H before later maker _ = None
+name_for u H before later stamp (Registered user name digest) = Some name
+name_for u H before later stamp _ = None
 
 -- the digest of a secret: to whoever made the registration
 abbrev pub digest_for : PartFor (Option (List ℕ))
-digest_for u H before later maker (Registered user name digest) = where_known (is_number u maker) digest
-digest_for u H before later maker _ = None
+digest_for u H before later stamp (Registered user name digest) = where_known (is_number u stamp.maker) digest
+digest_for u H before later stamp _ = None
 
 -- a role: always
 abbrev pub role_for : PartFor (Option Role)
-role_for u H before later maker (Named user role) = Some role
-role_for u H before later maker _ = None
+role_for u H before later stamp (Named user role) = Some role
+role_for u H before later stamp _ = None
 
 -- a phase: always
 abbrev pub phase_for : PartFor (Option Phase)
-phase_for u H before later maker (PhaseSet phase) = Some phase
-phase_for u H before later maker _ = None
+phase_for u H before later stamp (PhaseSet phase) = Some phase
+phase_for u H before later stamp _ = None
 
 -- a mode: always
 abbrev pub mode_for : PartFor (Option Mode)
-mode_for u H before later maker (ModeSet mode) = Some mode
-mode_for u H before later maker _ = None
+mode_for u H before later stamp (ModeSet mode) = Some mode
+mode_for u H before later stamp _ = None
 
 -- who submitted a paper: to its authors, to those who oversee it, to those who are eligible for it unless authors are
 -- hidden, and to everyone where it is in the programme;
@@ -362,78 +363,78 @@ mode_for u H before later maker _ = None
 -- paper and are told who comments;
 -- who made any other entry: to nobody
 abbrev pub maker_for : PartFor (Option ℕ)
-maker_for u H before later maker (Submitted paper title abstract) =
+maker_for u H before later stamp (Submitted paper title abstract) =
     where_known (is_author u paper H || oversees u paper H
-    || (is_eligible u paper H && not (hides_authors (mode_of H))) || is_in_programme paper H) maker
-maker_for u H before later maker (Bid paper value) = where_known (oversees u paper H) maker
-maker_for u H before later maker (Commented paper n ordinal text) =
-    where_known (discusses u paper H && knows_writers u H) maker
-maker_for u H before later maker _ = None
+    || (is_eligible u paper H && not (hides_authors (mode_of H))) || is_in_programme paper H) stamp.maker
+maker_for u H before later stamp (Bid paper value) = where_known (oversees u paper H) stamp.maker
+maker_for u H before later stamp (Commented paper n ordinal text) =
+    where_known (discusses u paper H && knows_writers u H) stamp.maker
+maker_for u H before later stamp _ = None
 
 -- a title: to the paper's authors and to whoever made the entry, and the last one to those who serve, and to everyone
 -- where the paper is in the programme
 abbrev pub title_for : PartFor (Option (List ℕ))
-title_for u H before later maker (Submitted paper title abstract) =
+title_for u H before later stamp (Submitted paper title abstract) =
     where_known (is_author u paper H
     || (not (is_replaced paper later) && (serves u H || is_in_programme paper H))) title
-title_for u H before later maker (Revised paper title abstract) =
-    where_known (owns u H maker paper
+title_for u H before later stamp (Revised paper title abstract) =
+    where_known (owns u H stamp.maker paper
     || (not (is_replaced paper later) && (serves u H || is_in_programme paper H))) title
-title_for u H before later maker _ = None
+title_for u H before later stamp _ = None
 
 -- an abstract: to the paper's authors and to whoever made the entry, and the last one to those who are eligible for
 -- the paper, and to everyone where it appears
 abbrev pub abstract_for : PartFor (Option (List ℕ))
-abstract_for u H before later maker (Submitted paper title abstract) =
+abstract_for u H before later stamp (Submitted paper title abstract) =
     where_known (is_author u paper H
     || (not (is_replaced paper later) && (is_eligible u paper H || appears paper H))) abstract
-abstract_for u H before later maker (Revised paper title abstract) =
-    where_known (owns u H maker paper
+abstract_for u H before later stamp (Revised paper title abstract) =
+    where_known (owns u H stamp.maker paper
     || (not (is_replaced paper later) && (is_eligible u paper H || appears paper H))) abstract
-abstract_for u H before later maker _ = None
+abstract_for u H before later stamp _ = None
 
 -- a version's number, and its content: to the paper's authors and to whoever made the entry, and the last one to those
 -- who are eligible for the paper, and to everyone where it appears
 abbrev pub version_for : PartFor (Option ℕ)
-version_for u H before later maker (Uploaded paper version content) =
-    where_known (owns u H maker paper
+version_for u H before later stamp (Uploaded paper version content) =
+    where_known (owns u H stamp.maker paper
     || (not (is_superseded paper later) && (is_eligible u paper H || appears paper H))) version
-version_for u H before later maker (Reviewed paper ordinal version form) =
-    where_known (reads_form u H before later maker paper ordinal) version
-version_for u H before later maker _ = None
+version_for u H before later stamp (Reviewed paper ordinal version form) =
+    where_known (reads_form u H before later stamp.maker paper ordinal) version
+version_for u H before later stamp _ = None
 
 abbrev pub content_for : PartFor (Option (List ℕ))
-content_for u H before later maker (Uploaded paper version content) =
-    where_known (owns u H maker paper
+content_for u H before later stamp (Uploaded paper version content) =
+    where_known (owns u H stamp.maker paper
     || (not (is_superseded paper later) && (is_eligible u paper H || appears paper H))) content
-content_for u H before later maker _ = None
+content_for u H before later stamp _ = None
 
 -- whether a conflict, or a tag, is on: always
 abbrev pub switch_for : PartFor (Option Bool)
-switch_for u H before later maker (Conflict paper user on) = Some on
-switch_for u H before later maker (Tagged paper tag on) = Some on
-switch_for u H before later maker _ = None
+switch_for u H before later stamp (Conflict paper user on) = Some on
+switch_for u H before later stamp (Tagged paper tag on) = Some on
+switch_for u H before later stamp _ = None
 
 -- a bid: always
 abbrev pub value_for : PartFor (Option ℕ)
-value_for u H before later maker (Bid paper value) = Some value
-value_for u H before later maker _ = None
+value_for u H before later stamp (Bid paper value) = Some value
+value_for u H before later stamp _ = None
 
 -- what a reviewer is to the paper: to the parties of the assignment, and to those who discuss the paper
 abbrev pub review_kind_for : PartFor (Option Kind)
-review_kind_for u H before later maker (Assigned paper user review_kind ordinal) =
-    where_known (is_party u H maker paper user || discusses u paper H) review_kind
-review_kind_for u H before later maker _ = None
+review_kind_for u H before later stamp (Assigned paper user review_kind ordinal) =
+    where_known (is_party u H stamp.maker paper user || discusses u paper H) review_kind
+review_kind_for u H before later stamp _ = None
 
 -- the ordinal of a label: of an assignment and of a form always; of a comment to its maker, and to those who discuss
 -- the paper and aren't told who comments
 abbrev pub ordinal_for : PartFor (Option ℕ)
-ordinal_for u H before later maker (Assigned paper user review_kind ordinal) = Some ordinal
-ordinal_for u H before later maker (Unassigned paper user ordinal) = Some ordinal
-ordinal_for u H before later maker (Reviewed paper ordinal version form) = Some ordinal
-ordinal_for u H before later maker (Commented paper n ordinal text) =
-    where_known (is_number u maker || (discusses u paper H && not (knows_writers u H))) (unwrap_or ordinal 0)
-ordinal_for u H before later maker _ = None
+ordinal_for u H before later stamp (Assigned paper user review_kind ordinal) = Some ordinal
+ordinal_for u H before later stamp (Unassigned paper user ordinal) = Some ordinal
+ordinal_for u H before later stamp (Reviewed paper ordinal version form) = Some ordinal
+ordinal_for u H before later stamp (Commented paper n ordinal text) =
+    where_known (is_number u stamp.maker || (discusses u paper H && not (knows_writers u H))) (unwrap_or ordinal 0)
+ordinal_for u H before later stamp _ = None
 
 -- the score, the confidence and the text to the authors of a form: to those who read all of it,
 -- and to authors who learn of it
@@ -442,68 +443,68 @@ reads_review u H before later maker paper ordinal =
     reads_form u H before later maker paper ordinal || learns_form u H later paper ordinal
 
 abbrev pub score_for : PartFor (Option ℕ)
-score_for u H before later maker (Reviewed paper ordinal version form) =
-    where_known (reads_review u H before later maker paper ordinal) form.score
-score_for u H before later maker _ = None
+score_for u H before later stamp (Reviewed paper ordinal version form) =
+    where_known (reads_review u H before later stamp.maker paper ordinal) form.score
+score_for u H before later stamp _ = None
 
 abbrev pub confidence_for : PartFor (Option ℕ)
-confidence_for u H before later maker (Reviewed paper ordinal version form) =
-    where_known (reads_review u H before later maker paper ordinal) form.confidence
-confidence_for u H before later maker _ = None
+confidence_for u H before later stamp (Reviewed paper ordinal version form) =
+    where_known (reads_review u H before later stamp.maker paper ordinal) form.confidence
+confidence_for u H before later stamp _ = None
 
 abbrev pub to_authors_for : PartFor (Option (List ℕ))
-to_authors_for u H before later maker (Reviewed paper ordinal version form) =
-    where_known (reads_review u H before later maker paper ordinal) form.to_authors
-to_authors_for u H before later maker _ = None
+to_authors_for u H before later stamp (Reviewed paper ordinal version form) =
+    where_known (reads_review u H before later stamp.maker paper ordinal) form.to_authors
+to_authors_for u H before later stamp _ = None
 
 -- the text to the committee: to those who read all of the form
 abbrev pub to_pc_for : PartFor (Option (List ℕ))
-to_pc_for u H before later maker (Reviewed paper ordinal version form) =
-    where_known (reads_form u H before later maker paper ordinal) form.to_pc
-to_pc_for u H before later maker _ = None
+to_pc_for u H before later stamp (Reviewed paper ordinal version form) =
+    where_known (reads_form u H before later stamp.maker paper ordinal) form.to_pc
+to_pc_for u H before later stamp _ = None
 
 -- the mark that there is a form under the label: to those who administer the paper, of the first
 abbrev pub done_for : PartFor (Option Bool)
-done_for u H before later maker (Reviewed paper ordinal version form) =
+done_for u H before later stamp (Reviewed paper ordinal version form) =
     where_known (counts_form u H before paper ordinal) true
-done_for u H before later maker _ = None
+done_for u H before later stamp _ = None
 
 -- a comment's number, and its text: always
 abbrev pub n_for : PartFor (Option ℕ)
-n_for u H before later maker (Commented paper n ordinal text) = Some n
-n_for u H before later maker _ = None
+n_for u H before later stamp (Commented paper n ordinal text) = Some n
+n_for u H before later stamp _ = None
 
 abbrev pub text_for : PartFor (Option (List ℕ))
-text_for u H before later maker (Commented paper n ordinal text) = Some text
-text_for u H before later maker _ = None
+text_for u H before later stamp (Commented paper n ordinal text) = Some text
+text_for u H before later stamp _ = None
 
 -- a tag: always
 abbrev pub tag_for : PartFor (Option (List ℕ))
-tag_for u H before later maker (Tagged paper tag on) = Some tag
-tag_for u H before later maker _ = None
+tag_for u H before later stamp (Tagged paper tag on) = Some tag
+tag_for u H before later stamp _ = None
 
 -- a decision: to those who read it, and to authors who learn of it
 abbrev pub decision_for : PartFor (Option Decision)
-decision_for u H before later maker (Decided paper decision) =
-    where_known (reads_decision u H maker paper || learns_outcome u H later paper) decision
-decision_for u H before later maker _ = None
+decision_for u H before later stamp (Decided paper decision) =
+    where_known (reads_decision u H stamp.maker paper || learns_outcome u H later paper) decision
+decision_for u H before later stamp _ = None
 
 -- the mark that it is what became of a paper: to its authors, who learn of it
 abbrev pub outcome_for : PartFor (Option Bool)
-outcome_for u H before later maker (Decided paper decision) = where_known (learns_outcome u H later paper) true
-outcome_for u H before later maker _ = None
+outcome_for u H before later stamp (Decided paper decision) = where_known (learns_outcome u H later paper) true
+outcome_for u H before later stamp _ = None
 
 -- the mark that a paper is accepted: to everyone, where it is in the programme
 abbrev pub accepted_for : PartFor (Option Bool)
-accepted_for u H before later maker (Decided paper decision) = where_known (is_announced H later paper) true
-accepted_for u H before later maker _ = None
+accepted_for u H before later stamp (Decided paper decision) = where_known (is_announced H later paper) true
+accepted_for u H before later stamp _ = None
 
 -- ---- all entries
 
 -- the part of each entry that she is told of, in order, where these stand before them; H is the whole history
-abbrev pub each_told : {A : Type 0} → Option ℕ → History → (History → History → ℕ → Entry → A)
+abbrev pub each_told : {A : Type 0} → Option ℕ → History → (History → History → Stamp → Entry → A)
     → History → History → List A
 each_told u H part before [] = []
 each_told u H part before (e ∷ later) =
-    given (is_told u H before later e.stamp.maker e.entry) (part before later e.stamp.maker e.entry)
+    given (is_told u H before later e.stamp.maker e.entry) (part before later e.stamp e.entry)
     ++ each_told u H part (before ++ e ∷ []) later

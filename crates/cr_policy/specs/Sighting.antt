@@ -7,6 +7,7 @@ use Rattle.cr_base.specs.declared.entry.Entry.TheVariants.{Registered, Named, Ph
 use Rattle.cr_base.specs.declared.entry.Entry.TheVariants.{Coauthor, Revised, Uploaded, Withdrawn, Conflict}
 use Rattle.cr_base.specs.declared.entry.Entry.TheVariants.{Bid, Assigned, Unassigned, Reviewed}
 use Rattle.cr_base.specs.declared.entry.Entry.TheVariants.{Commented, Tagged, Decided}
+use Rattle.cr_base.specs.declared.entry.Stamp.{Stamp}
 use Rattle.cr_base.specs.declared.entry.Stamped.{Stamped}
 use Rattle.cr_base.specs.declared.words.Decision.{Decision}
 use Rattle.cr_base.specs.declared.words.Kind.{Kind}
@@ -85,36 +86,42 @@ blank kind = record {
   accepted = None;
 }
 
--- The parts that each kind of entry has; `by` is its maker, and the ordinal of a comment without a label is 0.
+-- The parts that each kind of entry has; `by` is who made it, and the ordinal of a comment without a label is 0.
 -- Every form has its mark (`done`), and every decision both of its own (`outcome`, `accepted`), whatever it
 -- decides: a mark tells by being shown, and when that is, the rows of the trigger table say. Of a decision to
 -- reject, or of one that isn't the last on its paper, none of them shows `accepted`.
-abbrev pub entire : ℕ → Entry → Sighting
-entire by (Registered user name digest) =
+abbrev pub entire : Stamp → Entry → Sighting
+entire stamp (Registered user name digest) =
     record (blank kinds.Registered) { user = Some user; name = Some name; digest = Some digest }
-entire by (Named user role) = record (blank kinds.Named) { user = Some user; role = Some role }
-entire by (PhaseSet phase) = record (blank kinds.PhaseSet) { phase = Some phase }
-entire by (ModeSet mode) = record (blank kinds.ModeSet) { mode = Some mode }
-entire by (Submitted paper title abstract) =
-    record (blank kinds.Submitted) { paper = Some paper; by = Some by; title = Some title; abstract = Some abstract }
-entire by (Coauthor paper user) = record (blank kinds.Coauthor) { paper = Some paper; user = Some user }
-entire by (Revised paper title abstract) =
+entire stamp (Named user role) = record (blank kinds.Named) { user = Some user; role = Some role }
+entire stamp (PhaseSet phase) = record (blank kinds.PhaseSet) { phase = Some phase }
+entire stamp (ModeSet mode) = record (blank kinds.ModeSet) { mode = Some mode }
+entire stamp (Submitted paper title abstract) =
+    record (blank kinds.Submitted) {
+      paper = Some paper;
+      by = Some stamp.maker;
+      title = Some title;
+      abstract = Some abstract;
+    }
+entire stamp (Coauthor paper user) = record (blank kinds.Coauthor) { paper = Some paper; user = Some user }
+entire stamp (Revised paper title abstract) =
     record (blank kinds.Revised) { paper = Some paper; title = Some title; abstract = Some abstract }
-entire by (Uploaded paper version content) =
+entire stamp (Uploaded paper version content) =
     record (blank kinds.Uploaded) { paper = Some paper; version = Some version; content = Some content }
-entire by (Withdrawn paper) = record (blank kinds.Withdrawn) { paper = Some paper }
-entire by (Conflict paper user on) =
+entire stamp (Withdrawn paper) = record (blank kinds.Withdrawn) { paper = Some paper }
+entire stamp (Conflict paper user on) =
     record (blank kinds.Conflict) { paper = Some paper; user = Some user; on = Some on }
-entire by (Bid paper value) = record (blank kinds.Bid) { paper = Some paper; by = Some by; value = Some value }
-entire by (Assigned paper user review_kind ordinal) = record (blank kinds.Assigned) {
+entire stamp (Bid paper value) =
+    record (blank kinds.Bid) { paper = Some paper; by = Some stamp.maker; value = Some value }
+entire stamp (Assigned paper user review_kind ordinal) = record (blank kinds.Assigned) {
   paper = Some paper;
   user = Some user;
   review_kind = Some review_kind;
   ordinal = Some ordinal;
 }
-entire by (Unassigned paper user ordinal) =
+entire stamp (Unassigned paper user ordinal) =
     record (blank kinds.Unassigned) { paper = Some paper; user = Some user; ordinal = Some ordinal }
-entire by (Reviewed paper ordinal version form) = record (blank kinds.Reviewed) {
+entire stamp (Reviewed paper ordinal version form) = record (blank kinds.Reviewed) {
   paper = Some paper;
   version = Some version;
   ordinal = Some ordinal;
@@ -124,16 +131,16 @@ entire by (Reviewed paper ordinal version form) = record (blank kinds.Reviewed) 
   to_pc = Some form.to_pc;
   done = Some true;
 }
-entire by (Commented paper n ordinal text) =
+entire stamp (Commented paper n ordinal text) =
     record (blank kinds.Commented) {
       paper = Some paper;
-      by = Some by;
+      by = Some stamp.maker;
       n = Some n;
       ordinal = Some (unwrap_or ordinal 0);
       text = Some text;
     }
-entire by (Tagged paper tag on) = record (blank kinds.Tagged) { paper = Some paper; tag = Some tag; on = Some on }
-entire by (Decided paper decision) =
+entire stamp (Tagged paper tag on) = record (blank kinds.Tagged) { paper = Some paper; tag = Some tag; on = Some on }
+entire stamp (Decided paper decision) =
     record (blank kinds.Decided) {
       paper = Some paper;
       decision = Some decision;
@@ -184,4 +191,4 @@ masked shows mine s = record {
 
 -- the entry with those parts alone
 abbrev pub sighting : (Part → Bool) → Bool → Stamped → Sighting
-sighting shows mine e = masked shows mine (entire e.stamp.maker e.entry)
+sighting shows mine e = masked shows mine (entire e.stamp e.entry)

@@ -9,6 +9,8 @@ use Rattle.cr_base.specs.declared.words.Kind.TheVariants.{Primary, Pc}
 use Rattle.cr_base.specs.declared.words.Mode.TheVariants.{Anonymous}
 use Rattle.cr_base.specs.declared.words.Phase.TheVariants.{Submission, Bidding}
 use Rattle.cr_base.specs.declared.words.Role.TheVariants.{Member, Chair}
+use Rattle.cr_base.specs.Calls.{stamp_by}
+use Rattle.cr_base.specs.Drawn.{stamped}
 use Rattle.cr_base.specs.History.{History}
 use Rattle.cr_policy.specs.Sighting.{Sighting, blank}
 use Rattle.cr_policy.specs.View.{View}
@@ -18,9 +20,9 @@ use Rattle.cr_policy.specs.View.{View}
 -- alice registers and so is a chair, then bob registers; these are the digests of their secrets
 abbrev pub two_registrations : List ℕ → List ℕ → History
 two_registrations alice bob =
-    record { stamp = record { maker = 1 }; more = true; entry = Registered 1 (codes "alice") alice }
-    ∷ record { stamp = record { maker = 1 }; more = false; entry = Named 1 Chair }
-    ∷ record { stamp = record { maker = 2 }; more = false; entry = Registered 2 (codes "bob") bob }
+    stamped (stamp_by 1) true (Registered 1 (codes "alice") alice)
+    ∷ stamped (stamp_by 1) false (Named 1 Chair)
+    ∷ stamped (stamp_by 2) false (Registered 2 (codes "bob") bob)
     ∷ []
 
 -- what a registration shows: the digest to its maker alone
@@ -47,18 +49,18 @@ seen_by_alice digest =
 -- then alice sets the mode
 abbrev pub made_anonymous : List ℕ → List ℕ → History
 made_anonymous alice bob =
-    two_registrations alice bob ++ record { stamp = record { maker = 1 }; more = false; entry = ModeSet Anonymous } ∷ []
+    two_registrations alice bob ++ stamped (stamp_by 1) false (ModeSet Anonymous) ∷ []
 
 -- and the phase
 abbrev pub submission_opened : List ℕ → List ℕ → History
 submission_opened alice bob =
-    made_anonymous alice bob ++ record { stamp = record { maker = 1 }; more = false; entry = PhaseSet Submission } ∷ []
+    made_anonymous alice bob ++ stamped (stamp_by 1) false (PhaseSet Submission) ∷ []
 
 -- and bob submits a paper
 abbrev pub one_submission : List ℕ → List ℕ → History
 one_submission alice bob =
     submission_opened alice bob
-    ++ record { stamp = record { maker = 2 }; more = false; entry = Submitted 1 (codes "Proofs") (codes "We prove.") } ∷ []
+    ++ stamped (stamp_by 2) false (Submitted 1 (codes "Proofs") (codes "We prove.")) ∷ []
 
 -- the mode and the phase that alice set, as she sees them
 abbrev pub mode_shown : Sighting
@@ -103,27 +105,27 @@ submission_seen_by_bob digest =
 abbrev pub four_registrations : List ℕ → List ℕ → List ℕ → List ℕ → History
 four_registrations alice bob carol dave =
     one_submission alice bob
-    ++ record { stamp = record { maker = 3 }; more = false; entry = Registered 3 (codes "carol") carol }
-    ∷ record { stamp = record { maker = 4 }; more = false; entry = Registered 4 (codes "dave") dave }
+    ++ stamped (stamp_by 3) false (Registered 3 (codes "carol") carol)
+    ∷ stamped (stamp_by 4) false (Registered 4 (codes "dave") dave)
     ∷ []
 
 -- alice names both members
 abbrev pub two_members : List ℕ → List ℕ → List ℕ → List ℕ → History
 two_members alice bob carol dave =
     four_registrations alice bob carol dave
-    ++ record { stamp = record { maker = 1 }; more = false; entry = Named 3 Member }
-    ∷ record { stamp = record { maker = 1 }; more = false; entry = Named 4 Member }
+    ++ stamped (stamp_by 1) false (Named 3 Member)
+    ∷ stamped (stamp_by 1) false (Named 4 Member)
     ∷ []
 
 -- bob, the author, declares carol in conflict with his paper
 abbrev pub one_conflict : List ℕ → List ℕ → List ℕ → List ℕ → History
 one_conflict alice bob carol dave =
-    two_members alice bob carol dave ++ record { stamp = record { maker = 2 }; more = false; entry = Conflict 1 3 true } ∷ []
+    two_members alice bob carol dave ++ stamped (stamp_by 2) false (Conflict 1 3 true) ∷ []
 
 -- and alice opens the bidding
 abbrev pub bidding_opened : List ℕ → List ℕ → List ℕ → List ℕ → History
 bidding_opened alice bob carol dave =
-    one_conflict alice bob carol dave ++ record { stamp = record { maker = 1 }; more = false; entry = PhaseSet Bidding } ∷ []
+    one_conflict alice bob carol dave ++ stamped (stamp_by 1) false (PhaseSet Bidding) ∷ []
 
 -- ---- a bulk
 
@@ -142,10 +144,10 @@ four_rows =
 -- the entries of the bulk: dave's second label is another
 abbrev pub rows_added : History
 rows_added =
-    record { stamp = record { maker = 1 }; more = true; entry = Assigned 1 4 Primary 1 }
-    ∷ record { stamp = record { maker = 1 }; more = true; entry = Unassigned 1 4 1 }
-    ∷ record { stamp = record { maker = 1 }; more = true; entry = Assigned 1 4 Pc 2 }
-    ∷ record { stamp = record { maker = 1 }; more = false; entry = Tagged 1 (codes "odd") true }
+    stamped (stamp_by 1) true (Assigned 1 4 Primary 1)
+    ∷ stamped (stamp_by 1) true (Unassigned 1 4 1)
+    ∷ stamped (stamp_by 1) true (Assigned 1 4 Pc 2)
+    ∷ stamped (stamp_by 1) false (Tagged 1 (codes "odd") true)
     ∷ []
 
 -- rows of which the third breaks a rule: dave is assigned already

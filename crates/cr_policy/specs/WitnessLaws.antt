@@ -5,6 +5,7 @@ use Rattle.cr_base.specs.declared.bulk.Broken.TheVariants as broken
 use Rattle.cr_base.specs.declared.reply.Receipt.TheVariants as receipts
 use Rattle.cr_base.specs.declared.reply.Rule.TheVariants as rules
 use Rattle.cr_base.specs.declared.words.Role.TheVariants.{Chair}
+use Rattle.cr_base.specs.Calls.{bulk_by}
 use Rattle.cr_base.specs.History.{History}
 use Rattle.cr_base.specs.HistoryFacts.{role_of, is_author, is_conflicted}
 use Rattle.cr_history.specs.Invariants.{IsRegistered}
@@ -68,10 +69,10 @@ OneConflict =
 -- with a bulk of the chair's after that the history is legal; another bulk is refused for its third row, which
 -- breaks a rule only behind the second
 pub record IsBulkWitness (before after : History) : Type 0 where
-  pub accepted : judge_bulk 1 (view (Some 1) before) four_rows
+  pub accepted : judge_bulk (view (Some 1) before) (bulk_by 1 four_rows)
       ≡ Ok (record { group = rows_added; receipt = receipts.Rows 4 })
   pub legal : Legal after
-  pub refused : judge_bulk 1 (view (Some 1) before) twice_assigned ≡ Err (broken.Row 3 rules.AlreadyAssigned)
+  pub refused : judge_bulk (view (Some 1) before) (bulk_by 1 twice_assigned) ≡ Err (broken.Row 3 rules.AlreadyAssigned)
 
 -- whatever the digests are
 abbrev pub OneBulk : Type 0

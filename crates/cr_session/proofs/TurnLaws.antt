@@ -13,10 +13,10 @@ use Rattle.cr_base.specs.declared.command.Command.{Command}
 use Rattle.cr_base.specs.declared.command.Query.{Query}
 use Rattle.cr_base.specs.declared.reply.Rule.{Rule}
 use Rattle.cr_base.specs.History.{History}
+use Rattle.cr_base.specs.Calls.{call_of, bulk_by, maker_of}
 use Rattle.cr_base.specs.Drawn.{Drawn}
 use Rattle.cr_base.specs.Logins.{command_wants_login}
 use Rattle.cr_base.specs.Bulk.{IsBoundedBulk}
-use Rattle.cr_base.specs.Sources.{maker_of}
 use Rattle.cr_policy.specs.Judge.{judge, judge_bulk, answer, needs_login}
 use Rattle.cr_policy.specs.View.{view}
 use Rattle.cr_policy.proofs.LegalLaws.{Legal-caller_registered}
@@ -158,14 +158,14 @@ change-turn turns.Lost w u what judged b b' wishes served draws wants j = (
 change-turn turns.OutOfMemory w u what judged b b' wishes served draws wants j = (j.0, may-want b.history w u what wishes (wants j.1))
 
 pub command-turn : (turn : TurnResult) (w : Wish) (u : Option ℕ) (command : Command) (b b' : Ledger) → MayWish b.history w u (whats.Command command)
-    → JudgesChange turn (as_bulk (judge u (view u b.history) command)) b b' → Turns turn w b b'
+    → JudgesChange turn (as_bulk (judge (view u b.history) (call_of u command))) b b' → Turns turn w b b'
 command-turn turn w u command b b' wishes j =
-    change-turn turn w u (whats.Command command) (as_bulk (judge u (view u b.history) command)) b b' wishes (λ sending. refl) refl (λ ok. ok) j
+    change-turn turn w u (whats.Command command) (as_bulk (judge (view u b.history) (call_of u command))) b b' wishes (λ sending. refl) refl (λ ok. ok) j
 
 pub bulk-turn : (turn : TurnResult) (w : Wish) (u : Option ℕ) (rows : List BulkRow) (b b' : Ledger) → MayWish b.history w u (whats.Bulk rows)
-    → JudgesChange turn (judge_bulk (maker_of u) (view u b.history) rows) b b' → Turns turn w b b'
+    → JudgesChange turn (judge_bulk (view u b.history) (bulk_by (maker_of u) rows)) b b' → Turns turn w b b'
 bulk-turn turn w u rows b b' wishes j =
-    change-turn turn w u (whats.Bulk rows) (judge_bulk (maker_of u) (view u b.history) rows) b b' wishes (λ sending. refl) refl (λ ok. ok) j
+    change-turn turn w u (whats.Bulk rows) (judge_bulk (view u b.history) (bulk_by (maker_of u) rows)) b b' wishes (λ sending. refl) refl (λ ok. ok) j
 
 -- ---- queries
 

@@ -7,8 +7,8 @@ use Rattle.cr_base.specs.declared.reply.Rule.{Rule}
 use Rattle.cr_base.specs.declared.bulk.Broken.{Broken}
 use Rattle.cr_base.specs.declared.bulk.Broken.TheVariants as broken
 use Rattle.cr_base.specs.History.{History}
+use Rattle.cr_base.specs.Calls.{call_of, bulk_by, maker_of}
 use Rattle.cr_base.specs.Drawn.{Drawn}
-use Rattle.cr_base.specs.Sources.{maker_of}
 use Rattle.cr_policy.specs.Judge.{judge, judge_bulk, answer, needs_login}
 use Rattle.cr_policy.specs.View.{View, view}
 use Rattle.cr_print.specs.declared.sending.Sending.{Sending}
@@ -52,8 +52,8 @@ served_to u V sending NoRoute = refusal_text refused.NoRoute sending
 served_to u V sending (WrongMethod resource) = refusal_text (refused.WrongMethod resource) sending
 served_to u V sending (BadBody ask) = refusal_text refused.BadBody sending
 served_to u V sending (BadQuery offset) = refusal_text (refused.BadQuery offset) sending
-served_to u V sending (Command command) = reply_text (reply_of (as_bulk (judge u V command))) sending
-served_to u V sending (Bulk rows) = reply_text (reply_of (judge_bulk (maker_of u) V rows)) sending
+served_to u V sending (Command command) = reply_text (reply_of (as_bulk (judge V (call_of u command)))) sending
+served_to u V sending (Bulk rows) = reply_text (reply_of (judge_bulk V (bulk_by (maker_of u) rows))) sending
 served_to u V sending (Query query) = reply_text (answer u V query) sending
 
 -- the answer's bytes to what a caller wishes: whoever can't be told from nobody is answered one and the same, where a
@@ -83,8 +83,8 @@ drawn_of u V NoRoute = None
 drawn_of u V (WrongMethod resource) = None
 drawn_of u V (BadBody ask) = None
 drawn_of u V (BadQuery offset) = None
-drawn_of u V (Command command) = accepted (as_bulk (judge u V command))
-drawn_of u V (Bulk rows) = accepted (judge_bulk (maker_of u) V rows)
+drawn_of u V (Command command) = accepted (as_bulk (judge V (call_of u command)))
+drawn_of u V (Bulk rows) = accepted (judge_bulk V (bulk_by (maker_of u) rows))
 drawn_of u V (Query query) = None
 
 -- what a caller's wish adds: nothing, where a login is wanted and nobody calls

@@ -9,8 +9,8 @@ use Rattle.cr_base.specs.declared.command.Query.{Query}
 use Rattle.cr_base.specs.declared.reply.Reply.TheVariants as replies
 use Rattle.cr_base.specs.declared.reply.Receipt.{Receipt}
 use Rattle.cr_base.specs.declared.reply.Rule.{Rule}
+use Rattle.cr_base.specs.Calls.{call_of, bulk_by, maker_of}
 use Rattle.cr_base.specs.Drawn.{Drawn}
-use Rattle.cr_base.specs.Sources.{maker_of}
 use Rattle.cr_policy.specs.Judge.{judge, judge_bulk, answer}
 use Rattle.cr_policy.specs.Legal.{IsBulkAllowed}
 use Rattle.cr_policy.specs.View.{View, view}
@@ -62,8 +62,8 @@ WantsRoom u V whats.NoRoute = ⊥
 WantsRoom u V (whats.WrongMethod resource) = ⊥
 WantsRoom u V (whats.BadBody ask) = ⊥
 WantsRoom u V (whats.BadQuery offset) = ⊥
-WantsRoom u V (whats.Command command) = IsOk (as_bulk (judge u V command))
-WantsRoom u V (whats.Bulk rows) = IsOk (judge_bulk (maker_of u) V rows)
+WantsRoom u V (whats.Command command) = IsOk (as_bulk (judge V (call_of u command)))
+WantsRoom u V (whats.Bulk rows) = IsOk (judge_bulk V (bulk_by (maker_of u) rows))
 WantsRoom u V (whats.Query query) = (rule : Rule) → answer u V query ≢ replies.Refused rule
 
 -- and only for a caller who may
@@ -123,7 +123,7 @@ ChangesBook faults turn judged old new = JudgesChange turn judged (ledger_of fau
 -- a bulk's caller is a registered user, and it has no more rows than it may
 abbrev pub IsBulkCaller : History → Option ℕ → List BulkRow → Type 0
 IsBulkCaller H None rows = ⊥
-IsBulkCaller H (Some user) rows = IsBulkAllowed H (record { user = user; rows = rows })
+IsBulkCaller H (Some user) rows = IsBulkAllowed H (bulk_by user rows)
 
 -- a query was answered for this caller
 abbrev pub AnswersQuery : TurnResult → Option ℕ → Query → History → Type 0

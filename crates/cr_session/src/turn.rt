@@ -5,7 +5,7 @@ ghost use Rattle.cr_lock.specs.Passes.{after_turn};
 ghost use Rattle.cr_policy.specs.Judge.{judge, judge_bulk, needs_login};
 ghost use Rattle.cr_policy.specs.Legal.{IsAllowed, IsBulkAllowed, MayAsk};
 ghost use Rattle.cr_policy.specs.View.{view};
-ghost use Rattle.cr_base.specs.Sources.{maker_of};
+ghost use Rattle.cr_base.specs.Calls.{call_of, bulk_by, maker_of};
 ghost use Rattle.cr_json.specs.Put.{HasRoom};
 ghost use Rattle.cr_wire.specs.Bounds.{IsBoundedWhat};
 ghost use Rattle.cr_wire.specs.Caller.{caller};
@@ -106,9 +106,9 @@ fn caller_of<K: Keeper>(book: &Book<K>, wish: &Wish) -> Option<UserNo>
 
 /// Judges a command.
 fn judge<K: Keeper>(book: &mut Book<K>, caller: &Option<UserNo>, command: Command) -> TurnResult
-    requires { IsAllowed book.old.log (record { caller = caller.now; command = command }) }
+    requires { IsAllowed book.old.log (call_of caller.now command) }
     ensures { ChangesBook K.faults result
-        (as_bulk (judge caller.now (view caller.now book.old.log) command)) book.old book.new }
+        (as_bulk (judge (view caller.now book.old.log) (call_of caller.now command))) book.old book.new }
 {
     match book.command(caller, command) {
         Ok(receipt) => TurnResult::Accepted(receipt),
@@ -122,7 +122,7 @@ fn judge<K: Keeper>(book: &mut Book<K>, caller: &Option<UserNo>, command: Comman
 fn judge_bulk<K: Keeper>(book: &mut Book<K>, caller: &Option<UserNo>, rows: BulkRows) -> TurnResult
     requires { IsBulkCaller book.old.log caller.now rows }
     ensures { ChangesBook K.faults result
-        (judge_bulk (maker_of caller.now) (view caller.now book.old.log) rows) book.old book.new }
+        (judge_bulk (view caller.now book.old.log) (bulk_by (maker_of caller.now) rows)) book.old book.new }
 {
     match caller {
         Some(user) => judge_rows(book, *user, rows),
@@ -132,8 +132,9 @@ fn judge_bulk<K: Keeper>(book: &mut Book<K>, caller: &Option<UserNo>, rows: Bulk
 
 /// Judges a bulk of this user.
 fn judge_rows<K: Keeper>(book: &mut Book<K>, user: UserNo, rows: BulkRows) -> TurnResult
-    requires { IsBulkAllowed book.old.log (record { user = user; rows = rows }) }
-    ensures { ChangesBook K.faults result (judge_bulk user (view (Some user) book.old.log) rows) book.old book.new }
+    requires { IsBulkAllowed book.old.log (bulk_by user rows) }
+    ensures { ChangesBook K.faults result
+        (judge_bulk (view (Some user) book.old.log) (bulk_by user rows)) book.old book.new }
 {
     match book.bulk(user, rows) {
         Ok(count_told) => TurnResult::Accepted(count_told),

@@ -7,10 +7,11 @@ use Rattle.std.proofs.lemmas.List.Concat.{flat_map-append}
 use Rattle.std.proofs.lemmas.List.Elements.{All-head, All-tail, All-same, All-nil, All-cons, All-append}
 use Rattle.std.proofs.lemmas.List.Folds.{list_any-append}
 use Rattle.cr_base.specs.declared.entry.Entry.{Entry}
+use Rattle.cr_base.specs.declared.entry.Stamp.{Stamp}
 use Rattle.cr_base.specs.declared.entry.Stamped.{Stamped}
 use Rattle.cr_base.specs.Lists.{given, is_nothing, last, last_from, last_or}
+use Rattle.cr_base.specs.Drawn.{stamped}
 use Rattle.cr_base.specs.History.{History}
-use Rattle.cr_history.proofs.LineAgreement.{stamp}
 use Rattle.cr_policy.specs.Sighting.{Sighting}
 use Rattle.cr_policy.specs.ShownTo.{is_told, each_told, where_known}
 use Rattle.cr_policy.specs.View.{View, view}
@@ -28,18 +29,18 @@ all-at {X} P (y ∷ before) x after all = all-at P before x after (All-tail P y 
 -- what is so of each entry that the user is told of, as she is shown it there, is so of one sighting
 module _
     (u : Option ℕ) (H : History) (P : Sighting → Type 0) (Q : Stamped → Type 0)
-    (each : (earlier later : History) (maker : ℕ) (more : Bool) (e : Entry) → earlier ++ stamp maker more e ∷ later ≡ H → Q (stamp maker more e)
-    → is_told u H earlier later maker e ≡ true → P (shown_to u H earlier later maker e))
+    (each : (earlier later : History) (stamp : Stamp) (more : Bool) (e : Entry) → earlier ++ stamped stamp more e ∷ later ≡ H → Q (stamped stamp more e)
+    → is_told u H earlier later stamp.maker e ≡ true → P (shown_to u H earlier later stamp e))
   where
     all-placed : (earlier G : History) → earlier ++ G ≡ H → AllByRecursion Q G → All P (each_told u H (shown_to u H) earlier G)
     all-placed earlier [] whole h = All-nil P
     all-placed earlier (e ∷ G) whole h =
-        All-append P (given (is_told u H earlier G e.stamp.maker e.entry) (shown_to u H earlier G e.stamp.maker e.entry)) (each_told u H (shown_to u H) (earlier ++ e ∷ []) G)
-        (by (is_told u H earlier G e.stamp.maker e.entry) (each earlier G e.stamp.maker e.more e.entry whole h.0))
+        All-append P (given (is_told u H earlier G e.stamp.maker e.entry) (shown_to u H earlier G e.stamp e.entry)) (each_told u H (shown_to u H) (earlier ++ e ∷ []) G)
+        (by (is_told u H earlier G e.stamp.maker e.entry) (each earlier G e.stamp e.more e.entry whole h.0))
         (all-placed (earlier ++ e ∷ []) G (append_assoc earlier (e ∷ []) G ∙ whole) h.1)
       where
-        by : (told : Bool) → (told ≡ true → P (shown_to u H earlier G e.stamp.maker e.entry)) → All P (given told (shown_to u H earlier G e.stamp.maker e.entry))
-        by true one = All-cons P (shown_to u H earlier G e.stamp.maker e.entry) [] (one refl) (All-nil P)
+        by : (told : Bool) → (told ≡ true → P (shown_to u H earlier G e.stamp e.entry)) → All P (given told (shown_to u H earlier G e.stamp e.entry))
+        by true one = All-cons P (shown_to u H earlier G e.stamp e.entry) [] (one refl) (All-nil P)
         by false one = All-nil P
 
     pub at-sighting : (before : View) (s : Sighting) (after : View) → view u H ≡ before ++ s ∷ after → AllByRecursion Q H → P s

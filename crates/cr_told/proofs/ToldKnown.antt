@@ -7,13 +7,14 @@ use Rattle.std.proofs.lemmas.List.Elements.{recursion_from_All}
 use Rattle.cr_base.specs.declared.entry.Entry.{Entry}
 use Rattle.cr_base.specs.declared.entry.Entry.TheVariants.{Tagged}
 use Rattle.cr_base.specs.declared.entry.EntryKind.{EntryKind}
+use Rattle.cr_base.specs.declared.entry.Stamp.{Stamp}
 use Rattle.cr_base.specs.declared.entry.Stamped.{Stamped}
+use Rattle.cr_base.specs.Drawn.{stamped}
 use Rattle.cr_base.specs.History.{History}
 use Rattle.cr_base.specs.HistoryFacts.{role_of}
 use Rattle.cr_base.specs.TagTexts.{is_for_chairs}
 use Rattle.cr_base.specs.Words.{is_chair}
 use Rattle.cr_history.specs.Invariants.{Invariants, IsInOrder, InTurn, IsByRight, IsHeld}
-use Rattle.cr_history.proofs.LineAgreement.{stamp}
 use Rattle.cr_policy.specs.Legal.{Legal}
 use Rattle.cr_policy.specs.Part.{Part}
 use Rattle.cr_policy.specs.ShownTo.{is_told}
@@ -87,10 +88,10 @@ AllOf kind =
 -- a part of an entry of this kind, as a user is shown it, is told or left out
 abbrev pub Each : EntryKind → Type 0
 Each kind =
-    (u : Option ℕ) (H : History) (legal : Legal H) (before after : View) (what : Part) (earlier later : History) (maker : ℕ) (more : Bool) (e : Entry)
-    → earlier ++ stamp maker more e ∷ later ≡ H → IsKnown H maker e → is_told u H earlier later maker e ≡ true → view u H ≡ before ++ shown_to u H earlier later maker e ∷ after
-    → IsTrue (is_kind kind (shown_to u H earlier later maker e)) → IsTrue (has what (shown_to u H earlier later maker e))
-    → IsTrue (is_part_told u H (shown_to u H earlier later maker e) kind what || is_left_untold u H (shown_to u H earlier later maker e) after kind what)
+    (u : Option ℕ) (H : History) (legal : Legal H) (before after : View) (what : Part) (earlier later : History) (stamp : Stamp) (more : Bool) (e : Entry)
+    → earlier ++ stamped stamp more e ∷ later ≡ H → IsKnown H stamp.maker e → is_told u H earlier later stamp.maker e ≡ true → view u H ≡ before ++ shown_to u H earlier later stamp e ∷ after
+    → IsTrue (is_kind kind (shown_to u H earlier later stamp e)) → IsTrue (has what (shown_to u H earlier later stamp e))
+    → IsTrue (is_part_told u H (shown_to u H earlier later stamp e) kind what || is_left_untold u H (shown_to u H earlier later stamp e) after kind what)
 
 -- so it is of each sighting of the kind
 pub all-of : (kind : EntryKind) → Each kind → AllOf kind
@@ -98,5 +99,5 @@ all-of kind each u H before s after what legal is =
     at-sighting u H (λ s. view u H ≡ before ++ s ∷ after → IsTrue (is_kind kind s) → IsTrue (has what s)
     → IsTrue (is_part_told u H s kind what || is_left_untold u H s after kind what))
     (λ (e : Stamped). IsKnown H e.stamp.maker e.entry)
-    (λ earlier later maker more e whole known told. each u H legal before after what earlier later maker more e whole known told)
+    (λ earlier later stamp more e whole known told. each u H legal before after what earlier later stamp more e whole known told)
     before s after is (all-known H legal) is

@@ -5,6 +5,7 @@ use Rattle.std.specs.Option.{option_map}
 use Rattle.std.specs.List.{flat_map, list_any}
 use Rattle.std.proofs.lemmas.Bool.{eqb-true, true≢false, or_parts}
 use Rattle.std.proofs.lemmas.List.Concat.{flat_map-append}
+use Rattle.cr_base.specs.declared.entry.Stamp.{Stamp}
 use Rattle.cr_base.specs.declared.comment.CommentLine.{CommentLine}
 use Rattle.cr_base.specs.declared.command.Query.TheVariants as queries
 use Rattle.cr_base.specs.declared.entry.Entry.{Entry}
@@ -81,11 +82,11 @@ module _ (v : ℕ) (H : History) where
   own-comments : flat_map own_comment_seen (view own H) ≡ own_shown (λ (s : Sighting). s.n) (view own H)
   own-comments = readings own 0 H own_comment_seen (λ (s : Sighting). only s.mine (listed s.n)) one
     where
-      one : (before later : History) (maker : ℕ) (e : Entry)
-          → own_comment_seen (shown_to own H before later maker e)
-          ≡ (let s : Sighting = shown_to own H before later maker e in only s.mine (listed s.n))
-      one before later maker (Commented paper n ordinal text) = refl
-      one before later maker e = refl
+      one : (before later : History) (stamp : Stamp) (e : Entry)
+          → own_comment_seen (shown_to own H before later stamp e)
+          ≡ (let s : Sighting = shown_to own H before later stamp e in only s.mine (listed s.n))
+      one before later stamp (Commented paper n ordinal text) = refl
+      one before later stamp e = refl
 
   own-bytes : flat_map own_bytes_seen (view own H) ≡ map length (own_shown (λ (s : Sighting). s.content) (view own H))
   own-bytes =
@@ -97,21 +98,21 @@ module _ (v : ℕ) (H : History) where
       into true (x ∷ xs) = refl
       into false (x ∷ xs) = refl
 
-      one : (before later : History) (maker : ℕ) (e : Entry)
-          → own_bytes_seen (shown_to own H before later maker e)
-          ≡ (let s : Sighting = shown_to own H before later maker e in map length (only s.mine (listed s.content)))
-      one before later maker (Uploaded paper version content) =
-          into (eqb v maker) (listed (shown_to own H before later maker (Uploaded paper version content)).content)
-      one before later maker e = refl
+      one : (before later : History) (stamp : Stamp) (e : Entry)
+          → own_bytes_seen (shown_to own H before later stamp e)
+          ≡ (let s : Sighting = shown_to own H before later stamp e in map length (only s.mine (listed s.content)))
+      one before later stamp (Uploaded paper version content) =
+          into (eqb v stamp.maker) (listed (shown_to own H before later stamp (Uploaded paper version content)).content)
+      one before later stamp e = refl
 
   own-role : flat_map (role_seen own) (view own H) ≡ flat_map (λ (s : Sighting). only (is_user own s.user) (listed s.role)) (view own H)
   own-role = readings own 0 H (role_seen own) (λ (s : Sighting). only (is_user own s.user) (listed s.role)) one
     where
-      one : (before later : History) (maker : ℕ) (e : Entry)
-          → role_seen own (shown_to own H before later maker e)
-          ≡ (let s : Sighting = shown_to own H before later maker e in only (is_user own s.user) (listed s.role))
-      one before later maker (Named user role) = refl
-      one before later maker e = refl
+      one : (before later : History) (stamp : Stamp) (e : Entry)
+          → role_seen own (shown_to own H before later stamp e)
+          ≡ (let s : Sighting = shown_to own H before later stamp e in only (is_user own s.user) (listed s.role))
+      one before later stamp (Named user role) = refl
+      one before later stamp e = refl
 
 pub me_told : MeTold
 me_told v H = λ i. Some (record {
@@ -236,21 +237,21 @@ module _ (u : Option ℕ) (p : ℕ) (H : History) (there : IsSubmitted H p) (ord
   gone : flat_map (unassigned_seen p) V ≡ shown_by kinds.Unassigned p (λ (s : Sighting). s.ordinal) V
   gone = readings u p H (unassigned_seen p) (λ (s : Sighting). only (is_kind kinds.Unassigned s && is_number s.paper p) (listed s.ordinal)) one
     where
-      one : (before later : History) (maker : ℕ) (e : Entry)
-          → unassigned_seen p (shown_to u H before later maker e)
-          ≡ (let s : Sighting = shown_to u H before later maker e in only (is_kind kinds.Unassigned s && is_number s.paper p) (listed s.ordinal))
-      one before later maker (Unassigned paper user ordinal) = refl
-      one before later maker (Commented paper n ordinal text) = sym (only-false _)
-      one before later maker e = refl
+      one : (before later : History) (stamp : Stamp) (e : Entry)
+          → unassigned_seen p (shown_to u H before later stamp e)
+          ≡ (let s : Sighting = shown_to u H before later stamp e in only (is_kind kinds.Unassigned s && is_number s.paper p) (listed s.ordinal))
+      one before later stamp (Unassigned paper user ordinal) = refl
+      one before later stamp (Commented paper n ordinal text) = sym (only-false _)
+      one before later stamp e = refl
 
   done : (o : ℕ) → is_written_in_view p o V ≡ is_shown_done p o V
   done o = ap (last_or false) (readings u p H (done_seen p o) (λ (s : Sighting). only (is_number s.paper p && is_number s.ordinal o) (listed s.done)) one)
     where
-      one : (before later : History) (maker : ℕ) (e : Entry)
-          → done_seen p o (shown_to u H before later maker e)
-          ≡ (let s : Sighting = shown_to u H before later maker e in only (is_number s.paper p && is_number s.ordinal o) (listed s.done))
-      one before later maker (Reviewed paper ordinal version form) = refl
-      one before later maker e = refl
+      one : (before later : History) (stamp : Stamp) (e : Entry)
+          → done_seen p o (shown_to u H before later stamp e)
+          ≡ (let s : Sighting = shown_to u H before later stamp e in only (is_number s.paper p && is_number s.ordinal o) (listed s.done))
+      one before later stamp (Reviewed paper ordinal version form) = refl
+      one before later stamp e = refl
 
   -- a reviewer as she is told, by who she is, what she is and her label
   abbrev line : Option ℕ → Option Kind → ℕ → Reviewer
@@ -295,17 +296,17 @@ module _ (u : Option ℕ) (p : ℕ) (H : History) (there : IsSubmitted H p) (ord
       where-same true seat = keep true (left seat) seat ∙ sym (only-true _)
       where-same false seat = sym (only-false _)
 
-      one : (before later : History) (maker : ℕ) (e : Entry)
-          → map told (filter left (assigned_seen p (shown_to u H before later maker e)))
-          ≡ (let s : Sighting = shown_to u H before later maker e in
+      one : (before later : History) (stamp : Stamp) (e : Entry)
+          → map told (filter left (assigned_seen p (shown_to u H before later stamp e)))
+          ≡ (let s : Sighting = shown_to u H before later stamp e in
           only (is_kind kinds.Assigned s && is_number s.paper p) (map (reviewer_shown u p H s) (filter (is_left p V) (listed s.ordinal))))
-      one before later maker (Assigned paper user review_kind ordinal) =
-          let s : Sighting = shown_to u H before later maker (Assigned paper user review_kind ordinal) in
+      one before later stamp (Assigned paper user review_kind ordinal) =
+          let s : Sighting = shown_to u H before later stamp (Assigned paper user review_kind ordinal) in
           where-same (eqb paper p) (record { ordinal = ordinal; kind = s.review_kind; user = s.user })
-      one before later maker (Unassigned paper user ordinal) = sym (only-false _)
-      one before later maker (Reviewed paper ordinal version form) = sym (only-false _)
-      one before later maker (Commented paper n ordinal text) = sym (only-false _)
-      one before later maker e = refl
+      one before later stamp (Unassigned paper user ordinal) = sym (only-false _)
+      one before later stamp (Reviewed paper ordinal version form) = sym (only-false _)
+      one before later stamp (Commented paper n ordinal text) = sym (only-false _)
+      one before later stamp e = refl
 
       same : map (reviewer_told (standing_in_view u (Some p) V) (accounts_in_view V) (λ o. is_written_in_view p o V)) (reviewers_in_view p V) ≡ reviewers_listed u p H
       same =
@@ -388,13 +389,13 @@ module _ (u : Option ℕ) (p : ℕ) (H : History) (there : IsSubmitted H p) (ord
           ∙ ap (λ (line : CommentLine). line ∷ []) (by-name (knows_writers u H) n text maker ordinal)
           ∙ sym (ap (λ b. shown-as n text (where_known (b && knows_writers u H) maker) ordinal ∷ []) (h refl))
 
-      one : (before later : History) (maker : ℕ) (e : Entry)
-          → map told (comment_seen p (shown_to u H before later maker e))
-          ≡ (let s : Sighting = shown_to u H before later maker e in only (is_kind kinds.Commented s && is_number s.paper p) (comment_shown_by s V))
-      one before later maker (Commented paper n ordinal text) =
-          where-same (eqb paper p) (discusses u paper H) n text maker (shown_to u H before later maker (Commented paper n ordinal text)).ordinal
+      one : (before later : History) (stamp : Stamp) (e : Entry)
+          → map told (comment_seen p (shown_to u H before later stamp e))
+          ≡ (let s : Sighting = shown_to u H before later stamp e in only (is_kind kinds.Commented s && is_number s.paper p) (comment_shown_by s V))
+      one before later stamp (Commented paper n ordinal text) =
+          where-same (eqb paper p) (discusses u paper H) n text stamp.maker (shown_to u H before later stamp (Commented paper n ordinal text)).ordinal
           (λ same. ap (λ n. discusses u n H) (eqb-true paper p same) ∙ is)
-      one before later maker e = refl
+      one before later stamp e = refl
 
   comments-told : comments_answered (answer u V (queries.Comments (Some p))) ≡ where_known (discusses u p H) (comments_listed p V)
   comments-told =
@@ -479,11 +480,11 @@ module _ (u : Option ℕ) (p : ℕ) (H : History) (there : IsSubmitted H p) (ord
       both false true version content = refl
       both false false version content = refl
 
-      one : (before later : History) (maker : ℕ) (e : Entry)
-          → map (λ (upload : Upload). upload.content) (upload_seen p (shown_to u H before later maker e))
-          ≡ (let s : Sighting = shown_to u H before later maker e in only (is_kind kinds.Uploaded s && is_number s.paper p) (listed s.content))
-      one before later maker (Uploaded paper version content) = both (eqb paper p) _ version content
-      one before later maker e = refl
+      one : (before later : History) (stamp : Stamp) (e : Entry)
+          → map (λ (upload : Upload). upload.content) (upload_seen p (shown_to u H before later stamp e))
+          ≡ (let s : Sighting = shown_to u H before later stamp e in only (is_kind kinds.Uploaded s && is_number s.paper p) (listed s.content))
+      one before later stamp (Uploaded paper version content) = both (eqb paper p) _ version content
+      one before later stamp e = refl
 
   versions-of : (v : ℕ) → map (λ (upload : Upload). upload.content) (filter (λ (upload : Upload). upload.version == v) (uploads_in_view p V)) ≡ contents_of p v V
   versions-of v =
@@ -506,12 +507,12 @@ module _ (u : Option ℕ) (p : ℕ) (H : History) (there : IsSubmitted H p) (ord
       both false true version content = refl
       both false false version content = refl
 
-      one : (before later : History) (maker : ℕ) (e : Entry)
-          → map (λ (upload : Upload). upload.content) (filter (λ (upload : Upload). upload.version == v) (upload_seen p (shown_to u H before later maker e)))
-          ≡ (let s : Sighting = shown_to u H before later maker e in
+      one : (before later : History) (stamp : Stamp) (e : Entry)
+          → map (λ (upload : Upload). upload.content) (filter (λ (upload : Upload). upload.version == v) (upload_seen p (shown_to u H before later stamp e)))
+          ≡ (let s : Sighting = shown_to u H before later stamp e in
           only (is_kind kinds.Uploaded s && (is_number s.paper p && is_number s.version v)) (listed s.content))
-      one before later maker (Uploaded paper version content) = both (eqb paper p) _ version content
-      one before later maker e = refl
+      one before later stamp (Uploaded paper version content) = both (eqb paper p) _ version content
+      one before later stamp e = refl
 
   hidden-uploads : (is_author u p H || (is_eligible u p H || appears p H)) ≡ false → uploads_in_view p V ≡ []
   hidden-uploads h = uploads-none u p H order (or_parts (is_author u p H) (is_eligible u p H || appears p H) h).0 (or_parts (is_author u p H) (is_eligible u p H || appears p H) h).1

@@ -8,6 +8,7 @@ use Rattle.std.proofs.lemmas.List.{length-map}
 use Rattle.std.proofs.lemmas.List.Folds.{list_any-append}
 use Rattle.cr_base.specs.declared.entry.Entry.{Entry}
 use Rattle.cr_base.specs.declared.entry.Entry.TheVariants.{Submitted, Uploaded}
+use Rattle.cr_base.specs.declared.entry.Stamp.{Stamp}
 use Rattle.cr_base.specs.declared.entry.Stamped.{Stamped}
 use Rattle.cr_base.specs.declared.page.Page.{Page}
 use Rattle.cr_base.specs.declared.reply.Reply.TheVariants as replies
@@ -19,6 +20,7 @@ use Rattle.cr_base.specs.declared.words.Phase.TheVariants.{Bidding, Discussion, 
 use Rattle.cr_base.specs.Answering.{page_by, reply_or_rule, uploads_told}
 use Rattle.cr_base.specs.Checks.{judged, ◌breaks◌}
 use Rattle.cr_base.specs.Decisions.{is_published}
+use Rattle.cr_base.specs.Drawn.{stamped}
 use Rattle.cr_base.specs.History.{History, Upload, all_told, paper_told, author_told, abstract_told}
 use Rattle.cr_base.specs.HistoryFacts.{standing_of, phase_of, mode_of, role_of, is_author, is_conflicted, is_accepted, is_reviewer, ordinal_of, papers_of, declared_by_authors, decision_of, is_withdrawn}
 use Rattle.cr_base.specs.Lists.{given, is_nothing, last, last_from, listed, is_number}
@@ -28,7 +30,6 @@ use Rattle.cr_base.specs.Phases.{is_from}
 use Rattle.cr_base.specs.Sources.{has_paper}
 use Rattle.cr_base.specs.Words.{is_member, is_chair, is_anonymous}
 use Rattle.cr_history.specs.Invariants.{IsSubmitted, IsInOrder, InTurn}
-use Rattle.cr_history.proofs.LineAgreement.{stamp}
 use Rattle.cr_policy.specs.Legal.{Legal}
 use Rattle.cr_policy.specs.ShownTo.{is_on_committee, is_past_submission, hides_authors}
 use Rattle.cr_policy.specs.ShownTo.{is_told, serves, is_eligible, oversees, discusses, is_notified, is_in_programme, appears, where_known}
@@ -254,22 +255,22 @@ module _ (u : Option ℕ) (p : ℕ) (H : History) (there : IsSubmitted H p) (ord
 
   -- what a submission of the paper tells, the history tells
   submitted : {A : Type 0} (told : Stamped → List A)
-      → ((maker : ℕ) (more : Bool) (title abstract : List ℕ) → is_nothing (told (stamp maker more (Submitted p title abstract))) ≡ false)
+      → ((stamp : Stamp) (more : Bool) (title abstract : List ℕ) → is_nothing (told (stamped stamp more (Submitted p title abstract))) ≡ false)
       → is_nothing (flat_map told H) ≡ false
   submitted told tells = any H there
     where
-      one : (maker : ℕ) (more : Bool) (e : Entry) → list_any (λ q. q == p) (paper_told e) ≡ true → is_nothing (told (stamp maker more e)) ≡ false
-      one maker more (Submitted paper title abstract) is =
+      one : (stamp : Stamp) (more : Bool) (e : Entry) → list_any (λ q. q == p) (paper_told e) ≡ true → is_nothing (told (stamped stamp more e)) ≡ false
+      one stamp more (Submitted paper title abstract) is =
           let e : paper ≡ p = eqb-true paper p (sym (or-false (eqb paper p)) ∙ is) in
-          ap (λ n. is_nothing (told (stamp maker more (Submitted n title abstract)))) e ∙ tells maker more title abstract
-      one maker more e is = absurd (true≢false (sym is))
+          ap (λ n. is_nothing (told (stamped stamp more (Submitted n title abstract)))) e ∙ tells stamp more title abstract
+      one stamp more e is = absurd (true≢false (sym is))
 
       any : (G : History) → list_any (λ q. q == p) (papers_of G) ≡ true → is_nothing (flat_map told G) ≡ false
       any [] is = absurd (true≢false (sym is))
       any (e ∷ G) is =
           is_nothing-append (told e) (flat_map told G)
           ∙ by (list_any (λ q. q == p) (paper_told e.entry)) (is_nothing (told e)) (is_nothing (flat_map told G))
-          (one e.stamp.maker e.more e.entry) (any G) (sym (list_any-append (λ q. q == p) (paper_told e.entry) (papers_of G)) ∙ is)
+          (one e.stamp e.more e.entry) (any G) (sym (list_any-append (λ q. q == p) (paper_told e.entry) (papers_of G)) ∙ is)
         where
           by : (here nothing rest : Bool) {later : Bool} → (here ≡ true → nothing ≡ false) → (later ≡ true → rest ≡ false)
               → (here || later) ≡ true → (nothing && rest) ≡ false
@@ -313,7 +314,7 @@ module _ (u : Option ℕ) (p : ℕ) (H : History) (there : IsSubmitted H p) (ord
       by true is =
           sym (ap is_some (abstract-seen u p H (and_parts (may stands accepted) (gets_abstract stands accepted) (abstracted ∙ is)).1)
           ∙ last-some (all_told (abstract_told p) H)
-          ∙ ap not (submitted (λ (e : Stamped). abstract_told p e.entry) (λ maker more title abstract. ap (λ b. is_nothing (given b abstract)) (eq-eqb p p refl))))
+          ∙ ap not (submitted (λ (e : Stamped). abstract_told p e.entry) (λ stamp more title abstract. ap (λ b. is_nothing (given b abstract)) (eq-eqb p p refl))))
       by false is = sym (ap is_some (no-abstract is))
 
   authors-told : page_told (λ page. page.authors) u p H ≡ some_names (writers_shown p V) V
@@ -322,7 +323,7 @@ module _ (u : Option ℕ) (p : ℕ) (H : History) (there : IsSubmitted H p) (ord
       ∙ ap (λ users. where_told said (Some (names_shown users V))) (reads.writers u p H)
       ∙ named said (writers_shown p V)
       (λ is. ap is_nothing (sym (reads.writers u p H) ∙ authors-seen u p H (and_parts (may stands accepted) (shows_author stands accepted) (authored ∙ is)).1)
-      ∙ submitted (λ (e : Stamped). author_told p e.stamp.maker e.entry) (λ maker more title abstract. ap (λ b. is_nothing (given b maker)) (eq-eqb p p refl)))
+      ∙ submitted (λ (e : Stamped). author_told p e.stamp.maker e.entry) (λ stamp more title abstract. ap (λ b. is_nothing (given b stamp.maker)) (eq-eqb p p refl)))
       (λ isnt. writers-none u p H order (stranger isnt) (ap (λ b. author || oversees u p H || (is_eligible u p H && not (hides_authors (mode_of H))) || b) (sym programme) ∙ isnt))
     where
       said : Bool
@@ -368,12 +369,12 @@ module _ (u : Option ℕ) (p : ℕ) (H : History) (there : IsSubmitted H p) (ord
       both false mine true version content' h = refl
       both false mine false version content' h = refl
 
-      each : (before later : History) (maker : ℕ) (more : Bool) (e : Entry) → IsByAuthor H maker e → is_told u H before later maker e ≡ true
-          → map content (upload_seen p (shown_to u H before later maker e)) ≡ part_shown (λ (s : Sighting). s.content) p (shown_to u H before later maker e)
-      each before later maker more (Uploaded paper version content') right told =
-          both (eqb paper p) (is_number u maker) _ version content'
-          (λ same. not-own H u paper maker right (ap (λ n. is_author u n H) (eqb-true paper p same) ∙ stranger))
-      each before later maker more e right told = refl
+      each : (before later : History) (stamp : Stamp) (more : Bool) (e : Entry) → IsByAuthor H stamp.maker e → is_told u H before later stamp.maker e ≡ true
+          → map content (upload_seen p (shown_to u H before later stamp e)) ≡ part_shown (λ (s : Sighting). s.content) p (shown_to u H before later stamp e)
+      each before later stamp more (Uploaded paper version content') right told =
+          both (eqb paper p) (is_number u stamp.maker) _ version content'
+          (λ same. not-own H u paper stamp.maker right (ap (λ n. is_author u n H) (eqb-true paper p same) ∙ stranger))
+      each before later stamp more e right told = refl
 
       same : map content (uploads_in_view p V) ≡ flat_map (part_shown (λ (s : Sighting). s.content) p) V
       same =

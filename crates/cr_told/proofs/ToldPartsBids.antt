@@ -6,6 +6,7 @@ use Rattle.std.proofs.lemmas.Bool.{true≢false, eq-eqb, eqb-true, or_left, or_r
 use Rattle.std.proofs.lemmas.List.Folds.{list_any-append}
 use Rattle.cr_base.specs.declared.entry.Entry.TheVariants.{Bid}
 use Rattle.cr_base.specs.declared.entry.EntryKind.TheVariants as kinds
+use Rattle.cr_base.specs.declared.entry.Stamp.{Stamp}
 use Rattle.cr_base.specs.declared.page.Bidder.{Bidder}
 use Rattle.cr_base.specs.declared.reply.AccountLine.{AccountLine}
 use Rattle.cr_base.specs.Lists.{is_nothing, is_number, last, listed}
@@ -55,65 +56,65 @@ module _ (u : Option ℕ) (H : History) (legal : Legal H) (before after : View) 
   abbrev V : View
   V = view u H
 
-  module _ (earlier later : History) (maker : ℕ) (more : Bool) where
-    module _ (paper value : ℕ) (there : IsSubmitted H paper) (registered : IsRegistered H maker)
-        (told : is_told u H earlier later maker (Bid paper value) ≡ true)
-        (is : view u H ≡ before ++ shown_to u H earlier later maker (Bid paper value) ∷ after)
+  module _ (earlier later : History) (stamp : Stamp) (more : Bool) where
+    module _ (paper value : ℕ) (there : IsSubmitted H paper) (registered : IsRegistered H stamp.maker)
+        (told : is_told u H earlier later stamp.maker (Bid paper value) ≡ true)
+        (is : view u H ≡ before ++ shown_to u H earlier later stamp (Bid paper value) ∷ after)
       where
         abbrev b : Sighting
-        b = shown_to u H earlier later maker (Bid paper value)
+        b = shown_to u H earlier later stamp (Bid paper value)
 
         -- an overseer's list has whose bid it is, and its last value
-        bid-line : (o : ℕ) → last (bids_shown_of maker paper V) ≡ Some o → (test : Bidder → Bool)
-            → ((name : List ℕ) → is_name_of (Some maker) u H name ≡ true → test (record { bid = o; user = name }) ≡ true)
+        bid-line : (o : ℕ) → last (bids_shown_of stamp.maker paper V) ≡ Some o → (test : Bidder → Bool)
+            → ((name : List ℕ) → is_name_of (Some stamp.maker) u H name ≡ true → test (record { bid = o; user = name }) ≡ true)
             → oversees u paper H ≡ true → lists (page_told (λ page. page.bids) u paper H) test ≡ true
         bid-line o last-is test passes over =
             ap (λ bids. lists bids test) ((page_lists_told u paper H legal there).bids ∙ ap (λ b. where_known b (bids_listed paper V)) over)
-            ∙ any-of (λ (a : AccountLine). eqb maker a.user)
+            ∙ any-of (λ (a : AccountLine). eqb stamp.maker a.user)
             (λ (a : AccountLine). flat_map (λ (value : ℕ). map (λ (name : List ℕ). record { bid = value; user = name }) (names_shown (a.user ∷ []) V))
             (listed (last (bids_shown_of a.user paper V)))) test
-            (λ a same. by a (eqb-true maker a.user same))
-            (accounts_in_view V) (account-listed u H maker registered (λ a. eqb maker a.user) true (λ r same. swap r.user maker ∙ same) refl)
+            (λ a same. by a (eqb-true stamp.maker a.user same))
+            (accounts_in_view V) (account-listed u H stamp.maker registered (λ a. eqb stamp.maker a.user) true (λ r same. swap r.user stamp.maker ∙ same) refl)
           where
             line : ℕ → List ℕ → Bidder
             line value name = record { bid = value; user = name }
 
-            by : (a : AccountLine) → maker ≡ a.user
+            by : (a : AccountLine) → stamp.maker ≡ a.user
                 → list_any test (flat_map (λ (value : ℕ). map (λ (name : List ℕ). record { bid = value; user = name }) (names_shown (a.user ∷ []) V))
                 (listed (last (bids_shown_of a.user paper V)))) ≡ true
             by a e =
                 ap (λ (v : ℕ). list_any test (flat_map (λ (value : ℕ). map (λ (name : List ℕ). record { bid = value; user = name }) (names_shown (v ∷ []) V))
                 (listed (last (bids_shown_of v paper V))))) (sym e)
-                ∙ ap (λ (o : Option ℕ). list_any test (flat_map (λ (value : ℕ). map (λ (name : List ℕ). record { bid = value; user = name }) (names_shown (maker ∷ []) V)) (listed o)))
+                ∙ ap (λ (o : Option ℕ). list_any test (flat_map (λ (value : ℕ). map (λ (name : List ℕ). record { bid = value; user = name }) (names_shown (stamp.maker ∷ []) V)) (listed o)))
                 last-is
-                ∙ ap (list_any test) (append-nil (map (λ (name : List ℕ). record { bid = o; user = name }) (names_shown (maker ∷ []) V)))
-                ∙ any-mapped (is_name_of (Some maker) u H) (λ (name : List ℕ). record { bid = o; user = name }) test passes (names_shown (maker ∷ []) V)
-                (named u H maker registered (maker ∷ []) (ap (λ b. b || false) (eq-eqb maker maker refl)))
+                ∙ ap (list_any test) (append-nil (map (λ (name : List ℕ). record { bid = o; user = name }) (names_shown (stamp.maker ∷ []) V)))
+                ∙ any-mapped (is_name_of (Some stamp.maker) u H) (λ (name : List ℕ). record { bid = o; user = name }) test passes (names_shown (stamp.maker ∷ []) V)
+                (named u H stamp.maker registered (stamp.maker ∷ []) (ap (λ b. b || false) (eq-eqb stamp.maker stamp.maker refl)))
 
         abbrev shown-bid : Sighting → List ℕ
-        shown-bid s = only (is_number s.paper paper && is_user (Some maker) s.by) (listed s.value)
+        shown-bid s = only (is_number s.paper paper && is_user (Some stamp.maker) s.by) (listed s.value)
 
         bid-shown : oversees u paper H ≡ true → shown-bid b ≡ value ∷ []
         bid-shown over =
-            (λ i. only (eq-eqb paper paper refl i && is_user (Some maker) (where_known (over i) maker)) (value ∷ []))
-            ∙ ap (λ b. only b (value ∷ [])) (eq-eqb maker maker refl)
+            (λ i. only (eq-eqb paper paper refl i && is_user (Some stamp.maker) (where_known (over i) stamp.maker)) (value ∷ []))
+            ∙ ap (λ b. only b (value ∷ [])) (eq-eqb stamp.maker stamp.maker refl)
 
-        some-last : oversees u paper H ≡ true → is_some (last (bids_shown_of maker paper V)) ≡ true
-        some-last over = ap (λ (W : View). is_some (last (bids_shown_of maker paper W))) is ∙ last-there shown-bid before after b value (bid-shown over)
+        some-last : oversees u paper H ≡ true → is_some (last (bids_shown_of stamp.maker paper V)) ≡ true
+        some-last over = ap (λ (W : View). is_some (last (bids_shown_of stamp.maker paper W))) is ∙ last-there shown-bid before after b value (bid-shown over)
 
         bid : (what : Part) → IsTrue (has what b) → IsTrue (is_part_told u H b kinds.Bid what || is_left_untold u H b after kinds.Bid what)
         bid part.by shown =
             or_left _ false
-            (ap (λ by. lists (page_told (λ page. page.bids) u paper H) (λ bid. is_name_of by u H bid.user)) (known _ maker shown)
-            ∙ any-last (last (bids_shown_of maker paper V)) refl (some-last over))
+            (ap (λ by. lists (page_told (λ page. page.bids) u paper H) (λ bid. is_name_of by u H bid.user)) (known _ stamp.maker shown)
+            ∙ any-last (last (bids_shown_of stamp.maker paper V)) refl (some-last over))
           where
             over : oversees u paper H ≡ true
-            over = sym (known-some (oversees u paper H) maker) ∙ shown
+            over = sym (known-some (oversees u paper H) stamp.maker) ∙ shown
 
-            any-last : (o : Option ℕ) → last (bids_shown_of maker paper V) ≡ o → is_some o ≡ true
-                → lists (page_told (λ page. page.bids) u paper H) (λ bid. is_name_of (Some maker) u H bid.user) ≡ true
+            any-last : (o : Option ℕ) → last (bids_shown_of stamp.maker paper V) ≡ o → is_some o ≡ true
+                → lists (page_told (λ page. page.bids) u paper H) (λ bid. is_name_of (Some stamp.maker) u H bid.user) ≡ true
             any-last None e some = absurd (true≢false (sym some))
-            any-last (Some o) e some = bid-line o e (λ bid. is_name_of (Some maker) u H bid.user) (λ name is-name. is-name) over
+            any-last (Some o) e some = bid-line o e (λ bid. is_name_of (Some stamp.maker) u H bid.user) (λ name is-name. is-name) over
         bid part.value shown = by (oversees u paper H) refl
           where
             listed-bid : Bool
@@ -137,24 +138,24 @@ module _ (u : Option ℕ) (H : History) (legal : Legal H) (before after : View) 
             third : (a m k x y h : Bool) → h ≡ true → ((a || (m && k)) || (x || (m && y) || h)) ≡ true
             third a m k x y h is = grind (arith, is)
 
-            mine : oversees u paper H ≡ false → is_number u maker ≡ true
-            mine none = own (is_number u maker) (oversees u paper H) told none
+            mine : oversees u paper H ≡ false → is_number u stamp.maker ≡ true
+            mine none = own (is_number u stamp.maker) (oversees u paper H) told none
               where
                 own : (m o : Bool) → (m || o) ≡ true → o ≡ false → m ≡ true
                 own m o h none = grind (arith, h, none)
 
-            overseen-bid : oversees u paper H ≡ true → (n : Bool) → is_nothing (bids_shown_of maker paper after) ≡ n → (listed-bid || later-bid) ≡ true
+            overseen-bid : oversees u paper H ≡ true → (n : Bool) → is_nothing (bids_shown_of stamp.maker paper after) ≡ n → (listed-bid || later-bid) ≡ true
             overseen-bid over true none =
                 or_left listed-bid later-bid
-                (ap (λ by. lists (page_told (λ page. page.bids) u paper H) (λ bid. is_name_of by u H bid.user && eqb value bid.bid)) (ap (λ b. where_known b maker) over)
+                (ap (λ by. lists (page_told (λ page. page.bids) u paper H) (λ bid. is_name_of by u H bid.user && eqb value bid.bid)) (ap (λ b. where_known b stamp.maker) over)
                 ∙ bid-line value
-                (ap (λ (W : View). last (bids_shown_of maker paper W)) is ∙ last-here shown-bid before after b value (bid-shown over) none)
-                (λ bid. is_name_of (Some maker) u H bid.user && eqb value bid.bid) (λ name is-name i. is-name i && eq-eqb value value refl i) over)
+                (ap (λ (W : View). last (bids_shown_of stamp.maker paper W)) is ∙ last-here shown-bid before after b value (bid-shown over) none)
+                (λ bid. is_name_of (Some stamp.maker) u H bid.user && eqb value bid.bid) (λ name is-name i. is-name i && eq-eqb value value refl i) over)
             overseen-bid over false some =
                 or_right listed-bid later-bid
-                (ap (λ by. not (is_nothing (bids_shown_of (unwrap_or by 0) paper after))) (ap (λ b. where_known b maker) over) ∙ ap not some)
+                (ap (λ by. not (is_nothing (bids_shown_of (unwrap_or by 0) paper after))) (ap (λ b. where_known b stamp.maker) over) ∙ ap not some)
 
-            own-bid : is_number u maker ≡ true → is_eligible u paper H ≡ true → (key-same || later-own) ≡ true
+            own-bid : is_number u stamp.maker ≡ true → is_eligible u paper H ≡ true → (key-same || later-own) ≡ true
             own-bid own handling =
                 ap (λ key. agree nat_eq (Some value) key || later-own)
                 ((pages_told u paper H legal there).bid ∙ ap (λ b. where_known b (unwrap_or (last (own_bids_shown paper V)) 20)) handling)
@@ -163,19 +164,19 @@ module _ (u : Option ℕ) (H : History) (legal : Legal H) (before after : View) 
                 (ap (λ (W : View). unwrap_or (last (own_bids_shown paper W)) 20) is)
 
             by : (o : Bool) → oversees u paper H ≡ o
-                → ((listed-bid || (is_number u maker && key-same)) || (later-bid || (is_number u maker && later-own) || (is_number u maker && not (is_eligible u paper H)))) ≡ true
+                → ((listed-bid || (is_number u stamp.maker && key-same)) || (later-bid || (is_number u stamp.maker && later-own) || (is_number u stamp.maker && not (is_eligible u paper H)))) ≡ true
             by true over =
-                first listed-bid (is_number u maker) key-same later-bid later-own (is_number u maker && not (is_eligible u paper H))
-                (overseen-bid over (is_nothing (bids_shown_of maker paper after)) refl)
+                first listed-bid (is_number u stamp.maker) key-same later-bid later-own (is_number u stamp.maker && not (is_eligible u paper H))
+                (overseen-bid over (is_nothing (bids_shown_of stamp.maker paper after)) refl)
             by false none = hers (is_eligible u paper H) refl
               where
                 hers : (h : Bool) → is_eligible u paper H ≡ h
-                    → ((listed-bid || (is_number u maker && key-same)) || (later-bid || (is_number u maker && later-own) || (is_number u maker && not (is_eligible u paper H)))) ≡ true
+                    → ((listed-bid || (is_number u stamp.maker && key-same)) || (later-bid || (is_number u stamp.maker && later-own) || (is_number u stamp.maker && not (is_eligible u paper H)))) ≡ true
                 hers true handling =
-                    second listed-bid (is_number u maker) key-same later-bid later-own (is_number u maker && not (is_eligible u paper H)) (mine none)
+                    second listed-bid (is_number u stamp.maker) key-same later-bid later-own (is_number u stamp.maker && not (is_eligible u paper H)) (mine none)
                     (own-bid (mine none) handling)
                 hers false not-hers =
-                    third listed-bid (is_number u maker) key-same later-bid later-own (is_number u maker && not (is_eligible u paper H))
+                    third listed-bid (is_number u stamp.maker) key-same later-bid later-own (is_number u stamp.maker && not (is_eligible u paper H))
                     (λ i. mine none i && not (not-hers i))
         bid _ shown = absurd (true≢false (sym shown))
 
@@ -183,6 +184,6 @@ pub bid-all : AllOf kinds.Bid
 bid-all = all-of kinds.Bid each
   where
     each : Each kinds.Bid
-    each u H legal before after what earlier later maker more (Bid paper value) whole known told is kind shown =
-        bid u H legal before after earlier later maker more paper value known.there.0 known.there.1 told is what shown
-    each u H legal before after what earlier later maker more e whole known told is kind shown = absurd (true≢false (sym kind))
+    each u H legal before after what earlier later stamp more (Bid paper value) whole known told is kind shown =
+        bid u H legal before after earlier later stamp more paper value known.there.0 known.there.1 told is what shown
+    each u H legal before after what earlier later stamp more e whole known told is kind shown = absurd (true≢false (sym kind))

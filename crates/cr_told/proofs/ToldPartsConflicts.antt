@@ -6,15 +6,16 @@ use Rattle.std.specs.List.{flat_map, list_any}
 use Rattle.std.proofs.lemmas.Bool.{true≢false, eq-eqb, and_parts}
 use Rattle.cr_base.specs.declared.entry.Entry.TheVariants.{Conflict}
 use Rattle.cr_base.specs.declared.entry.EntryKind.TheVariants as kinds
+use Rattle.cr_base.specs.declared.entry.Stamp.{Stamp}
 use Rattle.cr_base.specs.declared.entry.Stamped.{Stamped}
 use Rattle.cr_base.specs.declared.me.Me.{Me}
 use Rattle.cr_base.specs.declared.reply.AccountLine.{AccountLine}
 use Rattle.cr_base.specs.declared.standing.Standing.{Standing}
 use Rattle.cr_base.specs.Lists.{given, is_nothing, is_number, listed}
+use Rattle.cr_base.specs.Drawn.{stamped}
 use Rattle.cr_base.specs.History.{History, declared_told}
 use Rattle.cr_base.specs.HistoryFacts.{phase_of, role_of, is_author, is_conflict_on, declared_by_authors}
 use Rattle.cr_history.specs.Invariants.{IsRegistered, IsSubmitted}
-use Rattle.cr_history.proofs.LineAgreement.{stamp}
 use Rattle.cr_policy.specs.Legal.{Legal}
 use Rattle.cr_policy.specs.Part as part
 use Rattle.cr_policy.specs.Part.{Part}
@@ -69,14 +70,14 @@ module _ (u : Option ℕ) (H : History) (legal : Legal H) (before after : View) 
       (any-made-of (λ (a : AccountLine). a.user) (λ q. q == v) (accounts_in_view V)
       ∙ account-listed u H v registered (λ a. eqb a.user v) true (λ r same. same) refl)
 
-  module _ (earlier later : History) (maker : ℕ) (more : Bool) (paper user : ℕ) (on : Bool) (there : IsSubmitted H paper) (registered : IsRegistered H user)
-      (own : (not (is_number u maker) || ((is_number u user || is_author u paper H) || (lead && begun))) ≡ true)
-      (whole : earlier ++ stamp maker more (Conflict paper user on) ∷ later ≡ H)
-      (told : is_told u H earlier later maker (Conflict paper user on) ≡ true)
-      (is : view u H ≡ before ++ shown_to u H earlier later maker (Conflict paper user on) ∷ after)
+  module _ (earlier later : History) (stamp : Stamp) (more : Bool) (paper user : ℕ) (on : Bool) (there : IsSubmitted H paper) (registered : IsRegistered H user)
+      (own : (not (is_number u stamp.maker) || ((is_number u user || is_author u paper H) || (lead && begun))) ≡ true)
+      (whole : earlier ++ stamped stamp more (Conflict paper user on) ∷ later ≡ H)
+      (told : is_told u H earlier later stamp.maker (Conflict paper user on) ≡ true)
+      (is : view u H ≡ before ++ shown_to u H earlier later stamp (Conflict paper user on) ∷ after)
     where
       abbrev s : Sighting
-      s = shown_to u H earlier later maker (Conflict paper user on)
+      s = shown_to u H earlier later stamp (Conflict paper user on)
 
       abbrev turns : Sighting → List Bool
       turns t = only (is_number t.paper paper && is_user (Some user) t.user) (listed t.on)
@@ -97,7 +98,7 @@ module _ (u : Option ℕ) (H : History) (legal : Legal H) (before after : View) 
           ∙ named u H user registered (users_shown (λ v. is_shown_in_conflict (Some v) paper V) V)
           (user-listed user registered (λ v. is_shown_in_conflict (Some v) paper V) conflicted)
 
-      declared : is_author u paper H ≡ true → is_author (Some maker) paper H ≡ true
+      declared : is_author u paper H ≡ true → is_author (Some stamp.maker) paper H ≡ true
           → lists (page_told (λ page. page.declared) u paper H) (is_name_of (Some user) u H) ≡ true
       declared author wrote =
           ap (λ names. lists names (is_name_of (Some user) u H))
@@ -106,7 +107,7 @@ module _ (u : Option ℕ) (H : History) (legal : Legal H) (before after : View) 
           ∙ named u H user registered (users_shown (λ v. list_any (λ w. w == v) (declared_by_authors paper H)) V)
           (user-listed user registered (λ v. list_any (λ w. w == v) (declared_by_authors paper H))
           (ap (λ (G : History). list_any (λ w. w == user) (flat_map declares G)) (sym whole)
-          ∙ listed-here (λ w. w == user) declares earlier later (stamp maker more (Conflict paper user on))
+          ∙ listed-here (λ w. w == user) declares earlier later (stamped stamp more (Conflict paper user on))
           ((λ i. list_any (λ w. w == user) (given (eq-eqb paper paper refl i && wrote i) user)) ∙ ap (λ b. b || false) (eq-eqb user user refl))))
         where
           declares : Stamped → List ℕ
@@ -124,13 +125,13 @@ module _ (u : Option ℕ) (H : History) (legal : Legal H) (before after : View) 
       n = is_number u user
 
       abbrev m : Bool
-      m = is_number u maker
+      m = is_number u stamp.maker
 
       abbrev a : Bool
       a = is_author u paper H
 
       abbrev w : Bool
-      w = is_author (Some maker) paper H
+      w = is_author (Some stamp.maker) paper H
 
       abbrev none : Bool
       none = is_nothing (flat_map turns after)
@@ -177,9 +178,9 @@ pub conflict-all : AllOf kinds.Conflict
 conflict-all = all-of kinds.Conflict each
   where
     each : Each kinds.Conflict
-    each u H legal before after what earlier later maker more (Conflict paper user on) whole known told is kind shown =
-        conflict-all' u H legal before after earlier later maker more paper user on known.there.0 known.there.1
-        (own-so (λ v. (is_number v user || is_author v paper H) || (chairs_committee (role_of v H) && is_past_submission (phase_of H))) u maker
-        ((λ i. (swap user maker i || is_author (Some maker) paper H) || (sym (chair-leads (role_of (Some maker) H)) i && sym (phase-words (phase_of H)).bidding i))
+    each u H legal before after what earlier later stamp more (Conflict paper user on) whole known told is kind shown =
+        conflict-all' u H legal before after earlier later stamp more paper user on known.there.0 known.there.1
+        (own-so (λ v. (is_number v user || is_author v paper H) || (chairs_committee (role_of v H) && is_past_submission (phase_of H))) u stamp.maker
+        ((λ i. (swap user stamp.maker i || is_author (Some stamp.maker) paper H) || (sym (chair-leads (role_of (Some stamp.maker) H)) i && sym (phase-words (phase_of H)).bidding i))
         ∙ known.settled.1)) whole told is what shown
-    each u H legal before after what earlier later maker more e whole known told is kind shown = absurd (true≢false (sym kind))
+    each u H legal before after what earlier later stamp more e whole known told is kind shown = absurd (true≢false (sym kind))

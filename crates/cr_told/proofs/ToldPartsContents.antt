@@ -9,12 +9,13 @@ use Rattle.cr_base.specs.declared.command.Query.TheVariants as queries
 use Rattle.cr_base.specs.declared.entry.Entry.{Entry}
 use Rattle.cr_base.specs.declared.entry.Entry.TheVariants.{Uploaded}
 use Rattle.cr_base.specs.declared.entry.EntryKind.TheVariants as kinds
+use Rattle.cr_base.specs.declared.entry.Stamp.{Stamp}
 use Rattle.cr_base.specs.declared.entry.Stamped.{Stamped}
 use Rattle.cr_base.specs.Lists.{given, is_nothing, is_number, listed}
+use Rattle.cr_base.specs.Drawn.{stamped}
 use Rattle.cr_base.specs.History.{History, upload_told}
 use Rattle.cr_base.specs.HistoryFacts.{is_author, uploads_of}
 use Rattle.cr_history.specs.Invariants.{IsSubmitted, IsInOrder, InTurn, HasNextNumber}
-use Rattle.cr_history.proofs.LineAgreement.{stamp}
 use Rattle.cr_policy.specs.Judge.{answer}
 use Rattle.cr_policy.specs.Legal.{Legal}
 use Rattle.cr_policy.specs.Part as part
@@ -42,10 +43,10 @@ module _ (u : Option ℕ) (p : ℕ) (H : History) where
   content_at k t = only (is_kind kinds.Uploaded t && (is_number t.paper p && is_number t.version k)) (listed t.content)
 
   -- the number of a version that is told next is none of those before
-  next-number : (before : History) (maker : ℕ) (more : Bool) (e : Entry) (later : History) (k : ℕ) → HasNextNumber before e → k ≤ length (uploads_of p before)
-      → content_at k (shown_to u H before later maker e) ≡ []
-  next-number before maker more (Uploaded paper version content) later k next few =
-      by (eqb paper p) refl (eqb version k) refl (owns u H maker paper || (not (is_superseded paper later) && (is_eligible u paper H || appears paper H)))
+  next-number : (before : History) (stamp : Stamp) (more : Bool) (e : Entry) (later : History) (k : ℕ) → HasNextNumber before e → k ≤ length (uploads_of p before)
+      → content_at k (shown_to u H before later stamp e) ≡ []
+  next-number before stamp more (Uploaded paper version content) later k next few =
+      by (eqb paper p) refl (eqb version k) refl (owns u H stamp.maker paper || (not (is_superseded paper later) && (is_eligible u paper H || appears paper H)))
     where
       by : (same : Bool) → eqb paper p ≡ same → (this : Bool) → eqb version k ≡ this → (shown : Bool)
           → only (same && is_number (where_known shown version) k) (listed (where_known shown content)) ≡ []
@@ -54,7 +55,7 @@ module _ (u : Option ℕ) (p : ℕ) (H : History) where
           absurd (omega (arith, next, few, eqb-true version k f, ap (λ q. length (uploads_of q before)) (eqb-true paper p e)))
       by true e false f true = ap (λ b. only b (content ∷ [])) f
       by true e false f false = refl
-  next-number before maker more e later k next few = refl
+  next-number before stamp more e later k next few = refl
 
   given-none : {A : Type 0} (f : Sighting → List A) (b : Bool) (t : Sighting) (rest : View) → f t ≡ [] → flat_map f rest ≡ [] → flat_map f (given b t ++ rest) ≡ []
   given-none f true t rest e none = ap (λ xs. xs ++ flat_map f rest) e ∙ none
@@ -65,8 +66,8 @@ module _ (u : Option ℕ) (p : ℕ) (H : History) where
       → flat_map (content_at k) (each_told u H (shown_to u H) before G) ≡ []
   none-later before [] order k few = refl
   none-later before (e ∷ G) order k few =
-      given-none (content_at k) (is_told u H before G e.stamp.maker e.entry) (shown_to u H before G e.stamp.maker e.entry) (each_told u H (shown_to u H) (before ++ e ∷ []) G)
-      (next-number before e.stamp.maker e.more e.entry G k order.0.number few)
+      given-none (content_at k) (is_told u H before G e.stamp.maker e.entry) (shown_to u H before G e.stamp e.entry) (each_told u H (shown_to u H) (before ++ e ∷ []) G)
+      (next-number before e.stamp e.more e.entry G k order.0.number few)
       (none-later (before ++ e ∷ []) G order.1 k more)
     where
       more : k ≤ length (uploads_of p (before ++ e ∷ []))
@@ -79,18 +80,18 @@ module _ (u : Option ℕ) (p : ℕ) (H : History) where
           )
 
   -- the number that is shown is among those told
-  number-told : (before : History) (maker : ℕ) (more : Bool) (e : Entry) (later : History) (k : ℕ) → HasNextNumber before e
-      → is_nothing (content_at k (shown_to u H before later maker e)) ≡ false → k ≤ length (uploads_of p (before ++ stamp maker more e ∷ []))
-  number-told before maker more (Uploaded paper version content) later k next some =
-      by (eqb paper p) refl (eqb version k) refl (owns u H maker paper || (not (is_superseded paper later) && (is_eligible u paper H || appears paper H))) some
+  number-told : (before : History) (stamp : Stamp) (more : Bool) (e : Entry) (later : History) (k : ℕ) → HasNextNumber before e
+      → is_nothing (content_at k (shown_to u H before later stamp e)) ≡ false → k ≤ length (uploads_of p (before ++ stamped stamp more e ∷ []))
+  number-told before stamp more (Uploaded paper version content) later k next some =
+      by (eqb paper p) refl (eqb version k) refl (owns u H stamp.maker paper || (not (is_superseded paper later) && (is_eligible u paper H || appears paper H))) some
     where
-      grown : uploads_of p (before ++ stamp maker more (Uploaded paper version content) ∷ [])
+      grown : uploads_of p (before ++ stamped stamp more (Uploaded paper version content) ∷ [])
           ≡ uploads_of p before ++ (given (eqb paper p) (record { version = version; content = content }) ++ [])
-      grown = flat_map-append (λ (e : Stamped). upload_told p e.entry) before (stamp maker more (Uploaded paper version content) ∷ [])
+      grown = flat_map-append (λ (e : Stamped). upload_told p e.entry) before (stamped stamp more (Uploaded paper version content) ∷ [])
 
       by : (same : Bool) → eqb paper p ≡ same → (this : Bool) → eqb version k ≡ this → (shown : Bool)
           → is_nothing (only (same && is_number (where_known shown version) k) (listed (where_known shown content))) ≡ false
-          → k ≤ length (uploads_of p (before ++ stamp maker more (Uploaded paper version content) ∷ []))
+          → k ≤ length (uploads_of p (before ++ stamped stamp more (Uploaded paper version content) ∷ []))
       by false e this f true h = absurd (true≢false h)
       by false e this f false h = absurd (true≢false h)
       by true e true f shown h =
@@ -104,7 +105,7 @@ module _ (u : Option ℕ) (p : ℕ) (H : History) where
           )
       by true e false f true h = absurd (true≢false (sym (ap (λ b. is_nothing (only b (content ∷ []))) f) ∙ h))
       by true e false f false h = absurd (true≢false h)
-  number-told before maker more e later k next some = absurd (true≢false some)
+  number-told before stamp more e later k next some = absurd (true≢false some)
 
   nothing-is : {A : Type 0} (xs : List A) → is_nothing xs ≡ true → xs ≡ []
   nothing-is [] h = refl
@@ -139,7 +140,7 @@ module _ (u : Option ℕ) (p : ℕ) (H : History) where
       (λ is. none-earlier (before ++ e ∷ []) G order.1 first s after is k some)
     where
       shown : Sighting
-      shown = shown_to u H before G e.stamp.maker e.entry
+      shown = shown_to u H before G e.stamp e.entry
 
       rest : View
       rest = each_told u H (shown_to u H) (before ++ e ∷ []) G
@@ -148,7 +149,7 @@ module _ (u : Option ℕ) (p : ℕ) (H : History) where
       here is true h = nothing-is (content_at k shown) h
       here is false h =
           absurd (some-there (content_at k) first s after some
-          (ap (flat_map (content_at k)) (sym is) ∙ none-later (before ++ e ∷ []) G order.1 k (number-told before e.stamp.maker e.more e.entry G k order.0.number h)))
+          (ap (flat_map (content_at k)) (sym is) ∙ none-later (before ++ e ∷ []) G order.1 k (number-told before e.stamp e.more e.entry G k order.0.number h)))
 
       by : (told : Bool) → given told shown ++ rest ≡ b ∷ (first ++ s ∷ after)
           → (rest ≡ b ∷ (first ++ s ∷ after) → content_at k b ++ flat_map (content_at k) first ≡ [])
@@ -171,23 +172,23 @@ module _ (u : Option ℕ) (H : History) (legal : Legal H) (before after : View) 
   abbrev V : View
   V = view u H
 
-  module _ (earlier later : History) (maker : ℕ) (more : Bool) (paper version : ℕ) (content : List ℕ) (there : IsSubmitted H paper)
-      (wrote : is_author (Some maker) paper H ≡ true) (told : is_told u H earlier later maker (Uploaded paper version content) ≡ true)
-      (is : view u H ≡ before ++ shown_to u H earlier later maker (Uploaded paper version content) ∷ after)
+  module _ (earlier later : History) (stamp : Stamp) (more : Bool) (paper version : ℕ) (content : List ℕ) (there : IsSubmitted H paper)
+      (wrote : is_author (Some stamp.maker) paper H ≡ true) (told : is_told u H earlier later stamp.maker (Uploaded paper version content) ≡ true)
+      (is : view u H ≡ before ++ shown_to u H earlier later stamp (Uploaded paper version content) ∷ after)
     where
       abbrev s : Sighting
-      s = shown_to u H earlier later maker (Uploaded paper version content)
+      s = shown_to u H earlier later stamp (Uploaded paper version content)
 
       -- who is told of an upload is shown all of it
       abbrev sees : Bool
-      sees = owns u H maker paper || (not (is_superseded paper later) && (is_eligible u paper H || appears paper H))
+      sees = owns u H stamp.maker paper || (not (is_superseded paper later) && (is_eligible u paper H || appears paper H))
 
       -- and reads the paper
       reads : reads_it u paper H there (legal_invariants H legal).in_order ≡ true
       reads =
           ap (λ b. is_author u paper H || (is_eligible u paper H || b)) (public u paper H there (legal_invariants H legal).in_order)
-          ∙ by (is_number u maker) (is_author u paper H) (not (is_superseded paper later)) (is_eligible u paper H || appears paper H) told
-          (own-so (λ v. is_author v paper H) u maker wrote)
+          ∙ by (is_number u stamp.maker) (is_author u paper H) (not (is_superseded paper later)) (is_eligible u paper H || appears paper H) told
+          (own-so (λ v. is_author v paper H) u stamp.maker wrote)
         where
           by : (m a x r : Bool) → ((m || a) || (x && r)) ≡ true → (not m || a) ≡ true → (a || r) ≡ true
           by m a x r told own = grind (arith, told, own)
@@ -227,6 +228,6 @@ pub uploaded-all : AllOf kinds.Uploaded
 uploaded-all = all-of kinds.Uploaded each
   where
     each : Each kinds.Uploaded
-    each u H legal before after what earlier later maker more (Uploaded paper version content) whole known told is kind shown =
-        uploaded u H legal before after earlier later maker more paper version content known.there known.author told is what shown
-    each u H legal before after what earlier later maker more e whole known told is kind shown = absurd (true≢false (sym kind))
+    each u H legal before after what earlier later stamp more (Uploaded paper version content) whole known told is kind shown =
+        uploaded u H legal before after earlier later stamp more paper version content known.there known.author told is what shown
+    each u H legal before after what earlier later stamp more e whole known told is kind shown = absurd (true≢false (sym kind))

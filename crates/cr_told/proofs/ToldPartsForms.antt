@@ -31,9 +31,11 @@ use Rattle.cr_told.proofs.ToldLists.{leads-serves, page_lists_told}
 use Rattle.cr_told.proofs.ToldPlaces.{reviewing-begun}
 use Rattle.cr_told.proofs.ToldReports.{written}
 use Rattle.cr_told.proofs.ToldWords.{chair-leads}
+use Rattle.cr_base.specs.declared.entry.Stamp.{Stamp}
 use Rattle.cr_base.specs.declared.entry.Stamped.{Stamped}
 use Rattle.cr_base.specs.declared.form.Form.{Form}
 use Rattle.cr_base.specs.declared.review.ReviewLine.{ReviewLine}
+use Rattle.cr_base.specs.Drawn.{stamped}
 use Rattle.cr_base.specs.Labels.{by_labels, most_labels}
 use Rattle.cr_base.specs.Lists.{is_nothing, is_number, last, listed, until, since}
 use Rattle.cr_base.specs.History.{History}
@@ -49,7 +51,6 @@ use Rattle.cr_policy.specs.ShownTo.{is_told, where_known, is_eligible, serves, d
 use Rattle.cr_policy.specs.Sighting.{Sighting}
 use Rattle.cr_policy.specs.View.{View, view}
 use Rattle.cr_policy.specs.ViewFacts.{only, is_kind, discussion_seen, seats_in_view}
-use Rattle.cr_history.proofs.LineAgreement.{stamp}
 use Rattle.cr_history.proofs.SeatAgreement.{seat-drawn, ordinal_of-tables}
 use Rattle.cr_policy.proofs.LegalLaws.{legal_invariants}
 use Rattle.cr_policy.proofs.StandingLaws.{seat-seen}
@@ -198,14 +199,14 @@ module _ (u : Option ℕ) (H : History) (legal : Legal H) (before after : View) 
   abbrev V : View
   V = view u H
 
-  module _ (earlier later : History) (maker : ℕ) (more : Bool) (paper o version : ℕ) (form : Form) (there : IsSubmitted H paper) (low : 1 ≤ o) (high : o ≤ 26)
-      (begun : is_from Reviewing (phase_of H) ≡ true) (reviews : (not (is_number u maker) || is_reviewer u paper H) ≡ true)
-      (held : ordinal_of (Some maker) paper H ≡ Some o) (whole : earlier ++ stamp maker more (Reviewed paper o version form) ∷ later ≡ H)
-      (told : is_told u H earlier later maker (Reviewed paper o version form) ≡ true)
-      (is : view u H ≡ before ++ shown_to u H earlier later maker (Reviewed paper o version form) ∷ after)
+  module _ (earlier later : History) (stamp : Stamp) (more : Bool) (paper o version : ℕ) (form : Form) (there : IsSubmitted H paper) (low : 1 ≤ o) (high : o ≤ 26)
+      (begun : is_from Reviewing (phase_of H) ≡ true) (reviews : (not (is_number u stamp.maker) || is_reviewer u paper H) ≡ true)
+      (held : ordinal_of (Some stamp.maker) paper H ≡ Some o) (whole : earlier ++ stamped stamp more (Reviewed paper o version form) ∷ later ≡ H)
+      (told : is_told u H earlier later stamp.maker (Reviewed paper o version form) ≡ true)
+      (is : view u H ≡ before ++ shown_to u H earlier later stamp (Reviewed paper o version form) ∷ after)
     where
       abbrev s : Sighting
-      s = shown_to u H earlier later maker (Reviewed paper o version form)
+      s = shown_to u H earlier later stamp (Reviewed paper o version form)
 
       -- the line that tells it
       abbrev line : Bool → Bool → ReviewLine
@@ -222,7 +223,7 @@ module _ (u : Option ℕ) (H : History) (legal : Legal H) (before after : View) 
       abbrev shown-at : Bool → Bool → Sighting → List ReviewLine
       shown-at named entire t = only (is_kind kinds.Reviewed t && (is_number t.paper paper && is_number t.ordinal o)) (review_shown named entire paper V o t)
 
-      module _ (read : reads_review u H earlier later maker paper o ≡ true) where
+      module _ (read : reads_review u H earlier later stamp.maker paper o ≡ true) where
         review-line : (named entire : Bool) → review_shown named entire paper V o s ≡ line named entire ∷ []
         review-line named entire = λ i.
             map (λ (score : ℕ). record {
@@ -240,7 +241,7 @@ module _ (u : Option ℕ) (H : History) (legal : Legal H) (before after : View) 
         shows named entire = λ i. only (eq-eqb paper paper refl i && eq-eqb o o refl i) (review-line named entire i)
 
         module _ (T : ReviewLine → Bool) (pass : (named : Bool) → T (line named true) ≡ true)
-            (pass-author : is_author u paper H ≡ true → is_number u maker ≡ false → (named : Bool) → T (line named false) ≡ true)
+            (pass-author : is_author u paper H ≡ true → is_number u stamp.maker ≡ false → (named : Bool) → T (line named false) ≡ true)
           where
             abbrev test : ReviewLine → Bool
             test l = eqb o l.label && T l
@@ -252,9 +253,9 @@ module _ (u : Option ℕ) (H : History) (legal : Legal H) (before after : View) 
             answered h = ap (λ lines. lists lines test) (reviews_told u paper H legal there ∙ ap (λ b. where_known b (reviews_listed u paper H)) h)
 
             abbrev Goal : Type 0
-            Goal = IsTrue (has_line u H s T || (is_followed u H s after || (is_number u maker && not (is_eligible u paper H))))
+            Goal = IsTrue (has_line u H s T || (is_followed u H s after || (is_number u stamp.maker && not (is_eligible u paper H))))
 
-            behind : is_number u maker ≡ true → is_eligible u paper H ≡ false → Goal
+            behind : is_number u stamp.maker ≡ true → is_eligible u paper H ≡ false → Goal
             behind m h = or_right (has_line u H s T) _ (or_right (is_followed u H s after) _ (λ i. m i && not (h i)))
 
             -- of the label the last that is shown among these
@@ -265,7 +266,7 @@ module _ (u : Option ℕ) (H : History) (legal : Legal H) (before after : View) 
                 (last-here (shown-at named entire) first rest s (line named entire) (shows named entire) (nothing-same named entire paper V o rest ∙ none))
                 ∙ ap (λ b. b || false) passed
 
-            of-authors : is_author u paper H ≡ true → is_number u maker ≡ false → is_notified u paper H ≡ true → Goal
+            of-authors : is_author u paper H ≡ true → is_number u stamp.maker ≡ false → is_notified u paper H ≡ true → Goal
             of-authors a m notified = by (is_nothing (scores_at paper o after)) refl
               where
                 by : (b : Bool) → is_nothing (scores_at paper o after) ≡ b → Goal
@@ -338,11 +339,11 @@ module _ (u : Option ℕ) (H : History) (legal : Legal H) (before after : View) 
                     (or_left (is_followed u H s after) _ ((λ i. not (is_nothing (scores_at paper o (if a i then after else until discussion_seen after)))) ∙ ap not f))
 
             -- her own, before the discussion
-            of-herself : is_author u paper H ≡ false → is_past_reviewing (phase_of H) ≡ false → is_eligible u paper H ≡ true → is_number u maker ≡ true → Goal
+            of-herself : is_author u paper H ≡ false → is_past_reviewing (phase_of H) ≡ false → is_eligible u paper H ≡ true → is_number u stamp.maker ≡ true → Goal
             of-herself a past h m =
                 or_left (has_line u H s T) _
                 (answered
-                (third (is_notified u paper H) (discusses u paper H) (is_eligible u paper H) (is_reviewer u paper H) (is_reviewing_now (phase_of H)) (is_number u maker)
+                (third (is_notified u paper H) (discusses u paper H) (is_eligible u paper H) (is_reviewer u paper H) (is_reviewing_now (phase_of H)) (is_number u stamp.maker)
                 (is_past_reviewing (phase_of H)) h reviews m (reviewing-on (phase_of H) begun) past)
                 ∙ (λ i. list_any test
                 (if a i then by_labels (λ (k : ℕ). listed (last (forms_listed (knows_reviewers u paper H) false paper V k V))) most_labels
@@ -361,11 +362,11 @@ module _ (u : Option ℕ) (H : History) (legal : Legal H) (before after : View) 
                 third x y h r w m p hh hr hm hw hp = grind (arith, hh, hr, hm, hw, hp)
 
                 label-is : label_shown_of u paper V ≡ Some o
-                label-is = sym (reads.labels u paper H u) ∙ seat-seen u paper H ∙ ap (λ w. ordinal_of w paper H) (number-is u maker m) ∙ held
+                label-is = sym (reads.labels u paper H u) ∙ seat-seen u paper H ∙ ap (λ w. ordinal_of w paper H) (number-is u stamp.maker m) ∙ held
 
             form-told : Goal
             form-told =
-                by (is_author u paper H) refl (is_past_reviewing (phase_of H)) refl (is_eligible u paper H) refl (is_number u maker) refl
+                by (is_author u paper H) refl (is_past_reviewing (phase_of H)) refl (is_eligible u paper H) refl (is_number u stamp.maker) refl
               where
                 hidden : (s c : Bool) → (s && not (true || c)) ≡ false
                 hidden s c = grind arith
@@ -377,26 +378,26 @@ module _ (u : Option ℕ) (H : History) (legal : Legal H) (before after : View) 
                 mine m h p x a n y r ha hh = grind (arith, r, ha, hh)
 
                 by : (a : Bool) → is_author u paper H ≡ a → (past : Bool) → is_past_reviewing (phase_of H) ≡ past → (h : Bool) → is_eligible u paper H ≡ h → (m : Bool)
-                    → is_number u maker ≡ m → Goal
+                    → is_number u stamp.maker ≡ m → Goal
                 by true a past p true h m e =
                     absurd (true≢false (sym h ∙ (λ i. serves u H && not (a i || is_conflict_on u paper H)) ∙ hidden (serves u H) (is_conflict_on u paper H)))
                 by true a past p false h true e = behind e h
                 by true a past p false h false e =
                     of-authors a e
-                    (notified (is_number u maker) (is_eligible u paper H) (is_past_reviewing (phase_of H)) (is_discussed paper o earlier later) (is_notified u paper H)
+                    (notified (is_number u stamp.maker) (is_eligible u paper H) (is_past_reviewing (phase_of H)) (is_discussed paper o earlier later) (is_notified u paper H)
                     (not (is_reviewed paper o later)) read e h)
                 by false a true p true h m e = of-members a p (λ i. h i && p i)
                 by false a past p false h m e =
                     behind
-                    (mine (is_number u maker) (is_eligible u paper H) (is_past_reviewing (phase_of H)) (is_discussed paper o earlier later) (is_author u paper H)
+                    (mine (is_number u stamp.maker) (is_eligible u paper H) (is_past_reviewing (phase_of H)) (is_discussed paper o earlier later) (is_author u paper H)
                     (is_past_discussion (phase_of H)) (not (is_reviewed paper o later)) read a (λ i. h i && is_past_reviewing (phase_of H))) h
                 by false a false p true h m e =
                     of-herself a p h
-                    (mine (is_number u maker) (is_eligible u paper H) (is_past_reviewing (phase_of H)) (is_discussed paper o earlier later) (is_author u paper H)
+                    (mine (is_number u stamp.maker) (is_eligible u paper H) (is_past_reviewing (phase_of H)) (is_discussed paper o earlier later) (is_author u paper H)
                     (is_past_discussion (phase_of H)) (not (is_reviewed paper o later)) read a (λ i. h i && p i))
 
       -- who wrote the paper reads no more of a form than is for authors, but of her own
-      not-whole : is_author u paper H ≡ true → is_number u maker ≡ false → reads_form u H earlier later maker paper o ≡ true → ⊥
+      not-whole : is_author u paper H ≡ true → is_number u stamp.maker ≡ false → reads_form u H earlier later stamp.maker paper o ≡ true → ⊥
       not-whole a m read =
           true≢false
           (sym read
@@ -426,20 +427,20 @@ module _ (u : Option ℕ) (H : History) (legal : Legal H) (before after : View) 
           written-once : is_written paper o H ≡ true
           written-once =
               ap (λ (G : History). not (is_nothing (flat_map (λ (e : Stamped). form_told paper o e.entry) G))) (sym whole)
-              ∙ some-last (flat_map (λ (e : Stamped). form_told paper o e.entry) (earlier ++ stamp maker more (Reviewed paper o version form) ∷ later))
-              (last-there (λ (e : Stamped). form_told paper o e.entry) earlier later (stamp maker more (Reviewed paper o version form)) (whole_form version form)
+              ∙ some-last (flat_map (λ (e : Stamped). form_told paper o e.entry) (earlier ++ stamped stamp more (Reviewed paper o version form) ∷ later))
+              (last-there (λ (e : Stamped). form_told paper o e.entry) earlier later (stamped stamp more (Reviewed paper o version form)) (whole_form version form)
               (λ i. given (eq-eqb paper paper refl i && eq-eqb o o refl i) (whole_form version form)))
 
           by : (stays : Bool) → is_left paper V o ≡ stays → (has_mark u H s || is_taken_off u H s) ≡ true
           by false gone = or_right (has_mark u H s) _ (ap not gone)
           by true stays =
               or_left (has_mark u H s) _
-              (ap (λ reviewers. lists reviewers (marked u H paper o maker leading stays shown-done))
+              (ap (λ reviewers. lists reviewers (marked u H paper o stamp.maker leading stays shown-done))
               ((page_lists_told u paper H legal there).reviewers
               ∙ ap (λ b. where_known b (reviewers_listed u paper H)) (or_left (oversees u paper H || discusses u paper H) _ (or_left (oversees u paper H) _ over)))
-              ∙ marked-listed u H paper o maker leading stays shown-done
-              (sym (reads.labels u paper H (Some maker))
-              ∙ seat-seen_by_chair u (Some maker) paper H (and_from _ _ chair ((phase-words (phase_of H)).bidding ∙ reviewing-begun (phase_of H) begun))
+              ∙ marked-listed u H paper o stamp.maker leading stays shown-done
+              (sym (reads.labels u paper H (Some stamp.maker))
+              ∙ seat-seen_by_chair u (Some stamp.maker) paper H (and_from _ _ chair ((phase-words (phase_of H)).bidding ∙ reviewing-begun (phase_of H) begun))
               ∙ held))
             where
               shown-done : is_shown_done paper o V ≡ true
@@ -450,48 +451,48 @@ module _ (u : Option ℕ) (H : History) (legal : Legal H) (before after : View) 
       reviewed part.score shown =
           form-told read (λ l. agree nat_eq s.score (Some l.score)) (λ named. same) (λ a m named. same)
         where
-          read : reads_review u H earlier later maker paper o ≡ true
-          read = sym (known-some (reads_review u H earlier later maker paper o) form.score) ∙ shown
+          read : reads_review u H earlier later stamp.maker paper o ≡ true
+          read = sym (known-some (reads_review u H earlier later stamp.maker paper o) form.score) ∙ shown
 
           same : agree nat_eq s.score (Some form.score) ≡ true
           same = (λ i. agree nat_eq (where_known (read i) form.score) (Some form.score)) ∙ eq-eqb form.score form.score refl
       reviewed part.confidence shown =
           form-told read (λ l. agree nat_eq s.confidence (Some l.confidence)) (λ named. same) (λ a m named. same)
         where
-          read : reads_review u H earlier later maker paper o ≡ true
-          read = sym (known-some (reads_review u H earlier later maker paper o) form.confidence) ∙ shown
+          read : reads_review u H earlier later stamp.maker paper o ≡ true
+          read = sym (known-some (reads_review u H earlier later stamp.maker paper o) form.confidence) ∙ shown
 
           same : agree nat_eq s.confidence (Some form.confidence) ≡ true
           same = (λ i. agree nat_eq (where_known (read i) form.confidence) (Some form.confidence)) ∙ eq-eqb form.confidence form.confidence refl
       reviewed part.to_authors shown =
           form-told read (λ l. agree bytes_eq s.to_authors (Some l.to_authors)) (λ named. same) (λ a m named. same)
         where
-          read : reads_review u H earlier later maker paper o ≡ true
-          read = sym (known-some (reads_review u H earlier later maker paper o) form.to_authors) ∙ shown
+          read : reads_review u H earlier later stamp.maker paper o ≡ true
+          read = sym (known-some (reads_review u H earlier later stamp.maker paper o) form.to_authors) ∙ shown
 
           same : agree bytes_eq s.to_authors (Some form.to_authors) ≡ true
           same = (λ i. agree bytes_eq (where_known (read i) form.to_authors) (Some form.to_authors)) ∙ same-bytes form.to_authors
       reviewed part.to_pc shown =
-          form-told (or_left (reads_form u H earlier later maker paper o) (learns_form u H later paper o) read) (λ l. agree bytes_eq s.to_pc l.to_pc) (λ named. same)
+          form-told (or_left (reads_form u H earlier later stamp.maker paper o) (learns_form u H later paper o) read) (λ l. agree bytes_eq s.to_pc l.to_pc) (λ named. same)
           (λ a m named. absurd (not-whole a m read))
         where
-          read : reads_form u H earlier later maker paper o ≡ true
-          read = sym (known-some (reads_form u H earlier later maker paper o) form.to_pc) ∙ shown
+          read : reads_form u H earlier later stamp.maker paper o ≡ true
+          read = sym (known-some (reads_form u H earlier later stamp.maker paper o) form.to_pc) ∙ shown
 
           same : agree bytes_eq s.to_pc s.to_pc ≡ true
           same = (λ i. agree bytes_eq (where_known (read i) form.to_pc) (where_known (read i) form.to_pc)) ∙ same-bytes form.to_pc
       reviewed part.version shown =
-          form-told (or_left (reads_form u H earlier later maker paper o) (learns_form u H later paper o) read) (λ l. agree nat_eq s.version l.version) (λ named. same)
+          form-told (or_left (reads_form u H earlier later stamp.maker paper o) (learns_form u H later paper o) read) (λ l. agree nat_eq s.version l.version) (λ named. same)
           (λ a m named. absurd (not-whole a m read))
         where
-          read : reads_form u H earlier later maker paper o ≡ true
-          read = sym (known-some (reads_form u H earlier later maker paper o) version) ∙ shown
+          read : reads_form u H earlier later stamp.maker paper o ≡ true
+          read = sym (known-some (reads_form u H earlier later stamp.maker paper o) version) ∙ shown
 
           same : agree nat_eq s.version s.version ≡ true
           same = (λ i. agree nat_eq (where_known (read i) version) (where_known (read i) version)) ∙ eq-eqb version version refl
       reviewed part.done shown =
           mark (and_parts (administers u paper H) (not (is_reviewed paper o earlier)) (sym (known-some (counts_form u H earlier paper o) true) ∙ shown)).0
-      reviewed part.ordinal shown = by (reads_review u H earlier later maker paper o) refl
+      reviewed part.ordinal shown = by (reads_review u H earlier later stamp.maker paper o) refl
         where
           first : (a m f t : Bool) → (a || f) ≡ true → ((a || m) || (f || t)) ≡ true
           first a m f t h = grind (arith, h)
@@ -502,14 +503,14 @@ module _ (u : Option ℕ) (H : History) (legal : Legal H) (before after : View) 
           counted : (r l b c : Bool) → ((r || (l && b)) || c) ≡ true → (r || c) ≡ false → l ≡ true
           counted r l b c h none = grind (arith, h, none)
 
-          by : (read : Bool) → reads_review u H earlier later maker paper o ≡ read
+          by : (read : Bool) → reads_review u H earlier later stamp.maker paper o ≡ read
               → IsTrue (is_part_told u H s kinds.Reviewed part.ordinal || is_left_untold u H s after kinds.Reviewed part.ordinal)
           by true read =
               first (has_line u H s (λ l. true)) (has_mark u H s) (is_form_left u H s after) (is_taken_off u H s) (form-told read (λ l. true) (λ named. refl) (λ a m named. refl))
           by false none =
               second (has_line u H s (λ l. true)) (has_mark u H s) (is_form_left u H s after) (is_taken_off u H s)
               (mark
-              (counted (reads_form u H earlier later maker paper o) (administers u paper H) (not (is_reviewed paper o earlier)) (learns_form u H later paper o) told none))
+              (counted (reads_form u H earlier later stamp.maker paper o) (administers u paper H) (not (is_reviewed paper o earlier)) (learns_form u H later paper o) told none))
       reviewed _ shown = absurd (true≢false (sym shown))
 
 pub reviewed-all : AllOf kinds.Reviewed
@@ -520,7 +521,7 @@ reviewed-all = all-of kinds.Reviewed each
         seat-drawn H (legal_invariants H legal).fits maker paper o (sym (ordinal_of-tables (Some maker) paper H (legal_invariants H legal).fits) ∙ held)
 
     each : Each kinds.Reviewed
-    each u H legal before after what earlier later maker more (Reviewed paper o version form) whole known told is kind shown =
-        reviewed u H legal before after earlier later maker more paper o version form known.settled.0 (drawn H legal maker paper o known.held).0
-        (drawn H legal maker paper o known.held).1 known.settled.1 (own-so (λ v. is_reviewer v paper H) u maker known.settled.2) known.held whole told is what shown
-    each u H legal before after what earlier later maker more e whole known told is kind shown = absurd (true≢false (sym kind))
+    each u H legal before after what earlier later stamp more (Reviewed paper o version form) whole known told is kind shown =
+        reviewed u H legal before after earlier later stamp more paper o version form known.settled.0 (drawn H legal stamp.maker paper o known.held).0
+        (drawn H legal stamp.maker paper o known.held).1 known.settled.1 (own-so (λ v. is_reviewer v paper H) u stamp.maker known.settled.2) known.held whole told is what shown
+    each u H legal before after what earlier later stamp more e whole known told is kind shown = absurd (true≢false (sym kind))

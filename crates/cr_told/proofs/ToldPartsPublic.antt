@@ -6,6 +6,7 @@ use Rattle.std.specs.List.{flat_map, list_any}
 use Rattle.std.proofs.lemmas.Bool.{true≢false, eq-eqb, eqb-true, or_left, or_right}
 use Rattle.cr_base.specs.declared.entry.Entry.TheVariants.{Registered, Named, PhaseSet, ModeSet, Submitted, Coauthor, Revised, Withdrawn}
 use Rattle.cr_base.specs.declared.entry.EntryKind.TheVariants as kinds
+use Rattle.cr_base.specs.declared.entry.Stamp.{Stamp}
 use Rattle.cr_base.specs.declared.reply.AccountLine.{AccountLine}
 use Rattle.cr_base.specs.declared.words.Mode.{Mode}
 use Rattle.cr_base.specs.declared.words.Mode.TheVariants.{Blind}
@@ -72,39 +73,39 @@ module _ (u : Option ℕ) (H : History) (legal : Legal H) (before after : View) 
       ((λ i. only (is_number (on i) paper) (listed (shows i))) ∙ ap (λ b. only b (text ∷ [])) (eq-eqb paper paper refl)) key
       (tells ∙ ap (λ (W : View). last (shown_on paper of W)) is)
 
-  module _ (earlier later : History) (maker : ℕ) (more : Bool) where
-    registered : (user : ℕ) (name digest : List ℕ) (what : Part) → Whole what (shown_to u H earlier later maker (Registered user name digest))
+  module _ (earlier later : History) (stamp : Stamp) (more : Bool) where
+    registered : (user : ℕ) (name digest : List ℕ) (what : Part) → Whole what (shown_to u H earlier later stamp (Registered user name digest))
     registered user name digest part.user is shown =
         or_left _ false
-        (accounts-have (λ line. eqb user line.user) (shown_to u H earlier later maker (Registered user name digest)) is (ap (λ b. b || false) (eq-eqb user user refl)))
+        (accounts-have (λ line. eqb user line.user) (shown_to u H earlier later stamp (Registered user name digest)) is (ap (λ b. b || false) (eq-eqb user user refl)))
     registered user name digest part.name is shown =
         or_left _ false
         (accounts-have (λ line. eqb user line.user && agree bytes_eq (Some name) (Some line.name))
-        (shown_to u H earlier later maker (Registered user name digest)) is
+        (shown_to u H earlier later stamp (Registered user name digest)) is
         ((λ i. (eq-eqb user user refl i && same-bytes name i) || false)))
     registered user name digest part.digest is shown = refl
     registered user name digest _ is shown = absurd (true≢false (sym shown))
 
-    phase-set : (phase : Phase) (what : Part) → Whole what (shown_to u H earlier later maker (PhaseSet phase))
+    phase-set : (phase : Phase) (what : Part) → Whole what (shown_to u H earlier later stamp (PhaseSet phase))
     phase-set phase part.phase is shown =
         last-or-told is_phase (λ (s : Sighting). listed s.phase) before after
-        (shown_to u H earlier later maker (PhaseSet phase)) phase Setup (eq-eqb (phase_rank phase) (phase_rank phase) refl) refl (phase_in_view V)
+        (shown_to u H earlier later stamp (PhaseSet phase)) phase Setup (eq-eqb (phase_rank phase) (phase_rank phase) refl) refl (phase_in_view V)
         (ap (last_or Setup) (conference.phases u H) ∙ ap (λ (W : View). last_or Setup (all_shown (λ (s : Sighting). s.phase) W)) is)
     phase-set phase _ is shown = absurd (true≢false (sym shown))
 
-    mode-set : (mode : Mode) (what : Part) → Whole what (shown_to u H earlier later maker (ModeSet mode))
+    mode-set : (mode : Mode) (what : Part) → Whole what (shown_to u H earlier later stamp (ModeSet mode))
     mode-set mode part.mode is shown =
         last-or-told same_mode (λ (s : Sighting). listed s.mode) before after
-        (shown_to u H earlier later maker (ModeSet mode)) mode Blind (eq-eqb (mode_number mode) (mode_number mode) refl) refl (mode_in_view V)
+        (shown_to u H earlier later stamp (ModeSet mode)) mode Blind (eq-eqb (mode_number mode) (mode_number mode) refl) refl (mode_in_view V)
         (ap (last_or Blind) (conference.modes u H) ∙ ap (λ (W : View). last_or Blind (all_shown (λ (s : Sighting). s.mode) W)) is)
     mode-set mode _ is shown = absurd (true≢false (sym shown))
 
-    named-to : (user : ℕ) (role : Role) (what : Part) → IsRegistered H user → Whole what (shown_to u H earlier later maker (Named user role))
+    named-to : (user : ℕ) (role : Role) (what : Part) → IsRegistered H user → Whole what (shown_to u H earlier later stamp (Named user role))
     named-to user role part.user there is shown =
         or_left _ false (account-listed u H user there (λ line. eqb user line.user) true (λ r same. swap r.user user ∙ same) refl)
     named-to user role part.role there is shown =
         by (same_role role now) refl
-        (last-or-told same_role f before after (shown_to u H earlier later maker (Named user role)) role Account (eq-eqb (role_number role) (role_number role) refl)
+        (last-or-told same_role f before after (shown_to u H earlier later stamp (Named user role)) role Account (eq-eqb (role_number role) (role_number role) refl)
         (ap (λ b. only b (role ∷ [])) (eq-eqb user user refl)) now
         (sym (role-seen u (Some user) H) ∙ conference.roles u H (Some user) ∙ ap (λ (W : View). last_or Account (flat_map f W)) is))
       where
@@ -123,37 +124,37 @@ module _ (u : Option ℕ) (H : History) (legal : Legal H) (before after : View) 
         by false h either = or_right (lists (accounts_given u H) (λ line. eqb user line.user && same_role role line.role)) (not (is_nothing (flat_map f after))) either
     named-to user role _ there is shown = absurd (true≢false (sym shown))
 
-    submitted : (paper : ℕ) (title abstract : List ℕ) (what : Part) → IsSubmitted H paper → IsRegistered H maker
-        → Whole what (shown_to u H earlier later maker (Submitted paper title abstract))
+    submitted : (paper : ℕ) (title abstract : List ℕ) (what : Part) → IsSubmitted H paper → IsRegistered H stamp.maker
+        → Whole what (shown_to u H earlier later stamp (Submitted paper title abstract))
     submitted paper title abstract part.by there registered is shown =
         ap (λ by. lists (page_told (λ page. page.authors) u paper H) (is_name_of by u H) || false) maker-known
         ∙ or_left _ false
-        (author-told paper maker (shown_to u H earlier later maker (Submitted paper title abstract)) is there registered
-        (ap (λ by. only (eqb paper paper) (listed by)) maker-known ∙ ap (λ b. only b (maker ∷ [])) (eq-eqb paper paper refl)))
+        (author-told paper stamp.maker (shown_to u H earlier later stamp (Submitted paper title abstract)) is there registered
+        (ap (λ by. only (eqb paper paper) (listed by)) maker-known ∙ ap (λ b. only b (stamp.maker ∷ [])) (eq-eqb paper paper refl)))
       where
-        maker-known : maker_for u H earlier later maker (Submitted paper title abstract) ≡ Some maker
-        maker-known = known _ maker shown
+        maker-known : maker_for u H earlier later stamp (Submitted paper title abstract) ≡ Some stamp.maker
+        maker-known = known _ stamp.maker shown
     submitted paper title abstract part.title there registered is shown =
-        text-told paper (λ (s : Sighting). s.title) (shown_to u H earlier later maker (Submitted paper title abstract)) title is refl (known _ title shown) _
+        text-told paper (λ (s : Sighting). s.title) (shown_to u H earlier later stamp (Submitted paper title abstract)) title is refl (known _ title shown) _
         (pages_told u paper H legal there).title
     submitted paper title abstract part.abstract there registered is shown =
-        text-told paper (λ (s : Sighting). s.abstract) (shown_to u H earlier later maker (Submitted paper title abstract)) abstract is refl (known _ abstract shown) _
+        text-told paper (λ (s : Sighting). s.abstract) (shown_to u H earlier later stamp (Submitted paper title abstract)) abstract is refl (known _ abstract shown) _
         (pages_told u paper H legal there).abstract_
     submitted paper title abstract _ there registered is shown = absurd (true≢false (sym shown))
 
-    revised : (paper : ℕ) (title abstract : List ℕ) (what : Part) → IsSubmitted H paper → Whole what (shown_to u H earlier later maker (Revised paper title abstract))
+    revised : (paper : ℕ) (title abstract : List ℕ) (what : Part) → IsSubmitted H paper → Whole what (shown_to u H earlier later stamp (Revised paper title abstract))
     revised paper title abstract part.title there is shown =
-        text-told paper (λ (s : Sighting). s.title) (shown_to u H earlier later maker (Revised paper title abstract)) title is refl (known _ title shown) _
+        text-told paper (λ (s : Sighting). s.title) (shown_to u H earlier later stamp (Revised paper title abstract)) title is refl (known _ title shown) _
         (pages_told u paper H legal there).title
     revised paper title abstract part.abstract there is shown =
-        text-told paper (λ (s : Sighting). s.abstract) (shown_to u H earlier later maker (Revised paper title abstract)) abstract is refl (known _ abstract shown) _
+        text-told paper (λ (s : Sighting). s.abstract) (shown_to u H earlier later stamp (Revised paper title abstract)) abstract is refl (known _ abstract shown) _
         (pages_told u paper H legal there).abstract_
     revised paper title abstract _ there is shown = absurd (true≢false (sym shown))
 
-    coauthor : (paper user : ℕ) (what : Part) → IsSubmitted H paper → IsRegistered H user → Whole what (shown_to u H earlier later maker (Coauthor paper user))
+    coauthor : (paper user : ℕ) (what : Part) → IsSubmitted H paper → IsRegistered H user → Whole what (shown_to u H earlier later stamp (Coauthor paper user))
     coauthor paper user part.user there registered is shown =
         or_left _ false
-        (author-told paper user (shown_to u H earlier later maker (Coauthor paper user)) is there registered (ap (λ b. only b (user ∷ [])) (eq-eqb paper paper refl)))
+        (author-told paper user (shown_to u H earlier later stamp (Coauthor paper user)) is there registered (ap (λ b. only b (user ∷ [])) (eq-eqb paper paper refl)))
     coauthor paper user _ there registered is shown = absurd (true≢false (sym shown))
 
 -- ---- the kinds
@@ -162,67 +163,67 @@ pub registered-all : AllOf kinds.Registered
 registered-all = all-of kinds.Registered each
   where
     each : Each kinds.Registered
-    each u H legal before after what earlier later maker more (Registered user name digest) whole there told is kind shown =
-        registered u H legal before after earlier later maker more user name digest what is shown
-    each u H legal before after what earlier later maker more e whole there told is kind shown = absurd (true≢false (sym kind))
+    each u H legal before after what earlier later stamp more (Registered user name digest) whole there told is kind shown =
+        registered u H legal before after earlier later stamp more user name digest what is shown
+    each u H legal before after what earlier later stamp more e whole there told is kind shown = absurd (true≢false (sym kind))
 
 pub named-all : AllOf kinds.Named
 named-all = all-of kinds.Named each
   where
     each : Each kinds.Named
-    each u H legal before after what earlier later maker more (Named user role) whole there told is kind shown =
-        named-to u H legal before after earlier later maker more user role what there.there is shown
-    each u H legal before after what earlier later maker more e whole there told is kind shown = absurd (true≢false (sym kind))
+    each u H legal before after what earlier later stamp more (Named user role) whole there told is kind shown =
+        named-to u H legal before after earlier later stamp more user role what there.there is shown
+    each u H legal before after what earlier later stamp more e whole there told is kind shown = absurd (true≢false (sym kind))
 
 pub phase-set-all : AllOf kinds.PhaseSet
 phase-set-all = all-of kinds.PhaseSet each
   where
     each : Each kinds.PhaseSet
-    each u H legal before after what earlier later maker more (PhaseSet phase) whole there told is kind shown =
-        phase-set u H legal before after earlier later maker more phase what is shown
-    each u H legal before after what earlier later maker more e whole there told is kind shown = absurd (true≢false (sym kind))
+    each u H legal before after what earlier later stamp more (PhaseSet phase) whole there told is kind shown =
+        phase-set u H legal before after earlier later stamp more phase what is shown
+    each u H legal before after what earlier later stamp more e whole there told is kind shown = absurd (true≢false (sym kind))
 
 pub mode-set-all : AllOf kinds.ModeSet
 mode-set-all = all-of kinds.ModeSet each
   where
     each : Each kinds.ModeSet
-    each u H legal before after what earlier later maker more (ModeSet mode) whole there told is kind shown =
-        mode-set u H legal before after earlier later maker more mode what is shown
-    each u H legal before after what earlier later maker more e whole there told is kind shown = absurd (true≢false (sym kind))
+    each u H legal before after what earlier later stamp more (ModeSet mode) whole there told is kind shown =
+        mode-set u H legal before after earlier later stamp more mode what is shown
+    each u H legal before after what earlier later stamp more e whole there told is kind shown = absurd (true≢false (sym kind))
 
 pub submitted-all : AllOf kinds.Submitted
 submitted-all = all-of kinds.Submitted each
   where
     each : Each kinds.Submitted
-    each u H legal before after what earlier later maker more (Submitted paper title abstract) whole there told is kind shown =
-        submitted u H legal before after earlier later maker more paper title abstract what there.there.0 there.there.1 is shown
-    each u H legal before after what earlier later maker more e whole there told is kind shown = absurd (true≢false (sym kind))
+    each u H legal before after what earlier later stamp more (Submitted paper title abstract) whole there told is kind shown =
+        submitted u H legal before after earlier later stamp more paper title abstract what there.there.0 there.there.1 is shown
+    each u H legal before after what earlier later stamp more e whole there told is kind shown = absurd (true≢false (sym kind))
 
 pub coauthor-all : AllOf kinds.Coauthor
 coauthor-all = all-of kinds.Coauthor each
   where
     each : Each kinds.Coauthor
-    each u H legal before after what earlier later maker more (Coauthor paper user) whole there told is kind shown =
-        coauthor u H legal before after earlier later maker more paper user what there.there.0 there.there.1 is shown
-    each u H legal before after what earlier later maker more e whole there told is kind shown = absurd (true≢false (sym kind))
+    each u H legal before after what earlier later stamp more (Coauthor paper user) whole there told is kind shown =
+        coauthor u H legal before after earlier later stamp more paper user what there.there.0 there.there.1 is shown
+    each u H legal before after what earlier later stamp more e whole there told is kind shown = absurd (true≢false (sym kind))
 
 pub revised-all : AllOf kinds.Revised
 revised-all = all-of kinds.Revised each
   where
     each : Each kinds.Revised
-    each u H legal before after what earlier later maker more (Revised paper title abstract) whole there told is kind shown =
-        revised u H legal before after earlier later maker more paper title abstract what there.there is shown
-    each u H legal before after what earlier later maker more e whole there told is kind shown = absurd (true≢false (sym kind))
+    each u H legal before after what earlier later stamp more (Revised paper title abstract) whole there told is kind shown =
+        revised u H legal before after earlier later stamp more paper title abstract what there.there is shown
+    each u H legal before after what earlier later stamp more e whole there told is kind shown = absurd (true≢false (sym kind))
 
 pub withdrawn-all : AllOf kinds.Withdrawn
 withdrawn-all = all-of kinds.Withdrawn each
   where
     each : Each kinds.Withdrawn
-    each u H legal before after what earlier later maker more (Withdrawn paper) whole there told is kind shown = none what shown
+    each u H legal before after what earlier later stamp more (Withdrawn paper) whole there told is kind shown = none what shown
       where
-        none : (what : Part) → has what (shown_to u H earlier later maker (Withdrawn paper)) ≡ true
-            → (is_part_told u H (shown_to u H earlier later maker (Withdrawn paper)) kinds.Withdrawn what
-            || is_left_untold u H (shown_to u H earlier later maker (Withdrawn paper)) after kinds.Withdrawn what) ≡ true
+        none : (what : Part) → has what (shown_to u H earlier later stamp (Withdrawn paper)) ≡ true
+            → (is_part_told u H (shown_to u H earlier later stamp (Withdrawn paper)) kinds.Withdrawn what
+            || is_left_untold u H (shown_to u H earlier later stamp (Withdrawn paper)) after kinds.Withdrawn what) ≡ true
         none part.user shown = absurd (true≢false (sym shown))
         none _ shown = absurd (true≢false (sym shown))
-    each u H legal before after what earlier later maker more e whole there told is kind shown = absurd (true≢false (sym kind))
+    each u H legal before after what earlier later stamp more e whole there told is kind shown = absurd (true≢false (sym kind))

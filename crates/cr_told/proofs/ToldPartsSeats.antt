@@ -8,6 +8,7 @@ use Rattle.std.proofs.lemmas.Bool.{true≢false, eq-eqb, eqb-true, or_left, or_r
 use Rattle.std.proofs.lemmas.List.Folds.{list_any-append}
 use Rattle.cr_base.specs.declared.entry.Entry.TheVariants.{Assigned, Unassigned}
 use Rattle.cr_base.specs.declared.entry.EntryKind.TheVariants as kinds
+use Rattle.cr_base.specs.declared.entry.Stamp.{Stamp}
 use Rattle.cr_base.specs.declared.me.Me.{Me}
 use Rattle.cr_base.specs.declared.page.Reviewer.{Reviewer}
 use Rattle.cr_base.specs.declared.words.Kind.{Kind}
@@ -87,15 +88,15 @@ module _ (u : Option ℕ) (H : History) (legal : Legal H) (before after : View) 
     key-is : reviewers-answered ≡ true → page_told (λ page. page.reviewers) u paper H ≡ Some (reviewers_listed u paper H)
     key-is h = (page_lists_told u paper H legal there).reviewers ∙ ap (λ b. where_known b (reviewers_listed u paper H)) h
 
-  module _ (earlier later : History) (maker : ℕ) (more : Bool) (paper user : ℕ) (review_kind : Kind) (o : ℕ) (there : IsSubmitted H paper) (registered : IsRegistered H user)
-      (hs : begun ≡ true) (own : (not (is_number u maker) || lead) ≡ true) (told : is_told u H earlier later maker (Assigned paper user review_kind o) ≡ true)
-      (is : view u H ≡ before ++ shown_to u H earlier later maker (Assigned paper user review_kind o) ∷ after)
+  module _ (earlier later : History) (stamp : Stamp) (more : Bool) (paper user : ℕ) (review_kind : Kind) (o : ℕ) (there : IsSubmitted H paper) (registered : IsRegistered H user)
+      (hs : begun ≡ true) (own : (not (is_number u stamp.maker) || lead) ≡ true) (told : is_told u H earlier later stamp.maker (Assigned paper user review_kind o) ≡ true)
+      (is : view u H ≡ before ++ shown_to u H earlier later stamp (Assigned paper user review_kind o) ∷ after)
     where
       abbrev s : Sighting
-      s = shown_to u H earlier later maker (Assigned paper user review_kind o)
+      s = shown_to u H earlier later stamp (Assigned paper user review_kind o)
 
       abbrev m : Bool
-      m = is_number u maker
+      m = is_number u stamp.maker
 
       abbrev n : Bool
       n = is_number u user
@@ -116,7 +117,7 @@ module _ (u : Option ℕ) (H : History) (legal : Legal H) (before after : View) 
       hl = leads-serves (role_of u H)
 
       abbrev names : Bool
-      names = is_party u H maker paper user || (discusses u paper H && not hides) || a
+      names = is_party u H stamp.maker paper user || (discusses u paper H && not hides) || a
 
       -- she stands among the reviewers, where they are answered and she isn't taken off
       reviewer-line : (test : Reviewer → Bool) → reviewers-answered paper there ≡ true → is_left paper V o ≡ true → test (reviewer_shown u paper H s o) ≡ true
@@ -200,7 +201,7 @@ module _ (u : Option ℕ) (H : History) (legal : Legal H) (before after : View) 
       assigned part.review_kind shown = by (is_left paper V o) refl ((oversees u paper H || discusses u paper H)) refl
         where
           shown-to : ((((n || m) || administers u paper H)) || discusses u paper H) ≡ true
-          shown-to = sym (known-some (is_party u H maker paper user || discusses u paper H) review_kind) ∙ shown
+          shown-to = sym (known-some (is_party u H stamp.maker paper user || discusses u paper H) review_kind) ∙ shown
 
           clear : (o s c l p : Bool) → ((((o && s) && not c) && l) || (((o && s) && not c) && p)) ≡ true → (o && not c) ≡ true
           clear o s c l p h = grind (arith, h)
@@ -270,12 +271,12 @@ module _ (u : Option ℕ) (H : History) (legal : Legal H) (before after : View) 
               m n onc begun c lead past a hides shown-to e f hs hl own
       assigned _ shown = absurd (true≢false (sym shown))
 
-  module _ (earlier later : History) (maker : ℕ) (more : Bool) (paper user : ℕ) (o : ℕ) (there : IsSubmitted H paper)
-      (hs : begun ≡ true) (own : (not (is_number u maker) || lead) ≡ true) (told : is_told u H earlier later maker (Unassigned paper user o) ≡ true)
-      (is : view u H ≡ before ++ shown_to u H earlier later maker (Unassigned paper user o) ∷ after)
+  module _ (earlier later : History) (stamp : Stamp) (more : Bool) (paper user : ℕ) (o : ℕ) (there : IsSubmitted H paper)
+      (hs : begun ≡ true) (own : (not (is_number u stamp.maker) || lead) ≡ true) (told : is_told u H earlier later stamp.maker (Unassigned paper user o) ≡ true)
+      (is : view u H ≡ before ++ shown_to u H earlier later stamp (Unassigned paper user o) ∷ after)
     where
       abbrev gone : Sighting
-      gone = shown_to u H earlier later maker (Unassigned paper user o)
+      gone = shown_to u H earlier later stamp (Unassigned paper user o)
 
       not-left : is_left paper V o ≡ false
       not-left =
@@ -316,10 +317,10 @@ module _ (u : Option ℕ) (H : History) (legal : Legal H) (before after : View) 
               ∙ ap not (none-any (λ (r : Reviewer). eqb o r.label) (line paper there) no-line V))
           by false none =
               ap (λ b. (is_some (page_told (λ page. page.reviewers) u paper H) && not (lists (page_told (λ page. page.reviewers) u paper H) (λ r. eqb o r.label)))
-              || (b || (is_number u maker && not (is_eligible u paper H))))
-              (user-known u (is_party u H maker paper user || (discusses u paper H && not (hides_reviewers (mode_of H))) || is_answered u paper H) user)
+              || (b || (is_number u stamp.maker && not (is_eligible u paper H))))
+              (user-known u (is_party u H stamp.maker paper user || (discusses u paper H && not (hides_reviewers (mode_of H))) || is_answered u paper H) user)
               ∙ other (is_some (page_told (λ page. page.reviewers) u paper H) && not (lists (page_told (λ page. page.reviewers) u paper H) (λ r. eqb o r.label)))
-              (is_number u maker) (is_number u user) onc begun (has_conflict u paper H) lead (is_past_reviewing (phase_of H)) (is_answered u paper H)
+              (is_number u stamp.maker) (is_number u user) onc begun (has_conflict u paper H) lead (is_past_reviewing (phase_of H)) (is_answered u paper H)
               (discusses u paper H && not (hides_reviewers (mode_of H))) told none hs (leads-serves (role_of u H)) own
       unassigned _ shown = absurd (true≢false (sym shown))
 
@@ -327,17 +328,17 @@ pub assigned-all : AllOf kinds.Assigned
 assigned-all = all-of kinds.Assigned each
   where
     each : Each kinds.Assigned
-    each u H legal before after what earlier later maker more (Assigned paper user review_kind o) whole known told is kind shown =
-        assigned u H legal before after earlier later maker more paper user review_kind o known.there.0 known.there.1
+    each u H legal before after what earlier later stamp more (Assigned paper user review_kind o) whole known told is kind shown =
+        assigned u H legal before after earlier later stamp more paper user review_kind o known.there.0 known.there.1
         (sym (phase-words (phase_of H)).bidding ∙ known.settled.1)
-        (own-so (λ v. chairs_committee (role_of v H)) u maker (sym (chair-leads (role_of (Some maker) H)) ∙ known.settled.2)) told is what shown
-    each u H legal before after what earlier later maker more e whole known told is kind shown = absurd (true≢false (sym kind))
+        (own-so (λ v. chairs_committee (role_of v H)) u stamp.maker (sym (chair-leads (role_of (Some stamp.maker) H)) ∙ known.settled.2)) told is what shown
+    each u H legal before after what earlier later stamp more e whole known told is kind shown = absurd (true≢false (sym kind))
 
 pub unassigned-all : AllOf kinds.Unassigned
 unassigned-all = all-of kinds.Unassigned each
   where
     each : Each kinds.Unassigned
-    each u H legal before after what earlier later maker more (Unassigned paper user o) whole known told is kind shown =
-        unassigned u H legal before after earlier later maker more paper user o known.there.0 (sym (phase-words (phase_of H)).bidding ∙ known.settled.1)
-        (own-so (λ v. chairs_committee (role_of v H)) u maker (sym (chair-leads (role_of (Some maker) H)) ∙ known.settled.2)) told is what shown
-    each u H legal before after what earlier later maker more e whole known told is kind shown = absurd (true≢false (sym kind))
+    each u H legal before after what earlier later stamp more (Unassigned paper user o) whole known told is kind shown =
+        unassigned u H legal before after earlier later stamp more paper user o known.there.0 (sym (phase-words (phase_of H)).bidding ∙ known.settled.1)
+        (own-so (λ v. chairs_committee (role_of v H)) u stamp.maker (sym (chair-leads (role_of (Some stamp.maker) H)) ∙ known.settled.2)) told is what shown
+    each u H legal before after what earlier later stamp more e whole known told is kind shown = absurd (true≢false (sym kind))

@@ -9,6 +9,7 @@ use Rattle.std.proofs.lemmas.List.Folds.{list_any-append}
 use Rattle.std.proofs.lemmas.List.Sums.{fold-append}
 use Rattle.cr_base.specs.declared.entry.Entry.TheVariants.{Tagged}
 use Rattle.cr_base.specs.declared.entry.EntryKind.TheVariants as kinds
+use Rattle.cr_base.specs.declared.entry.Stamp.{Stamp}
 use Rattle.cr_base.specs.declared.tag.SetTag.{SetTag}
 use Rattle.cr_base.specs.Lists.{is_number}
 use Rattle.cr_base.specs.History.{History, TagTold}
@@ -205,13 +206,13 @@ module _ (u : Option ℕ) (H : History) (legal : Legal H) (before after : View) 
   abbrev lead : Bool
   lead = chairs_committee (role_of u H)
 
-  module _ (earlier later : History) (maker : ℕ) (more : Bool) (paper : ℕ) (tag : List ℕ) (on : Bool) (there : IsSubmitted H paper)
-      (own : (not (is_number u maker) || (not (is_for_chairs tag) || lead)) ≡ true)
-      (told : is_told u H earlier later maker (Tagged paper tag on) ≡ true)
-      (is : view u H ≡ before ++ shown_to u H earlier later maker (Tagged paper tag on) ∷ after)
+  module _ (earlier later : History) (stamp : Stamp) (more : Bool) (paper : ℕ) (tag : List ℕ) (on : Bool) (there : IsSubmitted H paper)
+      (own : (not (is_number u stamp.maker) || (not (is_for_chairs tag) || lead)) ≡ true)
+      (told : is_told u H earlier later stamp.maker (Tagged paper tag on) ≡ true)
+      (is : view u H ≡ before ++ shown_to u H earlier later stamp (Tagged paper tag on) ∷ after)
     where
       abbrev s : Sighting
-      s = shown_to u H earlier later maker (Tagged paper tag on)
+      s = shown_to u H earlier later stamp (Tagged paper tag on)
 
       abbrev again : Bool
       again = list_any (names-it u paper tag) after
@@ -253,7 +254,7 @@ module _ (u : Option ℕ) (H : History) (legal : Legal H) (before after : View) 
               (if p i then only (own-tag i) (record { tag = record { tag = tag; owner = u }; on = turned i } ∷ [])
               else record { tag = record { tag = tag; owner = None }; on = turned i } ∷ []))
               ((λ i. if not-chairs i then lead else (if p i then is_owner u u else true))
-              ∙ ap (λ w. is_owner w w) (number-is u maker own-tag) ∙ eq-eqb maker maker refl)
+              ∙ ap (λ w. is_owner w w) (number-is u stamp.maker own-tag) ∙ eq-eqb stamp.maker stamp.maker refl)
               none handling
             where
               words : (is_committees tag || is_chairs tag || is_for_chairs tag) ≡ false
@@ -262,27 +263,27 @@ module _ (u : Option ℕ) (H : History) (legal : Legal H) (before after : View) 
               not-chairs : is_for_chairs tag ≡ false
               not-chairs = (or_parts (is_committees tag || is_chairs tag) (is_for_chairs tag) words).1
 
-              own-tag : is_number u maker ≡ true
-              own-tag = mine (is_number u maker) (is_committees tag) (is_chairs tag) (is_for_chairs tag) (is_eligible u paper H) lead told words
+              own-tag : is_number u stamp.maker ≡ true
+              own-tag = mine (is_number u stamp.maker) (is_committees tag) (is_chairs tag) (is_for_chairs tag) (is_eligible u paper H) lead told words
           by false p true c =
               left-on None
               (λ i. only (eq-eqb paper paper refl i)
-              (if p i then only (is_number u maker) (record { tag = record { tag = tag; owner = u }; on = turned i } ∷ [])
+              (if p i then only (is_number u stamp.maker) (record { tag = record { tag = tag; owner = u }; on = turned i } ∷ [])
               else record { tag = record { tag = tag; owner = None }; on = turned i } ∷ []))
               ((λ i. if c i then lead else (if p i then is_owner u None else true))
-              ∙ leading (is_number u maker) (is_committees tag) (is_chairs tag) (is_for_chairs tag) (is_eligible u paper H) lead told own (chairs-words tag c) c)
+              ∙ leading (is_number u stamp.maker) (is_committees tag) (is_chairs tag) (is_for_chairs tag) (is_eligible u paper H) lead told own (chairs-words tag c) c)
               none handling
           by false p false c =
               left-on None
               (λ i. only (eq-eqb paper paper refl i)
-              (if p i then only (is_number u maker) (record { tag = record { tag = tag; owner = u }; on = turned i } ∷ [])
+              (if p i then only (is_number u stamp.maker) (record { tag = record { tag = tag; owner = u }; on = turned i } ∷ [])
               else record { tag = record { tag = tag; owner = None }; on = turned i } ∷ []))
               (λ i. if c i then lead else (if p i then is_owner u None else true))
               none handling
 
       tagged : IsTrue (is_part_told u H s kinds.Tagged part.tag || is_left_untold u H s after kinds.Tagged part.tag)
       tagged =
-          final on standing-tags again (is_number u maker) (is_eligible u paper H) (is_committees tag) (is_chairs tag) lead told
+          final on standing-tags again (is_number u stamp.maker) (is_eligible u paper H) (is_committees tag) (is_chairs tag) lead told
           (implies (on && not again && is_eligible u paper H) standing-tags
           (λ h. let first = and_parts (on && not again) (is_eligible u paper H) h in
           let second = and_parts on (not again) first.0 in
@@ -309,8 +310,8 @@ pub tagged-all : AllOf kinds.Tagged
 tagged-all = all-of kinds.Tagged each
   where
     each : Each kinds.Tagged
-    each u H legal before after what earlier later maker more (Tagged paper tag on) whole known told is kind shown =
-        tagged-all' u H legal before after earlier later maker more paper tag on known.there
-        (own-so (λ v. not (is_for_chairs tag) || chairs_committee (role_of v H)) u maker
-        ((λ i. not (is_for_chairs tag) || sym (chair-leads (role_of (Some maker) H)) i) ∙ known.chairs)) told is what shown
-    each u H legal before after what earlier later maker more e whole known told is kind shown = absurd (true≢false (sym kind))
+    each u H legal before after what earlier later stamp more (Tagged paper tag on) whole known told is kind shown =
+        tagged-all' u H legal before after earlier later stamp more paper tag on known.there
+        (own-so (λ v. not (is_for_chairs tag) || chairs_committee (role_of v H)) u stamp.maker
+        ((λ i. not (is_for_chairs tag) || sym (chair-leads (role_of (Some stamp.maker) H)) i) ∙ known.chairs)) told is what shown
+    each u H legal before after what earlier later stamp more e whole known told is kind shown = absurd (true≢false (sym kind))

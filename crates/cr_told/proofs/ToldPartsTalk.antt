@@ -9,18 +9,19 @@ use Rattle.cr_base.specs.declared.comment.CommentLine.{CommentLine}
 use Rattle.cr_base.specs.declared.entry.Entry.{Entry}
 use Rattle.cr_base.specs.declared.entry.Entry.TheVariants.{Commented, Decided}
 use Rattle.cr_base.specs.declared.entry.EntryKind.TheVariants as kinds
+use Rattle.cr_base.specs.declared.entry.Stamp.{Stamp}
 use Rattle.cr_base.specs.declared.entry.Stamped.{Stamped}
 use Rattle.cr_base.specs.declared.words.Decision.{Decision}
 use Rattle.cr_base.specs.declared.words.Decision.TheVariants.{Accept, Reject}
 use Rattle.cr_base.specs.declared.words.Phase.TheVariants.{Discussion}
 use Rattle.cr_base.specs.Answering.{accepted_paper}
 use Rattle.cr_base.specs.Lists.{given, is_nothing, is_number, last, listed}
+use Rattle.cr_base.specs.Drawn.{stamped}
 use Rattle.cr_base.specs.History.{History, decision_told}
 use Rattle.cr_base.specs.HistoryFacts.{phase_of, decision_of, is_withdrawn}
 use Rattle.cr_base.specs.Phases.{is_from}
 use Rattle.cr_base.specs.Words.{decision_number}
 use Rattle.cr_history.specs.Invariants.{IsRegistered, IsSubmitted, IsInOrder, InTurn}
-use Rattle.cr_history.proofs.LineAgreement.{stamp}
 use Rattle.cr_policy.specs.Legal.{Legal}
 use Rattle.cr_policy.specs.Part as part
 use Rattle.cr_policy.specs.Part.{Part}
@@ -80,13 +81,13 @@ module _ (u : Option ℕ) (H : History) (legal : Legal H) (before after : View) 
   Whole what s =
       view u H ≡ before ++ s ∷ after → IsTrue (has what s) → IsTrue (is_part_told u H s s.kind what || is_left_untold u H s after s.kind what)
 
-  module _ (earlier later : History) (maker : ℕ) (more : Bool) where
-    module _ (paper n : ℕ) (ordinal : Option ℕ) (text : List ℕ) (there : IsSubmitted H paper) (registered : IsRegistered H maker)
-        (begun : is_from Discussion (phase_of H) ≡ true) (told : is_told u H earlier later maker (Commented paper n ordinal text) ≡ true)
-        (is : view u H ≡ before ++ shown_to u H earlier later maker (Commented paper n ordinal text) ∷ after)
+  module _ (earlier later : History) (stamp : Stamp) (more : Bool) where
+    module _ (paper n : ℕ) (ordinal : Option ℕ) (text : List ℕ) (there : IsSubmitted H paper) (registered : IsRegistered H stamp.maker)
+        (begun : is_from Discussion (phase_of H) ≡ true) (told : is_told u H earlier later stamp.maker (Commented paper n ordinal text) ≡ true)
+        (is : view u H ≡ before ++ shown_to u H earlier later stamp (Commented paper n ordinal text) ∷ after)
       where
         abbrev s : Sighting
-        s = shown_to u H earlier later maker (Commented paper n ordinal text)
+        s = shown_to u H earlier later stamp (Commented paper n ordinal text)
 
         -- it stands among the comments, where they are answered
         line-here : (test : CommentLine → Bool) → discusses u paper H ≡ true → list_any test (comment_shown_by s V) ≡ true → lists (comments_given u H s) test ≡ true
@@ -100,17 +101,17 @@ module _ (u : Option ℕ) (H : History) (legal : Legal H) (before after : View) 
 
         -- or else it is left behind
         line-or-behind : (test : CommentLine → Bool) → (discusses u paper H ≡ true → list_any test (comment_shown_by s V) ≡ true)
-            → (lists (comments_given u H s) test || (is_number u maker && not (is_eligible u paper H))) ≡ true
+            → (lists (comments_given u H s) test || (is_number u stamp.maker && not (is_eligible u paper H))) ≡ true
         line-or-behind test passes = by (discusses u paper H) refl
           where
             behind : (m h d : Bool) → (m || (h && d)) ≡ true → d ≡ true → (h && d) ≡ false → (m && not h) ≡ true
             behind m h d told hd not' = grind (arith, told, hd, not')
 
-            by : (b : Bool) → discusses u paper H ≡ b → (lists (comments_given u H s) test || (is_number u maker && not (is_eligible u paper H))) ≡ true
-            by true e = or_left _ (is_number u maker && not (is_eligible u paper H)) (line-here test e (passes e))
+            by : (b : Bool) → discusses u paper H ≡ b → (lists (comments_given u H s) test || (is_number u stamp.maker && not (is_eligible u paper H))) ≡ true
+            by true e = or_left _ (is_number u stamp.maker && not (is_eligible u paper H)) (line-here test e (passes e))
             by false e =
-                or_right (lists (comments_given u H s) test) (is_number u maker && not (is_eligible u paper H))
-                (behind (is_number u maker) (is_eligible u paper H) (is_past_reviewing (phase_of H)) told (sym (phase-words (phase_of H)).discussion ∙ begun) e)
+                or_right (lists (comments_given u H s) test) (is_number u stamp.maker && not (is_eligible u paper H))
+                (behind (is_number u stamp.maker) (is_eligible u paper H) (is_past_reviewing (phase_of H)) told (sym (phase-words (phase_of H)).discussion ∙ begun) e)
 
         commented : (what : Part) → IsTrue (has what s) → IsTrue (is_part_told u H s kinds.Commented what || is_left_untold u H s after kinds.Commented what)
         commented part.n shown = line-or-behind (λ line. eqb n line.n) (λ e. ap (λ b. b || false) (eq-eqb n n refl))
@@ -119,9 +120,9 @@ module _ (u : Option ℕ) (H : History) (legal : Legal H) (before after : View) 
         commented part.by shown =
             or_left _ false
             (line-here (λ line. eqb n line.n && agree bytes_eq (name_shown s.by V) line.user)
-            (and_parts (discusses u paper H) (knows_writers u H) (sym (known-some (discusses u paper H && knows_writers u H) maker) ∙ shown)).0
-            (ap (λ o. (eqb n n && agree bytes_eq (name_shown o V) (name_shown o V)) || false) (known _ maker shown)
-            ∙ (λ i. (eq-eqb n n refl i && name-is u H maker registered i) || false)))
+            (and_parts (discusses u paper H) (knows_writers u H) (sym (known-some (discusses u paper H && knows_writers u H) stamp.maker) ∙ shown)).0
+            (ap (λ o. (eqb n n && agree bytes_eq (name_shown o V) (name_shown o V)) || false) (known _ stamp.maker shown)
+            ∙ (λ i. (eq-eqb n n refl i && name-is u H stamp.maker registered i) || false)))
         commented part.ordinal shown = pick _ _ _ _ unnamed
           where
             o : ℕ
@@ -141,7 +142,7 @@ module _ (u : Option ℕ) (H : History) (legal : Legal H) (before after : View) 
                 ap label_shown (known _ o shown) ∙ ap (λ b. if b then None else Some o) (sym (ap (λ x. is_number x 0) (known _ o shown)) ∙ label)
 
             unnamed : is_some s.by ≡ false → is_number s.ordinal 0 ≡ false
-                → (lists (comments_given u H s) (λ line. eqb n line.n && agree nat_eq s.ordinal line.label) || (is_number u maker && not (is_eligible u paper H))) ≡ true
+                → (lists (comments_given u H s) (λ line. eqb n line.n && agree nat_eq s.ordinal line.label) || (is_number u stamp.maker && not (is_eligible u paper H))) ≡ true
             unnamed none label =
                 line-or-behind (λ line. eqb n line.n && agree nat_eq s.ordinal line.label)
                 (λ e.
@@ -151,12 +152,12 @@ module _ (u : Option ℕ) (H : History) (legal : Legal H) (before after : View) 
         commented _ shown = absurd (true≢false (sym shown))
 
     module _ (paper : ℕ) (decision : Decision) (there : IsSubmitted H paper) (begun : is_from Discussion (phase_of H) ≡ true)
-        (whole : earlier ++ stamp maker more (Decided paper decision) ∷ later ≡ H)
-        (told : is_told u H earlier later maker (Decided paper decision) ≡ true)
-        (is : view u H ≡ before ++ shown_to u H earlier later maker (Decided paper decision) ∷ after)
+        (whole : earlier ++ stamped stamp more (Decided paper decision) ∷ later ≡ H)
+        (told : is_told u H earlier later stamp.maker (Decided paper decision) ≡ true)
+        (is : view u H ≡ before ++ shown_to u H earlier later stamp (Decided paper decision) ∷ after)
       where
         abbrev d : Sighting
-        d = shown_to u H earlier later maker (Decided paper decision)
+        d = shown_to u H earlier later stamp (Decided paper decision)
 
         key-there : (discusses u paper H || is_notified u paper H || is_in_programme paper H) ≡ true → has_key (λ page. page.decision) u paper H ≡ true
         key-there h = decision-key u H legal paper there ∙ h
@@ -180,8 +181,8 @@ module _ (u : Option ℕ) (H : History) (legal : Legal H) (before after : View) 
             announced = sym (known-some (is_announced H later paper) true) ∙ shown
         decided part.decision shown = by (discusses u paper H || is_notified u paper H || is_in_programme paper H) refl (is_in_programme paper H) refl
           where
-            told-so : (is_number u maker || discusses u paper H || (not (is_decided_again paper later) && is_notified u paper H)) ≡ true
-            told-so = sym (known-some (reads_decision u H maker paper || learns_outcome u H later paper) decision) ∙ shown
+            told-so : (is_number u stamp.maker || discusses u paper H || (not (is_decided_again paper later) && is_notified u paper H)) ≡ true
+            told-so = sym (known-some (reads_decision u H stamp.maker paper || learns_outcome u H later paper) decision) ∙ shown
 
             again : Bool
             again = not (is_nothing (shown_on paper (λ (t : Sighting). t.decision) after))
@@ -190,7 +191,7 @@ module _ (u : Option ℕ) (H : History) (legal : Legal H) (before after : View) 
             other = is_shown_accepted paper V && not (is_some (where_known (is_announced H later paper) true))
 
             left : Bool
-            left = is_number u maker && not (is_eligible u paper H)
+            left = is_number u stamp.maker && not (is_eligible u paper H)
 
             behind : (m h p x n g : Bool) → (m || (h && p) || (x && n)) ≡ true → p ≡ true → ((h && p) || n || g) ≡ false → (m && not h) ≡ true
             behind m h p x n g told hp none = grind (arith, told, hp, none)
@@ -239,14 +240,14 @@ module _ (u : Option ℕ) (H : History) (legal : Legal H) (before after : View) 
                 last-decision : decision_of paper H ≡ Some decision
                 last-decision =
                     ap (decision_of paper) (sym whole)
-                    ∙ last-here (λ (e : Stamped). decision_told paper e.entry) earlier later (stamp maker more (Decided paper decision)) decision
+                    ∙ last-here (λ (e : Stamped). decision_told paper e.entry) earlier later (stamped stamp more (Decided paper decision)) decision
                     (ap (λ b. given b decision) (eq-eqb paper paper refl)) (none-decided paper later (not-again (is_decided_again paper later) parts.0))
 
             by : (there' : Bool) → (discusses u paper H || is_notified u paper H || is_in_programme paper H) ≡ there' → (acc : Bool) → is_in_programme paper H ≡ acc
                 → (agree same_decision d.decision (option_and_then (λ decision. decision) (page_told (λ page. page.decision) u paper H)) || (again || other || left)) ≡ true
             by false h acc e =
                 third _ again other left
-                (behind (is_number u maker) (is_eligible u paper H) (is_past_reviewing (phase_of H)) (not (is_decided_again paper later)) (is_notified u paper H) (is_in_programme paper H)
+                (behind (is_number u stamp.maker) (is_eligible u paper H) (is_past_reviewing (phase_of H)) (not (is_decided_again paper later)) (is_notified u paper H) (is_in_programme paper H)
                 told-so (sym (phase-words (phase_of H)).discussion ∙ begun) h)
             by true h false e =
                 first _ again other left
@@ -262,7 +263,7 @@ module _ (u : Option ℕ) (H : History) (legal : Legal H) (before after : View) 
                     → (agree same_decision d.decision (option_and_then (λ decision. decision) (page_told (λ page. page.decision) u paper H)) || (again || other || left)) ≡ true
                 marked true announced =
                     or_left _ (again || other || left)
-                    ((λ i. agree same_decision (known (reads_decision u H maker paper || learns_outcome u H later paper) decision shown i) (key-is true e h i)) ∙ accepts announced)
+                    ((λ i. agree same_decision (known (reads_decision u H stamp.maker paper || learns_outcome u H later paper) decision shown i) (key-is true e h i)) ∙ accepts announced)
                 marked false unmarked =
                     second _ again other left
                     ((λ i. (accepted-is ∙ e) i && not (is_some (where_known (unmarked i) true))))
@@ -272,14 +273,14 @@ pub commented-all : AllOf kinds.Commented
 commented-all = all-of kinds.Commented each
   where
     each : Each kinds.Commented
-    each u H legal before after what earlier later maker more (Commented paper n ordinal text) whole known told is kind shown =
-        commented u H legal before after earlier later maker more paper n ordinal text known.there.0 known.there.1 known.settled.1 told is what shown
-    each u H legal before after what earlier later maker more e whole known told is kind shown = absurd (true≢false (sym kind))
+    each u H legal before after what earlier later stamp more (Commented paper n ordinal text) whole known told is kind shown =
+        commented u H legal before after earlier later stamp more paper n ordinal text known.there.0 known.there.1 known.settled.1 told is what shown
+    each u H legal before after what earlier later stamp more e whole known told is kind shown = absurd (true≢false (sym kind))
 
 pub decided-all : AllOf kinds.Decided
 decided-all = all-of kinds.Decided each
   where
     each : Each kinds.Decided
-    each u H legal before after what earlier later maker more (Decided paper decision) whole known told is kind shown =
-        decided u H legal before after earlier later maker more paper decision known.settled.0 known.settled.1 whole told is what shown
-    each u H legal before after what earlier later maker more e whole known told is kind shown = absurd (true≢false (sym kind))
+    each u H legal before after what earlier later stamp more (Decided paper decision) whole known told is kind shown =
+        decided u H legal before after earlier later stamp more paper decision known.settled.0 known.settled.1 whole told is what shown
+    each u H legal before after what earlier later stamp more e whole known told is kind shown = absurd (true≢false (sym kind))

@@ -9,21 +9,22 @@ use Rattle.std.proofs.lemmas.List.Elements.{recursion_from_All}
 use Rattle.std.proofs.lemmas.List.Folds.{list_any-append}
 use Rattle.cr_base.specs.declared.entry.Entry.{Entry}
 use Rattle.cr_base.specs.declared.entry.Entry.TheVariants.{Named, PhaseSet, Withdrawn, Conflict, Bid, Assigned, Unassigned, Reviewed, Commented, Tagged, Decided}
+use Rattle.cr_base.specs.declared.entry.Stamp.{Stamp}
 use Rattle.cr_base.specs.declared.entry.Stamped.{Stamped}
 use Rattle.cr_base.specs.declared.words.Phase.{Phase}
 use Rattle.cr_base.specs.declared.words.Phase.TheVariants.{Setup, Submission, Bidding, Reviewing, Discussion, Notification, Closed}
 use Rattle.cr_base.specs.declared.words.Role.{Role}
 use Rattle.cr_base.specs.declared.words.Role.TheVariants.{Account, Member, Chair}
 use Rattle.cr_base.specs.Lists.{given, is_number, last_or}
+use Rattle.cr_base.specs.Drawn.{stamped}
 use Rattle.cr_base.specs.History.{History, all_told, phase_told, role_told, paper_told}
 use Rattle.cr_base.specs.HistoryFacts.{phase_of, mode_of, role_of, papers_of, is_author, is_conflicted, is_reviewer}
 use Rattle.cr_base.specs.Phases.{phase_rank, is_from, is_phase, committee_works}
 use Rattle.cr_base.specs.Words.{is_chair, role_number}
 use Rattle.cr_history.proofs.Folds.{last_or-append}
-use Rattle.cr_history.proofs.LineAgreement.{stamp}
 use Rattle.cr_history.specs.Invariants.{Invariants, IsInOrder, InTurn, IsInPhase, RaisesRole, IsSubmitted, IsHeld, may_turn}
 use Rattle.cr_policy.specs.Legal.{Legal}
-use Rattle.cr_policy.specs.ShownTo.{is_on_committee, chairs_committee, is_past_submission, is_past_reviewing, has_conflict, serves, is_eligible, oversees, administers, discusses}
+use Rattle.cr_policy.specs.ShownTo.{is_on_committee, chairs_committee, is_past_submission, is_past_reviewing, has_conflict, serves, is_eligible, oversees, discusses}
 use Rattle.cr_policy.specs.ShownTo.{is_party, is_answered, is_notified, is_in_programme, is_told, where_known, is_committees, is_chairs, hides_reviewers, is_discussed, is_reviewed, is_decided_again}
 use Rattle.cr_policy.specs.Sighting.{Sighting}
 use Rattle.cr_policy.specs.View.{view}
@@ -45,33 +46,33 @@ use Rattle.cr_told.proofs.ToldShown as reads
 -- ---- what stays as a history grows
 
 -- phases only go on
-phase-after : (H : History) (maker : ℕ) (more : Bool) (e : Entry) → phase_of (H ++ stamp maker more e ∷ []) ≡ last_or (phase_of H) (phase_told e ++ [])
-phase-after H maker more e =
-    ap (last_or Setup) (flat_map-append (λ (e : Stamped). phase_told e.entry) H (stamp maker more e ∷ []))
+phase-after : (H : History) (stamp : Stamp) (more : Bool) (e : Entry) → phase_of (H ++ stamped stamp more e ∷ []) ≡ last_or (phase_of H) (phase_told e ++ [])
+phase-after H stamp more e =
+    ap (last_or Setup) (flat_map-append (λ (e : Stamped). phase_told e.entry) H (stamped stamp more e ∷ []))
     ∙ last_or-append Setup (all_told phase_told H) (phase_told e ++ [])
 
 goes-on : (k m n : ℕ) → n ≡ m + 1 → nat_le k m ≡ true → nat_le k n ≡ true
 goes-on k m n e h = grind (arith, nat_tests, e, h)
 
-phase-later : (first : Phase) (H : History) (maker : ℕ) (more : Bool) (e : Entry) → IsInPhase H e → is_from first (phase_of H) ≡ true
-    → is_from first (phase_of (H ++ stamp maker more e ∷ [])) ≡ true
-phase-later first H maker more (PhaseSet to) next from =
-    ap (is_from first) (phase-after H maker more (PhaseSet to))
+phase-later : (first : Phase) (H : History) (stamp : Stamp) (more : Bool) (e : Entry) → IsInPhase H e → is_from first (phase_of H) ≡ true
+    → is_from first (phase_of (H ++ stamped stamp more e ∷ [])) ≡ true
+phase-later first H stamp more (PhaseSet to) next from =
+    ap (is_from first) (phase-after H stamp more (PhaseSet to))
     ∙ goes-on (phase_rank first) (phase_rank (phase_of H)) (phase_rank to) (eqb-true (phase_rank to) (phase_rank (phase_of H) + 1) next) from
-phase-later first H maker more e next from = ap (is_from first) (phase-after H maker more e) ∙ from
+phase-later first H stamp more e next from = ap (is_from first) (phase-after H stamp more e) ∙ from
 
 pub phase-rises : (first : Phase) (before after H : History) → before ++ after ≡ H → InTurn IsInOrder before after → is_from first (phase_of before) ≡ true
     → is_from first (phase_of H) ≡ true
 phase-rises first before [] H whole order from = ap (λ (G : History). is_from first (phase_of G)) (sym (sym (append-nil before) ∙ whole)) ∙ from
 phase-rises first before (e ∷ after) H whole order from =
     phase-rises first (before ++ e ∷ []) after H (append_assoc before (e ∷ []) after ∙ whole) order.1
-    (phase-later first before e.stamp.maker e.more e.entry order.0.phase from)
+    (phase-later first before e.stamp e.more e.entry order.0.phase from)
 
 -- a chair stays one
-role-after : (v : Option ℕ) (H : History) (maker : ℕ) (more : Bool) (e : Entry)
-    → role_of v (H ++ stamp maker more e ∷ []) ≡ last_or (role_of v H) (role_told v e ++ [])
-role-after v H maker more e =
-    ap (last_or Account) (flat_map-append (λ (e : Stamped). role_told v e.entry) H (stamp maker more e ∷ []))
+role-after : (v : Option ℕ) (H : History) (stamp : Stamp) (more : Bool) (e : Entry)
+    → role_of v (H ++ stamped stamp more e ∷ []) ≡ last_or (role_of v H) (role_told v e ++ [])
+role-after v H stamp more e =
+    ap (last_or Account) (flat_map-append (λ (e : Stamped). role_told v e.entry) H (stamped stamp more e ∷ []))
     ∙ last_or-append Account (all_told (role_told v) H) (role_told v e ++ [])
 
 pub number-is : (v : Option ℕ) (user : ℕ) → is_number v user ≡ true → v ≡ Some user
@@ -85,21 +86,21 @@ highest Chair Account c h = absurd (omega (arith, h))
 highest Chair Member c h = absurd (omega (arith, h))
 highest Chair Chair c h = refl
 
-chair-later : (v : Option ℕ) (H : History) (maker : ℕ) (more : Bool) (e : Entry) → RaisesRole H e → is_chair (role_of v H) ≡ true
-    → is_chair (role_of v (H ++ stamp maker more e ∷ [])) ≡ true
-chair-later v H maker more (Named user role) raises chair = ap is_chair (role-after v H maker more (Named user role)) ∙ by (is_number v user) refl
+chair-later : (v : Option ℕ) (H : History) (stamp : Stamp) (more : Bool) (e : Entry) → RaisesRole H e → is_chair (role_of v H) ≡ true
+    → is_chair (role_of v (H ++ stamped stamp more e ∷ [])) ≡ true
+chair-later v H stamp more (Named user role) raises chair = ap is_chair (role-after v H stamp more (Named user role)) ∙ by (is_number v user) refl
   where
     by : (b : Bool) → is_number v user ≡ b → is_chair (last_or (role_of v H) (given b role ++ [])) ≡ true
     by true same = highest (role_of (Some user) H) role (ap (λ (v : Option ℕ). is_chair (role_of v H)) (sym (number-is v user same)) ∙ chair) raises
     by false same = chair
-chair-later v H maker more e raises chair = ap is_chair (role-after v H maker more e) ∙ chair
+chair-later v H stamp more e raises chair = ap is_chair (role-after v H stamp more e) ∙ chair
 
 pub chair-rises : (v : Option ℕ) (before after H : History) → before ++ after ≡ H → InTurn IsInOrder before after → is_chair (role_of v before) ≡ true
     → is_chair (role_of v H) ≡ true
 chair-rises v before [] H whole order chair = ap (λ (G : History). is_chair (role_of v G)) (sym (sym (append-nil before) ∙ whole)) ∙ chair
 chair-rises v before (e ∷ after) H whole order chair =
     chair-rises v (before ++ e ∷ []) after H (append_assoc before (e ∷ []) after ∙ whole) order.1
-    (chair-later v before e.stamp.maker e.more e.entry order.0.role chair)
+    (chair-later v before e.stamp e.more e.entry order.0.role chair)
 
 -- a paper stays there
 still-there : (p : ℕ) (before after H : History) → before ++ after ≡ H → IsSubmitted before p → IsSubmitted H p
@@ -197,20 +198,20 @@ module _ (H : History) where
             second (eqb user maker) (is_author (Some maker) paper H) (is_chair (role_of (Some maker) H) && is_from Bidding (phase_of H))
             (writes (Some maker) paper (and_parts (is_author (Some maker) paper before) on h).0)
 
-    settled-one : (maker : ℕ) (more : Bool) (e : Entry) → IsInOrder before (stamp maker more e) → IsHeld H maker e → IsSettled H maker e
-    settled-one maker more (Withdrawn paper) is held = (there paper is.about, writes (Some maker) paper is.right)
-    settled-one maker more (Conflict paper user on) is held = (there paper is.about.0, turned maker paper user on is.right)
-    settled-one maker more (Bid paper value) is held = there paper is.about
-    settled-one maker more (Assigned paper user review_kind ordinal) is held =
-        (there paper is.about.0, from Bidding (committee-begun (phase_of before) is.phase), chairs (Some maker) is.chair)
-    settled-one maker more (Unassigned paper user ordinal) is held =
-        (there paper is.about.0, from Bidding (committee-begun (phase_of before) is.phase), chairs (Some maker) is.chair)
-    settled-one maker more (Reviewed paper ordinal version form) is held =
+    settled-one : (stamp : Stamp) (more : Bool) (e : Entry) → IsInOrder before (stamped stamp more e) → IsHeld H stamp.maker e → IsSettled H stamp.maker e
+    settled-one stamp more (Withdrawn paper) is held = (there paper is.about, writes (Some stamp.maker) paper is.right)
+    settled-one stamp more (Conflict paper user on) is held = (there paper is.about.0, turned stamp.maker paper user on is.right)
+    settled-one stamp more (Bid paper value) is held = there paper is.about
+    settled-one stamp more (Assigned paper user review_kind ordinal) is held =
+        (there paper is.about.0, from Bidding (committee-begun (phase_of before) is.phase), chairs (Some stamp.maker) is.chair)
+    settled-one stamp more (Unassigned paper user ordinal) is held =
+        (there paper is.about.0, from Bidding (committee-begun (phase_of before) is.phase), chairs (Some stamp.maker) is.chair)
+    settled-one stamp more (Reviewed paper ordinal version form) is held =
         (there paper is.about, from Reviewing (reviewed-in (phase_of before) is.phase), ap is_some held)
-    settled-one maker more (Commented paper n ordinal text) is held = (there paper is.about, from Discussion (discussed-in (phase_of before) is.phase))
-    settled-one maker more (Tagged paper tag on) is held = there paper is.about
-    settled-one maker more (Decided paper decision) is held = (there paper is.about, from Discussion (discussed-in (phase_of before) is.phase))
-    settled-one maker more e is held = tt
+    settled-one stamp more (Commented paper n ordinal text) is held = (there paper is.about, from Discussion (discussed-in (phase_of before) is.phase))
+    settled-one stamp more (Tagged paper tag on) is held = there paper is.about
+    settled-one stamp more (Decided paper decision) is held = (there paper is.about, from Discussion (discussed-in (phase_of before) is.phase))
+    settled-one stamp more e is held = tt
 
   abbrev pub Settled : Stamped → Type 0
   Settled e = IsSettled H e.stamp.maker e.entry
@@ -219,7 +220,7 @@ module _ (H : History) where
       → AllByRecursion Settled after
   settled-all before [] whole order held = tt
   settled-all before (e ∷ after) whole order held = (
-    settled-one before (e ∷ after) whole order e.stamp.maker e.more e.entry order.0 held.0,
+    settled-one before (e ∷ after) whole order e.stamp e.more e.entry order.0 held.0,
     settled-all (before ++ e ∷ []) after (append_assoc before (e ∷ []) after ∙ whole) order.1 held.1,
   )
 
@@ -321,69 +322,69 @@ module _ (u : Option ℕ) (H : History) (legal : Legal H) where
       → (((k && n) || (((((o && s) && not c) && l) || d) || a)) || (m && not ((o && s) && not c))) ≡ true
   seat-placed m n l o s c d h a k hk told hs own hl = grind (arith, hk, told, hs, own, hl)
 
-  each : (p : ℕ) (before later : History) (maker : ℕ) (more : Bool) (e : Entry) → IsSettled H maker e → is_told u H before later maker e ≡ true
-      → IsTrue (is_number (shown_to u H before later maker e).paper p)
-      → IsTrue (is_placed u p H (shown_to u H before later maker e).kind (shown_to u H before later maker e))
-  each p before later maker more (Withdrawn paper) is told same =
+  each : (p : ℕ) (before later : History) (stamp : Stamp) (more : Bool) (e : Entry) → IsSettled H stamp.maker e → is_told u H before later stamp.maker e ≡ true
+      → IsTrue (is_number (shown_to u H before later stamp e).paper p)
+      → IsTrue (is_placed u p H (shown_to u H before later stamp e).kind (shown_to u H before later stamp e))
+  each p before later stamp more (Withdrawn paper) is told same =
       at paper p (λ n. has_key (λ page. page.withdrawn) u n H) same
-      (withdrawn-key paper is.0 ∙ by (is_number u maker) (is_author u paper H) (serves u H) told (own-so (λ v. is_author v paper H) u maker is.1))
+      (withdrawn-key paper is.0 ∙ by (is_number u stamp.maker) (is_author u paper H) (serves u H) told (own-so (λ v. is_author v paper H) u stamp.maker is.1))
     where
       by : (m a s : Bool) → ((m || a) || s) ≡ true → (not m || a) ≡ true → (a || s) ≡ true
       by m a s h own = grind (arith, h, own)
-  each p before later maker more (Conflict paper user on) is told same =
+  each p before later stamp more (Conflict paper user on) is told same =
       at paper p
-      (λ n. is_number u user || has_key (λ page. page.declared) u n H || has_key (λ page. page.conflicts) u n H || (is_number u maker && not (is_eligible u n H))) same
-      ((λ i. is_number u user || declared-key paper is.0 i || conflicts-key paper is.0 i || (is_number u maker && not (is_eligible u paper H)))
-      ∙ by (is_number u maker) (is_number u user) (is_author u paper H) (is_author (Some maker) paper H) (is_eligible u paper H) lead (is_past_submission (phase_of H)) told own)
+      (λ n. is_number u user || has_key (λ page. page.declared) u n H || has_key (λ page. page.conflicts) u n H || (is_number u stamp.maker && not (is_eligible u n H))) same
+      ((λ i. is_number u user || declared-key paper is.0 i || conflicts-key paper is.0 i || (is_number u stamp.maker && not (is_eligible u paper H)))
+      ∙ by (is_number u stamp.maker) (is_number u user) (is_author u paper H) (is_author (Some stamp.maker) paper H) (is_eligible u paper H) lead (is_past_submission (phase_of H)) told own)
     where
       by : (m n a w h l s : Bool) → (((n || m) || (a && w)) || (h && l)) ≡ true → (not m || ((n || a) || (l && s))) ≡ true
           → (((n || a) || (h && l)) || (m && not h)) ≡ true
       by m n a w h l s told own = grind (arith, told, own)
 
-      own : (not (is_number u maker) || ((is_number u user || is_author u paper H) || (lead && is_past_submission (phase_of H)))) ≡ true
+      own : (not (is_number u stamp.maker) || ((is_number u user || is_author u paper H) || (lead && is_past_submission (phase_of H)))) ≡ true
       own =
-          own-so (λ v. (is_number v user || is_author v paper H) || (chairs_committee (role_of v H) && is_past_submission (phase_of H))) u maker
-          ((λ i. (swap user maker i || is_author (Some maker) paper H) || (sym (chair-leads (role_of (Some maker) H)) i && sym (phase-words (phase_of H)).bidding i))
+          own-so (λ v. (is_number v user || is_author v paper H) || (chairs_committee (role_of v H) && is_past_submission (phase_of H))) u stamp.maker
+          ((λ i. (swap user stamp.maker i || is_author (Some stamp.maker) paper H) || (sym (chair-leads (role_of (Some stamp.maker) H)) i && sym (phase-words (phase_of H)).bidding i))
           ∙ is.1)
         where
           swap : (x y : ℕ) → eqb y x ≡ eqb x y
           swap x y = grind (arith, nat_tests)
-  each p before later maker more (Bid paper value) is told same =
+  each p before later stamp more (Bid paper value) is told same =
       at paper p
-      (λ n. has_key (λ page. page.bids) u n H || (is_number u maker && has_key (λ page. page.bid) u n H) || (is_number u maker && not (is_eligible u n H))) same
-      ((λ i. bids-key paper is i || (is_number u maker && bid-key paper is i) || (is_number u maker && not (is_eligible u paper H)))
-      ∙ by (is_number u maker) (is_eligible u paper H) (oversees u paper H) told)
+      (λ n. has_key (λ page. page.bids) u n H || (is_number u stamp.maker && has_key (λ page. page.bid) u n H) || (is_number u stamp.maker && not (is_eligible u n H))) same
+      ((λ i. bids-key paper is i || (is_number u stamp.maker && bid-key paper is i) || (is_number u stamp.maker && not (is_eligible u paper H)))
+      ∙ by (is_number u stamp.maker) (is_eligible u paper H) (oversees u paper H) told)
     where
       by : (m h o : Bool) → (m || o) ≡ true → ((o || (m && h)) || (m && not h)) ≡ true
       by m h o told = grind (arith, told)
-  each p before later maker more (Assigned paper user review_kind ordinal) is told same =
+  each p before later stamp more (Assigned paper user review_kind ordinal) is told same =
       at paper p
-      (λ n. is_user u s.user || has_key (λ page. page.reviewers) u n H || (is_number u maker && not (is_eligible u n H))) same
-      ((λ i. user-known u (names maker paper user) user i || reviewers-key paper is.0 i || (is_number u maker && not (is_eligible u paper H)))
-      ∙ seat-placed (is_number u maker) (is_number u user) lead onc (is_past_submission (phase_of H)) (has_conflict u paper H) (discusses u paper H)
-      (hides_reviewers (mode_of H)) (is_answered u paper H) (names maker paper user) refl told (sym (phase-words (phase_of H)).bidding ∙ is.1)
-      (own-so (λ v. chairs_committee (role_of v H)) u maker (sym (chair-leads (role_of (Some maker) H)) ∙ is.2)) (leads-serves (role_of u H)))
+      (λ n. is_user u s.user || has_key (λ page. page.reviewers) u n H || (is_number u stamp.maker && not (is_eligible u n H))) same
+      ((λ i. user-known u (names stamp.maker paper user) user i || reviewers-key paper is.0 i || (is_number u stamp.maker && not (is_eligible u paper H)))
+      ∙ seat-placed (is_number u stamp.maker) (is_number u user) lead onc (is_past_submission (phase_of H)) (has_conflict u paper H) (discusses u paper H)
+      (hides_reviewers (mode_of H)) (is_answered u paper H) (names stamp.maker paper user) refl told (sym (phase-words (phase_of H)).bidding ∙ is.1)
+      (own-so (λ v. chairs_committee (role_of v H)) u stamp.maker (sym (chair-leads (role_of (Some stamp.maker) H)) ∙ is.2)) (leads-serves (role_of u H)))
     where
       s : Sighting
-      s = shown_to u H before later maker (Assigned paper user review_kind ordinal)
-  each p before later maker more (Unassigned paper user ordinal) is told same =
+      s = shown_to u H before later stamp (Assigned paper user review_kind ordinal)
+  each p before later stamp more (Unassigned paper user ordinal) is told same =
       at paper p
-      (λ n. is_user u s.user || has_key (λ page. page.reviewers) u n H || (is_number u maker && not (is_eligible u n H))) same
-      ((λ i. user-known u (names maker paper user) user i || reviewers-key paper is.0 i || (is_number u maker && not (is_eligible u paper H)))
-      ∙ seat-placed (is_number u maker) (is_number u user) lead onc (is_past_submission (phase_of H)) (has_conflict u paper H) (discusses u paper H)
-      (hides_reviewers (mode_of H)) (is_answered u paper H) (names maker paper user) refl told (sym (phase-words (phase_of H)).bidding ∙ is.1)
-      (own-so (λ v. chairs_committee (role_of v H)) u maker (sym (chair-leads (role_of (Some maker) H)) ∙ is.2)) (leads-serves (role_of u H)))
+      (λ n. is_user u s.user || has_key (λ page. page.reviewers) u n H || (is_number u stamp.maker && not (is_eligible u n H))) same
+      ((λ i. user-known u (names stamp.maker paper user) user i || reviewers-key paper is.0 i || (is_number u stamp.maker && not (is_eligible u paper H)))
+      ∙ seat-placed (is_number u stamp.maker) (is_number u user) lead onc (is_past_submission (phase_of H)) (has_conflict u paper H) (discusses u paper H)
+      (hides_reviewers (mode_of H)) (is_answered u paper H) (names stamp.maker paper user) refl told (sym (phase-words (phase_of H)).bidding ∙ is.1)
+      (own-so (λ v. chairs_committee (role_of v H)) u stamp.maker (sym (chair-leads (role_of (Some stamp.maker) H)) ∙ is.2)) (leads-serves (role_of u H)))
     where
       s : Sighting
-      s = shown_to u H before later maker (Unassigned paper user ordinal)
-  each p before later maker more (Reviewed paper ordinal version form) is told same =
+      s = shown_to u H before later stamp (Unassigned paper user ordinal)
+  each p before later stamp more (Reviewed paper ordinal version form) is told same =
       at paper p
-      (λ n. has_reviews u n H || has_key (λ page. page.reviewers) u n H || (is_number u maker && not (is_eligible u n H))) same
-      ((λ i. reviews-key paper is.0 i || reviewers-key paper is.0 i || (is_number u maker && not (is_eligible u paper H)))
-      ∙ by (is_number u maker) onc (is_past_submission (phase_of H)) (has_conflict u paper H) lead (is_past_reviewing (phase_of H)) (is_reviewing_now (phase_of H))
+      (λ n. has_reviews u n H || has_key (λ page. page.reviewers) u n H || (is_number u stamp.maker && not (is_eligible u n H))) same
+      ((λ i. reviews-key paper is.0 i || reviewers-key paper is.0 i || (is_number u stamp.maker && not (is_eligible u paper H)))
+      ∙ by (is_number u stamp.maker) onc (is_past_submission (phase_of H)) (has_conflict u paper H) lead (is_past_reviewing (phase_of H)) (is_reviewing_now (phase_of H))
       (is_reviewer u paper H) (is_discussed paper ordinal before later) (not (is_reviewed paper ordinal before)) (is_notified u paper H)
       (not (is_reviewed paper ordinal later)) (is_answered u paper H) told (reviewing-begun (phase_of H) is.1) (reviewing-on (phase_of H) is.1)
-      (own-so (λ v. is_reviewer v paper H) u maker is.2) (leads-serves (role_of u H)))
+      (own-so (λ v. is_reviewer v paper H) u stamp.maker is.2) (leads-serves (role_of u H)))
     where
       by : (m o s c l d w r x y n z a : Bool)
           → (((m || ((((o && s) && not c) && d) && x)) || ((l && not c) && y)) || (n && z)) ≡ true
@@ -391,29 +392,29 @@ module _ (u : Option ℕ) (H : History) (legal : Legal H) where
           → ((((n || (((o && s) && not c) && d)) || ((((o && s) && not c) && r) && w)) || (((((o && s) && not c) && l) || (((o && s) && not c) && d)) || a))
           || (m && not ((o && s) && not c))) ≡ true
       by m o s c l d w r x y n z a told hs hd own hl = grind (arith, told, hs, hd, own, hl)
-  each p before later maker more (Commented paper n ordinal text) is told same =
-      at paper p (λ n. has_comments u n H || (is_number u maker && not (is_eligible u n H))) same
-      ((λ i. comments-key paper is.0 i || (is_number u maker && not (is_eligible u paper H)))
-      ∙ by (is_number u maker) (is_eligible u paper H) (is_past_reviewing (phase_of H)) told (sym (phase-words (phase_of H)).discussion ∙ is.1))
+  each p before later stamp more (Commented paper n ordinal text) is told same =
+      at paper p (λ n. has_comments u n H || (is_number u stamp.maker && not (is_eligible u n H))) same
+      ((λ i. comments-key paper is.0 i || (is_number u stamp.maker && not (is_eligible u paper H)))
+      ∙ by (is_number u stamp.maker) (is_eligible u paper H) (is_past_reviewing (phase_of H)) told (sym (phase-words (phase_of H)).discussion ∙ is.1))
     where
       by : (m h d : Bool) → (m || (h && d)) ≡ true → d ≡ true → ((h && d) || (m && not h)) ≡ true
       by m h d told hd = grind (arith, told, hd)
-  each p before later maker more (Tagged paper tag on) is told same =
-      at paper p (λ n. has_key (λ page. page.tags) u n H || (is_number u maker && not (is_eligible u n H))) same
-      ((λ i. tags-key paper is i || (is_number u maker && not (is_eligible u paper H)))
-      ∙ by (is_number u maker) (is_committees tag) (is_chairs tag) (is_eligible u paper H) lead told)
+  each p before later stamp more (Tagged paper tag on) is told same =
+      at paper p (λ n. has_key (λ page. page.tags) u n H || (is_number u stamp.maker && not (is_eligible u n H))) same
+      ((λ i. tags-key paper is i || (is_number u stamp.maker && not (is_eligible u paper H)))
+      ∙ by (is_number u stamp.maker) (is_committees tag) (is_chairs tag) (is_eligible u paper H) lead told)
     where
       by : (m t k h l : Bool) → (m || ((t && h) || (k && (h && l)))) ≡ true → (h || (m && not h)) ≡ true
       by m t k h l told = grind (arith, told)
-  each p before later maker more (Decided paper decision) is told same =
-      at paper p (λ n. has_key (λ page. page.decision) u n H || (is_number u maker && not (is_eligible u n H))) same
-      ((λ i. decision-key paper is.0 i || (is_number u maker && not (is_eligible u paper H)))
-      ∙ by (is_number u maker) (is_eligible u paper H) (is_past_reviewing (phase_of H)) (not (is_decided_again paper later)) (is_notified u paper H) (is_in_programme paper H)
+  each p before later stamp more (Decided paper decision) is told same =
+      at paper p (λ n. has_key (λ page. page.decision) u n H || (is_number u stamp.maker && not (is_eligible u n H))) same
+      ((λ i. decision-key paper is.0 i || (is_number u stamp.maker && not (is_eligible u paper H)))
+      ∙ by (is_number u stamp.maker) (is_eligible u paper H) (is_past_reviewing (phase_of H)) (not (is_decided_again paper later)) (is_notified u paper H) (is_in_programme paper H)
       told (sym (phase-words (phase_of H)).discussion ∙ is.1))
     where
       by : (m h d x n g : Bool) → (((m || (h && d)) || (x && n)) || (x && g)) ≡ true → d ≡ true → ((((h && d) || n) || g) || (m && not h)) ≡ true
       by m h d x n g told hd = grind (arith, told, hd)
-  each p before later maker more e is told same = refl
+  each p before later stamp more e is told same = refl
 
 pub places_told : PlacesTold
 places_told u p H legal =

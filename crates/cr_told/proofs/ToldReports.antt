@@ -6,6 +6,7 @@ use Rattle.std.specs.List.{flat_map, list_any}
 use Rattle.std.proofs.lemmas.Bool.{true≢false}
 use Rattle.cr_base.specs.declared.entry.Entry.{Entry}
 use Rattle.cr_base.specs.declared.entry.Entry.TheVariants.{Reviewed}
+use Rattle.cr_base.specs.declared.entry.Stamp.{Stamp}
 use Rattle.cr_base.specs.declared.reply.AccountLine.{AccountLine}
 use Rattle.cr_base.specs.declared.reply.Reply.TheVariants as replies
 use Rattle.cr_base.specs.declared.reply.Rule.TheVariants as rules
@@ -90,11 +91,11 @@ module _ (u : Option ℕ) (H : History) where
   pub written : (p o : ℕ) → is_written_in_view p o V ≡ is_shown_done p o V
   written p o = ap (last_or false) (readings u p H (done_seen p o) (λ (s : Sighting). only (is_number s.paper p && is_number s.ordinal o) (listed s.done)) one)
     where
-      one : (before later : History) (maker : ℕ) (e : Entry)
-          → done_seen p o (shown_to u H before later maker e)
-          ≡ (let s : Sighting = shown_to u H before later maker e in only (is_number s.paper p && is_number s.ordinal o) (listed s.done))
-      one before later maker (Reviewed paper ordinal version form) = refl
-      one before later maker e = refl
+      one : (before later : History) (stamp : Stamp) (e : Entry)
+          → done_seen p o (shown_to u H before later stamp e)
+          ≡ (let s : Sighting = shown_to u H before later stamp e in only (is_number s.paper p && is_number s.ordinal o) (listed s.done))
+      one before later stamp (Reviewed paper ordinal version form) = refl
+      one before later stamp e = refl
 
   clear : filter (λ (p : ℕ). not (is_conflicted_in_view u p V)) (papers_in_view V) ≡ papers_clear u V
   clear = λ i. filter (λ (p : ℕ). not (conflicted p i)) (papers_in_view V)

@@ -9,6 +9,7 @@ use Rattle.cr_base.specs.declared.command.Query.TheVariants as queries
 use Rattle.cr_base.specs.declared.entry.Entry.{Entry}
 use Rattle.cr_base.specs.declared.entry.Entry.TheVariants.{Reviewed}
 use Rattle.cr_base.specs.declared.entry.EntryKind.TheVariants as kinds
+use Rattle.cr_base.specs.declared.entry.Stamp.{Stamp}
 use Rattle.cr_base.specs.declared.reply.Reply.TheVariants as replies
 use Rattle.cr_base.specs.declared.reply.Rule.TheVariants as rules
 use Rattle.cr_base.specs.declared.review.ReviewLine.{ReviewLine}
@@ -124,14 +125,14 @@ module _ (u : Option ℕ) (p : ℕ) (H : History) where
   form named entire o s = only (is_kind kinds.Reviewed s && (is_number s.paper p && is_number s.ordinal o)) (review_shown named entire p V o s)
 
   all-forms : (named entire : Bool) (o : ℕ) → All (λ (s : Sighting). map (told named entire o) (form_seen p o s) ≡ form named entire o s) V
-  all-forms named entire o = each-view u H (λ (s : Sighting). map (told named entire o) (form_seen p o s) ≡ form named entire o s) (λ before later maker e seen. one before later maker e)
+  all-forms named entire o = each-view u H (λ (s : Sighting). map (told named entire o) (form_seen p o s) ≡ form named entire o s) (λ before later stamp e seen. one before later stamp e)
     where
-      one : (before later : History) (maker : ℕ) (e : Entry)
-          → map (told named entire o) (form_seen p o (shown_to u H before later maker e)) ≡ form named entire o (shown_to u H before later maker e)
-      one before later maker (Reviewed paper ordinal version f) =
-          let s : Sighting = shown_to u H before later maker (Reviewed paper ordinal version f) in
+      one : (before later : History) (stamp : Stamp) (e : Entry)
+          → map (told named entire o) (form_seen p o (shown_to u H before later stamp e)) ≡ form named entire o (shown_to u H before later stamp e)
+      one before later stamp (Reviewed paper ordinal version f) =
+          let s : Sighting = shown_to u H before later stamp (Reviewed paper ordinal version f) in
           form-one named entire o (eqb paper p && eqb ordinal o) _ s.version f.score f.confidence f.to_authors s.to_pc
-      one before later maker e = refl
+      one before later stamp e = refl
 
   forms-among : (named entire : Bool) (o : ℕ) (seen : View) → All (λ (s : Sighting). map (told named entire o) (form_seen p o s) ≡ form named entire o s) seen
       → map (told named entire o) (flat_map (form_seen p o) seen) ≡ forms_listed named entire p V o seen
@@ -162,14 +163,14 @@ module _ (u : Option ℕ) (p : ℕ) (H : History) where
       ∙ readings u p H (λ (s : Sighting). map (told false true o) (own_form_seen p s))
       (λ (s : Sighting). only (is_kind kinds.Reviewed s && (is_number s.paper p && s.mine)) (review_shown false true p V o s)) one
     where
-      one : (before later : History) (maker : ℕ) (e : Entry)
-          → map (told false true o) (own_form_seen p (shown_to u H before later maker e))
-          ≡ (let s : Sighting = shown_to u H before later maker e in
+      one : (before later : History) (stamp : Stamp) (e : Entry)
+          → map (told false true o) (own_form_seen p (shown_to u H before later stamp e))
+          ≡ (let s : Sighting = shown_to u H before later stamp e in
           only (is_kind kinds.Reviewed s && (is_number s.paper p && s.mine)) (review_shown false true p V o s))
-      one before later maker (Reviewed paper ordinal version f) =
-          let s : Sighting = shown_to u H before later maker (Reviewed paper ordinal version f) in
+      one before later stamp (Reviewed paper ordinal version f) =
+          let s : Sighting = shown_to u H before later stamp (Reviewed paper ordinal version f) in
           form-one false true o (eqb paper p && s.mine) _ s.version f.score f.confidence f.to_authors s.to_pc
-      one before later maker e = refl
+      one before later stamp e = refl
 
   module _ (there : IsSubmitted H p) (order : InTurn IsInOrder [] H) where
     -- ---- the answer

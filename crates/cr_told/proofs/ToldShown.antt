@@ -7,6 +7,7 @@ use Rattle.cr_base.specs.declared.entry.Entry.{Entry}
 use Rattle.cr_base.specs.declared.entry.Entry.TheVariants.{Submitted, Coauthor, Revised, Uploaded, Conflict, Bid, Assigned, Unassigned}
 use Rattle.cr_base.specs.declared.entry.Entry.TheVariants.{Reviewed, Tagged, Decided}
 use Rattle.cr_base.specs.declared.entry.EntryKind.TheVariants as kinds
+use Rattle.cr_base.specs.declared.entry.Stamp.{Stamp}
 use Rattle.cr_base.specs.Lists.{listed, last_from, last_or, is_number}
 use Rattle.cr_base.specs.History.{History, Upload}
 use Rattle.cr_policy.specs.Sighting.{Sighting}
@@ -34,96 +35,96 @@ only-neither false x = refl
 module _ (u : Option ℕ) (p : ℕ) (H : History) where
   -- readings that make the same of each entry, as a user is shown it, make the same of her view
   pub readings : {A : Type 0} (f g : Sighting → List A)
-      → ((before later : History) (maker : ℕ) (e : Entry) → f (shown_to u H before later maker e) ≡ g (shown_to u H before later maker e))
+      → ((before later : History) (stamp : Stamp) (e : Entry) → f (shown_to u H before later stamp e) ≡ g (shown_to u H before later stamp e))
       → flat_map f (view u H) ≡ flat_map g (view u H)
   readings f g same =
-      flat_map-same f g (view u H) (each-view u H (λ (s : Sighting). f s ≡ g s) (λ before later maker e told. same before later maker e))
+      flat_map-same f g (view u H) (each-view u H (λ (s : Sighting). f s ≡ g s) (λ before later stamp e told. same before later stamp e))
 
   pub titles : flat_map (title_seen p) (view u H) ≡ shown_on p (λ (s : Sighting). s.title) (view u H)
   titles = readings (title_seen p) (λ (s : Sighting). only (is_number s.paper p) (listed s.title)) one
     where
-      one : (before later : History) (maker : ℕ) (e : Entry)
-          → title_seen p (shown_to u H before later maker e)
-          ≡ only (is_number (shown_to u H before later maker e).paper p) (listed (shown_to u H before later maker e).title)
-      one before later maker (Submitted paper title abstract) = refl
-      one before later maker (Revised paper title abstract) = refl
-      one before later maker e = refl
+      one : (before later : History) (stamp : Stamp) (e : Entry)
+          → title_seen p (shown_to u H before later stamp e)
+          ≡ only (is_number (shown_to u H before later stamp e).paper p) (listed (shown_to u H before later stamp e).title)
+      one before later stamp (Submitted paper title abstract) = refl
+      one before later stamp (Revised paper title abstract) = refl
+      one before later stamp e = refl
 
   pub abstracts : flat_map (abstract_seen p) (view u H) ≡ shown_on p (λ (s : Sighting). s.abstract) (view u H)
   abstracts = readings (abstract_seen p) (λ (s : Sighting). only (is_number s.paper p) (listed s.abstract)) one
     where
-      one : (before later : History) (maker : ℕ) (e : Entry)
-          → abstract_seen p (shown_to u H before later maker e)
-          ≡ only (is_number (shown_to u H before later maker e).paper p) (listed (shown_to u H before later maker e).abstract)
-      one before later maker (Submitted paper title abstract) = refl
-      one before later maker (Revised paper title abstract) = refl
-      one before later maker e = refl
+      one : (before later : History) (stamp : Stamp) (e : Entry)
+          → abstract_seen p (shown_to u H before later stamp e)
+          ≡ only (is_number (shown_to u H before later stamp e).paper p) (listed (shown_to u H before later stamp e).abstract)
+      one before later stamp (Submitted paper title abstract) = refl
+      one before later stamp (Revised paper title abstract) = refl
+      one before later stamp e = refl
 
   pub writers : authors_in_view p (view u H) ≡ writers_shown p (view u H)
   writers = readings (author_seen p) (λ (s : Sighting). only (is_number s.paper p) (listed (writer_by s.kind s.by s.user))) one
     where
-      one : (before later : History) (maker : ℕ) (e : Entry)
-          → author_seen p (shown_to u H before later maker e)
-          ≡ (let s : Sighting = shown_to u H before later maker e in only (is_number s.paper p) (listed (writer_by s.kind s.by s.user)))
-      one before later maker (Submitted paper title abstract) = refl
-      one before later maker (Coauthor paper user) = refl
-      one before later maker e = refl
+      one : (before later : History) (stamp : Stamp) (e : Entry)
+          → author_seen p (shown_to u H before later stamp e)
+          ≡ (let s : Sighting = shown_to u H before later stamp e in only (is_number s.paper p) (listed (writer_by s.kind s.by s.user)))
+      one before later stamp (Submitted paper title abstract) = refl
+      one before later stamp (Coauthor paper user) = refl
+      one before later stamp e = refl
 
   pub in_conflict : (v : Option ℕ) → is_conflict_on_in_view v p (view u H) ≡ is_shown_in_conflict v p (view u H)
   in_conflict v = ap (last_or false) (readings (conflict_seen v p) (λ (s : Sighting). only (is_number s.paper p && is_user v s.user) (listed s.on)) one)
     where
-      one : (before later : History) (maker : ℕ) (e : Entry)
-          → conflict_seen v p (shown_to u H before later maker e)
-          ≡ (let s : Sighting = shown_to u H before later maker e in only (is_number s.paper p && is_user v s.user) (listed s.on))
-      one before later maker (Conflict paper user on) = refl
-      one before later maker (Tagged paper tag on) = sym (only-neither (eqb paper p) on)
-      one before later maker e = refl
+      one : (before later : History) (stamp : Stamp) (e : Entry)
+          → conflict_seen v p (shown_to u H before later stamp e)
+          ≡ (let s : Sighting = shown_to u H before later stamp e in only (is_number s.paper p && is_user v s.user) (listed s.on))
+      one before later stamp (Conflict paper user on) = refl
+      one before later stamp (Tagged paper tag on) = sym (only-neither (eqb paper p) on)
+      one before later stamp e = refl
 
   pub labels : (v : Option ℕ) → ordinal_in_view v p (view u H) ≡ label_shown_of v p (view u H)
   labels v = ap (last_or None) (readings (ordinal_seen v p) (λ (s : Sighting). only (is_number s.paper p && is_user v s.user) (listed (ordinal_by s.kind s.ordinal))) one)
     where
-      one : (before later : History) (maker : ℕ) (e : Entry)
-          → ordinal_seen v p (shown_to u H before later maker e)
-          ≡ (let s : Sighting = shown_to u H before later maker e in only (is_number s.paper p && is_user v s.user) (listed (ordinal_by s.kind s.ordinal)))
-      one before later maker (Assigned paper user review_kind ordinal) = refl
-      one before later maker (Unassigned paper user ordinal) = refl
-      one before later maker e = refl
+      one : (before later : History) (stamp : Stamp) (e : Entry)
+          → ordinal_seen v p (shown_to u H before later stamp e)
+          ≡ (let s : Sighting = shown_to u H before later stamp e in only (is_number s.paper p && is_user v s.user) (listed (ordinal_by s.kind s.ordinal)))
+      one before later stamp (Assigned paper user review_kind ordinal) = refl
+      one before later stamp (Unassigned paper user ordinal) = refl
+      one before later stamp e = refl
 
   pub own_bids : flat_map (own_bid_seen p) (view u H) ≡ own_bids_shown p (view u H)
   own_bids = readings (own_bid_seen p) (λ (s : Sighting). only (is_number s.paper p && s.mine) (listed s.value)) one
     where
-      one : (before later : History) (maker : ℕ) (e : Entry)
-          → own_bid_seen p (shown_to u H before later maker e)
-          ≡ (let s : Sighting = shown_to u H before later maker e in only (is_number s.paper p && s.mine) (listed s.value))
-      one before later maker (Bid paper value) = refl
-      one before later maker e = refl
+      one : (before later : History) (stamp : Stamp) (e : Entry)
+          → own_bid_seen p (shown_to u H before later stamp e)
+          ≡ (let s : Sighting = shown_to u H before later stamp e in only (is_number s.paper p && s.mine) (listed s.value))
+      one before later stamp (Bid paper value) = refl
+      one before later stamp e = refl
 
   pub bids : (v : ℕ) → flat_map (bid_seen (Some v) p) (view u H) ≡ bids_shown_of v p (view u H)
   bids v = readings (bid_seen (Some v) p) (λ (s : Sighting). only (is_number s.paper p && is_user (Some v) s.by) (listed s.value)) one
     where
-      one : (before later : History) (maker : ℕ) (e : Entry)
-          → bid_seen (Some v) p (shown_to u H before later maker e)
-          ≡ (let s : Sighting = shown_to u H before later maker e in only (is_number s.paper p && is_user (Some v) s.by) (listed s.value))
-      one before later maker (Bid paper value) = refl
-      one before later maker e = refl
+      one : (before later : History) (stamp : Stamp) (e : Entry)
+          → bid_seen (Some v) p (shown_to u H before later stamp e)
+          ≡ (let s : Sighting = shown_to u H before later stamp e in only (is_number s.paper p && is_user (Some v) s.by) (listed s.value))
+      one before later stamp (Bid paper value) = refl
+      one before later stamp e = refl
 
   pub accepted : is_accepted_in_view p (view u H) ≡ is_shown_accepted p (view u H)
   accepted = ap (last_or false) (readings (accepted_seen p) (λ (s : Sighting). only (is_number s.paper p) (listed s.accepted)) one)
     where
-      one : (before later : History) (maker : ℕ) (e : Entry)
-          → accepted_seen p (shown_to u H before later maker e)
-          ≡ (let s : Sighting = shown_to u H before later maker e in only (is_number s.paper p) (listed s.accepted))
-      one before later maker (Decided paper decision) = refl
-      one before later maker e = refl
+      one : (before later : History) (stamp : Stamp) (e : Entry)
+          → accepted_seen p (shown_to u H before later stamp e)
+          ≡ (let s : Sighting = shown_to u H before later stamp e in only (is_number s.paper p) (listed s.accepted))
+      one before later stamp (Decided paper decision) = refl
+      one before later stamp e = refl
 
   pub decisions : flat_map (decision_seen p) (view u H) ≡ shown_on p (λ (s : Sighting). s.decision) (view u H)
   decisions = readings (decision_seen p) (λ (s : Sighting). only (is_number s.paper p) (listed s.decision)) one
     where
-      one : (before later : History) (maker : ℕ) (e : Entry)
-          → decision_seen p (shown_to u H before later maker e)
-          ≡ (let s : Sighting = shown_to u H before later maker e in only (is_number s.paper p) (listed s.decision))
-      one before later maker (Decided paper decision) = refl
-      one before later maker e = refl
+      one : (before later : History) (stamp : Stamp) (e : Entry)
+          → decision_seen p (shown_to u H before later stamp e)
+          ≡ (let s : Sighting = shown_to u H before later stamp e in only (is_number s.paper p) (listed s.decision))
+      one before later stamp (Decided paper decision) = refl
+      one before later stamp e = refl
 
   -- a number and a content are shown together
   pub versions : map (λ (upload : Upload). upload.version) (uploads_in_view p (view u H)) ≡ shown_by kinds.Uploaded p (λ (s : Sighting). s.version) (view u H)
@@ -141,12 +142,12 @@ module _ (u : Option ℕ) (p : ℕ) (H : History) where
       both false true version content = refl
       both false false version content = refl
 
-      one : (before later : History) (maker : ℕ) (e : Entry)
-          → map (λ (upload : Upload). upload.version) (upload_seen p (shown_to u H before later maker e))
-          ≡ (let s : Sighting = shown_to u H before later maker e in only (is_kind kinds.Uploaded s && is_number s.paper p) (listed s.version))
-      one before later maker (Uploaded paper version content) = both (eqb paper p) _ version content
-      one before later maker (Reviewed paper ordinal version form) = sym (only-false _)
-      one before later maker e = refl
+      one : (before later : History) (stamp : Stamp) (e : Entry)
+          → map (λ (upload : Upload). upload.version) (upload_seen p (shown_to u H before later stamp e))
+          ≡ (let s : Sighting = shown_to u H before later stamp e in only (is_kind kinds.Uploaded s && is_number s.paper p) (listed s.version))
+      one before later stamp (Uploaded paper version content) = both (eqb paper p) _ version content
+      one before later stamp (Reviewed paper ordinal version form) = sym (only-false _)
+      one before later stamp e = refl
 
   -- a withdrawal shows no more than itself
   pub withdrawn : is_withdrawn_in_view p (view u H) ≡ is_shown kinds.Withdrawn p (view u H)

@@ -6,6 +6,7 @@ use Rattle.std.proofs.lemmas.Bool.{eqb-true, true≢false}
 use Rattle.std.proofs.lemmas.List.Elements.{All-head, All-tail}
 use Rattle.cr_base.specs.declared.entry.Entry.{Entry}
 use Rattle.cr_base.specs.declared.entry.Entry.TheVariants.{Submitted, Coauthor, Revised, Uploaded}
+use Rattle.cr_base.specs.declared.entry.Stamp.{Stamp}
 use Rattle.cr_base.specs.declared.entry.Stamped.{Stamped}
 use Rattle.cr_base.specs.Lists.{listed, is_number}
 use Rattle.cr_base.specs.History.{History}
@@ -39,8 +40,8 @@ untold false told x is h = refl
 module _ (u : Option ℕ) (p : ℕ) (H : History) (order : InTurn IsInOrder [] H) where
   abbrev Each : {A : Type 0} → (Sighting → List A) → Type 0
   Each f =
-      (before later : History) (maker : ℕ) (more : Bool) (e : Entry) → IsByAuthor H maker e → is_told u H before later maker e ≡ true
-      → f (shown_to u H before later maker e) ≡ []
+      (before later : History) (stamp : Stamp) (more : Bool) (e : Entry) → IsByAuthor H stamp.maker e → is_told u H before later stamp.maker e ≡ true
+      → f (shown_to u H before later stamp e) ≡ []
 
   none-shown : {A : Type 0} (f : Sighting → List A) → Each f → flat_map f (view u H) ≡ []
   none-shown f each =
@@ -72,11 +73,11 @@ module _ (u : Option ℕ) (p : ℕ) (H : History) (order : InTurn IsInOrder [] H
       may n = serves u H || is_in_programme n H
 
       each : Each (λ (s : Sighting). only (is_number s.paper p) (listed s.title))
-      each before later maker more (Submitted paper title abstract) right told =
+      each before later stamp more (Submitted paper title abstract) right told =
           unknown (eqb paper p) _ title (text-none may stranger hidden paper (λ n. is_replaced n later))
-      each before later maker more (Revised paper title abstract) right told =
-          unknown (eqb paper p) _ title (own-none may stranger hidden paper maker (λ n. is_replaced n later) right)
-      each before later maker more e right told = refl
+      each before later stamp more (Revised paper title abstract) right told =
+          unknown (eqb paper p) _ title (own-none may stranger hidden paper stamp.maker (λ n. is_replaced n later) right)
+      each before later stamp more e right told = refl
 
   pub abstracts-none : is_author u p H ≡ false → (is_eligible u p H || appears p H) ≡ false → shown_on p (λ (s : Sighting). s.abstract) (view u H) ≡ []
   abstracts-none stranger hidden = none-shown (λ (s : Sighting). only (is_number s.paper p) (listed s.abstract)) each
@@ -85,11 +86,11 @@ module _ (u : Option ℕ) (p : ℕ) (H : History) (order : InTurn IsInOrder [] H
       may n = is_eligible u n H || appears n H
 
       each : Each (λ (s : Sighting). only (is_number s.paper p) (listed s.abstract))
-      each before later maker more (Submitted paper title abstract) right told =
+      each before later stamp more (Submitted paper title abstract) right told =
           unknown (eqb paper p) _ abstract (text-none may stranger hidden paper (λ n. is_replaced n later))
-      each before later maker more (Revised paper title abstract) right told =
-          unknown (eqb paper p) _ abstract (own-none may stranger hidden paper maker (λ n. is_replaced n later) right)
-      each before later maker more e right told = refl
+      each before later stamp more (Revised paper title abstract) right told =
+          unknown (eqb paper p) _ abstract (own-none may stranger hidden paper stamp.maker (λ n. is_replaced n later) right)
+      each before later stamp more e right told = refl
 
   pub uploads-none : is_author u p H ≡ false → (is_eligible u p H || appears p H) ≡ false → uploads_in_view p (view u H) ≡ []
   uploads-none stranger hidden = none-shown (upload_seen p) each
@@ -104,9 +105,9 @@ module _ (u : Option ℕ) (p : ℕ) (H : History) (order : InTurn IsInOrder [] H
       neither false false version content h = refl
 
       each : Each (upload_seen p)
-      each before later maker more (Uploaded paper version content) right told =
-          neither (eqb paper p) _ version content (own-none may stranger hidden paper maker (λ n. is_superseded n later) right)
-      each before later maker more e right told = refl
+      each before later stamp more (Uploaded paper version content) right told =
+          neither (eqb paper p) _ version content (own-none may stranger hidden paper stamp.maker (λ n. is_superseded n later) right)
+      each before later stamp more e right told = refl
 
   -- who is told of an author
   abbrev pub knows_authors : ℕ → Bool
@@ -119,10 +120,10 @@ module _ (u : Option ℕ) (p : ℕ) (H : History) (order : InTurn IsInOrder [] H
       known paper same = ap knows_authors (eqb-true paper p same) ∙ hidden
 
       each : Each (λ (s : Sighting). only (is_number s.paper p) (listed (writer_by s.kind s.by s.user)))
-      each before later maker more (Submitted paper title abstract) right told = unknown (eqb paper p) (knows_authors paper) maker (known paper)
-      each before later maker more (Coauthor paper user) right told =
+      each before later stamp more (Submitted paper title abstract) right told = unknown (eqb paper p) (knows_authors paper) stamp.maker (known paper)
+      each before later stamp more (Coauthor paper user) right told =
           untold (eqb paper p) _ user told
           (λ same. ap (λ b. b || is_author u paper H || oversees u paper H || (is_eligible u paper H && not (hides_authors (mode_of H))) || is_in_programme paper H)
-          (not-own H u paper maker right (ap (λ n. is_author u n H) (eqb-true paper p same) ∙ stranger))
+          (not-own H u paper stamp.maker right (ap (λ n. is_author u n H) (eqb-true paper p same) ∙ stranger))
           ∙ known paper same)
-      each before later maker more e right told = refl
+      each before later stamp more e right told = refl

@@ -1,5 +1,5 @@
 -- The line that tells how many entries there are, written in pieces.
-use Rattle.std.proofs.Common.{ℕ, List, [], ◌++◌, Result, Ok, Err}
+use Rattle.std.proofs.Common.{ℕ, [], ◌++◌, Result, Ok, Err}
 use Rattle.std.specs.Prelude.{codes, decimal, is_ok, true, false, OnOk, OnErr}
 use Rattle.std.specs.Result.{IsErr}
 use Rattle.cr_drill.specs.Drill.{entries_line}

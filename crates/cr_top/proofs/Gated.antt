@@ -16,7 +16,7 @@ use Rattle.cr_policy.specs.Legal.{Legal}
 use Rattle.cr_book.specs.Seen.{SeenBook}
 use Rattle.cr_book.specs.Sound.{IsKept}
 use Rattle.cr_session.specs.Replay.{Ledger, ledger_of}
-use Rattle.cr_workers.specs.Connections.{Streams, ServedConnection}
+use Rattle.cr_workers.specs.Connections.{Streams}
 use Rattle.cr_workers.specs.Doors.{SeenDoor, DoorWork, IsWorkedOn, HasFailedDoor, connections_of, door_of}
 use Rattle.cr_workers.specs.OneHistory.{ServesHistory}
 use Rattle.cr_workers.specs.declared.worked.Worked.{Worked}
@@ -24,7 +24,7 @@ use Rattle.cr_workers.specs.declared.worked.Worked.TheVariants as worked
 use Rattle.cr_top.specs.declared.exit.Exit.{Exit}
 use Rattle.cr_top.specs.declared.exit.Exit.TheVariants as exits
 use Rattle.cr_top.specs.Exits.{exit_of_workers}
-use Rattle.cr_top.specs.Serves.{GatesState, IsNew, AreDoorsTold, TellsEntries, ServesMany, ServesGates, StaysClosed, IsWhyClosed, lost_in}
+use Rattle.cr_top.specs.Serves.{GatesState, IsNew, AreDoorsTold, TellsEntries, ServesMany, ServesGates, StaysClosed, IsWhyClosed}
 use Rattle.cr_top.specs.Stores.{Files, ShelfState, OpensStore, IsWhyShut}
 use Rattle.cr_top.proofs.Doors.{all-of, are-told, back-works, counts-all, every-seen, failed-counts, map-seen, none-all, total-seen, total-sum}
 use Rattle.cr_top.proofs.Lost.{lost-count}

@@ -1,5 +1,5 @@
 -- No more wishes were lost than turns are marked, so no more than the keeper's count rose by, unless that ends at its last value.
-use Rattle.std.proofs.Common.{◌≡◌, ◌∙◌, ℕ, ◌+◌, ◌-◌, ◌^◌, ◌<◌, ◌≤◌, ◌⊎◌, inl, inr, ⊎_elim, List, [], ◌∷◌, ◌++◌, length, drop, Option, Some, None, ap}
+use Rattle.std.proofs.Common.{◌≡◌, ◌∙◌, ℕ, ◌+◌, ◌-◌, ◌^◌, ◌<◌, ◌≤◌, ◌⊎◌, inl, inr, ⊎_elim, List, [], ◌∷◌, ◌++◌, length, drop, ap}
 use Rattle.std.proofs.Common.{if◌then◌else◌, arith}
 use Rattle.cr_base.specs.declared.entry.Stamped.{Stamped}
 use Rattle.cr_base.specs.History.{History}
@@ -10,7 +10,7 @@ use Rattle.cr_lock.specs.Turns.{turn_at, marks}
 use Rattle.cr_lock.proofs.Sums.{total_append}
 use Rattle.cr_ports.specs.Count.{Gains}
 use Rattle.cr_session.specs.Passing.{KnownPass, TakesTurns}
-use Rattle.cr_session.specs.Replay.{JudgedWish, lost_count}
+use Rattle.cr_session.specs.Replay.{lost_count}
 use Rattle.cr_session.specs.Turning.{TurnsInVain}
 use Rattle.cr_session.proofs.Endings.{behind_judged}
 use Rattle.cr_session.proofs.Passes.{marked_losses, marks-snoc}

@@ -8,7 +8,9 @@ use Rattle.std.specs.Str.{bytes_eq}
 use Rattle.std.proofs.lemmas.Slice.Eq.{bytes_eq-Decides}
 use Rattle.cr_base.specs.declared.entry.Entry.{Entry}
 use Rattle.cr_base.specs.declared.entry.Entry.TheVariants.{Registered}
+use Rattle.cr_base.specs.declared.entry.Stamp.{Stamp}
 use Rattle.cr_base.specs.declared.row.Row.{Row}
+use Rattle.cr_base.specs.Drawn.{stamped}
 use Rattle.cr_base.specs.HistoryFacts.{number_of}
 use Rattle.cr_base.specs.Lists.{given, last}
 use Rattle.cr_base.specs.History.{History, all_told, number_told}
@@ -222,14 +224,14 @@ not-named : (name other : List ℕ) (user : ℕ) → length other ≤ 32 → 34 
 not-named name other user few long true is = absurd (let e = ap length ((bytes_eq-Decides other name).0 is) in omega (arith, few, long, e))
 not-named name other user few long false is = refl
 
-registers-another : (name : List ℕ) (maker : ℕ) (more : Bool) (e : Entry) → 34 < length name
-    → IsBoundedEntry (record { stamp = record { maker = maker }; more = more; entry = e }) → number_told name e ≡ []
-registers-another name maker more (Registered user other digest) long b = not-named name other user b.b1.few long (bytes_eq other name) refl
-registers-another name maker more e long b = refl
+registers-another : (name : List ℕ) (stamp : Stamp) (more : Bool) (e : Entry) → 34 < length name
+    → IsBoundedEntry (stamped stamp more e) → number_told name e ≡ []
+registers-another name stamp more (Registered user other digest) long b = not-named name other user b.b1.few long (bytes_eq other name) refl
+registers-another name stamp more e long b = refl
 
 none-named : (name : List ℕ) (H : History) → 34 < length name → AllByRecursion IsBoundedEntry H → all_told (number_told name) H ≡ []
 none-named name [] long bounded = refl
-none-named name (s ∷ H) long bounded = ap₂ (λ (xs ys : List ℕ). xs ++ ys) (registers-another name s.stamp.maker s.more s.entry long bounded.0)
+none-named name (s ∷ H) long bounded = ap₂ (λ (xs ys : List ℕ). xs ++ ys) (registers-another name s.stamp s.more s.entry long bounded.0)
     (none-named name H long bounded.1)
 
 -- nobody has registered a name of more bytes than any may have

@@ -1,7 +1,6 @@
 -- What a run does that serves many connections over a store.
 use Rattle.std.specs.Prelude.{◌≡◌, ◌≢◌, ◌≤◌, ◌⊎◌, ℕ, ◌+◌, List, [], ◌∷◌, ◌++◌, length, map, Bool, true, false}
 use Rattle.std.specs.Prelude.{Option, Some, IfSome}
-use Rattle.cr_base.specs.declared.entry.Stamped.{Stamped}
 use Rattle.cr_base.specs.declared.row.Row.{Row}
 use Rattle.cr_base.specs.History.{History}
 use Rattle.cr_base.specs.Lists.{listed}
@@ -14,7 +13,7 @@ use Rattle.cr_ports.specs.Shelving.{and_file}
 use Rattle.cr_ports.specs.Writing.{Outlet, Writes, BreaksOff}
 use Rattle.cr_ports.specs.declared.door.DoorAnswer.TheVariants as answers
 use Rattle.cr_policy.specs.Legal.{Legal}
-use Rattle.cr_session.specs.Replay.{Ledger, lost_count}
+use Rattle.cr_session.specs.Replay.{lost_count}
 use Rattle.cr_workers.specs.Connections.{Streams, ServedConnection, IsServedWithin}
 use Rattle.cr_workers.specs.Doors.{SeenDoor, DoorWork, NoneLacked, connections_of, ends_of}
 use Rattle.cr_workers.specs.OneHistory.{ServesHistory}

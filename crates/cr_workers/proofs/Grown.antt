@@ -1,5 +1,5 @@
 -- What a pass knows more behind turns, and behind a connection.
-use Rattle.std.proofs.Common.{◌≡◌, ◌∙◌, ℕ, List, [], ◌∷◌, ◌++◌, length, drop, Option, Some, None, ⊎_elim, refl, sym, ap, subst, append_assoc}
+use Rattle.std.proofs.Common.{◌≡◌, ◌∙◌, ℕ, List, [], ◌∷◌, ◌++◌, length, drop, Option, ⊎_elim, refl, sym, ap, subst, append_assoc}
 use mathlib.Core.List.{IsPrefix}
 use Rattle.cr_base.specs.Lists.{listed}
 use Rattle.cr_base.specs.declared.entry.Stamped.{Stamped}

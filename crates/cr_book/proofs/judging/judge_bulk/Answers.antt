@@ -8,8 +8,8 @@ use Rattle.cr_book.proofs.judging.judge_bulk.Goals as goal
 pub returns-clause-accepted : goal.returns-clause-accepted
 returns-clause-accepted c =
     let t = c.args.live.now.tables in
-    let user = c.args.caller in
+    let stamp = c.args.stamp.now in
     IfOk-weaker c.judge_rows.result _ _
-    (λ group is. bulk-accepted t user c.args.rows group.items c.in-Ok.field-0 (sym c.may_bulk.ensures ∙ c.in-Ok.is)
-    (subst (λ (rows : List BulkRow). rows_judged (tables_basis user) user t 1 rows ≡ Ok (entries_of group.items)) (c.deref.ensures.value ∙ c.into_parts-rows.ensures.rows) is))
+    (λ group is. bulk-accepted t stamp c.args.rows group.items c.in-Ok.field-0 (sym c.may_bulk.ensures ∙ c.in-Ok.is)
+    (subst (λ (rows : List BulkRow). rows_judged (tables_basis stamp.maker) stamp t 1 rows ≡ Ok (entries_of group.items)) (c.deref.ensures.value ∙ c.into_parts-rows.ensures.rows) is))
     c.judge_rows.ensures.accepted

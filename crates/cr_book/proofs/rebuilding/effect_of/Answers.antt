@@ -5,12 +5,10 @@ use Rattle.cr_book.proofs.rebuilding.effect_of.Goals as goal
 
 pub returns-in-Ok-clause-drawn : goal.returns-in-Ok-clause-drawn
 returns-in-Ok-clause-drawn c =
-    sym (told-judged c.args.live.now.tables c.args.authors c.args.first _ c.in_ok-command.command (Ok (drawn_by c.args.live.now.tables.accounts c.in-Ok.effect))
-    (sym c.caller_of-caller.ensures) (sym c.is_known.ensures ∙ c.if-not-is_known.false) (sym c.command_of.ensures ∙ c.in_ok-command.was)
-    (sym c.in-Ok.ensures.drawn))
+    sym (told-judged c.args.live.now.tables c.args.authors c.args.first c.in_ok-call.call (Ok (drawn_by c.args.live.now.tables.accounts c.in-Ok.effect))
+    (sym c.call_of.ensures ∙ c.in_ok-call.was) (sym c.is_known.ensures ∙ c.if-not-is_known.false) (sym c.in-Ok.ensures.drawn))
 
 pub returns-in-Err-clause-drawn : goal.returns-in-Err-clause-drawn
 returns-in-Err-clause-drawn c =
-    sym (told-judged c.args.live.now.tables c.args.authors c.args.first _ c.in_ok-command.command (Err c.in-Err.field-0)
-    (sym c.caller_of-caller.ensures) (sym c.is_known.ensures ∙ c.if-not-is_known.false) (sym c.command_of.ensures ∙ c.in_ok-command.was)
-    (sym c.in-Err.ensures.drawn))
+    sym (told-judged c.args.live.now.tables c.args.authors c.args.first c.in_ok-call.call (Err c.in-Err.field-0)
+    (sym c.call_of.ensures ∙ c.in_ok-call.was) (sym c.is_known.ensures ∙ c.if-not-is_known.false) (sym c.in-Err.ensures.drawn))

@@ -1,5 +1,4 @@
 use Rattle.std.proofs.Common.{refl}
-use Rattle.cr_http.specs.Buffer.{text_of}
 use Rattle.cr_http.specs.declared.fill_body.BodyFill.TheVariants as fills
 use Rattle.cr_http.proofs.Bodies.{fills_short, fills_whole}
 use Rattle.cr_http.proofs.fill_body.fill_block.Goals as goal

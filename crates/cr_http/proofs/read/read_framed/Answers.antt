@@ -1,4 +1,4 @@
-use Rattle.std.proofs.Common.{arith, refl, inr, None, Some}
+use Rattle.std.proofs.Common.{arith, refl, inr}
 use Rattle.cr_http.proofs.Answering.{reads_none}
 use Rattle.cr_http.proofs.HeadsRead.{to_head_framed}
 use Rattle.cr_http.proofs.Judging.{block_lies, body_cut, framed_moved, reads_body, request_kept}

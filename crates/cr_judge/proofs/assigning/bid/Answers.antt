@@ -1,6 +1,7 @@
 use Rattle.std.proofs.Common.{ℕ, Bool, Option, Ok, Err, ◌∙◌, ap, sym, refl}
 use Rattle.std.specs.Prelude.{unwrap_or}
 use Rattle.cr_base.specs.declared.entry.Entry.TheVariants as entries
+use Rattle.cr_base.specs.declared.entry.Stamp.{Stamp}
 use Rattle.cr_base.specs.declared.standing.Standing.{Standing}
 use Rattle.cr_base.specs.Checks.{NamedPaper, bid_checks}
 use Rattle.cr_base.specs.Drawn.{Drawn, bid_drawn}
@@ -16,18 +17,18 @@ held-paper-requires c =
 pub returns : goal.returns
 returns c =
     let t = c.args.live.now.tables in
-    let maker : ℕ = c.args.maker in
+    let stamp : Stamp = c.args.stamp.now in
     let named = c.named_paper-named.result in
-    one-entry t.accounts maker (entries.Bid c.held-paper.result c.args.value) c.alone.result _ c.alone.ensures
-    (ap (λ (o : Option ℕ). Ok (bid_drawn maker (unwrap_or o 0) c.args.value)) (sym c.held-paper.ensures)
-    ∙ paper-drawn t maker c.args.paper.now named c.named_paper-named.ensures bid_checks (λ (s : Standing) (w : Bool) (x : Drawn). refl)
-    (λ (p : ℕ). bid_drawn maker p c.args.value) (Ok tt) c.in_ok-judge_bid.ensures)
+    one-entry t.accounts stamp (entries.Bid c.held-paper.result c.args.value) c.alone.result _ c.alone.ensures
+    (ap (λ (o : Option ℕ). Ok (bid_drawn stamp (unwrap_or o 0) c.args.value)) (sym c.held-paper.ensures)
+    ∙ paper-drawn t stamp.maker c.args.paper.now named c.named_paper-named.ensures bid_checks (λ (s : Standing) (w : Bool) (x : Drawn). refl)
+    (λ (p : ℕ). bid_drawn stamp p c.args.value) (Ok tt) c.in_ok-judge_bid.ensures)
 
 pub returns-in_err-judge_bid : goal.returns-in_err-judge_bid
 returns-in_err-judge_bid c =
     let t = c.args.live.now.tables in
-    let maker : ℕ = c.args.maker in
+    let stamp : Stamp = c.args.stamp.now in
     let named = c.named_paper-named.result in
     passed-up t.accounts c.from_residual.result c.in_err-judge_bid.field-0.0 _ c.from_residual.ensures.1
-    (paper-drawn t maker c.args.paper.now named c.named_paper-named.ensures bid_checks (λ (s : Standing) (w : Bool) (x : Drawn). refl)
-    (λ (p : ℕ). bid_drawn maker p c.args.value) (Err c.in_err-judge_bid.field-0.0) c.in_err-judge_bid.ensures)
+    (paper-drawn t stamp.maker c.args.paper.now named c.named_paper-named.ensures bid_checks (λ (s : Standing) (w : Bool) (x : Drawn). refl)
+    (λ (p : ℕ). bid_drawn stamp p c.args.value) (Err c.in_err-judge_bid.field-0.0) c.in_err-judge_bid.ensures)

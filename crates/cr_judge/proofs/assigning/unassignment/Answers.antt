@@ -1,6 +1,7 @@
 use Rattle.std.proofs.Common.{ℕ, Bool, false, Option, Some, Ok, Err, ◌∙◌, ◌+◌, ap, sym, refl}
 use Rattle.std.specs.Prelude.{is_some, unwrap_or}
 use Rattle.std.proofs.lemmas.Bool.{true≢false}
+use Rattle.cr_base.specs.declared.entry.Stamp.{Stamp}
 use Rattle.cr_base.specs.declared.target.Target.{Target}
 use Rattle.cr_base.specs.declared.words.Role.{Role}
 use Rattle.cr_base.specs.Checks.{NamedPaper, unassign_checks}
@@ -38,30 +39,30 @@ returns c =
     let before = c.args.live.now.tables in
     let earlier = c.args.earlier.now in
     let t = tables_from before earlier in
-    let maker : ℕ = c.args.maker in
+    let stamp : Stamp = c.args.stamp.now in
     let named = c.named_paper-named.result in
     let seen = c.seat_table.result.now.seats in
     let user = user-behind before earlier c.requires.rows c.args.name.now c.user_of-user.result c.user_of-user.ensures in
-    ap (λ (o : Option ℕ). Ok (unassignment_drawn maker (unwrap_or o 0) c.held-user.result c.in_ok-ordinal.ordinal)) (sym c.held-paper.ensures)
-    ∙ ap (λ (o : Option ℕ). Ok (unassignment_drawn maker (unwrap_or named.paper 0) (unwrap_or o 0) c.in_ok-ordinal.ordinal)) (sym c.held-user.ensures)
-    ∙ unassignment-drawn t maker c.args.paper.now c.user_of-user.result named c.named_paper-named.ensures c.target_of.result
+    ap (λ (o : Option ℕ). Ok (unassignment_drawn stamp (unwrap_or o 0) c.held-user.result c.in_ok-ordinal.ordinal)) (sym c.held-paper.ensures)
+    ∙ ap (λ (o : Option ℕ). Ok (unassignment_drawn stamp (unwrap_or named.paper 0) (unwrap_or o 0) c.in_ok-ordinal.ordinal)) (sym c.held-user.ensures)
+    ∙ unassignment-drawn t stamp c.args.paper.now c.user_of-user.result named c.named_paper-named.ensures c.target_of.result
     (target-behind before earlier c.requires.rows c.user_of-user.result c.target_of.result c.target_of.ensures)
     (seats_from seen earlier) (seats-seen before earlier c.requires.rows seen c.seat_table.ensures) c.has_written.result c.has_written.ensures
     (Ok c.in_ok-ordinal.ordinal) c.in_ok-ordinal.ensures
-    ∙ ap (λ (u : Option ℕ). unassignment_at t maker c.args.paper.now u) user
+    ∙ ap (λ (u : Option ℕ). unassignment_at t stamp c.args.paper.now u) user
 
 pub returns-in_err-ordinal : goal.returns-in_err-ordinal
 returns-in_err-ordinal c =
     let before = c.args.live.now.tables in
     let earlier = c.args.earlier.now in
     let t = tables_from before earlier in
-    let maker : ℕ = c.args.maker in
+    let stamp : Stamp = c.args.stamp.now in
     let named = c.named_paper-named.result in
     let seen = c.seat_table.result.now.seats in
     let user = user-behind before earlier c.requires.rows c.args.name.now c.user_of-user.result c.user_of-user.ensures in
-    entry-passed-up before.accounts maker c.from_residual.result c.in_err-ordinal.field-0.0 _ c.from_residual.ensures.1
-    (unassignment-drawn t maker c.args.paper.now c.user_of-user.result named c.named_paper-named.ensures c.target_of.result
+    entry-passed-up before.accounts stamp c.from_residual.result c.in_err-ordinal.field-0.0 _ c.from_residual.ensures.1
+    (unassignment-drawn t stamp c.args.paper.now c.user_of-user.result named c.named_paper-named.ensures c.target_of.result
     (target-behind before earlier c.requires.rows c.user_of-user.result c.target_of.result c.target_of.ensures)
     (seats_from seen earlier) (seats-seen before earlier c.requires.rows seen c.seat_table.ensures) c.has_written.result c.has_written.ensures
     (Err c.in_err-ordinal.field-0.0) c.in_err-ordinal.ensures
-    ∙ ap (λ (u : Option ℕ). unassignment_at t maker c.args.paper.now u) user)
+    ∙ ap (λ (u : Option ℕ). unassignment_at t stamp c.args.paper.now u) user)

@@ -1,5 +1,6 @@
-use Rattle.std.proofs.Common.{ℕ, Ok, Err}
+use Rattle.std.proofs.Common.{Ok, Err}
 use Rattle.cr_base.specs.declared.entry.Entry.TheVariants as entries
+use Rattle.cr_base.specs.declared.entry.Stamp.{Stamp}
 use Rattle.cr_judge.proofs.JudgedLaws.{one-entry, passed-up}
 use Rattle.cr_judge.proofs.CommandLaws.{phase-drawn}
 use Rattle.cr_judge.proofs.commands.phase.Goals as goal
@@ -7,13 +8,13 @@ use Rattle.cr_judge.proofs.commands.phase.Goals as goal
 pub returns : goal.returns
 returns c =
     let t = c.args.live.now.tables in
-    let maker : ℕ = c.args.maker in
-    one-entry t.accounts maker (entries.PhaseSet c.args.to) c.alone.result _ c.alone.ensures
-    (phase-drawn t maker c.standing-by.result c.standing-by.ensures c.stage_table.result.now c.stage_table.ensures (Ok tt) c.args.to c.in_ok-judge_phase.ensures)
+    let stamp : Stamp = c.args.stamp.now in
+    one-entry t.accounts stamp (entries.PhaseSet c.args.to) c.alone.result _ c.alone.ensures
+    (phase-drawn t stamp c.standing-by.result c.standing-by.ensures c.stage_table.result.now c.stage_table.ensures (Ok tt) c.args.to c.in_ok-judge_phase.ensures)
 
 pub returns-in_err-judge_phase : goal.returns-in_err-judge_phase
 returns-in_err-judge_phase c =
     let t = c.args.live.now.tables in
     passed-up t.accounts c.from_residual.result c.in_err-judge_phase.field-0.0 _ c.from_residual.ensures.1
-    (phase-drawn t c.args.maker c.standing-by.result c.standing-by.ensures c.stage_table.result.now c.stage_table.ensures
+    (phase-drawn t c.args.stamp.now c.standing-by.result c.standing-by.ensures c.stage_table.result.now c.stage_table.ensures
     (Err c.in_err-judge_phase.field-0.0) c.args.to c.in_err-judge_phase.ensures)

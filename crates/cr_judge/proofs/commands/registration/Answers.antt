@@ -1,4 +1,3 @@
-use Rattle.std.proofs.Common.{Ok, Err}
 use Rattle.cr_judge.proofs.CommandLaws.{registration-drawn, registration-refused}
 use Rattle.cr_judge.proofs.JudgedLaws.{passed-up}
 use Rattle.cr_judge.proofs.commands.registration.Goals as goal

@@ -1,5 +1,6 @@
-use Rattle.std.proofs.Common.{ℕ, Bool, List, Option, Some, Ok, Err, ◌+◌, ◌∙◌, ap}
+use Rattle.std.proofs.Common.{ℕ, Bool, List, Option, Some, ◌+◌, ◌∙◌, ap}
 use Rattle.std.specs.Prelude.{not}
+use Rattle.cr_base.specs.declared.entry.Stamp.{Stamp}
 use Rattle.cr_base.specs.Checks.{judged, submit_checks}
 use Rattle.cr_base.specs.Papers.{own_count, paper_count}
 use Rattle.cr_judge.specs.Targets.{coauthors_of, users_at}
@@ -10,34 +11,34 @@ use Rattle.cr_judge.proofs.commands.submission.Goals as goal
 pub unwrap-requires : goal.unwrap-requires
 unwrap-requires c =
     let t = c.args.live.now.tables in
-    let maker : ℕ = c.args.maker in
+    let stamp : Stamp = c.args.stamp.now in
     let papers = c.paper_table.result.now.papers in
-    are-found t maker (users_at t.accounts c.args.authors.now) c.args.title c.args.abstract_ c.coauthors-users.result
-    (c.coauthors-users.ensures ∙ ap (λ (names : List (Option (List ℕ))). coauthors_of maker (users_at t.accounts names)) c.as_slice.ensures)
-    c.standing-by.result (paper_count papers) (own_count papers (Some maker)) _ c.in_ok-paper.paper
+    are-found t stamp (users_at t.accounts c.args.authors.now) c.args.title c.args.abstract_ c.coauthors-users.result
+    (c.coauthors-users.ensures ∙ ap (λ (names : List (Option (List ℕ))). coauthors_of stamp.maker (users_at t.accounts names)) c.as_slice.ensures)
+    c.standing-by.result (paper_count papers) (own_count papers (Some stamp.maker)) _ c.in_ok-paper.paper
     (c.in_ok-paper.ensures
-    ∙ ap (λ (b : Bool). judged (submit_checks (not b) c.standing-by.result (paper_count papers) (own_count papers (Some maker))) (paper_count papers + 1)) c.is_some.ensures)
+    ∙ ap (λ (b : Bool). judged (submit_checks (not b) c.standing-by.result (paper_count papers) (own_count papers (Some stamp.maker))) (paper_count papers + 1)) c.is_some.ensures)
 
 pub returns : goal.returns
 returns c =
     let t = c.args.live.now.tables in
-    let maker : ℕ = c.args.maker in
+    let stamp : Stamp = c.args.stamp.now in
     let papers = c.paper_table.result.now.papers in
-    submission-drawn t maker (users_at t.accounts c.args.authors.now) c.args.title c.args.abstract_ c.coauthors-users.result
-    (c.coauthors-users.ensures ∙ ap (λ (names : List (Option (List ℕ))). coauthors_of maker (users_at t.accounts names)) c.as_slice.ensures)
+    submission-drawn t stamp (users_at t.accounts c.args.authors.now) c.args.title c.args.abstract_ c.coauthors-users.result
+    (c.coauthors-users.ensures ∙ ap (λ (names : List (Option (List ℕ))). coauthors_of stamp.maker (users_at t.accounts names)) c.as_slice.ensures)
     c.standing-by.result c.standing-by.ensures papers c.paper_table.ensures c.in_ok-paper.paper
     (c.in_ok-paper.ensures
-    ∙ ap (λ (b : Bool). judged (submit_checks (not b) c.standing-by.result (paper_count papers) (own_count papers (Some maker))) (paper_count papers + 1)) c.is_some.ensures)
+    ∙ ap (λ (b : Bool). judged (submit_checks (not b) c.standing-by.result (paper_count papers) (own_count papers (Some stamp.maker))) (paper_count papers + 1)) c.is_some.ensures)
     c.unwrap.result c.unwrap.ensures
 
 pub returns-in_err-paper : goal.returns-in_err-paper
 returns-in_err-paper c =
     let t = c.args.live.now.tables in
-    let maker : ℕ = c.args.maker in
+    let stamp : Stamp = c.args.stamp.now in
     let papers = c.paper_table.result.now.papers in
     passed-up t.accounts c.from_residual.result c.in_err-paper.field-0.0 _ c.from_residual.ensures.1
-    (submission-refused t maker (users_at t.accounts c.args.authors.now) c.args.title c.args.abstract_ c.coauthors-users.result
-    (c.coauthors-users.ensures ∙ ap (λ (names : List (Option (List ℕ))). coauthors_of maker (users_at t.accounts names)) c.as_slice.ensures)
+    (submission-refused t stamp (users_at t.accounts c.args.authors.now) c.args.title c.args.abstract_ c.coauthors-users.result
+    (c.coauthors-users.ensures ∙ ap (λ (names : List (Option (List ℕ))). coauthors_of stamp.maker (users_at t.accounts names)) c.as_slice.ensures)
     c.standing-by.result c.standing-by.ensures papers c.paper_table.ensures c.in_err-paper.field-0.0
     (c.in_err-paper.ensures
-    ∙ ap (λ (b : Bool). judged (submit_checks (not b) c.standing-by.result (paper_count papers) (own_count papers (Some maker))) (paper_count papers + 1)) c.is_some.ensures))
+    ∙ ap (λ (b : Bool). judged (submit_checks (not b) c.standing-by.result (paper_count papers) (own_count papers (Some stamp.maker))) (paper_count papers + 1)) c.is_some.ensures))

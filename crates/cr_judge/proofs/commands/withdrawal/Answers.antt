@@ -1,6 +1,7 @@
-use Rattle.std.proofs.Common.{ℕ, Bool, Option, Some, Ok, Err, ◌∙◌, ◌+◌, ap, sym, refl}
+use Rattle.std.proofs.Common.{ℕ, Bool, Option, Ok, Err, ◌∙◌, ◌+◌, ap, sym, refl}
 use Rattle.std.specs.Prelude.{unwrap_or}
 use Rattle.cr_base.specs.declared.entry.Entry.TheVariants as entries
+use Rattle.cr_base.specs.declared.entry.Stamp.{Stamp}
 use Rattle.cr_judge.proofs.JudgedLaws.{one-entry, passed-up}
 use Rattle.cr_judge.proofs.CommandLaws.{revision-drawn}
 use Rattle.cr_base.specs.Checks.{NamedPaper, revise_checks}
@@ -16,16 +17,16 @@ held-paper-requires c =
 pub returns : goal.returns
 returns c =
     let t = c.args.live.now.tables in
-    let maker : ℕ = c.args.maker in
-    one-entry t.accounts maker (entries.Withdrawn c.held-paper.result) c.alone.result _ c.alone.ensures
-    (ap (λ (o : Option ℕ). Ok (withdrawal_drawn maker (unwrap_or o 0))) (sym c.held-paper.ensures)
-    ∙ revision-drawn t maker c.args.paper.now c.standing-by.result c.standing-by.ensures c.paper_table.result.now.papers c.paper_table.ensures
-    (λ (p : ℕ). withdrawal_drawn maker p) (Ok tt) c.in_ok-judge_withdraw.ensures)
+    let stamp : Stamp = c.args.stamp.now in
+    one-entry t.accounts stamp (entries.Withdrawn c.held-paper.result) c.alone.result _ c.alone.ensures
+    (ap (λ (o : Option ℕ). Ok (withdrawal_drawn stamp (unwrap_or o 0))) (sym c.held-paper.ensures)
+    ∙ revision-drawn t stamp c.args.paper.now c.standing-by.result c.standing-by.ensures c.paper_table.result.now.papers c.paper_table.ensures
+    (λ (p : ℕ). withdrawal_drawn stamp p) (Ok tt) c.in_ok-judge_withdraw.ensures)
 
 pub returns-in_err-judge_withdraw : goal.returns-in_err-judge_withdraw
 returns-in_err-judge_withdraw c =
     let t = c.args.live.now.tables in
-    let maker : ℕ = c.args.maker in
+    let stamp : Stamp = c.args.stamp.now in
     passed-up t.accounts c.from_residual.result c.in_err-judge_withdraw.field-0.0 _ c.from_residual.ensures.1
-    (revision-drawn t maker c.args.paper.now c.standing-by.result c.standing-by.ensures c.paper_table.result.now.papers c.paper_table.ensures
-    (λ (p : ℕ). withdrawal_drawn maker p) (Err c.in_err-judge_withdraw.field-0.0) c.in_err-judge_withdraw.ensures)
+    (revision-drawn t stamp c.args.paper.now c.standing-by.result c.standing-by.ensures c.paper_table.result.now.papers c.paper_table.ensures
+    (λ (p : ℕ). withdrawal_drawn stamp p) (Err c.in_err-judge_withdraw.field-0.0) c.in_err-judge_withdraw.ensures)

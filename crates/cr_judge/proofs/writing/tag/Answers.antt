@@ -1,5 +1,6 @@
-use Rattle.std.proofs.Common.{ℕ, Bool, Option, Some, Ok, Err, ◌∙◌, ap, sym, refl}
+use Rattle.std.proofs.Common.{ℕ, Bool, Option, Ok, Err, ◌∙◌, ap, sym, refl}
 use Rattle.std.specs.Prelude.{unwrap_or}
+use Rattle.cr_base.specs.declared.entry.Stamp.{Stamp}
 use Rattle.cr_base.specs.declared.standing.Standing.{Standing}
 use Rattle.cr_base.specs.Checks.{NamedPaper, tag_checks}
 use Rattle.cr_base.specs.Drawn.{Drawn, tag_drawn}
@@ -18,19 +19,19 @@ held-paper-requires c =
 pub returns : goal.returns
 returns c =
     let t = tables_from c.args.live.now.tables c.args.earlier.now in
-    let maker : ℕ = c.args.maker in
+    let stamp : Stamp = c.args.stamp.now in
     let named = c.named_paper-named.result in
-    ap (λ (o : Option ℕ). Ok (tag_drawn maker (unwrap_or o 0) c.args.tag c.args.on)) (sym c.held-paper.ensures)
-    ∙ paper-drawn t maker c.args.paper.now named c.named_paper-named.ensures
+    ap (λ (o : Option ℕ). Ok (tag_drawn stamp (unwrap_or o 0) c.args.tag c.args.on)) (sym c.held-paper.ensures)
+    ∙ paper-drawn t stamp.maker c.args.paper.now named c.named_paper-named.ensures
     (λ (s : Standing) (p : NamedPaper). tag_checks s p (is_for_chairs c.args.tag)) (λ (s : Standing) (w : Bool) (x : Drawn). refl)
-    (λ (p : ℕ). tag_drawn maker p c.args.tag c.args.on) (Ok tt) c.in_ok-judge_tag.ensures
+    (λ (p : ℕ). tag_drawn stamp p c.args.tag c.args.on) (Ok tt) c.in_ok-judge_tag.ensures
 
 pub returns-in_err-judge_tag : goal.returns-in_err-judge_tag
 returns-in_err-judge_tag c =
     let t = tables_from c.args.live.now.tables c.args.earlier.now in
-    let maker : ℕ = c.args.maker in
+    let stamp : Stamp = c.args.stamp.now in
     let named = c.named_paper-named.result in
-    entry-passed-up c.args.live.now.tables.accounts maker c.from_residual.result c.in_err-judge_tag.field-0.0 _ c.from_residual.ensures.1
-    (paper-drawn t maker c.args.paper.now named c.named_paper-named.ensures
+    entry-passed-up c.args.live.now.tables.accounts stamp c.from_residual.result c.in_err-judge_tag.field-0.0 _ c.from_residual.ensures.1
+    (paper-drawn t stamp.maker c.args.paper.now named c.named_paper-named.ensures
     (λ (s : Standing) (p : NamedPaper). tag_checks s p (is_for_chairs c.args.tag)) (λ (s : Standing) (w : Bool) (x : Drawn). refl)
-    (λ (p : ℕ). tag_drawn maker p c.args.tag c.args.on) (Err c.in_err-judge_tag.field-0.0) c.in_err-judge_tag.ensures)
+    (λ (p : ℕ). tag_drawn stamp p c.args.tag c.args.on) (Err c.in_err-judge_tag.field-0.0) c.in_err-judge_tag.ensures)

@@ -1,7 +1,6 @@
 use Rattle.std.proofs.Common.{◌∙◌, ℕ, ap, subst}
 use Rattle.std.specs.Prelude.{Bool, is_ok, map}
 use Rattle.cr_ports.specs.Writing.{outlet_of}
-use Rattle.cr_workers.specs.Connections.{streams_of}
 use Rattle.cr_workers.specs.Doors.{door_of}
 use Rattle.cr_top.specs.Exits.{exit_of_workers}
 use Rattle.cr_top.specs.Serves.{TellsEntries, gates_of}

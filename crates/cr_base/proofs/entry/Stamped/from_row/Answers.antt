@@ -1,9 +1,9 @@
 use Rattle.std.proofs.Common.{◌≡◌, ◌==◌, subst, sym, ◌∙◌, Some, IsTrue}
 use Rattle.cr_base.specs.Shapes.{FitsShape}
-use Rattle.cr_base.specs.Rows.{shape_of, stamped}
+use Rattle.cr_base.specs.Rows.{shape_of, restored}
 use Rattle.cr_base.specs.declared.entry.Stamped.{Stamped}
 use Rattle.cr_base.specs.declared.shape.Shape.{Shape}
-use Rattle.cr_base.proofs.RowLaws.{row_of-stamped, bounded-stamped, row_fits, only_one, stamped-parts, unspelled}
+use Rattle.cr_base.proofs.RowLaws.{row_of-restored, bounded-restored, row_fits, only_one, restored-parts}
 use Rattle.cr_base.proofs.entry.Stamped.from_row.Goals as goal
 
 pub returns-then-not-fits-clause-every : goal.returns-then-not-fits-clause-every
@@ -19,14 +19,14 @@ fits c = subst (λ (x : Shape). FitsShape x c.args.row.now) c.shape.ensures (c.f
 abbrev made : (c : goal.After-of_row) → Stamped
 made c = record { stamp = c.of_row.result; more = (c.args.row.now).more == 1; entry = c.in-Some-2.entry }
 
-spelled : (c : goal.After-of_row) → stamped c.in-Some.kind c.args.row.now ≡ Some (made c)
-spelled c = stamped-parts c.in-Some.kind c.args.row.now c.of_row.result c.in-Some-2.entry c.of_row.ensures (sym c.in-Some-2.is ∙ c.in_ok-entry.ensures)
+spelled : (c : goal.After-of_row) → restored c.in-Some.kind c.args.row.now ≡ Some (made c)
+spelled c = restored-parts c.in-Some.kind c.args.row.now c.of_row.result c.in-Some-2.entry c.of_row.ensures (sym c.in-Some-2.is ∙ c.in_ok-entry.ensures)
 
 pub returns-clause-spells : goal.returns-clause-spells
 returns-clause-spells c =
     let kind = c.in-Some.kind in
     let row = c.args.row.now in
-    (bounded-stamped kind row (made c) c.in-Some.ensures.some (fits c) (spelled c), row_of-stamped kind row (made c) c.in-Some.ensures.some (fits c) (spelled c))
+    (bounded-restored kind row (made c) c.in-Some.ensures.some (fits c) (spelled c), row_of-restored kind row (made c) c.in-Some.ensures.some (fits c) (spelled c))
 
 pub returns-clause-every : goal.returns-clause-every
 returns-clause-every c = λ s h e. sym (spelled c) ∙ only_one c.in-Some.kind c.args.row.now s c.in-Some.ensures.only h e

@@ -1,4 +1,4 @@
-use Rattle.std.proofs.Common.{◌≡◌, ◌∙◌, sym, [], append-nil, ◌+◌, ◌≤◌, ◌++◌, ap, arith, length, take, drop}
+use Rattle.std.proofs.Common.{◌≡◌, ◌∙◌, [], ◌+◌, ◌≤◌, ◌++◌, ap, arith, length, take, drop}
 use Rattle.std.proofs.lemmas.List.{with_items_is}
 use Rattle.cr_http.proofs.Blocks.{grown, not_grown}
 use Rattle.cr_http.proofs.Moving.{one_read}

@@ -6,7 +6,7 @@ use Rattle.cr_judge.proofs.effect.Effect.group.Given as goal
 
 abbrev pub invariant-loop-index : goal.invariant-loop-index
 invariant-loop-index l = record {
-  so : l.group.items ≡ take (l.index + 1) (grouped l.fn.self.stamp.maker (l.fn.self.first ∷ behind l.fn.self.rest));
+  so : l.group.items ≡ take (l.index + 1) (grouped l.fn.self.stamp (l.fn.self.first ∷ behind l.fn.self.rest));
   count : length l.group.items ≡ l.index + 1;
   room : l.others + 1 ≤ vec_capacity l.group;
 }
