@@ -113,8 +113,14 @@ class Rules:
             self.seen[u, id(H)] = self.call("View", "view", u, H)
         return self.seen[u, id(H)]
 
+    def called(self, u, command):
+        return applied(self.get("Calls", "call_of", "cr_base"), u, command)
+
+    def bulk(self, u, rows):
+        return applied(self.get("Calls", "bulk_by", "cr_base"), u, rows)
+
     def judge(self, u, H, command):
-        return self.call("Judge", "judge", u, self.view(u, H), command)
+        return self.call("Judge", "judge", self.view(u, H), self.called(u, command))
 
     def accepts(self, u, H, command):
         wanted = applied(self.get("Logins", "command_wants_login", "cr_base"), command)
@@ -126,7 +132,7 @@ class Rules:
         return self.call("Judge", "answer", u, self.view(u, H), query)[0] != "Refused"
 
     def accepts_bulk(self, u, H, rows):
-        return self.call("Judge", "judge_bulk", u, self.view(some(u), H), rows)
+        return self.call("Judge", "judge_bulk", self.view(some(u), H), self.bulk(u, rows))
 
     def behind(self, H, steps):
         """The history behind these commands, and those that are refused."""
@@ -182,7 +188,7 @@ class Laws:
                 if self.rules.answers(u, H, query) != self.rules.call("MayRead", "may_read", u, H, query):
                     self.note("reading", (name, u, query))
             for rows in asked.BULKS if "bulks" in self.asks and not alone and u != NONE else []:
-                if (self.rules.accepts_bulk(u[1], H, rows)[0] == "Ok") != self.rules.call("MayBulk", "may_bulk", u[1], H, rows):
+                if (self.rules.accepts_bulk(u[1], H, rows)[0] == "Ok") != self.rules.call("MayBulk", "may_bulk", H, self.rules.bulk(u[1], rows)):
                     self.note("bulks", (name, u, rows))
         if not alone and name not in ("closed",):
             if not any(self.rules.judge(some(1), H, ("SetPhase", (phase,)))[0] == "Ok" for phase in asked.PHASES):
@@ -197,9 +203,9 @@ class Laws:
         if verdict[0] != "Ok":
             return
         drawn, said = verdict[1], lambda word: self.rules.call("Added", word, u, H, command)
-        entries = said("added")
-        told = (tuple(e["entry"] for e in drawn["group"]), {e["stamp"]["maker"] for e in drawn["group"]}, tuple(e["more"] for e in drawn["group"]), (drawn["receipt"],))
-        if told != (tuple(entries), {said("made_by")}, tuple(self.rules.call("Added", "marks", entries)), tuple(said("answered"))):
+        entries, stamp = said("added"), self.rules.call("Added", "stamp_added", H, self.rules.called(u, command))
+        group = [{"stamp": stamp, "more": more, "entry": e} for e, more in zip(entries, self.rules.call("Added", "marks", entries))]
+        if (list(drawn["group"]), (drawn["receipt"],)) != (group, tuple(said("answered"))):
             self.note("adds", (name, u, command))
         before = tuple(H)
         for e in drawn["group"]:
