@@ -55,8 +55,12 @@ def stats():
 
 
 def label(pid, inherited):
-    """The crate and the part that a process works for: by its words, else its parent's."""
-    words = [word.decode(errors="replace") for word in read(f"/proc/{pid}/cmdline").split(b"\0")]
+    """The crate and the part that a process works for: by its words, else its parent's; None where it is about to end, since
+    its words are gone then."""
+    line = read(f"/proc/{pid}/cmdline")
+    if not line:
+        return None
+    words = [word.decode(errors="replace") for word in line.split(b"\0")]
     try:
         folder = os.readlink(f"/proc/{pid}/cwd")
     except OSError:
@@ -92,7 +96,7 @@ def look(joined, seen):
         key, _, own, ended = found[pid]
         process = seen.setdefault(key, Process())
         process.parent = process.parent or parent
-        process.label = label(pid, inherited)
+        process.label = label(pid, inherited) or process.label or inherited
         process.own, process.ended = own, ended
         waiting += [(child, key, process.label) for child in below.get(pid, [])]
     return {found[pid][0] for pid in found}
