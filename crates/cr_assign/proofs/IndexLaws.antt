@@ -1,7 +1,10 @@
--- The table with one seat more, and with one left: its list, and who reviews what, by user.
-use Rattle.std.proofs.Common.{ℕ, Bool, true, false, cond, ◌≡◌, ◌≤◌, ◌<◌, ◌+◌, ◌-◌, List, length, get_or, set, insert, eqb, refl, sym, ap, subst, ◌∙◌, ◌&&◌, arith, Option, Some, None}
+-- The table with one seat more, and with one left: who reviews what, by user, and where the seat stands.
+use Rattle.std.proofs.Common.{ℕ, Bool, true, false, cond, ◌≡◌, ◌≤◌, ◌<◌, ◌-◌, List, length, get_or, eqb, refl, sym, ap, subst, ◌∙◌, ◌&&◌, arith, Option, Some, None}
+use Rattle.std.proofs.lemmas.Bool.{eqb-true}
+use Rattle.std.proofs.lemmas.List.Elements.{filter_passes}
 use Rattle.cr_base.specs.declared.entry.Entry.{Entry}
 use Rattle.cr_base.specs.declared.entry.Entry.TheVariants.{Assigned, Unassigned}
+use Rattle.cr_base.specs.declared.filed.Filed.{Filed}
 use Rattle.cr_base.specs.declared.pairs.Order.{Order}
 use Rattle.cr_base.specs.declared.pairs.Order.TheVariants.{ByPaper}
 use Rattle.cr_base.specs.declared.pairs.Pair.{Pair}
@@ -9,17 +12,19 @@ use Rattle.cr_base.specs.declared.pairs.Tie.{Tie}
 use Rattle.cr_base.specs.declared.seat.Seat.{Seat}
 use Rattle.cr_base.specs.declared.words.Kind.{Kind}
 use Rattle.cr_base.specs.History.{ordinal_told}
+use Rattle.cr_base.specs.Filed.{filed_of}
 use Rattle.cr_base.specs.Lists.{given, last_or}
-use Rattle.cr_base.specs.Pairs.{with_tie, without_pair, tie_value}
-use Rattle.cr_base.specs.Seats.{SeatsState, SeatsInOrder, SeatsFit, seat_tie, with_seat, vacated, without_seat, seats_after, labels_in, ordinal_in}
+use Rattle.cr_base.specs.Pairs.{with_tie, without_pair, tie_value, ties_of}
+use Rattle.cr_base.specs.Seats.{SeatsState, SeatsInOrder, SeatsFit, vacated, without_seat, seats_after, labels_in, ordinal_in}
 use Rattle.cr_base.specs.Ties.{pair_of}
 use Rattle.cr_base.proofs.ListLaws.{turned}
 use Rattle.cr_base.proofs.PairLaws.{tie_value-with_tie, tie_value-without_pair}
 use Rattle.cr_base.proofs.SeatLaws.{seats-in_order-after, ordinal_in-after, ordinal_in-drawn, labels_in-few}
-use Rattle.cr_pairs.specs.BinarySearch.{RisesBy}
+use Rattle.cr_kept.specs.Drawers.{with_changed}
+use Rattle.cr_kept.specs.Own.{values_in, AreOwn}
+use Rattle.cr_kept.proofs.OwnLaws.{own-of}
 use Rattle.cr_assign.specs.Index.{SeatsIndexed}
-use Rattle.cr_assign.specs.Partition.{IsFrom}
-use Rattle.cr_assign.proofs.PartitionLaws.{with_seat-at, rises-with_seat, left-index, rises-without_seat}
+use Rattle.cr_assign.proofs.LeftLaws.{paper_of, changed-left}
 
 -- a paper, a user and the ordinal under which she reviews it
 abbrev pub reviewing_tie : ℕ → ℕ → ℕ → Tie ℕ
@@ -28,10 +33,9 @@ reviewing_tie paper user ordinal = record { pair = pair_of paper user; value = o
 module _ (seats : SeatsState) (users : Order) (reviewing : List (Tie ℕ)) (is_index : SeatsIndexed seats users reviewing) where
   -- after an entry that fits, where the index has what it tells
   indexed-after : (e : Entry) (seats' : SeatsState) (users' : Order) (reviewing' : List (Tie ℕ)) → SeatsFit seats e
-      → seats' ≡ seats_after seats e → RisesBy ByPaper seats' → users' ≡ users
+      → seats' ≡ seats_after seats e → users' ≡ users
       → ((q : Pair) → tie_value q reviewing' ≡ last_or (tie_value q reviewing) (ordinal_told (Some q.user) q.paper e)) → SeatsIndexed seats' users' reviewing'
-  indexed-after e seats' users' reviewing' fits is rises users_same told = record {
-    rises = rises;
+  indexed-after e seats' users' reviewing' fits is users_same told = record {
     in_order = subst SeatsInOrder (sym is) (seats-in_order-after seats e fits is_index.in_order);
     few = λ p. subst (λ (ts : SeatsState). labels_in ts p ≤ 26) (sym is) (labels_in-few seats e p fits (is_index.few p));
     by_user = users_same ∙ is_index.by_user;
@@ -47,10 +51,10 @@ module _ (seats : SeatsState) (users : Order) (reviewing : List (Tie ℕ)) (is_i
   told-last false before now = refl
 
   pub indexed-assigned : (paper user : ℕ) (kind : Kind) (ordinal : ℕ) (seats' : SeatsState) (users' : Order) (reviewing' : List (Tie ℕ))
-      → SeatsFit seats (Assigned paper user kind ordinal) → seats' ≡ seats_after seats (Assigned paper user kind ordinal) → RisesBy ByPaper seats'
+      → SeatsFit seats (Assigned paper user kind ordinal) → seats' ≡ seats_after seats (Assigned paper user kind ordinal)
       → users' ≡ users → reviewing' ≡ with_tie users (reviewing_tie paper user ordinal) reviewing → SeatsIndexed seats' users' reviewing'
-  indexed-assigned paper user kind ordinal seats' users' reviewing' fits is rises users_same put =
-      indexed-after (Assigned paper user kind ordinal) seats' users' reviewing' fits is rises users_same
+  indexed-assigned paper user kind ordinal seats' users' reviewing' fits is users_same put =
+      indexed-after (Assigned paper user kind ordinal) seats' users' reviewing' fits is users_same
       (λ q.
       ap (tie_value q) put
       ∙ tie_value-with_tie q users (reviewing_tie paper user ordinal) reviewing
@@ -58,40 +62,45 @@ module _ (seats : SeatsState) (users : Order) (reviewing : List (Tie ℕ)) (is_i
       ∙ told-last (eqb paper q.paper && eqb q.user user) (tie_value q reviewing) (Some ordinal))
 
   pub indexed-unassigned : (paper user ordinal : ℕ) (seats' : SeatsState) (users' : Order) (reviewing' : List (Tie ℕ))
-      → SeatsFit seats (Unassigned paper user ordinal) → seats' ≡ seats_after seats (Unassigned paper user ordinal) → RisesBy ByPaper seats'
+      → SeatsFit seats (Unassigned paper user ordinal) → seats' ≡ seats_after seats (Unassigned paper user ordinal)
       → users' ≡ users → reviewing' ≡ without_pair (pair_of paper user) reviewing → SeatsIndexed seats' users' reviewing'
-  indexed-unassigned paper user ordinal seats' users' reviewing' fits is rises users_same taken =
-      indexed-after (Unassigned paper user ordinal) seats' users' reviewing' fits is rises users_same
+  indexed-unassigned paper user ordinal seats' users' reviewing' fits is users_same taken =
+      indexed-after (Unassigned paper user ordinal) seats' users' reviewing' fits is users_same
       (λ q.
       ap (tie_value q) taken
       ∙ tie_value-without_pair q (pair_of paper user) reviewing
       ∙ ap (λ b. cond (b && eqb q.user user) None (tie_value q reviewing)) (turned q.paper paper)
       ∙ told-last (eqb paper q.paper && eqb q.user user) (tie_value q reviewing) None)
 
-  -- ---- where the code puts a seat in, and marks one
+-- ---- where the code marks a seat as left
 
-  pub put-in : (paper user : ℕ) (kind : Kind) (ordinal : ℕ) (read : SeatsState) (number index : ℕ) (s : Tie Seat) (seats' : SeatsState)
-      → read ≡ seats → number ≡ paper + 1 → index ≤ length read → IsFrom number read index
-      → s ≡ seat_tie paper user kind ordinal → seats' ≡ insert seats index s
-      → (seats' ≡ with_seat (seat_tie paper user kind ordinal) seats) × RisesBy ByPaper seats'
-  put-in paper user kind ordinal read number index s seats' same above within next made is =
-      let t : Tie Seat = seat_tie paper user kind ordinal in
-      let is' : seats' ≡ insert seats index t = is ∙ ap (λ (x : Tie Seat). insert seats index x) made in
-      let within' : index ≤ length seats = subst (λ (ts : SeatsState). index ≤ length ts) same within in
-      let next' : IsFrom (paper + 1) seats index = subst (λ (n : ℕ). IsFrom n seats index) above (subst (λ (ts : SeatsState). IsFrom number ts index) same next) in (
-        is' ∙ with_seat-at t seats index within' next',
-        subst (λ (ts : SeatsState). RisesBy ByPaper ts) (sym is') (rises-with_seat t seats index within' next' is_index.rises),
-      )
+module _ (files : List (Filed (Tie Seat))) (users : Order) (reviewing : List (Tie ℕ)) (is_index : SeatsIndexed (values_in files) users reviewing)
+    (own : AreOwn paper_of files) (paper user ordinal index : ℕ) (fits : SeatsFit (values_in files) (Unassigned paper user ordinal)) (at : index ≡ ordinal - 1) where
+  abbrev pub seats : SeatsState
+  seats = values_in files
 
-  pub marked-at : (paper user ordinal : ℕ) (read : SeatsState) (from start number index : ℕ) → SeatsFit seats (Unassigned paper user ordinal)
-      → read ≡ seats → from ≡ paper → start ≤ length read → IsFrom from read start → number ≡ ordinal → index ≡ start + number - 1
-      → (index < length seats) × ((d : Tie Seat) → set seats index (vacated (get_or seats index d)) ≡ without_seat paper ordinal seats)
-  marked-at paper user ordinal read from start number index fits same here within begins is at =
-      let drawn = ordinal_in-drawn seats is_index.in_order (Some user) paper ordinal fits in
-      let low = drawn.0 in
-      left-index paper ordinal start index seats is_index.rises
-      (subst (λ (ts : SeatsState). start ≤ length ts) same within) (subst (λ (n : ℕ). IsFrom n seats start) here (subst (λ (ts : SeatsState). IsFrom from ts start) same begins))
-      (is_index.in_order.numbered paper) low drawn.1 (omega (arith, low, is, at))
+  drawn : (1 ≤ ordinal) × (ordinal ≤ labels_in seats paper)
+  drawn = ordinal_in-drawn seats is_index.in_order (Some user) paper ordinal fits
 
-  pub rises-marked : (paper ordinal : ℕ) (seats' : SeatsState) → seats' ≡ without_seat paper ordinal seats → RisesBy ByPaper seats'
-  rises-marked paper ordinal seats' is = subst (λ (ts : SeatsState). RisesBy ByPaper ts) (sym is) (rises-without_seat paper ordinal seats is_index.rises)
+  low : 1 ≤ ordinal
+  low = drawn.0
+
+  -- it stands among the paper's by its ordinal
+  held : index < length (ties_of ByPaper paper seats)
+  held = let high = drawn.1 in omega (arith, low, high, at)
+
+  pub is-held : index < length (filed_of paper files)
+  is-held = subst (λ (ts : SeatsState). index < length ts) (sym (own-of paper_of paper files own)) held
+
+  pub marked : (read : SeatsState) (s d : Tie Seat) → read ≡ filed_of paper files → s ≡ vacated (get_or read index d)
+      → values_in (with_changed paper index s files) ≡ without_seat paper ordinal seats
+  marked read s d same is =
+      changed-left paper ordinal 1 index s d files own (is_index.in_order.numbered paper) (omega (arith, low, at)) held
+      (is ∙ ap (λ (ts : SeatsState). vacated (get_or ts index d)) (same ∙ own-of paper_of paper files own))
+
+  pub its-paper : (read : SeatsState) (s d : Tie Seat) → read ≡ filed_of paper files → s ≡ vacated (get_or read index d) → paper ≡ paper_of s
+  its-paper read s d same is =
+      let found = get_or (ties_of ByPaper paper seats) index d in
+      eqb-true paper found.pair.paper (filter_passes (λ (t : Tie Seat). eqb paper t.pair.paper) seats index d held)
+      ∙ ap (λ (ts : SeatsState). (get_or ts index d).pair.paper) (sym (same ∙ own-of paper_of paper files own))
+      ∙ sym (ap (λ (t : Tie Seat). t.pair.paper) is)

@@ -1,4 +1,4 @@
 pub mod EarlierLaws
 pub mod IndexLaws
-pub mod PartitionLaws
+pub mod LeftLaws
 pub mod ReviewedLaws

@@ -1,4 +1,4 @@
 pub mod Index
-pub mod Partition
+pub mod Room
 pub mod Seen
 pub mod Targets

@@ -1,8 +1,8 @@
 -- What contracts see of the table of seats.
-use Rattle.std.specs.Prelude.{ℕ}
 use Rattle.cr_base.specs.Seats.{SeatsState}
+use Rattle.cr_assign.specs.Room.{SeatsRooms}
 
--- the seats, and for how many more entries there is room
+-- the seats, and for how many more there is room
 pub record SeenSeats : Type 0 where
   pub seats : SeatsState
-  pub room : ℕ
+  pub rooms : SeatsRooms

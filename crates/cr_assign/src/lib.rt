@@ -4,7 +4,7 @@
 
 mod earlier;
 mod judging;
-mod partition;
 mod seats;
+mod told;
 
 pub use seats::Seats;

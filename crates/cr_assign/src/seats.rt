@@ -1,50 +1,59 @@
 //! The seats of papers, and who reviews which.
-ghost use Rattle.std.specs.Prelude.{false, ◌≡◌, ◌==◌, ◌≤◌, ◌<◌, ◌+◌, OnOk, Some, length, map, is_some};
+ghost use Rattle.std.specs.Prelude.{false, ◌≡◌, ◌==◌, ◌≤◌, ◌<◌, ◌+◌, OnOk, Some, ◌∷◌, []};
+ghost use Rattle.std.specs.Prelude.{length, map, is_some, slice_index};
 ghost use Rattle.std.specs.List.{All, list_any};
 ghost use Rattle.cr_base.specs.declared.pairs.Order.TheVariants.{ByPaper};
 ghost use Rattle.cr_base.specs.declared.entry.Entry.TheVariants.{Assigned, Unassigned};
 ghost use Rattle.cr_base.specs.Checks.{judged, assign_checks, unassign_checks};
 ghost use Rattle.cr_base.specs.Lists.{IsRising};
 ghost use Rattle.cr_base.specs.Pairs.{ties_of};
-ghost use Rattle.cr_base.specs.Seats.{no_seats, seat_tie, with_seat, without_seat, seats_after};
+ghost use Rattle.cr_base.specs.History.{History};
+ghost use Rattle.cr_base.specs.Seats.{no_seats, seat_tie, with_seat, vacated, without_seat, seats_after};
 ghost use Rattle.cr_base.specs.Seats.{seats_from, labels_in, ordinal_in, SeatsFit, SeatsFitInTurn};
+ghost use Rattle.cr_rooms.specs.Rooms.{IsNoLess, IsOneLess};
+ghost use Rattle.cr_assign.specs.Room.{SeatsHaveRoom};
 ghost use Rattle.cr_assign.specs.Targets.{target_of, held_at, labels_at};
 
 use crate::earlier::{labels_given, seat_behind};
 use crate::judging;
-use crate::partition::index_from;
+use crate::told::assigned_pairs;
 use cr_base::{
     Entry, Kind, Order, Ordinal, Pair, PaperNo, Role, Rule, Seat, Stamped, Standing, Target, Tie,
     UserNo,
 };
-use cr_pairs::{PairMap, run_of};
+use cr_kept::Files;
+use cr_pairs::{PairRows, papers_of};
 use std::alloc::{AllocError, Global};
 use std::marker::Model;
 
 /// Who is assigned to which paper, under which label, and who has left it.
 ///
-/// Contracts see the seats paper by paper, those of a paper by label, and for how many more entries there
-/// is room. Who reviews what is found by user too; that this agrees is true of every table, and so is that
-/// the labels of a paper are numbered from 1 and are at most 26.
+/// Contracts see the seats paper by paper, those of a paper by label, and for how many more of each paper and
+/// of each user there is room. Who reviews what is found by user too; that this agrees is true of every table,
+/// and so is that the labels of a paper are numbered from 1 and are at most 26.
 #[derive(Drop)]
 pub struct Seats {
-    // Paper by paper, those of a paper in the order in which they were given; also those that somebody left.
-    seats: Vec<Tie<Seat>>,
+    alloc: Global,
+    // By paper, in the order in which they were given; also those that somebody left.
+    seats: Files<Tie<Seat>>,
     // Papers and users of the seats that nobody has left, with their ordinals, by user.
-    reviewing: PairMap<Ordinal>,
+    reviewing: PairRows<Ordinal>,
 }
 
 impl Model for Seats {
-    ghost use Rattle.std.specs.Prelude.{◌-◌, min, vec_len, vec_capacity};
+    ghost use Rattle.cr_kept.specs.Own.{values_in, AreOwn};
     ghost use Rattle.cr_assign.specs.Index.{SeatsIndexed};
     ghost use Rattle.cr_assign.specs.Seen.{SeenSeats};
 
     ghost Value = { SeenSeats };
 
-    ghost view = { λ t.
-        record { seats = t.seats.items; room = min (vec_capacity t.seats - vec_len t.seats) t.reviewing.room } };
+    ghost view = { λ t. record {
+      seats = values_in t.seats.files;
+      rooms = record { seats = t.seats.rooms; reviewing = t.reviewing.rooms };
+    } };
 
-    ghost invariant = { λ t. SeatsIndexed t.seats.items t.reviewing.order t.reviewing.ties };
+    ghost invariant = { λ t. SeatsIndexed (values_in t.seats.files) t.reviewing.order t.reviewing.ties
+        × AreOwn (λ seat. seat.pair.paper) t.seats.files };
 }
 
 /// A user who takes a seat at a paper.
@@ -61,6 +70,20 @@ fn taken(paper: PaperNo, user: UserNo, kind: Kind, ordinal: Ordinal) -> Tie<Seat
     }
 }
 
+/// A seat that its user has left.
+fn left(seat: &Tie<Seat>) -> Tie<Seat>
+    ensures { result ≡ vacated seat.now }
+{
+    Tie {
+        pair: seat.pair,
+        value: Seat {
+            kind: seat.value.kind,
+            ordinal: seat.value.ordinal,
+            vacated: true,
+        },
+    }
+}
+
 /// What is read.
 impl Seats {
     /// No assignments; takes no memory.
@@ -68,37 +91,39 @@ impl Seats {
         ensures { result.seats ≡ no_seats }
     {
         Seats {
-            seats: Vec::new(alloc),
-            reviewing: PairMap::new(alloc, Order::ByUser),
+            alloc,
+            seats: Files::new(alloc),
+            reviewing: PairRows::new(alloc, Order::ByUser),
         }
     }
 
     /// The seats of the paper, by label, at most 26; those that somebody has left are marked. None where
-    /// there is no such paper. Two binary searches; takes no memory.
+    /// there is no such paper. One read by number; takes no memory.
     pub fn seats(&self, paper: PaperNo) -> &[Tie<Seat>]
         ensures ties { result.now ≡ ties_of ByPaper paper self.now.seats }
         ensures few { length result.now ≤ 26 }
     {
-        run_of(&self.seats, Order::ByPaper, paper.number())
+        self.seats.of_paper(paper)
     }
 
     /// The ordinal of the label under which the user reviews the paper, and none where she doesn't. One
-    /// binary search.
+    /// read by number, and a binary search among the papers that she reviews.
     pub fn ordinal_of(&self, user: UserNo, paper: PaperNo) -> Option<Ordinal>
         ensures { result ≡ ordinal_in self.now.seats (Some user) paper }
     {
         self.reviewing.value(&Pair { paper, user })
     }
 
-    /// Whether the user reviews the paper. One binary search.
+    /// Whether the user reviews the paper. One read by number, and a binary search among the papers that she
+    /// reviews.
     pub fn is_reviewer(&self, user: UserNo, paper: PaperNo) -> bool
         ensures { result ≡ is_some (ordinal_in self.now.seats (Some user) paper) }
     {
         self.ordinal_of(user, paper).is_some()
     }
 
-    /// How many labels the paper's reviewers were given, those who have left among them: 0 to 26. Two
-    /// binary searches.
+    /// How many labels the paper's reviewers were given, those who have left among them: 0 to 26. One
+    /// read by number.
     pub fn labels_drawn(&self, paper: PaperNo) -> u64
         ensures value { result ≡ labels_in self.now.seats paper }
         ensures few { result ≤ 26 }
@@ -107,18 +132,19 @@ impl Seats {
     }
 
     /// The papers that the user reviews, in the order of their numbers, with the ordinals of her labels.
-    /// Two binary searches; takes no memory.
+    /// One read by number; takes no memory.
     pub fn reviewed(&self, user: UserNo) -> &[Tie<Ordinal>]
         ensures papers { (p : _) → list_any (λ m. p == m) (map (λ t. t.pair.paper) result.now)
             ≡ is_some (ordinal_in self.now.seats (Some user) p) }
         ensures rising { IsRising (map (λ t. t.pair.paper) result.now) }
         ensures ordinals { All (λ t. ordinal_in self.now.seats (Some user) t.pair.paper ≡ Some t.value) result.now }
     {
-        self.reviewing.of_user(user)
+        self.reviewing.of(user.number())
     }
 
     /// The ordinal under which the user reviews the paper behind earlier entries of the same command. One
-    /// binary search, and a walk over the entries, of which there are none but in a command of many parts.
+    /// read by number, a binary search, and a walk over the entries, of which there are none but in a command
+    /// of many parts.
     pub fn ordinal_behind(
         &self,
         user: UserNo,
@@ -132,8 +158,8 @@ impl Seats {
         seat_behind(held, earlier, user, paper)
     }
 
-    /// How many labels the paper's reviewers were given, behind earlier entries of the same command. Two
-    /// binary searches, and a walk over the entries.
+    /// How many labels the paper's reviewers were given, behind earlier entries of the same command. One
+    /// read by number, and a walk over the entries.
     fn labels_behind(&self, paper: PaperNo, earlier: &[Stamped]) -> u64
         ensures { result ≡ labels_in (seats_from self.now.seats earlier.now) paper }
     {
@@ -144,7 +170,7 @@ impl Seats {
     /// gets; or the first broken rule. All of it behind earlier entries of the same command, each of which
     /// fits in its turn. `by` is the caller's standing at the paper; `paper` is none where there is no such
     /// paper, `target` none where there is no such user. Whether the paper is withdrawn, and whether the
-    /// user is in conflict with it, stands in none of the seats. Three binary searches at most, and two
+    /// user is in conflict with it, stands in none of the seats. Two reads by number, a binary search and two
     /// walks over the earlier entries, of which there are none but in a command of many parts.
     ///
     /// In this order: `NoPaper`, `NoUser`, `NotChair`, `Conflict` where the caller is in conflict with the
@@ -186,8 +212,8 @@ impl Seats {
 
     /// Whether the caller may take this user off this paper, and then the ordinal under which she reviews
     /// it; or the first broken rule. The parameters are those of `judge_assign`, and `has_form`, whether a
-    /// form is written under the user's label, which stands in none of the seats either. It costs one binary
-    /// search and one walk.
+    /// form is written under the user's label, which stands in none of the seats either. It costs one read by
+    /// number, a binary search and one walk.
     ///
     /// In this order: `NoPaper`, `NoUser`, `NotChair`, `Conflict`, `WrongPhase`, `Withdrawn`,
     /// `NotAssigned`, `HasReview` where a form is written.
@@ -221,28 +247,28 @@ impl Seats {
 /// What entries make of it.
 impl Seats {
     /// Takes the memory that the entries of one command need; an error only for lack of memory, and the
-    /// seats are the same either way.
+    /// seats are the same either way. Each assignment is compared with those before it.
     pub fn room(&mut self, group: &[Stamped]) -> Result<(), AllocError>
-        ensures ok { OnOk result (length group.now ≤ self.new.room) }
+        ensures ok { OnOk result (SeatsHaveRoom group.now self.new.rooms) }
         ensures same { self.new.seats ≡ self.old.seats }
-        ensures keeps { self.old.room ≤ self.new.room }
+        ensures keeps { (any : History) → SeatsHaveRoom any self.old.rooms → SeatsHaveRoom any self.new.rooms }
     {
-        self.seats.reserve(group.len())?;
-        self.reviewing.room(group.len())
+        let pairs = assigned_pairs(self.alloc, group)?;
+        let papers = papers_of(self.alloc, &pairs)?;
+        self.seats.room(&papers)?;
+        self.reviewing.room(&pairs)
     }
 
     /// One more seat, under the paper's next label, of a user who has none there; takes no memory.
     fn add(&mut self, paper: PaperNo, user: UserNo, kind: Kind, ordinal: Ordinal)
-        requires room { 0 < self.old.room }
+        requires room { 0 < slice_index self.old.rooms.seats paper }
+        requires room_by_user { 0 < slice_index self.old.rooms.reviewing user }
         requires fits { SeatsFit self.old.seats (Assigned paper user kind ordinal) }
         ensures after { self.new.seats ≡ with_seat (seat_tie paper user kind ordinal) self.old.seats }
-        ensures room { self.old.room ≤ self.new.room + 1 }
+        ensures rooms { IsOneLess paper self.old.rooms.seats self.new.rooms.seats }
+        ensures rooms_by_user { IsOneLess user self.old.rooms.reviewing self.new.rooms.reviewing }
     {
-        let index = index_from(&self.seats, paper.number() + 1);
-        match self.seats.insert(index, taken(paper, user, kind, ordinal)) {
-            Ok(()) => {}
-            Err(_) => unreachable!(),
-        }
+        self.seats.file(paper, taken(paper, user, kind, ordinal));
         self.reviewing.insert(Tie {
             pair: Pair { paper, user },
             value: ordinal,
@@ -253,23 +279,25 @@ impl Seats {
     fn vacate(&mut self, paper: PaperNo, user: UserNo, ordinal: Ordinal)
         requires fits { SeatsFit self.old.seats (Unassigned paper user ordinal) }
         ensures after { self.new.seats ≡ without_seat paper ordinal self.old.seats }
-        ensures room { self.old.room ≤ self.new.room }
+        ensures rooms { IsNoLess self.old.rooms.seats self.new.rooms.seats }
+        ensures rooms_by_user { IsNoLess self.old.rooms.reviewing self.new.rooms.reviewing }
     {
-        let first = index_from(&self.seats, paper.number());
-        let index = first + ordinal.number() as usize - 1;
-        self.seats[index].value.vacated = true;
+        let index = ordinal.number() as usize - 1;
+        let seat = left(&self.seats.of_paper(paper)[index]);
+        self.seats.change(paper, index, seat);
         self.reviewing.remove(&Pair { paper, user });
     }
 
     /// One more entry, for which there is room; takes no memory. An assignment gives the paper's next label
     /// to a user who doesn't review it, and who is taken off a paper reviews it under the label told. Either
-    /// costs two binary searches, and a move of the seats behind the index, of 8 bytes each, and of the
-    /// pairs behind the user's, of 6.
+    /// costs two reads by number and a binary search among the papers that the user reviews, and a move of those
+    /// behind it, of 6 bytes each.
     pub fn apply(&mut self, stamped: &Stamped)
-        requires room { 0 < self.old.room }
+        requires room { SeatsHaveRoom (stamped.now ∷ []) self.old.rooms }
         requires fits { SeatsFit self.old.seats stamped.now.entry }
         ensures after { self.new.seats ≡ seats_after self.old.seats stamped.now.entry }
-        ensures room { self.old.room ≤ self.new.room + 1 }
+        ensures room { (rest : History) → SeatsHaveRoom (stamped.now ∷ rest) self.old.rooms
+            → SeatsHaveRoom rest self.new.rooms }
     {
         match &stamped.entry {
             Entry::Assigned {

@@ -1,8 +1,9 @@
 -- The last of the values that are told.
-use Rattle.std.proofs.Common.{Bool, true, false, cond, ◌≡◌, List, [], ◌∷◌, ◌++◌, refl, Option, Some, None}
+use Rattle.std.proofs.Common.{Bool, true, false, cond, ◌≡◌, ◌-◌, List, [], ◌∷◌, ◌++◌, length, refl, ap, ◌∙◌, arith, Option, Some, None}
 use Rattle.std.specs.Prelude.{unwrap_or, map}
+use Rattle.std.specs.List.{slice_get}
 use Rattle.std.specs.Option.{option_map}
-use Rattle.cr_base.specs.Lists.{given, listed, is_nothing, last_from, last_or}
+use Rattle.cr_base.specs.Lists.{given, listed, is_nothing, last, last_from, last_or}
 
 -- ---- the last, or another
 
@@ -23,6 +24,19 @@ last_or-given false x y xs = refl
 pub last_from-given : {A : Type 0} (b : Bool) (x : A) (o : Option A) (rest : List A) → last_from o (given b x ++ rest) ≡ last_from (cond b (Some x) o) rest
 last_from-given true x o rest = refl
 last_from-given false x o rest = refl
+
+-- ---- where it stands
+
+-- at the last index, whatever is told where there is none
+at_end-from : {A : Type 0} (o : Option A) (x : A) (xs : List A) → slice_get (x ∷ xs) (length xs) ≡ last_from o (x ∷ xs)
+at_end-from o x [] = refl
+at_end-from o x (y ∷ xs) = at_end-from (Some x) y xs
+
+pub at_end : {A : Type 0} (xs : List A) → slice_get xs (length xs - 1) ≡ last xs
+at_end [] = refl
+at_end (x ∷ xs) =
+    let one_less : length (x ∷ xs) - 1 ≡ length xs = omega (arith) in
+    ap (slice_get (x ∷ xs)) one_less ∙ at_end-from None x xs
 
 -- ---- what is made of values
 

@@ -2,28 +2,25 @@
 use Rattle.std.specs.Prelude.{ℕ, Bool, true, false, ◌≡◌, ◌≤◌, ◌<◌, ◌+◌, ◌-◌}
 use Rattle.std.specs.Prelude.{◌==◌, List, [], ◌∷◌, ◌++◌, length, zero, suc}
 use Rattle.std.specs.Prelude.{slice_index, slice_set, Option, Some, None}
-use Rattle.std.specs.List.{flat_map}
 use Rattle.std.specs.Option.{option_map, option_map_or}
 use Rattle.cr_base.specs.declared.entry.Entry.{Entry}
 use Rattle.cr_base.specs.declared.entry.Entry.TheVariants.{Submitted, Coauthor, Revised, Uploaded, Withdrawn, Conflict}
 use Rattle.cr_base.specs.declared.entry.Entry.TheVariants.{Bid, Assigned, Unassigned, Reviewed}
 use Rattle.cr_base.specs.declared.entry.Entry.TheVariants.{Commented, Tagged, Decided}
+use Rattle.cr_base.specs.declared.filed.Filed.{Filed}
 use Rattle.cr_base.specs.declared.paper.Paper.{Paper}
+use Rattle.cr_base.specs.Filed.{filed, with_filed, filed_of}
 use Rattle.cr_base.specs.History.{Upload}
-use Rattle.cr_base.specs.Lists.{given, numbered, numbers_from}
+use Rattle.cr_base.specs.Lists.{numbered, numbers_from}
 
 -- ---- the state
 
--- an upload, and the paper that it was to
-pub record PaperUpload : Type 0 where
-  pub paper : ℕ
-  pub upload : Upload
-
--- what is kept of each paper: paper number n stands at index n - 1; all uploads in their order; how many papers each
--- user has submitted, and how many bytes she has uploaded: her number is the index, and who is past the end has none
+-- what is kept of each paper: paper number n stands at index n - 1; the uploads, paper by paper, and those of a paper
+-- in their order; how many papers each user has submitted, and how many bytes she has uploaded: her number is the
+-- index, and who is past the end has none
 pub record PapersState : Type 0 where
   pub papers : List Paper
-  pub uploads : List PaperUpload
+  pub uploads : List (Filed Upload)
   pub submitted : List ℕ
   pub uploaded : List ℕ
 
@@ -62,7 +59,7 @@ papers_after state maker (Submitted paper title abstract) = record state {
 papers_after state maker (Revised paper title abstract) =
     record state { papers = with_paper paper (with_texts title abstract) state.papers }
 papers_after state maker (Uploaded paper version content) = record state {
-  uploads = state.uploads ++ (record { paper = paper; upload = record { version = version; content = content } }) ∷ [];
+  uploads = with_filed (filed paper (record { version = version; content = content })) state.uploads;
   uploaded = with_more maker (length content) state.uploaded;
 }
 papers_after state maker (Withdrawn paper) = record state { papers = with_paper paper as_withdrawn state.papers }
@@ -93,7 +90,7 @@ is_withdrawn_at state p = option_map_or (λ (paper : Paper). paper.withdrawn) (n
 
 -- what was uploaded to the paper, in order
 abbrev pub uploads_at : PapersState → ℕ → List Upload
-uploads_at state p = flat_map (λ (u : PaperUpload). given (u.paper == p) u.upload) state.uploads
+uploads_at state p = filed_of p state.uploads
 
 -- how many papers the user has submitted
 abbrev pub own_count : PapersState → Option ℕ → ℕ

@@ -241,9 +241,9 @@ fn with_group(
     let Ok(mut entries) = copies_of(alloc, &group) else {
         return Err(ReadError::OutOfMemory);
     };
-    if live.room(&group).is_err() {
+    let Ok(()) = live.room(&group) else {
         return Err(ReadError::OutOfMemory);
-    }
+    };
     let Ok(()) = log.append(&mut entries) else {
         return Err(ReadError::OutOfMemory);
     };

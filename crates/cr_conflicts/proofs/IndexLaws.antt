@@ -1,6 +1,6 @@
 -- What the authors by paper and by user are with one more, and how they are read.
-use Rattle.std.proofs.Common.{ℕ, Bool, true, false, ◌≡◌, ◌≤◌, ◌∙◌, ◌||◌, ◌&&◌, [], ◌∷◌, ◌++◌, eqb, arith, refl, sym, ap, subst, Some}
-use Rattle.std.specs.Prelude.{nat_le, nat_lt, not}
+use Rattle.std.proofs.Common.{ℕ, Bool, List, true, false, ◌≡◌, ◌∙◌, ◌||◌, ◌&&◌, [], ◌∷◌, ◌++◌, eqb, arith, refl, sym, ap, subst, Some}
+use Rattle.std.specs.Prelude.{nat_le, nat_lt, not, filter}
 use Rattle.std.specs.Cmp.Derive.{both_true}
 use Rattle.std.specs.List.{list_any, list_all}
 use Rattle.std.proofs.lemmas.Bool.{and_parts}
@@ -9,14 +9,17 @@ use Rattle.cr_base.specs.declared.pairs.Order.{Order}
 use Rattle.cr_base.specs.declared.pairs.Order.TheVariants.{ByPaper, ByUser}
 use Rattle.cr_base.specs.declared.pairs.Pair.{Pair}
 use Rattle.cr_base.specs.declared.pairs.Tie.{Tie}
+use Rattle.cr_base.specs.declared.filed.Filed.{Filed}
+use Rattle.cr_base.specs.Filed.{filed, with_filed}
 use Rattle.cr_base.specs.Lists.{IsRising, is_number}
 use Rattle.cr_base.specs.Pairs.{same_pair, is_tied, major, minor, stands, IsSortedBy, IsAscending, has_pair, with_tie, users_tied_to, papers_tied_to}
 use Rattle.cr_base.specs.Ties.{BareTies, pair_of, bare_tie, are_before, are_up_to}
 use Rattle.cr_base.proofs.PairLaws.{IsAscending-with_tie, has_pair-with_tie, list_any-others_of}
 use Rattle.cr_base.proofs.RisingLists.{rising-sorted, rising-others_of, others_of-same}
+use Rattle.cr_base.proofs.SortedLists.{list_all-weaker, filter-all, filter-none}
 use Rattle.cr_base.proofs.TieLaws.{has_pair-push, all-push}
-use Rattle.cr_pairs.specs.BinarySearch.{RisesBy}
-use Rattle.cr_pairs.proofs.Searches.{major-rise}
+use Rattle.cr_kept.specs.Own.{values_in, AreOwn}
+use Rattle.cr_kept.proofs.OwnLaws.{own-with}
 use Rattle.cr_conflicts.specs.Index.{is_told_before, all_before, AuthorsIndexed}
 
 -- ---- what is read
@@ -24,13 +27,6 @@ use Rattle.cr_conflicts.specs.Index.{is_told_before, all_before, AuthorsIndexed}
 -- an author is one whose pair is there
 pub author-pair : (authors : BareTies) (u p : ℕ) → list_any (is_number (Some u)) (users_tied_to p authors) ≡ has_pair (pair_of p u) authors
 author-pair authors u p = list_any-others_of ByPaper p u authors
-
--- the papers of the authors never fall
-pub authors-rise : (authors : BareTies) → IsSortedBy is_told_before authors → RisesBy ByPaper authors
-authors-rise authors told = major-rise ByPaper is_told_before (λ p q h. least p.paper q.paper (same_pair p q) h) authors told
-  where
-    least : (n m : ℕ) (same : Bool) → (nat_le n m && not same) ≡ true → n ≤ m
-    least n m same h = grind (arith, nat_tests)
 
 -- a user's papers are the same by paper and by user
 module _ (authors : BareTies) (users : Order) (authored : BareTies) (declared bids : Order) (index : AuthorsIndexed authors users authored declared bids) (u : ℕ) where
@@ -77,6 +73,25 @@ told-besides paper user (t ∷ ts) all none =
         → (has_pair (pair_of paper user) ts ≡ false → all_before (pair_of paper user) ts ≡ true) → all_before (pair_of paper user) (t ∷ ts) ≡ true
     by true is h low rest = absurd (cc)
     by false is h low rest = both_true (another t.pair.paper t.pair.user paper user low is) (rest h)
+
+-- the paper of a tie
+abbrev pub paper_of : Tie (Unit {0}) → ℕ
+paper_of t = t.pair.paper
+
+-- filed behind those of its paper and of papers with lower numbers, it comes behind all
+pub filed-behind : (paper user : ℕ) (files : List (Filed (Tie (Unit {0})))) → AreOwn paper_of files → all_before (pair_of paper user) (values_in files) ≡ true
+    → values_in (with_filed (filed paper (bare_tie paper user)) files) ≡ values_in files ++ bare_tie paper user ∷ []
+filed-behind paper user files own before =
+    let t : Tie (Unit {0}) = bare_tie paper user in
+    let told : Tie (Unit {0}) → Bool = λ s. is_told_before s.pair t.pair in
+    let low : Tie (Unit {0}) → Bool = λ s. nat_le s.pair.paper paper in
+    let high : Tie (Unit {0}) → Bool = λ s. not (nat_le s.pair.paper paper) in
+    let authors = values_in files in
+    own-with paper_of t files own
+    ∙ ap (λ (ts : BareTies). ts ++ t ∷ filter high authors)
+    (filter-all low authors (list_all-weaker told low (λ s h. (and_parts (nat_le s.pair.paper paper) (not (same_pair s.pair t.pair)) h).0) authors before))
+    ∙ ap (λ (ts : BareTies). authors ++ t ∷ ts)
+    (filter-none high told (λ s h. ap not (and_parts (nat_le s.pair.paper paper) (not (same_pair s.pair t.pair)) h).0) authors before)
 
 pub indexed-push : (authors : BareTies) (users : Order) (authored : BareTies) (declared bids : Order) (paper user : ℕ)
     (users' : Order) (authors' authored' : BareTies) → users' ≡ users → authors' ≡ authors ++ bare_tie paper user ∷ []

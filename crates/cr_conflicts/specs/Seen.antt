@@ -1,8 +1,8 @@
 -- What contracts see of the table of ties.
-use Rattle.std.specs.Prelude.{ℕ}
 use Rattle.cr_base.specs.Ties.{TiesState}
+use Rattle.cr_conflicts.specs.Room.{TiesRooms}
 
--- the ties, and for how many more entries there is room
+-- the ties, and for how many more there is room
 pub record SeenTies : Type 0 where
   pub ties : TiesState
-  pub room : ℕ
+  pub rooms : TiesRooms

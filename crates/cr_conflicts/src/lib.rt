@@ -5,5 +5,6 @@
 mod earlier;
 mod judging;
 mod ties;
+mod told;
 
 pub use ties::Ties;

@@ -1,45 +1,51 @@
 //! The ties of users to papers, by paper and by user.
-ghost use Rattle.std.specs.Prelude.{◌≡◌, ◌≤◌, ◌<◌, ◌+◌, IsTrue, OnOk, Some, length, map, is_some, if◌then◌else◌};
+ghost use Rattle.std.specs.Prelude.{◌≡◌, ◌<◌, ◌∷◌, [], IsTrue, OnOk, Some, map, is_some, slice_index, if◌then◌else◌};
 ghost use Rattle.cr_base.specs.Checks.{judged, bid_checks, conflict_checks};
+ghost use Rattle.cr_base.specs.History.{History};
 ghost use Rattle.cr_base.specs.Lists.{IsRising};
-ghost use Rattle.cr_base.specs.Pairs.{with_tie, users_tied_to, papers_tied_to};
+ghost use Rattle.cr_base.specs.Pairs.{major, with_tie, users_tied_to, papers_tied_to};
 ghost use Rattle.cr_base.specs.Ties.{no_ties, ties_after, ties_from, switched, pair_of, bare_tie};
 ghost use Rattle.cr_base.specs.Ties.{authors_in, is_author_in, is_conflicted_in, TiesFit};
 ghost use Rattle.cr_base.specs.Ties.{is_conflict_on_in, bid_tie, bid_in, bids_in};
+ghost use Rattle.cr_rooms.specs.Rooms.{IsOneLess};
 ghost use Rattle.cr_conflicts.specs.Index.{all_before, with_author};
+ghost use Rattle.cr_conflicts.specs.Room.{TiesHaveRoom};
 ghost use Rattle.cr_conflicts.specs.Targets.{target_of};
 
 use crate::earlier::{declared_behind, give_author};
 use crate::judging;
+use crate::told::{authored_pairs, bid_pairs, conflict_pairs};
 use cr_base::{
     Bid, Entry, Order, Pair, PaperNo, Role, Rule, Stamped, Standing, Target, Tie, UserNo,
 };
-use cr_pairs::{IndexedPairs, PairMap, run_of};
+use cr_kept::Files;
+use cr_pairs::{IndexedPairs, PairRows, papers_of};
 use std::alloc::{AllocError, Global};
 use std::marker::Model;
 
 /// Who is an author of which paper, who is declared in conflict with it, whom its authors named so, and who
 /// has bid on it.
 ///
-/// Contracts see these by paper, and for how many more entries there is room. Authors and conflicts
-/// are found by user too; that these agree is true of every table.
+/// Contracts see these by paper, and for how many more of each paper and of each user there is room. Authors and
+/// conflicts are found by user too; that these agree is true of every table.
 #[derive(Drop)]
 pub struct Ties {
-    // Papers and their authors, in the order in which they were told: a paper's stand together, the
-    // submitter first, so the index of an author among them needn't be kept.
-    authors: Vec<Tie<()>>,
+    alloc: Global,
+    // Papers and their authors, in the order in which they were told, the submitter first, so the index of an
+    // author among them needn't be kept.
+    authors: Files<Tie<()>>,
     // The same, by user.
-    authored: PairMap<()>,
+    authored: PairRows<()>,
     // Papers, and the users declared in conflict with them.
     conflicts: IndexedPairs<()>,
     // Papers, and the users whom an author named in a conflict.
-    declared: PairMap<()>,
+    declared: PairRows<()>,
     // Papers, and the users who bid on them, with their last bids.
-    bids: PairMap<Bid>,
+    bids: PairRows<Bid>,
 }
 
 impl Model for Ties {
-    ghost use Rattle.std.specs.Prelude.{◌-◌, min, vec_len, vec_capacity};
+    ghost use Rattle.cr_kept.specs.Own.{values_in, AreOwn};
     ghost use Rattle.cr_conflicts.specs.Index.{AuthorsIndexed};
     ghost use Rattle.cr_conflicts.specs.Seen.{SeenTies};
 
@@ -47,17 +53,23 @@ impl Model for Ties {
 
     ghost view = { λ t. record {
       ties = record {
-        authors = t.authors.items;
+        authors = values_in t.authors.files;
         conflicts = t.conflicts.ties;
         declared = t.declared.ties;
         bids = t.bids.ties;
       };
-      room = min (vec_capacity t.authors - vec_len t.authors)
-          (min t.authored.room (min t.conflicts.room (min t.declared.room t.bids.room)));
+      rooms = record {
+        authors = t.authors.rooms;
+        authored = t.authored.rooms;
+        conflicts = t.conflicts.by_paper_rooms;
+        conflicting = t.conflicts.by_user_rooms;
+        declared = t.declared.rooms;
+        bids = t.bids.rooms;
+      };
     } };
 
-    ghost invariant = { λ t. AuthorsIndexed t.authors.items t.authored.order t.authored.ties
-        t.declared.order t.bids.order };
+    ghost invariant = { λ t. AuthorsIndexed (values_in t.authors.files) t.authored.order t.authored.ties
+        t.declared.order t.bids.order × AreOwn (λ tie. tie.pair.paper) t.authors.files };
 }
 
 /// A paper and a user who are tied.
@@ -82,9 +94,11 @@ fn bid_by(paper: PaperNo, user: UserNo, value: Bid) -> Tie<Bid>
 
 /// The pair is there from now on, or no longer; takes no memory.
 fn switch(ties: &mut IndexedPairs<()>, paper: PaperNo, user: UserNo, on: bool)
-    requires { 0 < ties.old.room }
+    requires paper { 0 < slice_index ties.old.by_paper_rooms paper }
+    requires user { 0 < slice_index ties.old.by_user_rooms user }
     ensures ties { ties.new.ties ≡ switched on paper user ties.old.ties }
-    ensures room { ties.old.room ≤ ties.new.room + 1 }
+    ensures papers { IsOneLess paper ties.old.by_paper_rooms ties.new.by_paper_rooms }
+    ensures users { IsOneLess user ties.old.by_user_rooms ties.new.by_user_rooms }
 {
     let tie = bare(paper, user);
     if on {
@@ -95,11 +109,11 @@ fn switch(ties: &mut IndexedPairs<()>, paper: PaperNo, user: UserNo, on: bool)
 }
 
 /// The tie is there from now on, where it is told; takes no memory.
-fn insert_where(ties: &mut PairMap<()>, told: bool, tie: Tie<()>)
-    requires { 0 < ties.old.room }
+fn insert_where(ties: &mut PairRows<()>, told: bool, tie: Tie<()>)
+    requires { 0 < slice_index ties.old.rooms (major ties.old.order tie.pair) }
     ensures order { ties.new.order ≡ ties.old.order }
     ensures ties { ties.new.ties ≡ (if told then with_tie ties.old.order tie ties.old.ties else ties.old.ties) }
-    ensures room { ties.old.room ≤ ties.new.room + 1 }
+    ensures rooms { IsOneLess (major ties.old.order tie.pair) ties.old.rooms ties.new.rooms }
 {
     if told {
         ties.insert(tie);
@@ -113,32 +127,33 @@ impl Ties {
         ensures { result.ties ≡ no_ties }
     {
         Ties {
-            authors: Vec::new(alloc),
-            authored: PairMap::new(alloc, Order::ByUser),
+            alloc,
+            authors: Files::new(alloc),
+            authored: PairRows::new(alloc, Order::ByUser),
             conflicts: IndexedPairs::new(alloc),
-            declared: PairMap::new(alloc, Order::ByPaper),
-            bids: PairMap::new(alloc, Order::ByPaper),
+            declared: PairRows::new(alloc, Order::ByPaper),
+            bids: PairRows::new(alloc, Order::ByPaper),
         }
     }
 
     /// The authors of the paper, the submitter first and the others in the order in which they were
-    /// told; none where there is no such paper. Two binary searches; takes no memory.
+    /// told; none where there is no such paper. One read by number; takes no memory.
     pub fn authors(&self, paper: PaperNo) -> &[Tie<()>]
         ensures { map (λ t. t.pair.user) result.now ≡ authors_in self.now.ties paper }
     {
-        run_of(&self.authors, Order::ByPaper, paper.number())
+        self.authors.of_paper(paper)
     }
 
-    /// Whether the user is an author of the paper; false where there is no such paper. One binary
-    /// search.
+    /// Whether the user is an author of the paper; false where there is no such paper. One read
+    /// by number, and a binary search among the papers whose author she is.
     pub fn is_author(&self, user: UserNo, paper: PaperNo) -> bool
         ensures { result ≡ is_author_in self.now.ties (Some user) paper }
     {
         self.authored.contains(&Pair { paper, user })
     }
 
-    /// The same behind earlier entries of the same command. One binary search, and a walk over the
-    /// entries, of which there are none but in a command of many parts.
+    /// The same behind earlier entries of the same command. One read by number, a binary search, and a walk
+    /// over the entries, of which there are none but in a command of many parts.
     fn is_author_behind(&self, user: UserNo, paper: PaperNo, earlier: &[Stamped]) -> bool
         ensures { result ≡ is_author_in (ties_from self.now.ties earlier.now) (Some user) paper }
     {
@@ -146,7 +161,7 @@ impl Ties {
     }
 
     /// Whether the user is declared in conflict with the paper, behind earlier entries of the same
-    /// command. One binary search, and a walk over the entries.
+    /// command. One read by number, a binary search among the paper's, and a walk over the entries.
     fn is_declared_behind(&self, user: UserNo, paper: PaperNo, earlier: &[Stamped]) -> bool
         ensures { result ≡ is_conflict_on_in (ties_from self.now.ties earlier.now) (Some user) paper }
     {
@@ -155,15 +170,15 @@ impl Ties {
     }
 
     /// Whether the user is in conflict with the paper, as an author or declared so, behind earlier
-    /// entries of the same command, whatever these are. Two binary searches, and a walk over the
-    /// entries, of which there are none but in a command of many parts.
+    /// entries of the same command, whatever these are. Two reads by number, two binary searches, and a
+    /// walk over the entries, of which there are none but in a command of many parts.
     pub fn is_conflicted(&self, user: UserNo, paper: PaperNo, earlier: &[Stamped]) -> bool
         ensures { result ≡ is_conflicted_in (ties_from self.now.ties earlier.now) (Some user) paper }
     {
         self.is_author_behind(user, paper, earlier) || self.is_declared_behind(user, paper, earlier)
     }
 
-    /// Who is declared in conflict with the paper, in the order of user numbers. Two binary searches;
+    /// Who is declared in conflict with the paper, in the order of user numbers. One read by number;
     /// takes no memory.
     pub fn conflicts(&self, paper: PaperNo) -> &[Tie<()>]
         ensures { map (λ t. t.pair.user) result.now ≡ users_tied_to paper self.now.ties.conflicts }
@@ -171,25 +186,25 @@ impl Ties {
         self.conflicts.of_paper(paper)
     }
 
-    /// Whom the paper's authors named in a conflict with it, in the order of user numbers. Two binary
-    /// searches; takes no memory.
+    /// Whom the paper's authors named in a conflict with it, in the order of user numbers. One read by
+    /// number; takes no memory.
     pub fn declared(&self, paper: PaperNo) -> &[Tie<()>]
         ensures { map (λ t. t.pair.user) result.now ≡ users_tied_to paper self.now.ties.declared }
     {
-        self.declared.of_paper(paper)
+        self.declared.of(paper.number())
     }
 
-    /// The papers whose author the user is, in the order of their numbers. Two binary searches; takes
+    /// The papers whose author the user is, in the order of their numbers. One read by number; takes
     /// no memory.
     pub fn authored(&self, user: UserNo) -> &[Tie<()>]
         ensures papers { map (λ t. t.pair.paper) result.now ≡ papers_tied_to user self.now.ties.authors }
         ensures rising { IsRising (papers_tied_to user self.now.ties.authors) }
     {
-        self.authored.of_user(user)
+        self.authored.of(user.number())
     }
 
-    /// The papers with which the user is declared in conflict, in the order of their numbers. Two
-    /// binary searches; takes no memory.
+    /// The papers with which the user is declared in conflict, in the order of their numbers. One
+    /// read by number; takes no memory.
     pub fn conflicting(&self, user: UserNo) -> &[Tie<()>]
         ensures papers { map (λ t. t.pair.paper) result.now ≡ papers_tied_to user self.now.ties.conflicts }
         ensures rising { IsRising (papers_tied_to user self.now.ties.conflicts) }
@@ -197,18 +212,19 @@ impl Ties {
         self.conflicts.of_user(user)
     }
 
-    /// The user's last bid on the paper, and none where she has told none. One binary search.
+    /// The user's last bid on the paper, and none where she has told none. One read by number, and a binary
+    /// search among the paper's.
     pub fn bid_of(&self, user: UserNo, paper: PaperNo) -> Option<Bid>
         ensures { result ≡ bid_in self.now.ties (Some user) paper }
     {
         self.bids.value(&Pair { paper, user })
     }
 
-    /// The last bids on the paper, in the order of user numbers. Two binary searches; takes no memory.
+    /// The last bids on the paper, in the order of user numbers. One read by number; takes no memory.
     pub fn bids(&self, paper: PaperNo) -> &[Tie<Bid>]
         ensures { map (λ t. record { user = t.pair.user; value = t.value }) result.now ≡ bids_in self.now.ties paper }
     {
-        self.bids.of_paper(paper)
+        self.bids.of(paper.number())
     }
 
     /// Whether the caller may bid on this paper, or the first broken rule. `by` is her standing at the
@@ -284,40 +300,52 @@ impl Ties {
 /// What entries make of it.
 impl Ties {
     /// Takes the memory that the entries of one command need; an error only for lack of memory, and
-    /// the ties are the same either way.
+    /// the ties are the same either way. Each entry is compared with those of its kind before it.
     pub fn room(&mut self, group: &[Stamped]) -> Result<(), AllocError>
-        ensures ok { OnOk result (length group.now ≤ self.new.room) }
+        ensures ok { OnOk result (TiesHaveRoom group.now self.new.rooms) }
         ensures same { self.new.ties ≡ self.old.ties }
-        ensures keeps { self.old.room ≤ self.new.room }
+        ensures keeps { (any : History) → TiesHaveRoom any self.old.rooms → TiesHaveRoom any self.new.rooms }
     {
-        self.authors.reserve(group.len())?;
-        self.authored.room(group.len())?;
-        self.conflicts.room(group.len())?;
-        self.declared.room(group.len())?;
-        self.bids.room(group.len())
+        let authored = authored_pairs(self.alloc, group)?;
+        let papers = papers_of(self.alloc, &authored)?;
+        let conflicts = conflict_pairs(self.alloc, group)?;
+        let bids = bid_pairs(self.alloc, group)?;
+        self.authors.room(&papers)?;
+        self.authored.room(&authored)?;
+        self.conflicts.room(&conflicts)?;
+        self.declared.room(&conflicts)?;
+        self.bids.room(&bids)
     }
 
-    /// One more author, who comes behind all that were told before; takes no memory. One binary
-    /// search.
+    /// One more author, who comes behind all that were told before; takes no memory. Two reads by number, and a
+    /// binary search among the papers whose author she is.
     fn add_author(&mut self, paper: PaperNo, user: UserNo)
-        requires room { 0 < self.old.room }
+        requires room { 0 < slice_index self.old.rooms.authors paper }
+        requires room_by_user { 0 < slice_index self.old.rooms.authored user }
         requires behind { IsTrue (all_before (pair_of paper user) self.old.ties.authors) }
         ensures after { self.new.ties ≡ with_author paper user self.old.ties }
-        ensures room { self.old.room ≤ self.new.room + 1 }
+        ensures rooms { IsOneLess paper self.old.rooms.authors self.new.rooms.authors }
+        ensures rooms_by_user { IsOneLess user self.old.rooms.authored self.new.rooms.authored }
+        ensures conflicts { self.new.rooms.conflicts ≡ self.old.rooms.conflicts }
+        ensures conflicting { self.new.rooms.conflicting ≡ self.old.rooms.conflicting }
+        ensures declared { self.new.rooms.declared ≡ self.old.rooms.declared }
+        ensures bids { self.new.rooms.bids ≡ self.old.rooms.bids }
     {
-        self.authors.push_reserved(bare(paper, user));
+        self.authors.file(paper, bare(paper, user));
         self.authored.insert(bare(paper, user));
     }
 
     /// One more entry, for which there is room; takes no memory. The paper that it adds comes behind
     /// all that have authors, and a co-author's is the last of these, of which she is no author yet. A
-    /// submission, a co-author or a bid costs one binary search, a conflict four at most, and each a
-    /// move of the ties behind the index, of 4 to 6 bytes.
+    /// submission, a co-author or a bid costs two reads by number and a binary search among the paper's or the
+    /// user's ties, a conflict four of each at most, and each a move of those ties behind the index, of 4 to 6
+    /// bytes.
     pub fn apply(&mut self, stamped: &Stamped)
-        requires room { 0 < self.old.room }
+        requires room { TiesHaveRoom (stamped.now ∷ []) self.old.rooms }
         requires fits { TiesFit self.old.ties stamped.now.entry }
         ensures after { self.new.ties ≡ ties_after self.old.ties stamped.now.stamp.maker stamped.now.entry }
-        ensures room { self.old.room ≤ self.new.room + 1 }
+        ensures room { (rest : History) → TiesHaveRoom (stamped.now ∷ rest) self.old.rooms
+            → TiesHaveRoom rest self.new.rooms }
     {
         match &stamped.entry {
             Entry::Submitted { paper, .. } => self.add_author(*paper, stamped.stamp.maker),

@@ -1,8 +1,8 @@
 -- What contracts see of the table of decisions.
-use Rattle.std.specs.Prelude.{ℕ}
+use Rattle.std.specs.Prelude.{ℕ, List}
 use Rattle.cr_base.specs.Decisions.{DecisionsState}
 
--- the decisions, and for how many more there is room
+-- the decisions, and by the paper's number for how many more on it there is room
 pub record SeenDecisions : Type 0 where
   pub decisions : DecisionsState
-  pub room : ℕ
+  pub rooms : List ℕ

@@ -1,7 +1,10 @@
 //! The decisions on papers.
-ghost use Rattle.std.specs.Prelude.{◌≡◌, ◌≤◌, ◌<◌, ◌+◌, OnOk, length, is_some};
+ghost use Rattle.std.specs.Prelude.{◌≡◌, [], ◌∷◌, OnOk, IfOk, is_some};
+ghost use Rattle.std.specs.List.{filter_map};
 ghost use Rattle.cr_base.specs.Checks.{judged, decide_checks};
 ghost use Rattle.cr_base.specs.Decisions.{no_decisions, decisions_after, decision_in};
+ghost use Rattle.cr_base.specs.History.{History};
+ghost use Rattle.cr_decisions.specs.Room.{paper_decided, DecisionsHaveRoom};
 
 use cr_base::{Decision, Entry, PaperNo, Rule, Stamped, Standing};
 use cr_kept::Files;
@@ -10,9 +13,10 @@ use std::marker::Model;
 
 /// What was decided of papers: all decisions on each, in the order in which they came. The last one counts.
 ///
-/// Contracts see the decisions paper by paper, and for how many more there is room.
+/// Contracts see the decisions paper by paper, and for how many more on each there is room.
 #[derive(Drop)]
 pub struct Decisions {
+    alloc: Global,
     decisions: Files<Decision>,
 }
 
@@ -21,7 +25,7 @@ impl Model for Decisions {
 
     ghost Value = { SeenDecisions };
 
-    ghost view = { λ d. record { decisions = d.decisions.files; room = d.decisions.room } };
+    ghost view = { λ d. record { decisions = d.decisions.files; rooms = d.decisions.rooms } };
 }
 
 /// What is read.
@@ -31,19 +35,17 @@ impl Decisions {
         ensures { result.decisions ≡ no_decisions }
     {
         Decisions {
+            alloc,
             decisions: Files::new(alloc),
         }
     }
 
-    /// The last decision on the paper, and none where there is none or no such paper. Two binary searches;
+    /// The last decision on the paper, and none where there is none or no such paper. One read by number;
     /// takes no memory.
     pub fn last(&self, paper: PaperNo) -> Option<Decision>
         ensures { result ≡ decision_in self.now.decisions paper }
     {
-        match self.decisions.of_paper(paper).last() {
-            Some(filed) => Some(filed.value),
-            None => None,
-        }
+        self.decisions.of_paper(paper).last().copied()
     }
 
     /// Whether the caller may decide on this paper, or the first broken rule. `by` is her standing at the paper;
@@ -83,25 +85,47 @@ impl Decisions {
 /// What entries make of it.
 impl Decisions {
     /// Takes the memory that the entries of one command need; an error only for lack of memory, and the
-    /// decisions are the same either way.
+    /// decisions are the same either way. Each paper on which they decide is compared with those before it.
     pub fn room(&mut self, group: &[Stamped]) -> Result<(), AllocError>
-        ensures ok { OnOk result (length group.now ≤ self.new.room) }
+        ensures ok { OnOk result (DecisionsHaveRoom group.now self.new.rooms) }
         ensures same { self.new.decisions ≡ self.old.decisions }
-        ensures keeps { self.old.room ≤ self.new.room }
+        ensures keeps { (any : History) → DecisionsHaveRoom any self.old.rooms → DecisionsHaveRoom any self.new.rooms }
     {
-        self.decisions.room(group.len())
+        let papers = papers_decided(self.alloc, group)?;
+        self.decisions.room(&papers)
     }
 
-    /// One more entry, for which there is room; takes no memory. A decision costs one binary search, and a move
-    /// of the decisions on papers with higher numbers.
+    /// One more entry, for which there is room; takes no memory. A decision costs one read by number, and moves
+    /// none of the others.
     pub fn apply(&mut self, stamped: &Stamped)
-        requires { 0 < self.old.room }
+        requires { DecisionsHaveRoom (stamped.now ∷ []) self.old.rooms }
         ensures after { self.new.decisions ≡ decisions_after self.old.decisions stamped.now.entry }
-        ensures room { self.old.room ≤ self.new.room + 1 }
+        ensures room { (rest : History)
+            → DecisionsHaveRoom (stamped.now ∷ rest) self.old.rooms → DecisionsHaveRoom rest self.new.rooms }
     {
         match &stamped.entry {
             Entry::Decided { paper, decision } => self.decisions.file(*paper, *decision),
             _ => {}
         }
     }
+}
+
+/// The paper on which the entry decides, if it does.
+fn paper_decided(stamped: &Stamped) -> Option<PaperNo>
+    ensures { result ≡ paper_decided stamped.now }
+{
+    match &stamped.entry {
+        Entry::Decided { paper, .. } => Some(*paper),
+        _ => None,
+    }
+}
+
+/// The papers on which the entries decide, as often as they do.
+fn papers_decided(alloc: Global, group: &[Stamped]) -> Result<Vec<PaperNo>, AllocError>
+    ensures { IfOk result (λ papers. papers.items ≡ filter_map paper_decided group.now) }
+{
+    group
+        .iter()
+        .filter_map(|stamped| paper_decided(stamped))
+        .collect(alloc)
 }

@@ -4,18 +4,20 @@ use Rattle.std.proofs.Common.{ℕ, Bool, true, false, cond, ◌≡◌, ◌+◌, 
 use Rattle.std.specs.List.{list_any}
 use Rattle.std.specs.Option.{option_map, option_map_or}
 use Rattle.std.proofs.lemmas.Bool.{eqb-true}
-use Rattle.std.proofs.lemmas.List.Concat.{flat_map-append}
 use Rattle.cr_base.specs.declared.entry.Entry.{Entry}
 use Rattle.cr_base.specs.declared.entry.Entry.TheVariants.{Submitted, Coauthor, Revised, Uploaded, Withdrawn, Conflict}
 use Rattle.cr_base.specs.declared.entry.Stamped.{Stamped}
+use Rattle.cr_base.specs.declared.filed.Filed.{Filed}
 use Rattle.cr_base.specs.declared.paper.Paper.{Paper}
+use Rattle.cr_base.specs.Filed.{filed}
 use Rattle.cr_base.specs.Lists.{given, last, last_from, last_or, total, is_number, numbered}
 use Rattle.cr_base.specs.History.{History, Upload, all_told, paper_told, own_paper_told, author_told, title_told, abstract_told, upload_told, own_bytes_told, withdrawal_told}
 use Rattle.cr_base.specs.HistoryFacts.{papers_of, own_papers_of, own_bytes_of, authors_of, is_author, title_of, abstract_of, uploads_of, is_withdrawn}
-use Rattle.cr_base.specs.Papers.{PapersState, PaperUpload, new_paper, with_texts, as_withdrawn, papers_after, paper_numbers, text_at, title_at, abstract_at, is_withdrawn_at, uploads_at, own_count, own_bytes, PapersFit}
+use Rattle.cr_base.specs.Papers.{PapersState, new_paper, with_texts, as_withdrawn, papers_after, paper_numbers, text_at, title_at, abstract_at, is_withdrawn_at, uploads_at, own_count, own_bytes, PapersFit}
 use Rattle.cr_base.specs.Ties.{TiesState, ties_after, authors_in, is_author_in}
 use Rattle.cr_base.specs.Tables.{Tables, no_tables, tables_of, FitInTurn}
 use Rattle.cr_base.proofs.PaperLaws.{read-changed, read-kept, numbers_from-with_paper}
+use Rattle.cr_base.proofs.FiledLaws.{filed_of-with_filed}
 use Rattle.cr_base.proofs.LastLaws.{last_from-given, last_or-given}
 use Rattle.cr_base.proofs.ListLaws.{turned, numbered-nil, numbered-none, numbered-push, numbers_from-push}
 use Rattle.cr_base.proofs.TieLaws.{users_tied_to-push}
@@ -173,10 +175,9 @@ is_withdrawn-tables p H fits =
 
 uploads-entry : (p : ℕ) (state : PapersState) (maker : ℕ) (e : Entry) → uploads_at state p ++ upload_told p e ≡ uploads_at (papers_after state maker e) p
 uploads-entry p state maker (Uploaded paper version content) =
-    let told : List Upload = upload_told p (Uploaded paper version content) in
-    let made : PaperUpload = record { paper = paper; upload = record { version = version; content = content } } in
-    ap (λ us. uploads_at state p ++ us) (sym (append-nil told))
-    ∙ sym (flat_map-append (λ (u : PaperUpload). given (eqb u.paper p) u.upload) state.uploads (made ∷ []))
+    let made : Filed Upload = filed paper (record { version = version; content = content }) in
+    ap (λ b. uploads_at state p ++ given b made.value) (turned paper p)
+    ∙ sym (filed_of-with_filed p made state.uploads)
 uploads-entry p state maker e = append-nil (uploads_at state p)
 
 -- the uploads to a paper are those that the table has, in the same order

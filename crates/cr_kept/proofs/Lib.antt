@@ -1,2 +1,5 @@
-pub mod PartitionLaws
+pub mod BesideLaws
+pub mod DrawerLaws
+pub mod OwnLaws
 pub mod SumLaws
+pub mod ValueLaws

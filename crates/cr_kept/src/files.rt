@@ -1,30 +1,33 @@
-//! Values of papers, paper by paper.
-ghost use Rattle.std.specs.Prelude.{◌≡◌, ◌≤◌, ◌<◌, ◌+◌, [], OnOk, length, map};
+//! Values of papers, each paper's own together.
+ghost use Rattle.std.specs.Prelude.{◌≡◌, ◌≤◌, ◌<◌, [], OnOk, length, slice_index, set, insert, remove};
 ghost use Rattle.cr_base.specs.Filed.{filed, with_filed, filed_of};
+ghost use Rattle.cr_rooms.specs.Rooms.{times, HasRoom, IsNoLess, IsOneLess};
+ghost use Rattle.cr_kept.specs.Drawers.{files_from, rooms_of, with_changed, with_values};
 
-use crate::partition::{index_from, run_of};
-use cr_base::{Filed, PaperNo};
+use crate::drawer::Drawer;
+use cr_base::PaperNo;
 use std::alloc::{AllocError, Global};
 use std::marker::Model;
 
-/// Values of papers: paper by paper, and those of a paper in the order in which they came.
+/// Values of papers: each paper's own stand together, in the order in which they came, and are found by its
+/// number. A paper without values costs the place of a drawer, of 24 bytes, up to the last one that has some.
 ///
-/// Contracts see the values, and for how many more there is room.
+/// Contracts see the values of all papers, paper by paper, and by the paper's number for how many more of its
+/// values there is room.
 #[derive(Drop)]
 pub struct Files<V> {
-    values: Vec<Filed<V>>,
+    alloc: Global,
+    // By the paper's number; at 0 stands an empty one.
+    drawers: Vec<Drawer<V>>,
 }
 
 impl<V> Model for Files<V> {
-    ghost use Rattle.std.specs.Prelude.{◌-◌, vec_len, vec_capacity};
-    ghost use Rattle.cr_kept.specs.Partition.{PapersRise};
     ghost use Rattle.cr_kept.specs.Seen.{SeenFiles};
+    ghost use Rattle.cr_kept.specs.Drawers.{files_from, rooms_of};
 
     ghost Value = { SeenFiles V };
 
-    ghost view = { λ f. record { files = f.values.items; room = vec_capacity f.values - vec_len f.values } };
-
-    ghost invariant = { λ f. PapersRise f.values.items };
+    ghost view = { λ f. record { files = files_from 0 f.drawers.items; rooms = rooms_of f.drawers.items } };
 }
 
 impl<V: Drop> Files<V> {
@@ -33,45 +36,119 @@ impl<V: Drop> Files<V> {
         ensures { result.files ≡ [] }
     {
         Files {
-            values: Vec::new(alloc),
+            alloc,
+            drawers: Vec::new(alloc),
         }
     }
 
-    /// The values of the paper, in the order in which they came. Two binary searches; takes no memory.
-    pub fn of_paper(&self, paper: PaperNo) -> &[Filed<V>]
-        ensures { map (λ filed. filed.value) result.now ≡ filed_of paper self.now.files }
+    /// The values of the paper, in the order in which they came. One read by number; takes no memory.
+    pub fn of_paper(&self, paper: PaperNo) -> &[V]
+        ensures { result.now ≡ filed_of paper self.now.files }
     {
-        run_of(&self.values, paper)
+        match self.drawers.get(paper.number() as usize) {
+            Some(drawer) => drawer.values(),
+            None => &[],
+        }
     }
 
-    /// How many values all papers have together.
-    pub fn len(&self) -> usize
-        ensures { result ≡ length self.now.files }
-    {
-        self.values.len()
-    }
-
-    /// Takes the memory for so many more values; an error only for lack of memory, and the values are the
-    /// same either way.
-    pub fn room(&mut self, count: usize) -> Result<(), AllocError>
-        ensures ok { OnOk result (count ≤ self.new.room) }
+    /// Takes the memory for so many more values of the paper; an error only for lack of memory, and the values
+    /// are the same either way. Where it takes memory for values at all, it takes it for at least as many more as
+    /// the paper has, so one after the other each costs the same on average.
+    pub fn room_of(&mut self, paper: PaperNo, count: usize) -> Result<(), AllocError>
+        ensures ok { OnOk result (count ≤ slice_index self.new.rooms paper) }
         ensures same { self.new.files ≡ self.old.files }
-        ensures keeps { self.old.room ≤ self.new.room }
+        ensures keeps { IsNoLess self.old.rooms self.new.rooms }
     {
-        self.values.reserve(count)
+        let index = paper.number() as usize;
+        fill(&mut self.drawers, index, self.alloc)?;
+        let drawer = &mut self.drawers[index];
+        drawer.room(count)
     }
 
-    /// One more value of the paper, for which there is room, behind those that it has; takes no memory. One
-    /// binary search, and a move of the values of papers with higher numbers.
-    pub fn file(&mut self, paper: PaperNo, value: V)
-        requires { 0 < self.old.room }
-        ensures files { self.new.files ≡ with_filed (filed paper value) self.old.files }
-        ensures room { self.old.room ≤ self.new.room + 1 }
+    /// Takes the memory for one more value of each of these papers, as often as it is there; an error only for
+    /// lack of memory, and the values are the same either way. Each paper is compared with those before it.
+    pub fn room(&mut self, papers: &[PaperNo]) -> Result<(), AllocError>
+        ensures ok { OnOk result (HasRoom papers.now self.new.rooms) }
+        ensures same { self.new.files ≡ self.old.files }
+        ensures keeps { IsNoLess self.old.rooms self.new.rooms }
     {
-        let index = index_from(&self.values, paper.number() + 1);
-        match self.values.insert(index, Filed { paper, value }) {
-            Ok(()) => {}
-            Err(_) => unreachable!(),
+        for (i, paper) in papers.iter().enumerate() {
+            let count = times(&papers[..=i], *paper);
+            self.room_of(*paper, count)?;
         }
+        Ok(())
     }
+
+    /// One more value of the paper, for which there is room, behind those that it has. One read by number; takes
+    /// no memory, and moves no value.
+    pub fn file(&mut self, paper: PaperNo, value: V)
+        requires { 0 < slice_index self.old.rooms paper }
+        ensures files { self.new.files ≡ with_filed (filed paper value) self.old.files }
+        ensures rooms { IsOneLess paper self.old.rooms self.new.rooms }
+    {
+        let drawer = &mut self.drawers[paper.number() as usize];
+        drawer.push(value);
+    }
+
+    /// Another value of the paper, in the place of the one at this index among those that it has. One read by
+    /// number; takes no memory.
+    pub fn change(&mut self, paper: PaperNo, index: usize, value: V)
+        requires { index < length (filed_of paper self.old.files) }
+        ensures files { self.new.files ≡ with_changed paper index value self.old.files }
+        ensures values { self.new.files
+            ≡ with_values paper (set (filed_of paper self.old.files) index value) self.old.files }
+        ensures rooms { IsNoLess self.old.rooms self.new.rooms }
+    {
+        let drawer = &mut self.drawers[paper.number() as usize];
+        drawer.set(index, value);
+    }
+    /// One more value of the paper, for which there is room, at this index among those that it has. One read by
+    /// number; takes no memory, and moves those of the paper from there on.
+    pub fn insert(&mut self, paper: PaperNo, index: usize, value: V)
+        requires index { index ≤ length (filed_of paper self.old.files) }
+        requires room { 0 < slice_index self.old.rooms paper }
+        ensures values { self.new.files
+            ≡ with_values paper (insert (filed_of paper self.old.files) index value) self.old.files }
+        ensures rooms { IsOneLess paper self.old.rooms self.new.rooms }
+    {
+        let drawer = &mut self.drawers[paper.number() as usize];
+        drawer.insert(index, value);
+    }
+
+    /// The paper's values without the one at this index. One read by number; moves those of the paper behind it.
+    pub fn remove(&mut self, paper: PaperNo, index: usize)
+        requires { index < length (filed_of paper self.old.files) }
+        ensures values { self.new.files
+            ≡ with_values paper (remove (filed_of paper self.old.files) index) self.old.files }
+        ensures rooms { IsNoLess self.old.rooms self.new.rooms }
+    {
+        let drawer = &mut self.drawers[paper.number() as usize];
+        drawer.remove(index);
+    }
+}
+
+/// How often the paper is among these. A walk over them.
+fn times(papers: &[PaperNo], paper: PaperNo) -> usize
+    ensures { result ≡ times paper papers.now }
+{
+    papers
+        .iter()
+        .filter(|other| paper.number() == other.number())
+        .count()
+}
+
+/// Fills the drawers up with empty ones, so that one stands at this index; an error only for lack of memory.
+fn fill<V: Drop>(
+    drawers: &mut Vec<Drawer<V>>,
+    index: usize,
+    alloc: Global,
+) -> Result<(), AllocError>
+    ensures ok { OnOk result (index < length drawers.new.items) }
+    ensures same { files_from 0 drawers.new.items ≡ files_from 0 drawers.old.items }
+    ensures keeps { IsNoLess (rooms_of drawers.old.items) (rooms_of drawers.new.items) }
+{
+    while drawers.len() <= index {
+        drawers.push(Drawer::new(alloc))?;
+    }
+    Ok(())
 }

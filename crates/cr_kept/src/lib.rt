@@ -1,10 +1,10 @@
-//! What several tables keep alike: values of papers, paper by paper, and a sum for each user.
+//! What several tables keep alike: values of papers, each paper's own together, and a sum for each user.
 #![tactic(auto)]
 
+mod drawer;
 mod files;
-mod partition;
 mod sums;
 
+pub use drawer::Drawer;
 pub use files::Files;
-pub use partition::run_of;
 pub use sums::Sums;

@@ -9,7 +9,14 @@ pub record SeenPairs (V : Type 0) : Type 0 where
   pub ties : List (Tie V)
   pub room : ℕ
 
--- the ties in the order of papers, and for how many more there is room
+-- the order, the ties in it, and by the major number for how many more there is room
+pub record SeenRows (V : Type 0) : Type 0 where
+  pub order : Order
+  pub ties : List (Tie V)
+  pub rooms : List ℕ
+
+-- the ties in the order of papers, and by the paper's number and by the user's for how many more there is room
 pub record SeenIndexed (V : Type 0) : Type 0 where
   pub ties : List (Tie V)
-  pub room : ℕ
+  pub by_paper_rooms : List ℕ
+  pub by_user_rooms : List ℕ

@@ -1,11 +1,12 @@
 //! Ties of papers and users that are found by paper and by user.
-ghost use Rattle.std.specs.Prelude.{◌≡◌, ◌≤◌, ◌<◌, ◌+◌, [], OnOk, map};
+ghost use Rattle.std.specs.Prelude.{◌≡◌, ◌<◌, [], OnOk, map, slice_index};
 ghost use Rattle.cr_base.specs.Lists.{IsRising};
-ghost use Rattle.cr_base.specs.Pairs.{IsAscending, has_pair, tie_value};
+ghost use Rattle.cr_base.specs.Pairs.{IsAscending, major, has_pair, tie_value};
 ghost use Rattle.cr_base.specs.Pairs.{with_tie, without_pair, ties_of, papers_tied_to};
-ghost use Rattle.cr_base.specs.declared.pairs.Order.TheVariants.{ByPaper};
+ghost use Rattle.cr_base.specs.declared.pairs.Order.TheVariants.{ByPaper, ByUser};
+ghost use Rattle.cr_rooms.specs.Rooms.{HasRoom, IsNoLess, IsOneLess};
 
-use crate::PairMap;
+use crate::PairRows;
 use cr_base::{Order, Pair, PaperNo, Tie, UserNo};
 use std::alloc::{AllocError, Global};
 use std::marker::Model;
@@ -13,22 +14,25 @@ use std::marker::Model;
 /// A map from pairs of a paper and a user to a small value, in the order of papers, then users, and
 /// the same pairs in the order of users, then papers.
 ///
-/// Contracts see the ties in the order of papers, and for how many more there is room. That the
-/// pairs by user are the same is true of every such map.
+/// Contracts see the ties in the order of papers, and by the paper's number and by the user's for how many more
+/// there is room. That the pairs by user are the same is true of every such map.
 #[derive(Drop)]
 pub struct IndexedPairs<V> {
-    by_paper: PairMap<V>,
-    by_user: PairMap<()>,
+    by_paper: PairRows<V>,
+    by_user: PairRows<()>,
 }
 
 impl<V> Model for IndexedPairs<V> {
-    ghost use Rattle.std.specs.Prelude.{min};
     ghost use Rattle.cr_pairs.specs.Seen.{SeenIndexed};
     ghost use Rattle.cr_pairs.specs.Indexed.{IsIndexed};
 
     ghost Value = { SeenIndexed V };
 
-    ghost view = { λ s. record { ties = s.by_paper.ties; room = min s.by_paper.room s.by_user.room } };
+    ghost view = { λ s. record {
+      ties = s.by_paper.ties;
+      by_paper_rooms = s.by_paper.rooms;
+      by_user_rooms = s.by_user.rooms;
+    } };
 
     ghost invariant = { λ s. IsIndexed s.by_paper.order s.by_paper.ties s.by_user.order s.by_user.ties };
 }
@@ -39,60 +43,65 @@ impl<V: Copy + Drop> IndexedPairs<V> {
         ensures { result.ties ≡ [] }
     {
         IndexedPairs {
-            by_paper: PairMap::new(alloc, Order::ByPaper),
-            by_user: PairMap::new(alloc, Order::ByUser),
+            by_paper: PairRows::new(alloc, Order::ByPaper),
+            by_user: PairRows::new(alloc, Order::ByUser),
         }
     }
 
-    /// Whether the pair is there. One binary search.
+    /// Whether the pair is there. One read by number, and a binary search among the paper's ties.
     pub fn contains(&self, pair: &Pair) -> bool
         ensures { result ≡ has_pair pair.now self.now.ties }
     {
         self.by_paper.contains(pair)
     }
 
-    /// What is kept of the pair, and none where it isn't there. One binary search.
+    /// What is kept of the pair, and none where it isn't there. One read by number, and a binary search among the
+    /// paper's ties.
     pub fn value(&self, pair: &Pair) -> Option<V>
         ensures { result ≡ tie_value pair.now self.now.ties }
     {
         self.by_paper.value(pair)
     }
 
-    /// The ties of a paper, in the order of their users' numbers. Two binary searches; takes no
-    /// memory.
+    /// The ties of a paper, in the order of their users' numbers. One read by number; takes no memory.
     pub fn of_paper(&self, paper: PaperNo) -> &[Tie<V>]
         ensures ties { result.now ≡ ties_of ByPaper paper self.now.ties }
         ensures order { IsAscending ByPaper self.now.ties }
     {
-        self.by_paper.of_paper(paper)
+        self.by_paper.of(paper.number())
     }
 
-    /// The pairs of a user, in the order of their papers' numbers. Two binary searches; takes no
-    /// memory.
+    /// The pairs of a user, in the order of their papers' numbers. One read by number; takes no memory.
     pub fn of_user(&self, user: UserNo) -> &[Tie<()>]
         ensures papers { map (λ t. t.pair.paper) result.now ≡ papers_tied_to user self.now.ties }
         ensures rising { IsRising (papers_tied_to user self.now.ties) }
     {
-        self.by_user.of_user(user)
+        self.by_user.of(user.number())
     }
 
-    /// Takes the memory for so many more ties; an error only for lack of memory, and the ties are the
-    /// same either way.
-    pub fn room(&mut self, count: usize) -> Result<(), AllocError>
-        ensures ok { OnOk result (count ≤ self.new.room) }
+    /// Takes the memory for one more tie of each of these pairs, as often as its paper is there and as often as its
+    /// user is; an error only for lack of memory, and the ties are the same either way. Each pair is compared with
+    /// those before it, twice.
+    pub fn room(&mut self, pairs: &[Pair]) -> Result<(), AllocError>
+        ensures papers { OnOk result (HasRoom (map (major ByPaper) pairs.now) self.new.by_paper_rooms) }
+        ensures users { OnOk result (HasRoom (map (major ByUser) pairs.now) self.new.by_user_rooms) }
         ensures same { self.new.ties ≡ self.old.ties }
-        ensures keeps { self.old.room ≤ self.new.room }
+        ensures keeps_papers { IsNoLess self.old.by_paper_rooms self.new.by_paper_rooms }
+        ensures keeps_users { IsNoLess self.old.by_user_rooms self.new.by_user_rooms }
     {
-        self.by_paper.room(count)?;
-        self.by_user.room(count)
+        self.by_paper.room(pairs)?;
+        self.by_user.room(pairs)
     }
 
-    /// Puts the tie in, for which there is room, in the place of the one of its pair where that is
-    /// there. Two binary searches, and a move of the ties behind a new one; takes no memory.
+    /// Puts the tie in, for which there is room, in the place of the one of its pair where that is there. Two reads
+    /// by number, two binary searches, and a move of the paper's ties and of the user's behind a new one; takes no
+    /// memory.
     pub fn insert(&mut self, tie: Tie<V>)
-        requires { 0 < self.old.room }
+        requires paper { 0 < slice_index self.old.by_paper_rooms tie.pair.paper }
+        requires user { 0 < slice_index self.old.by_user_rooms tie.pair.user }
         ensures ties { self.new.ties ≡ with_tie ByPaper tie self.old.ties }
-        ensures room { self.old.room ≤ self.new.room + 1 }
+        ensures papers { IsOneLess tie.pair.paper self.old.by_paper_rooms self.new.by_paper_rooms }
+        ensures users { IsOneLess tie.pair.user self.old.by_user_rooms self.new.by_user_rooms }
     {
         self.by_user.insert(Tie {
             pair: tie.pair,
@@ -101,11 +110,12 @@ impl<V: Copy + Drop> IndexedPairs<V> {
         self.by_paper.insert(tie);
     }
 
-    /// Takes the pair out; nothing changes where it wasn't there. Two binary searches, and a move of
-    /// the ties behind it; its room is kept.
+    /// Takes the pair out; nothing changes where it wasn't there. Two reads by number, two binary searches, and a
+    /// move of the paper's ties and of the user's behind it; its room is kept.
     pub fn remove(&mut self, pair: &Pair)
         ensures ties { self.new.ties ≡ without_pair pair.now self.old.ties }
-        ensures room { self.old.room ≤ self.new.room }
+        ensures papers { IsNoLess self.old.by_paper_rooms self.new.by_paper_rooms }
+        ensures users { IsNoLess self.old.by_user_rooms self.new.by_user_rooms }
     {
         self.by_user.remove(pair);
         self.by_paper.remove(pair);

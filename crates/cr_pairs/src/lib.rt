@@ -1,11 +1,12 @@
-//! An ordered map from a paper and a user to what is kept of the two. A pair, and the ties with one
-//! number, are found by binary search.
+//! Ordered maps from a paper and a user to what is kept of the two, which keep the ties of each paper together, or
+//! those of each user.
 #![tactic(auto)]
 
 mod indexed_pairs;
 mod pair_map;
-mod run;
+mod pair_rows;
+mod papers;
 
 pub use indexed_pairs::IndexedPairs;
-pub use pair_map::PairMap;
-pub use run::run_of;
+pub use pair_rows::PairRows;
+pub use papers::papers_of;

@@ -1,11 +1,9 @@
 //! Ties of papers and users, each pair at most once, in ascending order.
 ghost use Rattle.std.specs.Prelude.{◌≡◌, ◌≤◌, ◌<◌, ◌+◌, [], OnOk, MatchResult};
-ghost use Rattle.cr_base.specs.Pairs.{IsAscending, has_pair, tie_value, with_tie, without_pair, ties_of};
-ghost use Rattle.cr_base.specs.declared.pairs.Order.TheVariants.{ByPaper, ByUser};
+ghost use Rattle.cr_base.specs.Pairs.{has_pair, tie_value, with_tie, without_pair};
 ghost use Rattle.cr_pairs.specs.BinarySearch.{IsAt, IsGapFor, pair_order};
 
-use crate::run::run_of;
-use cr_base::{Order, Pair, PaperNo, Tie, UserNo};
+use cr_base::{Order, Pair, Tie};
 use std::alloc::{AllocError, Global};
 use std::cmp::Ordering;
 use std::marker::Model;
@@ -15,7 +13,7 @@ use std::marker::Model;
 ///
 /// Contracts see the order, the ties in it, and for how many more there is room.
 #[derive(Drop)]
-pub struct PairMap<V> {
+pub(crate) struct PairMap<V> {
     order: Order,
     ties: Vec<Tie<V>>,
 }
@@ -42,7 +40,7 @@ fn compare(order: Order, first: &Pair, second: &Pair) -> Ordering
 
 impl<V: Copy + Drop> PairMap<V> {
     /// No ties; takes no memory.
-    pub fn new(alloc: Global, order: Order) -> PairMap<V>
+    pub(crate) fn new(alloc: Global, order: Order) -> PairMap<V>
         ensures order { result.order ≡ order }
         ensures ties { result.ties ≡ [] }
     {
@@ -53,14 +51,14 @@ impl<V: Copy + Drop> PairMap<V> {
     }
 
     /// Whether the pair is there. One binary search.
-    pub fn contains(&self, pair: &Pair) -> bool
+    pub(crate) fn contains(&self, pair: &Pair) -> bool
         ensures { result ≡ has_pair pair.now self.now.ties }
     {
         self.index_of(pair).is_ok()
     }
 
     /// What is kept of the pair, and none where it isn't there. One binary search.
-    pub fn value(&self, pair: &Pair) -> Option<V>
+    pub(crate) fn value(&self, pair: &Pair) -> Option<V>
         ensures { result ≡ tie_value pair.now self.now.ties }
     {
         match self.index_of(pair) {
@@ -69,29 +67,16 @@ impl<V: Copy + Drop> PairMap<V> {
         }
     }
 
-    /// The ties of a paper, in the order of their users' numbers, where the map is in the order of
-    /// papers. Two binary searches; takes no memory.
-    pub fn of_paper(&self, paper: PaperNo) -> &[Tie<V>]
-        requires { self.now.order ≡ ByPaper }
-        ensures ties { result.now ≡ ties_of ByPaper paper self.now.ties }
-        ensures order { IsAscending self.now.order self.now.ties }
+    /// The ties, in order. Reads none; takes no memory.
+    pub(crate) fn ties(&self) -> &[Tie<V>]
+        ensures { result.now ≡ self.now.ties }
     {
-        run_of(&self.ties, self.order, paper.number())
-    }
-
-    /// The ties of a user, in the order of their papers' numbers, where the map is in the order of
-    /// users. Two binary searches; takes no memory.
-    pub fn of_user(&self, user: UserNo) -> &[Tie<V>]
-        requires { self.now.order ≡ ByUser }
-        ensures ties { result.now ≡ ties_of ByUser user self.now.ties }
-        ensures order { IsAscending self.now.order self.now.ties }
-    {
-        run_of(&self.ties, self.order, user.number())
+        &self.ties
     }
 
     /// Takes the memory for so many more ties; an error only for lack of memory, and the ties are the
     /// same either way.
-    pub fn room(&mut self, count: usize) -> Result<(), AllocError>
+    pub(crate) fn room(&mut self, count: usize) -> Result<(), AllocError>
         ensures ok { OnOk result (count ≤ self.new.room) }
         ensures order { self.new.order ≡ self.old.order }
         ensures same { self.new.ties ≡ self.old.ties }
@@ -102,7 +87,7 @@ impl<V: Copy + Drop> PairMap<V> {
 
     /// Puts the tie in, for which there is room, in the place of the one of its pair where that is
     /// there. One binary search, and a move of the ties behind a new one; takes no memory.
-    pub fn insert(&mut self, tie: Tie<V>)
+    pub(crate) fn insert(&mut self, tie: Tie<V>)
         requires { 0 < self.old.room }
         ensures order { self.new.order ≡ self.old.order }
         ensures ties { self.new.ties ≡ with_tie self.old.order tie self.old.ties }
@@ -119,7 +104,7 @@ impl<V: Copy + Drop> PairMap<V> {
 
     /// Takes the pair out; nothing changes where it wasn't there. One binary search, and a move of
     /// the ties behind it; its room is kept.
-    pub fn remove(&mut self, pair: &Pair)
+    pub(crate) fn remove(&mut self, pair: &Pair)
         ensures order { self.new.order ≡ self.old.order }
         ensures ties { self.new.ties ≡ without_pair pair.now self.old.ties }
         ensures room { self.old.room ≤ self.new.room }

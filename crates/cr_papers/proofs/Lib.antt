@@ -1,2 +1,3 @@
 pub mod NumberLaws
-pub mod UploadLaws
+pub mod RoomLaws
+pub mod VersionLaws

@@ -1,6 +1,5 @@
 //! The table of papers: what was submitted, revised and withdrawn, what was uploaded, and how much of
-//! it is each user's. Papers and sums are found by number in constant time, and a version of a paper
-//! in expected constant time.
+//! it is each user's. Papers, their versions and sums are found by number in constant time.
 #![tactic(auto)]
 
 mod papers;

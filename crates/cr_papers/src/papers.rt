@@ -1,14 +1,16 @@
 //! The papers of a history, by number.
-ghost use Rattle.std.specs.Prelude.{◌≡◌, ◌≤◌, ◌<◌, ◌+◌, ◌^◌, ◌==◌, not, OnOk};
+ghost use Rattle.std.specs.Prelude.{◌≡◌, ◌≤◌, ◌<◌, ◌+◌, ◌^◌, ◌==◌, [], ◌∷◌, not, OnOk};
 ghost use Rattle.std.specs.Prelude.{IfOk, Some, length, map, find, unwrap_or};
-ghost use Rattle.std.specs.List.{list_any};
+ghost use Rattle.std.specs.List.{filter_map, list_any};
 ghost use Rattle.std.specs.Option.{option_map, option_copied};
 ghost use Rattle.cr_base.specs.Checks.{judged, submit_checks, revise_checks, upload_checks};
+ghost use Rattle.cr_base.specs.History.{History};
 ghost use Rattle.cr_base.specs.Lists.{last, numbers_from};
 ghost use Rattle.cr_base.specs.Papers.{no_papers, papers_after, paper_count};
 ghost use Rattle.cr_base.specs.Papers.{paper_numbers, title_at, abstract_at, PapersFit};
 ghost use Rattle.cr_base.specs.Papers.{is_withdrawn_at, uploads_at, own_count, own_bytes};
 ghost use Rattle.cr_papers.specs.Named.{named_in};
+ghost use Rattle.cr_papers.specs.Room.{paper_uploaded, PapersHaveRoom};
 
 use crate::uploads::Uploads;
 use cr_base::{
@@ -28,10 +30,11 @@ pub const MOST_OWN_BYTES: u64 = 67_108_864;
 /// uploaded to it; how many papers each user submitted, at most 20; and how many bytes she uploaded, at
 /// most 67,108,864. Who a paper's authors are stands in the table of ties.
 ///
-/// Contracts see the papers by number, the uploads in order and the sums, and for how many more entries
-/// there is room.
+/// Contracts see the papers by number, the uploads paper by paper and the sums, and for how many more papers, and
+/// uploads to each paper, there is room.
 #[derive(Drop)]
 pub struct Papers {
+    alloc: Global,
     papers: Vec<Paper>,
     uploads: Uploads,
     submitted: Sums,
@@ -39,7 +42,8 @@ pub struct Papers {
 }
 
 impl Model for Papers {
-    ghost use Rattle.std.specs.Prelude.{ℕ, ◌≡◌, ◌≤◌, ◌-◌, nat_le, min, length, vec_len, vec_capacity, if◌then◌else◌};
+    ghost use Rattle.std.specs.Prelude.{◌≤◌, ◌-◌, length, vec_len, vec_capacity};
+    ghost use Rattle.cr_papers.specs.Room.{rooms_of};
     ghost use Rattle.cr_papers.specs.Seen.{SeenPapers};
 
     ghost Value = { SeenPapers };
@@ -51,13 +55,11 @@ impl Model for Papers {
         submitted = t.submitted.sums;
         uploaded = t.uploaded.sums;
       };
-      room =
-          if nat_le 10000 (min t.submitted.capacity t.uploaded.capacity)
-          then min (vec_capacity t.papers - vec_len t.papers) t.uploads.room
-          else 0;
+      rooms = rooms_of t.submitted.capacity (vec_capacity t.papers - vec_len t.papers)
+          t.uploaded.capacity t.uploads.rooms;
     } };
 
-    ghost invariant = { λ t. (length t.papers.items ≤ 9999) × (t.uploads.papers ≡ length t.papers.items) };
+    ghost invariant = { λ t. length t.papers.items ≤ 9999 };
 }
 
 /// What is read.
@@ -67,6 +69,7 @@ impl Papers {
         ensures { result.papers ≡ no_papers }
     {
         Papers {
+            alloc,
             papers: Vec::new(alloc),
             uploads: Uploads::new(alloc),
             submitted: Sums::new(alloc),
@@ -153,15 +156,16 @@ impl Papers {
         self.uploads.last_version(paper)
     }
 
-    /// The numbers of a paper's versions, in ascending order; an error only for lack of memory. It is
-    /// told by their count alone.
+    /// The numbers of a paper's versions, in ascending order; an error only for lack of memory. One read by
+    /// number, and a walk over the versions.
     pub fn versions(&self, alloc: Global, paper: PaperNo) -> Result<Versions, AllocError>
         ensures { IfOk result (λ versions. versions ≡ map (λ u. u.version) (uploads_at self.now.papers paper)) }
     {
         self.uploads.versions(alloc, paper)
     }
 
-    /// The content of a version of a paper, and none where there is no such version. One look-up.
+    /// The content of a version of a paper, and none where there is no such version. Two reads by
+    /// number.
     pub fn content(&self, paper: PaperNo, version: u64) -> Option<&Blob>
         ensures { option_copied result ≡ option_map (λ u. u.content)
             (find (λ u. u.version == version) (uploads_at self.now.papers paper)) }
@@ -169,7 +173,7 @@ impl Papers {
         self.uploads.content(paper, version)
     }
 
-    /// The content of a paper's last version, and none where it has none. One look-up.
+    /// The content of a paper's last version, and none where it has none. One read by number.
     pub fn last_content(&self, paper: PaperNo) -> Option<&Blob>
         ensures { option_copied result ≡ option_map (λ u. u.content) (last (uploads_at self.now.papers paper)) }
     {
@@ -281,25 +285,28 @@ impl Papers {
 /// What entries make of it.
 impl Papers {
     /// Takes the memory that the entries of one command need, and the first time 80,000 bytes for the
-    /// sums; an error only for lack of memory, and the papers are the same either way.
+    /// sums; an error only for lack of memory, and the papers are the same either way. Each paper to which they
+    /// upload is compared with those before it.
     pub fn room(&mut self, group: &[Stamped]) -> Result<(), AllocError>
-        ensures ok { OnOk result (length group.now ≤ self.new.room) }
+        ensures ok { OnOk result (PapersHaveRoom group.now self.new.rooms) }
         ensures same { self.new.papers ≡ self.old.papers }
-        ensures keeps { self.old.room ≤ self.new.room }
+        ensures keeps { (any : History) → PapersHaveRoom any self.old.rooms → PapersHaveRoom any self.new.rooms }
     {
+        let papers = papers_uploaded(self.alloc, group)?;
         self.submitted.make_room()?;
         self.uploaded.make_room()?;
         self.papers.reserve(group.len())?;
-        self.uploads.make_room(group.len())
+        self.uploads.room(&papers)
     }
 
     /// One more entry, for which there is room. It is taken whole, since the texts and the content of a
-    /// paper are kept; takes no memory.
+    /// paper are kept; takes no memory. It costs a few reads by number.
     pub fn apply(&mut self, stamped: Stamped)
-        requires room { 0 < self.old.room }
+        requires room { PapersHaveRoom (stamped ∷ []) self.old.rooms }
         requires fits { PapersFit self.old.papers stamped.stamp.maker stamped.entry }
         ensures after { self.new.papers ≡ papers_after self.old.papers stamped.stamp.maker stamped.entry }
-        ensures room { self.old.room ≤ self.new.room + 1 }
+        ensures room { (rest : History)
+            → PapersHaveRoom (stamped ∷ rest) self.old.rooms → PapersHaveRoom rest self.new.rooms }
     {
         let Stamped { stamp, entry, .. } = stamped;
         match entry {
@@ -309,7 +316,6 @@ impl Papers {
                 ..
             } => {
                 self.submitted.add(stamp.maker, 1);
-                self.uploads.add_paper();
                 self.papers.push_reserved(Paper {
                     title,
                     abstract_,
@@ -340,4 +346,24 @@ impl Papers {
             _ => {}
         }
     }
+}
+
+/// The paper to which the entry uploads, if it does.
+fn paper_uploaded(stamped: &Stamped) -> Option<PaperNo>
+    ensures { result ≡ paper_uploaded stamped.now }
+{
+    match &stamped.entry {
+        Entry::Uploaded { paper, .. } => Some(*paper),
+        _ => None,
+    }
+}
+
+/// The papers to which the entries upload, as often as they do.
+fn papers_uploaded(alloc: Global, group: &[Stamped]) -> Result<Vec<PaperNo>, AllocError>
+    ensures { IfOk result (λ papers. papers.items ≡ filter_map paper_uploaded group.now) }
+{
+    group
+        .iter()
+        .filter_map(|stamped| paper_uploaded(stamped))
+        .collect(alloc)
 }

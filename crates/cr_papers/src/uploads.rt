@@ -1,210 +1,166 @@
 //! What was uploaded to papers, by version.
-ghost use Rattle.std.specs.Prelude.{◌≡◌, ℕ, ◌≤◌, ◌<◌, ◌+◌, ◌^◌, ◌==◌, ◌++◌, ◌∷◌, []};
-ghost use Rattle.std.specs.Prelude.{OnOk, IfOk, length, map, find, slice_get, unwrap_or};
+ghost use Rattle.std.specs.Prelude.{◌≡◌, ◌≤◌, ◌<◌, ◌+◌, ◌^◌, ◌==◌, []};
+ghost use Rattle.std.specs.Prelude.{OnOk, IfOk, length, map, find, slice_get, slice_index};
 ghost use Rattle.std.specs.Option.{option_map, option_copied};
+ghost use Rattle.cr_base.specs.Filed.{filed, with_filed, filed_of};
 ghost use Rattle.cr_base.specs.Lists.{last, numbers_from};
-ghost use Rattle.cr_papers.specs.Index.{uploads_to, numbers_to, upload_at};
+ghost use Rattle.cr_rooms.specs.Rooms.{HasRoom, IsNoLess, IsOneLess};
 
 use cr_base::{Blob, PaperNo, Versions};
-use indexmap::IndexMap;
+use cr_kept::Files;
 use std::alloc::{AllocError, Global};
 use std::marker::Model;
 
-/// Which upload it is: the paper's number, and the version's, which is counted from 1 for each paper.
-#[derive(Clone, Copy, PartialEq, Eq, Hash)]
-pub(crate) struct VersionOf {
-    paper: u64,
-    version: u64,
-}
-
-/// An upload, and the paper that it was to. Contracts see it as `PaperUpload`.
+/// A version of a paper's content. Contracts see it as `Upload`.
 #[derive(Drop)]
 pub(crate) struct Kept {
-    paper: PaperNo,
     version: u64,
     content: Blob,
 }
 
 impl Model for Kept {
-    ghost use Rattle.cr_base.specs.Papers.{PaperUpload};
+    ghost use Rattle.cr_base.specs.History.{Upload};
 
-    ghost Value = { PaperUpload };
+    ghost Value = { Upload };
 
-    ghost view = { λ k. record { paper = k.paper; upload = record { version = k.version; content = k.content } } };
+    ghost view = { λ k. record { version = k.version; content = k.content } };
 }
 
-/// All uploads in their order, and the index of each version of a paper among them.
+/// The versions of each paper, in the order in which they were uploaded.
 ///
-/// Contracts see the uploads, how many papers there are, and for how many more of either there is room.
-/// A paper's versions are 1, 2 and so on, and each is found by its number: that is true of every table.
+/// Contracts see the uploads paper by paper, and for how many more to each paper there is room. A paper's versions
+/// are 1, 2 and so on: that is true of every table.
 #[derive(Drop)]
 pub(crate) struct Uploads {
-    uploads: Vec<Kept>,
-    // How many versions each paper has, by its number.
-    counts: Vec<u64>,
-    // The index of each among the uploads.
-    indices: IndexMap<VersionOf, usize>,
+    uploads: Files<Kept>,
 }
 
 impl Model for Uploads {
-    ghost use Rattle.std.specs.Prelude.{ℕ, ◌-◌, length, min, vec_len, vec_capacity};
-    ghost use Rattle.indexmap.specs.IndexMap.{spare};
     ghost use Rattle.cr_papers.specs.Seen.{SeenUploads};
-    ghost use Rattle.cr_papers.specs.Index.{IsVersionIndex};
+    ghost use Rattle.cr_papers.specs.Versions.{AreNumbered};
 
     ghost Value = { SeenUploads };
 
-    ghost view = { λ t. record {
-      uploads = t.uploads.items;
-      papers = length t.counts.items;
-      room = min (vec_capacity t.uploads - vec_len t.uploads)
-          (min (vec_capacity t.counts - vec_len t.counts) (spare t.indices));
-    } };
+    ghost view = { λ t. record { uploads = t.uploads.files; rooms = t.uploads.rooms } };
 
-    ghost invariant = { λ t. IsVersionIndex t.uploads.items t.counts.items t.indices };
+    ghost invariant = { λ t. AreNumbered t.uploads.files };
 }
 
 /// What is read.
 impl Uploads {
-    /// No papers, and no uploads; takes no memory.
+    /// No uploads; takes no memory.
     pub(crate) fn new(alloc: Global) -> Uploads
-        ensures uploads { result.uploads ≡ [] }
-        ensures papers { result.papers ≡ 0 }
+        ensures { result.uploads ≡ [] }
     {
         Uploads {
-            uploads: Vec::new(alloc),
-            counts: Vec::new(alloc),
-            indices: IndexMap::new(alloc),
+            uploads: Files::new(alloc),
         }
+    }
+
+    /// The versions of a paper, in their order; none where there is no such paper. One read by number.
+    fn of_paper(&self, paper: PaperNo) -> &[Kept]
+        ensures uploads { result.now ≡ filed_of paper self.now.uploads }
+        ensures numbers { map (λ u. u.version) result.now ≡ numbers_from 1 result.now }
+    {
+        self.uploads.of_paper(paper)
     }
 
     /// How many versions a paper has, 0 where there is no such paper. They are numbered from 1, so this
     /// is the last one's number too. One read by number.
     pub(crate) fn count(&self, paper: PaperNo) -> u64
-        ensures count { result ≡ length (uploads_to paper self.now.uploads) }
-        ensures numbers { map (λ u. u.version) (uploads_to paper self.now.uploads)
-            ≡ numbers_from 1 (uploads_to paper self.now.uploads) }
+        ensures count { result ≡ length (filed_of paper self.now.uploads) }
+        ensures numbers { map (λ u. u.version) (filed_of paper self.now.uploads)
+            ≡ numbers_from 1 (filed_of paper self.now.uploads) }
         ensures few { result < 2 ^ 63 }
     {
-        count_at(&self.counts, paper.from_zero())
+        self.of_paper(paper).len() as u64
     }
 
     /// The number of a paper's last version, and none where it has none. One read by number.
-    #[tactic(auto, using(crate::proofs::UploadLaws::number_last))]
     pub(crate) fn last_version(&self, paper: PaperNo) -> Option<u64>
-        ensures { result ≡ option_map (λ u. u.version) (last (uploads_to paper self.now.uploads)) }
+        ensures { result ≡ option_map (λ u. u.version) (last (filed_of paper self.now.uploads)) }
     {
-        match self.count(paper) {
-            0 => None,
-            count => Some(count),
-        }
+        let kept = last_of(self.of_paper(paper))?;
+        Some(kept.version)
     }
 
-    /// The numbers of a paper's versions, in ascending order; an error only for lack of memory. It is
-    /// told by their count alone.
+    /// The numbers of a paper's versions, in ascending order; an error only for lack of memory. One read by
+    /// number, and a walk over the versions.
     pub(crate) fn versions(&self, alloc: Global, paper: PaperNo) -> Result<Versions, AllocError>
-        ensures { IfOk result (λ versions. versions ≡ map (λ u. u.version) (uploads_to paper self.now.uploads)) }
+        ensures { IfOk result (λ versions. versions ≡ map (λ u. u.version) (filed_of paper self.now.uploads)) }
     {
-        first_numbers(alloc, self.count(paper))
+        let numbers = self
+            .of_paper(paper)
+            .iter()
+            .map(|kept| kept.version)
+            .collect(alloc)?;
+        Ok(Versions::from_vec(numbers))
     }
 
-    /// The content of a version of a paper, and none where there is no such version. One look-up.
+    /// The content of a version of a paper, and none where there is no such version. Two reads by number.
     pub(crate) fn content(&self, paper: PaperNo, version: u64) -> Option<&Blob>
         ensures { option_copied result ≡ option_map (λ u. u.content)
-            (find (λ u. u.version == version) (uploads_to paper self.now.uploads)) }
+            (find (λ u. u.version == version) (filed_of paper self.now.uploads)) }
     {
-        let key = VersionOf {
-            paper: paper.number(),
-            version,
-        };
-        content_at(&self.uploads, self.indices.get(&key).copied())
+        let kept = version_of(self.of_paper(paper), version)?;
+        Some(&kept.content)
     }
 
-    /// The content of a paper's last version, and none where it has none. One look-up.
+    /// The content of a paper's last version, and none where it has none. One read by number.
     pub(crate) fn last_content(&self, paper: PaperNo) -> Option<&Blob>
-        ensures { option_copied result ≡ option_map (λ u. u.content) (last (uploads_to paper self.now.uploads)) }
+        ensures { option_copied result ≡ option_map (λ u. u.content) (last (filed_of paper self.now.uploads)) }
     {
-        self.content(paper, self.count(paper))
+        let kept = last_of(self.of_paper(paper))?;
+        Some(&kept.content)
     }
 }
 
 /// What is added.
 impl Uploads {
-    /// Takes the memory for so many more papers or uploads; an error only for lack of memory, and the
-    /// uploads are the same either way.
-    pub(crate) fn make_room(&mut self, more: usize) -> Result<(), AllocError>
-        ensures ok { OnOk result (more ≤ self.new.room) }
-        ensures uploads { self.new.uploads ≡ self.old.uploads }
-        ensures papers { self.new.papers ≡ self.old.papers }
-        ensures keeps { self.old.room ≤ self.new.room }
+    /// Takes the memory for one more upload to each of these papers, as often as it is there; an error only for
+    /// lack of memory, and the uploads are the same either way. Each paper is compared with those before it.
+    pub(crate) fn room(&mut self, papers: &[PaperNo]) -> Result<(), AllocError>
+        ensures ok { OnOk result (HasRoom papers.now self.new.rooms) }
+        ensures same { self.new.uploads ≡ self.old.uploads }
+        ensures keeps { IsNoLess self.old.rooms self.new.rooms }
     {
-        self.uploads.reserve(more)?;
-        self.counts.reserve(more)?;
-        self.indices.reserve(more)
+        self.uploads.room(papers)
     }
 
-    /// One more paper, with no versions, for which there is room; takes no memory.
-    pub(crate) fn add_paper(&mut self)
-        requires { 0 < self.old.room }
-        ensures uploads { self.new.uploads ≡ self.old.uploads }
-        ensures papers { self.new.papers ≡ self.old.papers + 1 }
-        ensures room { self.old.room ≤ self.new.room + 1 }
-    {
-        self.counts.push_reserved(0);
-    }
-
-    /// One more version of a paper that is there, for which there is room; takes no memory.
+    /// One more version of a paper, for which there is room; takes no memory, and moves no other.
     pub(crate) fn add(&mut self, paper: PaperNo, version: u64, content: Blob)
-        requires room { 0 < self.old.room }
-        requires there { paper ≤ self.old.papers }
-        requires next { version ≡ length (uploads_to paper self.old.uploads) + 1 }
-        ensures uploads { self.new.uploads ≡ self.old.uploads
-            ++ (record { paper = paper; upload = record { version = version; content = content } }) ∷ [] }
-        ensures papers { self.new.papers ≡ self.old.papers }
-        ensures room { self.old.room ≤ self.new.room + 1 }
+        requires room { 0 < slice_index self.old.rooms paper }
+        requires next { version ≡ length (filed_of paper self.old.uploads) + 1 }
+        ensures uploads { self.new.uploads
+            ≡ with_filed (filed paper (record { version = version; content = content })) self.old.uploads }
+        ensures rooms { IsOneLess paper self.old.rooms self.new.rooms }
     {
-        let key = VersionOf {
-            paper: paper.number(),
-            version,
-        };
-        match self.indices.insert(key, self.uploads.len()) {
-            Ok(_) => {}
-            Err(_) => unreachable!(),
-        }
-        self.counts[paper.from_zero()] = version;
-        self.uploads.push_reserved(Kept {
-            paper,
-            version,
-            content,
-        });
+        self.uploads.file(paper, Kept { version, content });
     }
 }
 
-/// The count at an index, and 0 behind the last.
-fn count_at(counts: &[u64], index: usize) -> u64
-    ensures { result ≡ unwrap_or (slice_get counts.now index) 0 }
+/// The version of a number, if there is one, where they are numbered from 1.
+fn version_of(versions: &[Kept], version: u64) -> Option<&Kept>
+    requires { map (λ u. u.version) versions.now ≡ numbers_from 1 versions.now }
+    ensures { option_copied result ≡ find (λ u. u.version == version) versions.now }
 {
-    match counts.get(index) {
-        Some(count) => *count,
-        None => 0,
+    if version == 0 {
+        return None;
     }
+    version_at(versions, (version - 1) as usize)
 }
 
-/// The content of the upload at an index, if one is told.
-fn content_at(uploads: &[Kept], index: Option<usize>) -> Option<&Blob>
-    ensures { option_copied result ≡ option_map (λ u. u.upload.content) (upload_at uploads.now index) }
+/// The version at an index, if there is one.
+fn version_at(versions: &[Kept], index: usize) -> Option<&Kept>
+    ensures { option_copied result ≡ slice_get versions.now index }
 {
-    let kept = uploads.get(index?)?;
-    Some(&kept.content)
+    let kept = versions.get(index)?;
+    Some(kept)
 }
 
-/// The numbers from 1 to the last one; an error only for lack of memory.
-fn first_numbers(alloc: Global, last: u64) -> Result<Versions, AllocError>
-    ensures { IfOk result (λ numbers. numbers ≡ numbers_to last) }
+/// The last version, if there is one.
+fn last_of(versions: &[Kept]) -> Option<&Kept>
+    ensures { option_copied result ≡ last versions.now }
 {
-    let mut numbers = Vec::new(alloc);
-    for number in 0..last {
-        numbers.push(number + 1)?;
-    }
-    Ok(Versions::from_vec(numbers))
+    versions.last()
 }

@@ -1,3 +1,4 @@
 pub mod Labels
+pub mod Room
 pub mod Seen
 pub mod Under

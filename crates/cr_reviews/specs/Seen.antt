@@ -1,8 +1,8 @@
 -- What contracts see of the table of reviews.
-use Rattle.std.specs.Prelude.{ℕ}
+use Rattle.std.specs.Prelude.{ℕ, List}
 use Rattle.cr_base.specs.Reviews.{ReviewsState}
 
--- the phase and the forms, and for how many more entries there is room
+-- the phase and the forms, and by the paper's number for how many more forms of it there is room
 pub record SeenReviews : Type 0 where
   pub reviews : ReviewsState
-  pub room : ℕ
+  pub rooms : List ℕ

@@ -1,8 +1,6 @@
 -- The forms of a paper that were written under a label.
 use Rattle.std.specs.Prelude.{ℕ, Bool, not, ◌&&◌, ◌==◌, List, find, map, reverse, Option}
 use Rattle.std.specs.List.{flat_map}
-use Rattle.std.specs.Option.{option_map}
-use Rattle.cr_base.specs.declared.filed.Filed.{Filed}
 use Rattle.cr_base.specs.declared.review.WrittenForm.{WrittenForm}
 use Rattle.cr_base.specs.History.{FormTold}
 use Rattle.cr_base.specs.Lists.{listed}
@@ -25,6 +23,5 @@ is_written ordinal (Before phase) form = is_under ordinal form && not (is_from p
 is_written ordinal (Since phase) form = is_under ordinal form && is_from phase form.phase
 
 -- the last of these forms that passes a test
-abbrev pub last_that : (WrittenForm → Bool) → List (Filed WrittenForm) → Option WrittenForm
-last_that passes forms =
-    option_map (λ (x : Filed WrittenForm). x.value) (find (λ (x : Filed WrittenForm). passes x.value) (reverse forms))
+abbrev pub last_that : (WrittenForm → Bool) → List WrittenForm → Option WrittenForm
+last_that passes forms = find passes (reverse forms)

@@ -7,7 +7,7 @@ ghost use Rattle.cr_reviews.specs.Labels.{has_label};
 ghost use Rattle.cr_reviews.specs.Under.{is_under, is_written, last_that};
 
 use crate::labels::Labels;
-use cr_base::{Filed, Ordinal, Phase, WrittenForm};
+use cr_base::{Ordinal, Phase, WrittenForm};
 
 /// When a form was written.
 #[derive(Clone, Copy)]
@@ -32,44 +32,40 @@ fn is_written(form: &WrittenForm, ordinal: Ordinal, when: Written) -> bool
 }
 
 /// How many there are. A walk over all forms.
-pub(crate) fn count_under(forms: &[Filed<WrittenForm>], ordinal: Ordinal) -> usize
-    ensures { result ≡ count_by (λ filed. is_under ordinal filed.value) forms.now }
+pub(crate) fn count_under(forms: &[WrittenForm], ordinal: Ordinal) -> usize
+    ensures { result ≡ count_by (is_under ordinal) forms.now }
 {
-    forms
-        .iter()
-        .filter(|filed| filed.value.is_under(ordinal))
-        .count()
+    forms.iter().filter(|form| form.is_under(ordinal)).count()
 }
 
 /// Whether there is one. A walk up to the first.
-pub(crate) fn has_under(forms: &[Filed<WrittenForm>], ordinal: Ordinal) -> bool
-    ensures { result ≡ list_any (λ filed. is_under ordinal filed.value) forms.now }
+pub(crate) fn has_under(forms: &[WrittenForm], ordinal: Ordinal) -> bool
+    ensures { result ≡ list_any (is_under ordinal) forms.now }
 {
-    forms.iter().any(|filed| filed.value.is_under(ordinal))
+    forms.iter().any(|form| form.is_under(ordinal))
 }
 
 /// The last of them that was written then. A walk back to it.
 pub(crate) fn last_of(
-    forms: &[Filed<WrittenForm>],
+    forms: &[WrittenForm],
     ordinal: Ordinal,
     when: Written,
 ) -> Option<&WrittenForm>
     ensures { option_copied result ≡ last_that (is_written ordinal when) forms.now }
 {
-    let filed = forms
+    forms
         .iter()
         .rev()
-        .find(|filed| is_written(&filed.value, ordinal, when))?;
-    Some(&filed.value)
+        .find(|form| is_written(form, ordinal, when))
 }
 
 /// The labels under which there is one. One walk.
-pub(crate) fn labels_of(forms: &[Filed<WrittenForm>]) -> Labels
-    ensures { (o : ℕ) → has_label result o ≡ list_any (λ filed. is_under o filed.value) forms.now }
+pub(crate) fn labels_of(forms: &[WrittenForm]) -> Labels
+    ensures { (o : ℕ) → has_label result o ≡ list_any (is_under o) forms.now }
 {
     let mut labels = Labels::none();
-    for filed in forms {
-        labels.add(filed.value.ordinal);
+    for form in forms {
+        labels.add(form.ordinal);
     }
     labels
 }

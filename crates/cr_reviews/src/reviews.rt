@@ -1,17 +1,20 @@
 //! The forms that reviewers have written of papers.
-ghost use Rattle.std.specs.Prelude.{◌≡◌, ℕ, ◌≤◌, ◌<◌, ◌+◌, ◌^◌, OnOk, length, map, is_some, unwrap_or};
+ghost use Rattle.std.specs.Prelude.{◌≡◌, ℕ, ◌<◌, ◌+◌, ◌^◌, [], ◌∷◌, OnOk, IfOk, length, is_some, unwrap_or};
+ghost use Rattle.std.specs.List.{filter_map};
 ghost use Rattle.std.specs.Option.{option_copied};
 ghost use Rattle.cr_base.specs.Checks.{judged, review_checks};
 ghost use Rattle.cr_base.specs.Filed.{filed_of};
+ghost use Rattle.cr_base.specs.History.{History};
 ghost use Rattle.cr_base.specs.Lists.{last};
 ghost use Rattle.cr_base.specs.Reviews.{no_reviews, reviews_after, last_form_in};
 ghost use Rattle.cr_base.specs.Reviews.{last_form_before, forms_from, is_written_in};
 ghost use Rattle.cr_reviews.specs.Labels.{has_label};
+ghost use Rattle.cr_reviews.specs.Room.{paper_reviewed, ReviewsHaveRoom};
 ghost use Rattle.cr_reviews.specs.Under.{forms_by};
 
 use crate::forms::{Written, count_under, has_under, labels_of, last_of};
 use crate::labels::Labels;
-use cr_base::{Entry, Filed, Ordinal, PaperNo, Phase, Rule, Stamped, Standing, WrittenForm};
+use cr_base::{Entry, Ordinal, PaperNo, Phase, Rule, Stamped, Standing, WrittenForm};
 use cr_kept::Files;
 use std::alloc::{AllocError, Global};
 use std::marker::Model;
@@ -19,9 +22,10 @@ use std::marker::Model;
 /// The forms of each paper in the order in which they were written, all of them; and the phase, which each
 /// form takes over when it is written.
 ///
-/// Contracts see the phase and the forms paper by paper, and for how many more entries there is room.
+/// Contracts see the phase and the forms paper by paper, and for how many more forms of each paper there is room.
 #[derive(Drop)]
 pub struct Reviews {
+    alloc: Global,
     phase: Phase,
     forms: Files<WrittenForm>,
 }
@@ -33,7 +37,7 @@ impl Model for Reviews {
 
     ghost view = { λ t. record {
       reviews = record { phase = t.phase; forms = t.forms.files };
-      room = t.forms.room;
+      rooms = t.forms.rooms;
     } };
 }
 
@@ -44,21 +48,22 @@ impl Reviews {
         ensures { result.reviews ≡ no_reviews }
     {
         Reviews {
+            alloc,
             phase: Phase::Setup,
             forms: Files::new(alloc),
         }
     }
 
     /// The forms of the paper, under all labels, in the order in which they were written; none where there
-    /// is no such paper. Two binary searches; takes no memory.
-    pub fn forms(&self, paper: PaperNo) -> &[Filed<WrittenForm>]
-        ensures { map (λ filed. filed.value) result.now ≡ filed_of paper self.now.reviews.forms }
+    /// is no such paper. One read by number; takes no memory.
+    pub fn forms(&self, paper: PaperNo) -> &[WrittenForm]
+        ensures { result.now ≡ filed_of paper self.now.reviews.forms }
     {
         self.forms.of_paper(paper)
     }
 
-    /// The last form under the paper's label of this ordinal, and none where there is none. Two binary
-    /// searches, and a walk over the paper's forms back to it.
+    /// The last form under the paper's label of this ordinal, and none where there is none. One read
+    /// by number, and a walk over the paper's forms back to it.
     pub fn last(&self, paper: PaperNo, ordinal: Ordinal) -> Option<&WrittenForm>
         ensures { option_copied result ≡ last_form_in self.now.reviews paper ordinal }
     {
@@ -85,7 +90,7 @@ impl Reviews {
         last_of(self.forms(paper), ordinal, Written::Since(phase))
     }
 
-    /// Whether there is a form under the paper's label of this ordinal. Two binary searches, and a walk over
+    /// Whether there is a form under the paper's label of this ordinal. One read by number, and a walk over
     /// the paper's forms up to the first.
     pub fn has_form(&self, paper: PaperNo, ordinal: Ordinal) -> bool
         ensures { result ≡ is_written_in self.now.reviews paper ordinal }
@@ -93,7 +98,7 @@ impl Reviews {
         has_under(self.forms(paper), ordinal)
     }
 
-    /// The labels of the paper under which there is a form. Two binary searches, and one walk over the
+    /// The labels of the paper under which there is a form. One read by number, and one walk over the
     /// paper's forms.
     pub fn labels(&self, paper: PaperNo) -> Labels
         ensures { (o : ℕ) → has_label result o ≡ is_written_in self.now.reviews paper o }
@@ -104,7 +109,7 @@ impl Reviews {
     /// The version that a form under this label of this paper would be now, the count of forms under the
     /// label plus 1, or the first broken rule. `by` is the caller's standing at the paper, `ordinal` that of
     /// the label under which she reviews it, if she does; `paper` is none where there is no such paper.
-    /// Whether it is withdrawn stands in none of the forms. Two binary searches, and a walk over the paper's
+    /// Whether it is withdrawn stands in none of the forms. One read by number, and a walk over the paper's
     /// forms; takes no memory.
     ///
     /// In this order: `NoPaper`, `NotMember`, `Conflict`, `NotReviewer` where she doesn't review the paper,
@@ -154,21 +159,23 @@ impl Reviews {
 /// What entries make of it.
 impl Reviews {
     /// Takes the memory that the entries of one command need; an error only for lack of memory, and the
-    /// forms are the same either way.
+    /// forms are the same either way. Each paper of which they are reviews is compared with those before it.
     pub fn room(&mut self, group: &[Stamped]) -> Result<(), AllocError>
-        ensures ok { OnOk result (length group.now ≤ self.new.room) }
+        ensures ok { OnOk result (ReviewsHaveRoom group.now self.new.rooms) }
         ensures same { self.new.reviews ≡ self.old.reviews }
-        ensures keeps { self.old.room ≤ self.new.room }
+        ensures keeps { (any : History) → ReviewsHaveRoom any self.old.rooms → ReviewsHaveRoom any self.new.rooms }
     {
-        self.forms.room(group.len())
+        let papers = papers_reviewed(self.alloc, group)?;
+        self.forms.room(&papers)
     }
 
     /// One more entry, for which there is room. It is taken whole, since a form's texts are kept; takes no
-    /// memory. A form costs one binary search, and a move of the forms of papers with higher numbers.
+    /// memory. A form costs one read by number, and moves none of the others.
     pub fn apply(&mut self, stamped: Stamped)
-        requires { 0 < self.old.room }
+        requires { ReviewsHaveRoom (stamped ∷ []) self.old.rooms }
         ensures after { self.new.reviews ≡ reviews_after self.old.reviews stamped.entry }
-        ensures room { self.old.room ≤ self.new.room + 1 }
+        ensures room { (rest : History)
+            → ReviewsHaveRoom (stamped ∷ rest) self.old.rooms → ReviewsHaveRoom rest self.new.rooms }
     {
         let Stamped { entry, .. } = stamped;
         match entry {
@@ -193,4 +200,24 @@ impl Reviews {
             _ => {}
         }
     }
+}
+
+/// The paper of which the entry is a review, if it is one.
+fn paper_reviewed(stamped: &Stamped) -> Option<PaperNo>
+    ensures { result ≡ paper_reviewed stamped.now }
+{
+    match &stamped.entry {
+        Entry::Reviewed { paper, .. } => Some(*paper),
+        _ => None,
+    }
+}
+
+/// The papers of which the entries are reviews, as often as they are.
+fn papers_reviewed(alloc: Global, group: &[Stamped]) -> Result<Vec<PaperNo>, AllocError>
+    ensures { IfOk result (λ papers. papers.items ≡ filter_map paper_reviewed group.now) }
+{
+    group
+        .iter()
+        .filter_map(|stamped| paper_reviewed(stamped))
+        .collect(alloc)
 }

@@ -1,2 +1,3 @@
 pub mod ForLaws
 pub mod BinarySearchLaws
+pub mod PaperTags

@@ -1,39 +1,42 @@
 //! The tags that are on.
-ghost use Rattle.std.specs.Prelude.{◌≡◌, ◌≤◌, ◌<◌, ◌+◌, ◌&&◌, OnOk, IfOk, MatchResult};
-ghost use Rattle.std.specs.Prelude.{Some, true, false, length, map, is_some};
+ghost use Rattle.std.specs.Prelude.{◌≡◌, ◌<◌, ◌&&◌, [], ◌∷◌, OnOk, IfOk, MatchResult};
+ghost use Rattle.std.specs.Prelude.{Some, true, false, is_some, slice_index};
 ghost use Rattle.std.specs.Str.{bytes_eq};
-ghost use Rattle.std.specs.List.{list_any};
+ghost use Rattle.std.specs.List.{filter_map, list_any};
 ghost use Rattle.cr_base.specs.Checks.{judged, tag_checks};
-ghost use Rattle.cr_base.specs.Filed.{filed};
+ghost use Rattle.cr_base.specs.Filed.{filed, filed_of};
+ghost use Rattle.cr_base.specs.History.{History};
+ghost use Rattle.cr_rooms.specs.Rooms.{IsNoLess, IsOneLess};
 ghost use Rattle.cr_base.specs.TagTexts.{is_for_chairs};
 ghost use Rattle.cr_base.specs.Tags.{no_tags, tag_owner, is_tag_for, tags_for, tag_switched, tags_after, tags_in};
 ghost use Rattle.cr_tags.specs.BinarySearch.{IsAt, IsGapFor};
+ghost use Rattle.cr_tags.specs.Room.{paper_tagged, TagsHaveRoom};
 
 use crate::order::compare;
-use cr_base::{Entry, Filed, PaperNo, Rule, SetTag, Stamped, Standing, Tag, TagList, UserNo};
-use cr_kept::run_of;
+use cr_base::{Entry, PaperNo, Rule, SetTag, Stamped, Standing, Tag, TagList, UserNo};
+use cr_kept::Files;
 use std::alloc::{AllocError, Global};
 use std::marker::Model;
 
-/// The tags that are on, paper by paper, and those of a paper by their bytes; a private one as often as users
-/// have set it, by their numbers.
+/// The tags that are on: each paper's own together, by their bytes; a private one as often as users have set it,
+/// by their numbers.
 ///
-/// Contracts see the tags, and for how many more there is room.
+/// Contracts see the tags paper by paper, and for how many more at each paper there is room.
 #[derive(Drop)]
 pub struct Tags {
-    tags: Vec<Filed<SetTag>>,
+    alloc: Global,
+    tags: Files<SetTag>,
 }
 
 impl Model for Tags {
-    ghost use Rattle.std.specs.Prelude.{◌-◌, vec_len, vec_capacity};
     ghost use Rattle.cr_base.specs.Tags.{IsSortedState};
     ghost use Rattle.cr_tags.specs.Seen.{SeenTags};
 
     ghost Value = { SeenTags };
 
-    ghost view = { λ t. record { tags = t.tags.items; room = vec_capacity t.tags - vec_len t.tags } };
+    ghost view = { λ t. record { tags = t.tags.files; rooms = t.tags.rooms } };
 
-    ghost invariant = { λ t. IsSortedState t.tags.items };
+    ghost invariant = { λ t. IsSortedState t.tags.files };
 }
 
 /// Who owns a tag that this user sets: she does, where it is private, and else nobody.
@@ -41,16 +44,6 @@ fn owner_of(tag: &Tag, maker: UserNo) -> Option<UserNo>
     ensures { result ≡ tag_owner tag.now maker }
 {
     if tag.is_private() { Some(maker) } else { None }
-}
-
-/// The tag at the paper.
-fn set_at(paper: PaperNo, tag: Tag, owner: Option<UserNo>) -> Filed<SetTag>
-    ensures { result ≡ filed paper (record { tag = tag; owner = owner }) }
-{
-    Filed {
-        paper,
-        value: SetTag { tag, owner },
-    }
 }
 
 /// Whether the tag is for this user: everyone's; her own private one; or a chair's, where she is one.
@@ -73,15 +66,13 @@ fn is_for(set: &SetTag, user: UserNo, chair: bool) -> bool
 /// memory.
 fn those_for(
     alloc: Global,
-    filed: &[Filed<SetTag>],
+    sets: &[SetTag],
     user: UserNo,
     chair: bool,
 ) -> Result<Vec<Tag>, AllocError>
-    ensures { IfOk result (λ tags. tags.items ≡ tags_for (Some user) chair (map (λ x. x.value) filed.now)) }
+    ensures { IfOk result (λ tags. tags.items ≡ tags_for (Some user) chair sets.now) }
 {
-    filed
-        .iter()
-        .map(|filed| filed.value)
+    sets.iter()
         .filter(|set| is_for(set, user, chair))
         .map(|set| set.tag)
         .collect(alloc)
@@ -95,12 +86,10 @@ fn is_it_for(set: &SetTag, tag: &Tag, user: UserNo, chair: bool) -> bool
 }
 
 /// Whether this tag is one of the tags, and is for this user. A walk over them up to it.
-fn has_it_for(filed: &[Filed<SetTag>], tag: &Tag, user: UserNo, chair: bool) -> bool
-    ensures { result ≡ list_any (λ x. is_tag_for (Some user) chair x.value && bytes_eq tag.now x.value.tag) filed.now }
+fn has_it_for(sets: &[SetTag], tag: &Tag, user: UserNo, chair: bool) -> bool
+    ensures { result ≡ list_any (λ set. is_tag_for (Some user) chair set && bytes_eq tag.now set.tag) sets.now }
 {
-    filed
-        .iter()
-        .any(|filed| is_it_for(&filed.value, tag, user, chair))
+    sets.iter().any(|set| is_it_for(set, tag, user, chair))
 }
 
 /// What is read.
@@ -110,7 +99,8 @@ impl Tags {
         ensures { result.tags ≡ no_tags }
     {
         Tags {
-            tags: Vec::new(alloc),
+            alloc,
+            tags: Files::new(alloc),
         }
     }
 
@@ -153,7 +143,7 @@ impl Tags {
     }
 
     /// The tags on the paper that are for this user, by their bytes: everyone's, her own private ones, and
-    /// those for chairs where she is one. None where there is no such paper. Two binary searches, and a copy
+    /// those for chairs where she is one. None where there is no such paper. One read by number, and a copy
     /// of those tags, of 48 bytes each; an error only for lack of memory.
     pub fn tags_for(
         &self,
@@ -164,52 +154,53 @@ impl Tags {
     ) -> Result<TagList, AllocError>
         ensures { IfOk result (λ tags. tags ≡ tags_in self.now.tags (Some user) chair paper) }
     {
-        let tags = those_for(alloc, run_of(&self.tags, paper), user, chair)?;
+        let tags = those_for(alloc, self.tags.of_paper(paper), user, chair)?;
         Ok(TagList::from_vec(tags))
     }
 
-    /// Whether this tag is among those on the paper that are for this user, as `tags_for` tells them. Two binary
-    /// searches, and a walk over the paper's tags up to it; takes no memory.
+    /// Whether this tag is among those on the paper that are for this user, as `tags_for` tells them. One read
+    /// by number, and a walk over the paper's tags up to it; takes no memory.
     pub fn has_for(&self, user: UserNo, paper: PaperNo, chair: bool, tag: &Tag) -> bool
         ensures { result ≡ list_any (bytes_eq tag.now) (tags_in self.now.tags (Some user) chair paper) }
     {
-        has_it_for(run_of(&self.tags, paper), tag, user, chair)
+        has_it_for(self.tags.of_paper(paper), tag, user, chair)
     }
 
-    /// Where the tag stands, or else where it would stand.
-    fn index_of(&self, tag: &Filed<SetTag>) -> Result<usize, usize>
-        ensures { MatchResult result (IsAt tag.now self.now.tags) (IsGapFor tag.now self.now.tags) }
+    /// Where the tag stands among those on the paper, or else where it would stand.
+    fn index_of(&self, paper: PaperNo, tag: &SetTag) -> Result<usize, usize>
+        ensures { MatchResult result (IsAt tag.now (filed_of paper self.now.tags))
+            (IsGapFor tag.now (filed_of paper self.now.tags)) }
     {
-        self.tags.binary_search_by(|other| compare(other, tag))
+        self.tags
+            .of_paper(paper)
+            .binary_search_by(|other| compare(other, tag))
     }
 }
 
 /// What entries make of it.
 impl Tags {
     /// Takes the memory that the entries of one command need; an error only for lack of memory, and the
-    /// tags are the same either way.
+    /// tags are the same either way. Each paper at which they turn a tag on is compared with those before it.
     pub fn room(&mut self, group: &[Stamped]) -> Result<(), AllocError>
-        ensures ok { OnOk result (length group.now ≤ self.new.room) }
+        ensures ok { OnOk result (TagsHaveRoom group.now self.new.rooms) }
         ensures same { self.new.tags ≡ self.old.tags }
-        ensures keeps { self.old.room ≤ self.new.room }
+        ensures keeps { (any : History) → TagsHaveRoom any self.old.rooms → TagsHaveRoom any self.new.rooms }
     {
-        self.tags.reserve(group.len())
+        let papers = papers_tagged(self.alloc, group)?;
+        self.tags.room(&papers)
     }
 
     /// Turns the tag on, for which there is room; takes no memory.
     fn insert(&mut self, paper: PaperNo, tag: Tag, owner: Option<UserNo>)
-        requires { 0 < self.old.room }
+        requires { 0 < slice_index self.old.rooms paper }
         ensures tags { self.new.tags ≡ tag_switched true
             (filed paper (record { tag = tag; owner = owner })) self.old.tags }
-        ensures room { self.old.room ≤ self.new.room + 1 }
+        ensures rooms { IsOneLess paper self.old.rooms self.new.rooms }
     {
-        let filed = set_at(paper, tag, owner);
-        match self.index_of(&filed) {
-            Ok(index) => self.tags[index] = filed,
-            Err(index) => match self.tags.insert(index, filed) {
-                Ok(()) => {}
-                Err(_) => unreachable!(),
-            },
+        let set = SetTag { tag, owner };
+        match self.index_of(paper, &set) {
+            Ok(index) => self.tags.change(paper, index, set),
+            Err(index) => self.tags.insert(paper, index, set),
         }
     }
 
@@ -217,19 +208,20 @@ impl Tags {
     fn remove(&mut self, paper: PaperNo, tag: Tag, owner: Option<UserNo>)
         ensures tags { self.new.tags ≡ tag_switched false
             (filed paper (record { tag = tag; owner = owner })) self.old.tags }
-        ensures room { self.old.room ≤ self.new.room }
+        ensures rooms { IsNoLess self.old.rooms self.new.rooms }
     {
-        if let Ok(index) = self.index_of(&set_at(paper, tag, owner)) {
-            self.tags.remove(index);
+        if let Ok(index) = self.index_of(paper, &SetTag { tag, owner }) {
+            self.tags.remove(paper, index);
         }
     }
 
     /// One more entry, for which there is room; takes no memory. One that turns a tag on or off costs a binary
-    /// search, and a move of the tags behind its index, of 64 bytes each.
+    /// search among the paper's tags, and a move of those behind its index, of 56 bytes each.
     pub fn apply(&mut self, stamped: &Stamped)
-        requires { 0 < self.old.room }
+        requires { TagsHaveRoom (stamped.now ∷ []) self.old.rooms }
         ensures after { self.new.tags ≡ tags_after self.old.tags stamped.now.stamp.maker stamped.now.entry }
-        ensures room { self.old.room ≤ self.new.room + 1 }
+        ensures room { (rest : History)
+            → TagsHaveRoom (stamped.now ∷ rest) self.old.rooms → TagsHaveRoom rest self.new.rooms }
     {
         match &stamped.entry {
             Entry::Tagged { paper, tag, on } => {
@@ -243,4 +235,28 @@ impl Tags {
             _ => {}
         }
     }
+}
+
+/// The paper at which the entry turns a tag on, if it does.
+fn paper_tagged(stamped: &Stamped) -> Option<PaperNo>
+    ensures { result ≡ paper_tagged stamped.now }
+{
+    match &stamped.entry {
+        Entry::Tagged {
+            paper,
+            on: true,
+            ..
+        } => Some(*paper),
+        _ => None,
+    }
+}
+
+/// The papers at which the entries turn tags on, as often as they do.
+fn papers_tagged(alloc: Global, group: &[Stamped]) -> Result<Vec<PaperNo>, AllocError>
+    ensures { IfOk result (λ papers. papers.items ≡ filter_map paper_tagged group.now) }
+{
+    group
+        .iter()
+        .filter_map(|stamped| paper_tagged(stamped))
+        .collect(alloc)
 }

@@ -1,9 +1,12 @@
 //! The comments on papers.
-ghost use Rattle.std.specs.Prelude.{◌≡◌, ◌≤◌, ◌<◌, ◌+◌, OnOk, Some, length, map, is_some, unwrap_or};
+ghost use Rattle.std.specs.Prelude.{◌≡◌, ◌+◌, [], ◌∷◌, OnOk, IfOk, Some, length, is_some, unwrap_or};
+ghost use Rattle.std.specs.List.{filter_map};
 ghost use Rattle.cr_base.specs.Checks.{judged, comment_checks};
+ghost use Rattle.cr_base.specs.History.{History};
 ghost use Rattle.cr_base.specs.Talk.{no_talk, talk_after, comments_in, own_comments_in, TalkFit};
+ghost use Rattle.cr_talk.specs.Room.{paper_commented, TalkHasRoom};
 
-use cr_base::{Comment, Entry, Filed, PaperNo, Rule, Stamped, Standing, UserNo};
+use cr_base::{Comment, Entry, PaperNo, Rule, Stamped, Standing, UserNo};
 use cr_kept::{Files, Sums};
 use std::alloc::{AllocError, Global};
 use std::marker::Model;
@@ -14,23 +17,25 @@ pub const MOST_OWN_COMMENTS: u64 = 1_000;
 /// What was written on papers: the comments on each in the order in which they came, which are numbered
 /// from 1, and how many each user has written, at most 1,000.
 ///
-/// Contracts see the comments paper by paper and the sums, and for how many more entries there is room.
+/// Contracts see the comments paper by paper and the sums, and for how many more comments on each paper there
+/// is room.
 #[derive(Drop)]
 pub struct Talk {
+    alloc: Global,
     comments: Files<Comment>,
     // How many each user has written.
     written: Sums,
 }
 
 impl Model for Talk {
-    ghost use Rattle.std.specs.Prelude.{nat_le, if◌then◌else◌};
+    ghost use Rattle.cr_kept.specs.Beside.{rooms_beside};
     ghost use Rattle.cr_talk.specs.Seen.{SeenTalk};
 
     ghost Value = { SeenTalk };
 
     ghost view = { λ t. record {
       talk = record { comments = t.comments.files; written = t.written.sums };
-      room = if nat_le 10000 t.written.capacity then t.comments.room else 0;
+      rooms = rooms_beside t.written.capacity t.comments.rooms;
     } };
 }
 
@@ -41,15 +46,16 @@ impl Talk {
         ensures { result.talk ≡ no_talk }
     {
         Talk {
+            alloc,
             comments: Files::new(alloc),
             written: Sums::new(alloc),
         }
     }
 
-    /// The comments on the paper, by number; none where there is no such paper. Two binary searches; takes
-    /// no memory.
-    pub fn comments(&self, paper: PaperNo) -> &[Filed<Comment>]
-        ensures { map (λ filed. filed.value) result.now ≡ comments_in self.now.talk paper }
+    /// The comments on the paper, by number; none where there is no such paper. One read by number; takes no
+    /// memory.
+    pub fn comments(&self, paper: PaperNo) -> &[Comment]
+        ensures { result.now ≡ comments_in self.now.talk paper }
     {
         self.comments.of_paper(paper)
     }
@@ -63,8 +69,8 @@ impl Talk {
 
     /// The number that a comment by this maker on this paper would have now, the count of those on it plus
     /// 1, or the first broken rule. `by` is the maker's standing at the paper; `paper` is none where there
-    /// is no such paper. Whether it is withdrawn stands in none of the comments. One read by number and two
-    /// binary searches at most; takes no memory.
+    /// is no such paper. Whether it is withdrawn stands in none of the comments. Two reads by number at most;
+    /// takes no memory.
     ///
     /// In this order: `NoPaper`, `NotMember`, `Conflict`, `WrongPhase` where it isn't the discussion,
     /// `Withdrawn`, `QuotaComments` where she has written 1,000 comments.
@@ -102,24 +108,27 @@ impl Talk {
 
 /// What entries make of it.
 impl Talk {
-    /// Takes the memory that the entries of one command need, and the first time 40,000 bytes for the
-    /// sums; an error only for lack of memory, and the comments are the same either way.
+    /// Takes the memory that the entries of one command need, and the first time 40,000 bytes for the sums; an
+    /// error only for lack of memory, and the comments are the same either way. Each paper that they comment on
+    /// is compared with those before it.
     pub fn room(&mut self, group: &[Stamped]) -> Result<(), AllocError>
-        ensures ok { OnOk result (length group.now ≤ self.new.room) }
+        ensures ok { OnOk result (TalkHasRoom group.now self.new.rooms) }
         ensures same { self.new.talk ≡ self.old.talk }
-        ensures keeps { self.old.room ≤ self.new.room }
+        ensures keeps { (any : History) → TalkHasRoom any self.old.rooms → TalkHasRoom any self.new.rooms }
     {
+        let papers = papers_commented(self.alloc, group)?;
         self.written.make_room()?;
-        self.comments.room(group.len())
+        self.comments.room(&papers)
     }
 
     /// One more entry, for which there is room. It is taken whole, since a comment's text is kept; takes no
-    /// memory. A comment costs one binary search, and a move of the comments on papers with higher numbers.
+    /// memory. A comment costs two reads by number, and moves none of the others.
     pub fn apply(&mut self, stamped: Stamped)
-        requires room { 0 < self.old.room }
+        requires room { TalkHasRoom (stamped ∷ []) self.old.rooms }
         requires fits { TalkFit self.old.talk stamped.stamp.maker stamped.entry }
         ensures after { self.new.talk ≡ talk_after self.old.talk stamped.stamp.maker stamped.entry }
-        ensures room { self.old.room ≤ self.new.room + 1 }
+        ensures room { (rest : History)
+            → TalkHasRoom (stamped ∷ rest) self.old.rooms → TalkHasRoom rest self.new.rooms }
     {
         let Stamped { stamp, entry, .. } = stamped;
         match entry {
@@ -143,4 +152,24 @@ impl Talk {
             _ => {}
         }
     }
+}
+
+/// The paper on which the entry comments, if it does.
+fn paper_commented(stamped: &Stamped) -> Option<PaperNo>
+    ensures { result ≡ paper_commented stamped.now }
+{
+    match &stamped.entry {
+        Entry::Commented { paper, .. } => Some(*paper),
+        _ => None,
+    }
+}
+
+/// The papers on which the entries comment, as often as they do.
+fn papers_commented(alloc: Global, group: &[Stamped]) -> Result<Vec<PaperNo>, AllocError>
+    ensures { IfOk result (λ papers. papers.items ≡ filter_map paper_commented group.now) }
+{
+    group
+        .iter()
+        .filter_map(|stamped| paper_commented(stamped))
+        .collect(alloc)
 }

@@ -1,9 +1,7 @@
 -- What a caller is told of the comments on a paper, by reads of the tables.
 use Rattle.std.proofs.Common.{ℕ, ◌≡◌, ◌<◌, ◌+◌, List, [], ◌∷◌, ◌++◌, length, drop, get_or, refl}
-use Rattle.std.specs.Prelude.{map}
 use Rattle.cr_base.specs.declared.comment.Comment.{Comment}
 use Rattle.cr_base.specs.declared.comment.CommentLine.{CommentLine}
-use Rattle.cr_base.specs.declared.filed.Filed.{Filed}
 use Rattle.cr_base.specs.declared.standing.Standing.{Standing}
 use Rattle.cr_base.specs.Accounts.{lines_of}
 use Rattle.cr_base.specs.Answering.{comment_line}
@@ -13,11 +11,10 @@ use Rattle.cr_view.specs.Comments.{lines_told}
 use Rattle.cr_view.proofs.AnswerLaws.{walk-step}
 
 -- one more comment
-pub comments-step : (t : Tables) (by : Standing) (comments : List (Filed Comment)) (i : ℕ) (other : Filed Comment) (before after wanted : List CommentLine)
-    → i < length comments → after ≡ before ++ comment_line by (lines_of t.accounts) (comment_as_told (get_or comments i other).value) ∷ []
-    → before ++ lines_told t by (map (λ (x : Filed Comment). x.value) (drop i comments)) ≡ wanted
-    → after ++ lines_told t by (map (λ (x : Filed Comment). x.value) (drop (i + 1) comments)) ≡ wanted
+pub comments-step : (t : Tables) (by : Standing) (comments : List Comment) (i : ℕ) (other : Comment) (before after wanted : List CommentLine)
+    → i < length comments → after ≡ before ++ comment_line by (lines_of t.accounts) (comment_as_told (get_or comments i other)) ∷ []
+    → before ++ lines_told t by (drop i comments) ≡ wanted
+    → after ++ lines_told t by (drop (i + 1) comments) ≡ wanted
 comments-step t by comments i other before after wanted within pushed told =
-    let first : List CommentLine = comment_line by (lines_of t.accounts) (comment_as_told (get_or comments i other).value) ∷ [] in
-    walk-step (λ (xs : List (Filed Comment)). lines_told t by (map (λ (x : Filed Comment). x.value) xs)) first comments i other before after wanted within
-    (λ rest. refl) pushed told
+    let first : List CommentLine = comment_line by (lines_of t.accounts) (comment_as_told (get_or comments i other)) ∷ [] in
+    walk-step (lines_told t by) first comments i other before after wanted within (λ rest. refl) pushed told

@@ -9,3 +9,4 @@ pub mod NobodyLaws
 pub mod ReportLaws
 pub mod ReviewLaws
 pub mod ReviewingLaws
+pub mod RoomLaws

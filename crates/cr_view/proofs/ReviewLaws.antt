@@ -7,7 +7,6 @@ use Rattle.std.specs.Option.{option_map, option_and_then}
 use Rattle.std.proofs.lemmas.Bool.{true≢false}
 use Rattle.std.proofs.lemmas.List.{append-nil, map-append}
 use Rattle.cr_base.specs.declared.entry.Account.{Account}
-use Rattle.cr_base.specs.declared.filed.Filed.{Filed}
 use Rattle.cr_base.specs.declared.pairs.Order.TheVariants.{ByPaper}
 use Rattle.cr_base.specs.declared.pairs.Tie.{Tie}
 use Rattle.cr_base.specs.declared.review.ReviewLine.{ReviewLine}
@@ -76,24 +75,24 @@ lines-append heading xs ys =
     ∙ map-append (review_line heading) (map written_told xs) (map written_told ys)
 
 -- those of the label that were written in the phase or later
-forms-under : (o : ℕ) (phase : Phase) (forms : List (Filed WrittenForm)) → forms_under o phase forms
-    ≡ filter (λ (w : WrittenForm). is_from phase w.phase) (filter (λ (w : WrittenForm). w.ordinal == o) (map (λ (x : Filed WrittenForm). x.value) forms))
+forms-under : (o : ℕ) (phase : Phase) (forms : List WrittenForm) → forms_under o phase forms
+    ≡ filter (λ (w : WrittenForm). is_from phase w.phase) (filter (λ (w : WrittenForm). w.ordinal == o) forms)
 forms-under o phase [] = refl
-forms-under o phase (x ∷ forms) = split (x.value.ordinal == o) (forms-under o phase forms)
+forms-under o phase (x ∷ forms) = split (x.ordinal == o) (forms-under o phase forms)
   where
     kept : List WrittenForm
-    kept = filter (λ (w : WrittenForm). w.ordinal == o) (map (λ (y : Filed WrittenForm). y.value) forms)
+    kept = filter (λ (w : WrittenForm). w.ordinal == o) forms
 
     later : List WrittenForm
     later = filter (λ (w : WrittenForm). is_from phase w.phase) kept
 
-    first : (b : Bool) → forms_under o phase forms ≡ later → listed (cond b (Some x.value) None) ++ forms_under o phase forms ≡ cond b (x.value ∷ later) later
-    first true h = ap (λ (rest : List WrittenForm). x.value ∷ rest) h
+    first : (b : Bool) → forms_under o phase forms ≡ later → listed (cond b (Some x) None) ++ forms_under o phase forms ≡ cond b (x ∷ later) later
+    first true h = ap (λ (rest : List WrittenForm). x ∷ rest) h
     first false h = h
 
-    split : (b : Bool) → forms_under o phase forms ≡ later → listed (cond (b && is_from phase x.value.phase) (Some x.value) None) ++ forms_under o phase forms
-        ≡ filter (λ (w : WrittenForm). is_from phase w.phase) (cond b (x.value ∷ kept) kept)
-    split true h = first (is_from phase x.value.phase) h
+    split : (b : Bool) → forms_under o phase forms ≡ later → listed (cond (b && is_from phase x.phase) (Some x) None) ++ forms_under o phase forms
+        ≡ filter (λ (w : WrittenForm). is_from phase w.phase) (cond b (x ∷ kept) kept)
+    split true h = first (is_from phase x.phase) h
     split false h = h
 
 -- of which all were in setup or later
@@ -115,9 +114,9 @@ all-from (w ∷ forms) =
 -- ---- the forms of one label
 
 -- who is no author is told the last before the discussion, and all later ones
-pub label-discussed : (t : Tables) (by : Standing) (p o : ℕ) (heading : Heading) (form : Option WrittenForm) (forms : List (Filed WrittenForm))
+pub label-discussed : (t : Tables) (by : Standing) (p o : ℕ) (heading : Heading) (form : Option WrittenForm) (forms : List WrittenForm)
     (before middle : List ReviewLine) → by.author ≡ false → form ≡ last_form_before t.reviews p o Discussion
-    → map (λ (x : Filed WrittenForm). x.value) forms ≡ filed_of p t.reviews.forms → middle ≡ before ++ lines heading (listed form)
+    → forms ≡ filed_of p t.reviews.forms → middle ≡ before ++ lines heading (listed form)
     → middle ++ lines heading (forms_under o Discussion forms) ≡ before ++ map (review_line heading) (forms_shown t by p o)
 label-discussed t by p o heading form forms before middle other is are pushed =
     let first : List ReviewLine = lines heading (listed form) in
@@ -141,13 +140,13 @@ module _ (t : Tables) (user : Option ℕ) (by : Standing) (p : ℕ) where
       map (review_line (record { to_author = by.author; label = unwrap_or seat 0; user = None }))
       (flat_map (λ (o : ℕ). map written_told (forms_in t.reviews p o)) (listed seat))
 
-  pub own-told : (label : ℕ) (forms : List (Filed WrittenForm)) → Some label ≡ ordinal_in t.seats user p
-      → map (λ (x : Filed WrittenForm). x.value) forms ≡ filed_of p t.reviews.forms
+  pub own-told : (label : ℕ) (forms : List WrittenForm) → Some label ≡ ordinal_in t.seats user p
+      → forms ≡ filed_of p t.reviews.forms
       → lines (record { to_author = by.author; label = label; user = None }) (forms_under label Setup forms) ≡ own_reviews t user by p
   own-told label forms is filed =
       let heading : Heading = record { to_author = by.author; label = label; user = None } in
       ap (lines heading)
-      (forms-under label Setup forms ∙ all-from (filter (λ (w : WrittenForm). w.ordinal == label) (map (λ (x : Filed WrittenForm). x.value) forms))
+      (forms-under label Setup forms ∙ all-from (filter (λ (w : WrittenForm). w.ordinal == label) forms)
       ∙ ap (filter (λ (w : WrittenForm). w.ordinal == label)) filed)
       ∙ sym (ap (map (review_line heading)) (append-nil (map written_told (forms_in t.reviews p label))))
       ∙ ap own_under is

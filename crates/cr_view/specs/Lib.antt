@@ -5,4 +5,5 @@ pub mod Fields
 pub mod Replies
 pub mod Reports
 pub mod Reviews
+pub mod Room
 pub mod Seen

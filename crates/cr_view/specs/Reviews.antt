@@ -4,7 +4,6 @@ use Rattle.std.specs.Prelude.{Some, None, unwrap_or, Result, if◌then◌else◌
 use Rattle.std.specs.List.{flat_map}
 use Rattle.std.specs.Option.{option_map, option_and_then}
 use Rattle.cr_base.specs.declared.command.Query.TheVariants as queries
-use Rattle.cr_base.specs.declared.filed.Filed.{Filed}
 use Rattle.cr_base.specs.declared.reply.Rule.{Rule}
 use Rattle.cr_base.specs.declared.review.ReviewLine.{ReviewLine}
 use Rattle.cr_base.specs.declared.review.WrittenForm.{WrittenForm}
@@ -39,12 +38,11 @@ review_line heading form = record {
 }
 
 -- the form, where it stands under the label and was written in the phase or later; and those of these forms that do
-abbrev pub form_under : ℕ → Phase → Filed WrittenForm → Option WrittenForm
-form_under label phase filed =
-    if filed.value.ordinal == label && is_from phase filed.value.phase then Some filed.value else None
+abbrev pub form_under : ℕ → Phase → WrittenForm → Option WrittenForm
+form_under label phase written = if written.ordinal == label && is_from phase written.phase then Some written else None
 
-abbrev pub forms_under : ℕ → Phase → List (Filed WrittenForm) → List WrittenForm
-forms_under label phase forms = flat_map (λ (filed : Filed WrittenForm). listed (form_under label phase filed)) forms
+abbrev pub forms_under : ℕ → Phase → List WrittenForm → List WrittenForm
+forms_under label phase forms = flat_map (λ (written : WrittenForm). listed (form_under label phase written)) forms
 
 -- the name of whoever was assigned to the paper under the label, where it is told
 abbrev pub label_name : Tables → Bool → ℕ → ℕ → Option (List ℕ)

@@ -1,8 +1,8 @@
 -- What contracts see of all tables.
-use Rattle.std.specs.Prelude.{ℕ}
 use Rattle.cr_base.specs.Tables.{Tables}
+use Rattle.cr_view.specs.Room.{Rooms}
 
--- the tables, and for how many more entries there is room in each
+-- the tables, and the room of each
 pub record SeenTables : Type 0 where
   pub tables : Tables
-  pub room : ℕ
+  pub rooms : Rooms

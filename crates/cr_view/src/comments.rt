@@ -1,5 +1,5 @@
 //! What is answered of the comments on a paper.
-ghost use Rattle.std.specs.Prelude.{◌≡◌, IfOk, map};
+ghost use Rattle.std.specs.Prelude.{◌≡◌, IfOk};
 ghost use Rattle.cr_base.specs.declared.command.Query.TheVariants as queries;
 ghost use Rattle.cr_base.specs.Accounts.{lines_of};
 ghost use Rattle.cr_base.specs.Answering.{answer_by_role, comment_line};
@@ -12,8 +12,7 @@ use crate::live::Live;
 use crate::queries::AnswerError;
 use cr_anonymity::shows_writer;
 use cr_base::{
-    Comment, CommentLine, CommentLines, Filed, Ordinal, PaperNo, Reply, Rule, Short, Standing,
-    UserNo,
+    Comment, CommentLine, CommentLines, Ordinal, PaperNo, Reply, Rule, Short, Standing, UserNo,
 };
 use std::alloc::{AllocError, Global};
 
@@ -97,14 +96,13 @@ impl Live {
         &self,
         alloc: Global,
         by: &Standing,
-        comments: &[Filed<Comment>],
+        comments: &[Comment],
     ) -> Result<CommentLines, AllocError>
-        ensures { IfOk result (λ lines. lines
-            ≡ lines_told self.now.tables by.now (map (λ filed. filed.value) comments.now)) }
+        ensures { IfOk result (λ lines. lines ≡ lines_told self.now.tables by.now comments.now) }
     {
         let mut lines = Vec::with_capacity(alloc, comments.len())?;
-        for filed in comments {
-            lines.push(self.comment_line(by, &filed.value)?)?;
+        for comment in comments {
+            lines.push(self.comment_line(by, comment)?)?;
         }
         Ok(CommentLines::from_vec(lines))
     }

@@ -1,13 +1,15 @@
 //! The tables of a history, and what a user is by them.
-ghost use Rattle.std.specs.Prelude.{◌≡◌, ◌≤◌, ◌<◌, ◌+◌, IsTrue, OnOk, is_some, length};
+ghost use Rattle.std.specs.Prelude.{◌≡◌, [], ◌∷◌, ◌++◌, IsTrue, OnOk, is_some};
 ghost use Rattle.std.specs.Option.{option_map};
 ghost use Rattle.cr_base.specs.Accounts.{number_at, account_at, caller_at};
 ghost use Rattle.cr_base.specs.Sources.{standing_at};
+ghost use Rattle.cr_base.specs.History.{History};
 ghost use Rattle.cr_base.specs.Lists.{at_some};
 ghost use Rattle.cr_base.specs.Papers.{paper_count};
 ghost use Rattle.cr_base.specs.Seats.{ordinal_in};
 ghost use Rattle.cr_base.specs.Tables.{no_tables, tables_after, tables_from, Fits, FitInTurn};
 ghost use Rattle.cr_base.specs.Ties.{is_author_in, is_conflicted_in, are_within, AreWithin};
+ghost use Rattle.cr_view.specs.Room.{RoomFor};
 
 use cr_accounts::Accounts;
 use cr_assign::Seats;
@@ -24,7 +26,7 @@ use std::marker::Model;
 
 /// All tables of a history.
 ///
-/// Contracts see the tables, and for how many more entries there is room in each.
+/// Contracts see the tables, and for how many more accounts there is room, and values of each paper and each user.
 pub struct Live {
     pub(crate) stage: Stage,
     pub(crate) accounts: Accounts,
@@ -55,7 +57,7 @@ impl Drop for Live {
 }
 
 impl Model for Live {
-    ghost use Rattle.std.specs.Prelude.{IsTrue, min};
+    ghost use Rattle.std.specs.Prelude.{IsTrue};
     ghost use Rattle.cr_base.specs.Papers.{paper_count};
     ghost use Rattle.cr_base.specs.Ties.{are_within, AreWithin};
     ghost use Rattle.cr_view.specs.Seen.{SeenTables};
@@ -74,9 +76,16 @@ impl Model for Live {
         tags = t.tags.tags;
         decisions = t.decisions.decisions;
       };
-      room = min t.accounts.room (min t.papers.room
-          (min t.ties.room
-          (min t.seats.room (min t.reviews.room (min t.talk.room (min t.tags.room t.decisions.room))))));
+      rooms = record {
+        accounts = t.accounts.room;
+        papers = t.papers.rooms;
+        ties = t.ties.rooms;
+        seats = t.seats.rooms;
+        reviews = t.reviews.rooms;
+        talk = t.talk.rooms;
+        tags = t.tags.rooms;
+        decisions = t.decisions.rooms;
+      };
     } };
 
     // The papers that have ties are there, and so are those that have seats.
@@ -106,9 +115,9 @@ impl Live {
     /// Takes the memory that the entries of one command need; an error only for lack of memory,
     /// and the tables are the same either way.
     pub fn room(&mut self, group: &[Stamped]) -> Result<(), AllocError>
-        ensures ok { OnOk result (length group.now ≤ self.new.room) }
+        ensures ok { OnOk result (RoomFor group.now self.new.rooms) }
         ensures same { self.new.tables ≡ self.old.tables }
-        ensures keeps { self.old.room ≤ self.new.room }
+        ensures keeps { (any : History) → RoomFor any self.old.rooms → RoomFor any self.new.rooms }
     {
         self.accounts.room(group)?;
         self.papers.room(group)?;
@@ -123,10 +132,10 @@ impl Live {
     /// One more entry, for which there is room. It is taken whole, since one table keeps its texts or its
     /// content: that of papers, of reviews or of comments. Takes no memory.
     pub fn apply(&mut self, stamped: Stamped)
-        requires room { 0 < self.old.room }
+        requires room { RoomFor (stamped ∷ []) self.old.rooms }
         requires fits { Fits self.old.tables stamped }
         ensures after { self.new.tables ≡ tables_after self.old.tables stamped }
-        ensures room { self.old.room ≤ self.new.room + 1 }
+        ensures room { (rest : History) → RoomFor (stamped ∷ rest) self.old.rooms → RoomFor rest self.new.rooms }
     {
         self.stage.apply(&stamped);
         self.accounts.apply(&stamped);
@@ -143,10 +152,10 @@ impl Live {
 
     /// The entries of one command, for which there is room; takes no memory.
     pub fn apply_all(&mut self, group: Vec<Stamped>)
-        requires room { length group.items ≤ self.old.room }
+        requires room { RoomFor group.items self.old.rooms }
         requires fits { FitInTurn self.old.tables group.items }
         ensures after { self.new.tables ≡ tables_from self.old.tables group.items }
-        ensures room { self.old.room ≤ self.new.room + length group.items }
+        ensures room { (rest : History) → RoomFor (group.items ++ rest) self.old.rooms → RoomFor rest self.new.rooms }
     {
         for stamped in group {
             self.apply(stamped);

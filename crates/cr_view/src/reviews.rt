@@ -17,7 +17,7 @@ use crate::page::shared_where;
 use crate::queries::AnswerError;
 use cr_anonymity::shows_reviewer;
 use cr_base::{
-    Filed, MOST_LABELS, Ordinal, PaperNo, Phase, Reply, ReviewLine, ReviewLines, Rule, Seat, Short,
+    MOST_LABELS, Ordinal, PaperNo, Phase, Reply, ReviewLine, ReviewLines, Rule, Seat, Short,
     Standing, Tie, UserNo, WrittenForm,
 };
 use std::alloc::{AllocError, Global};
@@ -77,10 +77,9 @@ fn push_form(
 }
 
 /// The form, where it stands under the label and was written in the phase or later.
-fn form_under(filed: &Filed<WrittenForm>, label: Ordinal, phase: Phase) -> Option<&WrittenForm>
-    ensures { option_copied result ≡ form_under label phase filed.now }
+fn form_under(written: &WrittenForm, label: Ordinal, phase: Phase) -> Option<&WrittenForm>
+    ensures { option_copied result ≡ form_under label phase written.now }
 {
-    let written = &filed.value;
     if written.is_under(label) && written.phase.is_from(phase) {
         Some(written)
     } else {
@@ -93,15 +92,15 @@ fn form_under(filed: &Filed<WrittenForm>, label: Ordinal, phase: Phase) -> Optio
 fn push_forms(
     lines: &mut Vec<ReviewLine>,
     heading: &Heading,
-    forms: &[Filed<WrittenForm>],
+    forms: &[WrittenForm],
     phase: Phase,
 ) -> Result<(), AllocError>
     ensures { OnOk result (lines.new.items
         ≡ lines.old.items ++ map (review_line heading.now)
         (map written_told (forms_under heading.now.label phase forms.now))) }
 {
-    for filed in forms {
-        push_form(lines, heading, form_under(filed, heading.label, phase))?;
+    for written in forms {
+        push_form(lines, heading, form_under(written, heading.label, phase))?;
     }
     Ok(())
 }

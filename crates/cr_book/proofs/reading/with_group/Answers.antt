@@ -1,8 +1,13 @@
-use Rattle.std.proofs.Common.{◌++◌, ◌∙◌, List, ap}
+use Rattle.std.proofs.Common.{◌++◌, ◌∙◌, List, ap, subst}
 use Rattle.cr_base.specs.declared.entry.Stamped.{Stamped}
+use Rattle.cr_base.specs.History.{History}
 use Rattle.cr_base.specs.Tables.{Tables, tables_from}
+use Rattle.cr_view.specs.Room.{RoomFor}
 use Rattle.cr_book.proofs.OpeningLaws.{going-whole}
 use Rattle.cr_book.proofs.reading.with_group.Goals as goal
+
+pub apply_all-requires-clause-room : goal.apply_all-requires-clause-room
+apply_all-requires-clause-room c = subst (λ (group : History). RoomFor group c.room.new.self.rooms) c.deref-2.ensures.value c.in-Ok-room.ensures.ok
 
 pub invariant_of-result : goal.invariant_of-result
 invariant_of-result c =

@@ -13,8 +13,8 @@ returns c =
     let user = Some c.args.user in
     let paper = c.args.paper in
     let earlier = c.args.earlier.now in
-    let order = subst (λ (v : SeenSeats). SeatsInOrder v.seats) c.self.view_is c.self.invariant.in_order in
+    let order = subst (λ (v : SeenSeats). SeatsInOrder v.seats) c.self.view_is c.self.invariant.0.in_order in
     c.seat_behind.ensures
     ∙ ap (λ (held : Option ℕ). fold (λ (o : Option ℕ) (e : Stamped). last_or o (ordinal_told user paper e.entry)) held earlier)
-    (c.value-held.ensures ∙ c.self.invariant.same (pair_of paper c.args.user) ∙ ap (λ (v : SeenSeats). ordinal_in v.seats user paper) c.self.view_is)
+    (c.value-held.ensures ∙ c.self.invariant.0.same (pair_of paper c.args.user) ∙ ap (λ (v : SeenSeats). ordinal_in v.seats user paper) c.self.view_is)
     ∙ sym (ordinal_in-from user paper c.args.self.now.seats earlier order c.requires)

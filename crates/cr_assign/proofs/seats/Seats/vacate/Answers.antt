@@ -1,49 +1,55 @@
-use Rattle.std.proofs.Common.{ℕ, refl, ◌≡◌, ◌+◌, ◌-◌, ◌∙◌, length, set, ap, sym, subst, arith}
+use Rattle.std.proofs.Common.{◌≡◌, ◌-◌, ◌<◌, ◌∙◌, List, length, ap, sym, subst, arith}
 use Rattle.cr_base.specs.declared.entry.Entry.TheVariants.{Unassigned}
+use Rattle.cr_base.specs.declared.filed.Filed.{Filed}
 use Rattle.cr_base.specs.declared.pairs.Tie.{Tie}
 use Rattle.cr_base.specs.declared.seat.Seat.{Seat}
 use Rattle.cr_base.specs.Seats.{SeatsState, SeatsFit, vacated, without_seat}
+use Rattle.cr_kept.specs.Own.{values_in, AreOwn}
+use Rattle.cr_kept.proofs.OwnLaws.{own-with_changed}
 use Rattle.cr_assign.specs.Seen.{SeenSeats}
-use Rattle.cr_assign.proofs.IndexLaws.{indexed-unassigned, marked-at, rises-marked}
+use Rattle.cr_assign.proofs.IndexLaws.{indexed-unassigned, is-held, marked, its-paper}
+use Rattle.cr_assign.proofs.LeftLaws.{paper_of}
 use Rattle.cr_assign.proofs.seats.Seats.vacate.Goals as goal
 
-pub index_mut-requires : goal.index_mut-requires
-index_mut-requires c =
+pub bounds-of_paper-index : goal.bounds-of_paper-index
+bounds-of_paper-index c =
     let x = c.self.inside in
     let a = c.args in
     let fits = subst (λ (v : SeenSeats). SeatsFit v.seats (Unassigned a.paper a.user a.ordinal)) (sym c.self.view_is) c.requires.fits in
-    let index : ℕ = c.index_from-first.result + c.number-2.result - 1 in
-    let at = marked-at x.seats.items x.reviewing.order x.reviewing.ties c.self.invariant a.paper a.user a.ordinal
-    c.deref.result.now c.number.result c.index_from-first.result c.number-2.result index fits c.deref.ensures.value c.number.ensures.value c.index_from-first.ensures.within
-    c.index_from-first.ensures.from c.number-2.ensures.value refl in
-    let inside = at.0 in
-    let same = ap length c.deref.ensures.value in
-    omega (arith, inside, same, c.deref.ensures.len)
+    subst (λ (ts : SeatsState). c.number.result - 1 < length ts) (sym c.of_paper.ensures)
+    (is-held x.seats.files x.reviewing.order x.reviewing.ties c.self.invariant.0 c.self.invariant.1 a.paper a.user a.ordinal (c.number.result - 1) fits (omega (arith, c.number.ensures.value)))
 
--- the list as the code makes it
-marked : (c : goal.After-remove)
-    → set c.self.inside.seats.items (c.index_from-first.result + c.number-2.result - 1) (vacated c.index_mut.result.now)
-    ≡ without_seat c.args.paper c.args.ordinal c.self.inside.seats.items
-marked c =
+pub change-requires : goal.change-requires
+change-requires c =
     let x = c.self.inside in
     let a = c.args in
-    let index : ℕ = c.index_from-first.result + c.number-2.result - 1 in
     let fits = subst (λ (v : SeenSeats). SeatsFit v.seats (Unassigned a.paper a.user a.ordinal)) (sym c.self.view_is) c.requires.fits in
-    let at = marked-at x.seats.items x.reviewing.order x.reviewing.ties c.self.invariant a.paper a.user a.ordinal
-    c.deref.result.now c.number.result c.index_from-first.result c.number-2.result index fits c.deref.ensures.value c.number.ensures.value c.index_from-first.ensures.within
-    c.index_from-first.ensures.from c.number-2.ensures.value refl in
-    ap (λ (t : Tie Seat). set x.seats.items index (vacated t)) c.index_mut.ensures.value ∙ at.1 c.index_mut.result.now
+    is-held x.seats.files x.reviewing.order x.reviewing.ties c.self.invariant.0 c.self.invariant.1 a.paper a.user a.ordinal (c.number.result - 1) fits (omega (arith, c.number.ensures.value))
+
+-- the seats as the code makes them
+left : (c : goal.After-remove) → values_in c.change.new.self.files ≡ without_seat c.args.paper c.args.ordinal (values_in c.self.inside.seats.files)
+left c =
+    let x = c.self.inside in
+    let a = c.args in
+    let fits = subst (λ (v : SeenSeats). SeatsFit v.seats (Unassigned a.paper a.user a.ordinal)) (sym c.self.view_is) c.requires.fits in
+    ap (λ (xs : List (Filed (Tie Seat))). values_in xs) c.change.ensures.files
+    ∙ marked x.seats.files x.reviewing.order x.reviewing.ties c.self.invariant.0 c.self.invariant.1 a.paper a.user a.ordinal (c.number.result - 1) fits (omega (arith, c.number.ensures.value))
+    c.of_paper.result.now c.left-seat.result c.index-of_paper-index.result c.of_paper.ensures
+    (c.left-seat.ensures ∙ ap (λ (t : Tie Seat). vacated t) c.index-of_paper-index.is)
 
 pub returns-clause-after : goal.returns-clause-after
-returns-clause-after c = marked c ∙ ap (λ (v : SeenSeats). without_seat c.args.paper c.args.ordinal v.seats) c.self.view_is
+returns-clause-after c = left c ∙ ap (λ (v : SeenSeats). without_seat c.args.paper c.args.ordinal v.seats) c.self.view_is
 
 pub invariant_of-self : goal.invariant_of-self
 invariant_of-self c =
     let x = c.self.inside in
     let a = c.args in
     let fits = subst (λ (v : SeenSeats). SeatsFit v.seats (Unassigned a.paper a.user a.ordinal)) (sym c.self.view_is) c.requires.fits in
-    let seats : SeatsState = set x.seats.items (c.index_from-first.result + c.number-2.result - 1) (vacated c.index_mut.result.now) in
-    indexed-unassigned x.seats.items x.reviewing.order x.reviewing.ties c.self.invariant a.paper a.user a.ordinal
-    seats c.remove.new.self.order c.remove.new.self.ties fits (marked c)
-    (rises-marked x.seats.items x.reviewing.order x.reviewing.ties c.self.invariant a.paper a.ordinal seats (marked c))
-    c.remove.ensures.order c.remove.ensures.ties
+    let of_paper = its-paper x.seats.files x.reviewing.order x.reviewing.ties c.self.invariant.0 c.self.invariant.1 a.paper a.user a.ordinal (c.number.result - 1) fits (omega (arith, c.number.ensures.value))
+    c.of_paper.result.now c.left-seat.result c.index-of_paper-index.result c.of_paper.ensures
+    (c.left-seat.ensures ∙ ap (λ (t : Tie Seat). vacated t) c.index-of_paper-index.is) in (
+      indexed-unassigned (values_in x.seats.files) x.reviewing.order x.reviewing.ties c.self.invariant.0 a.paper a.user a.ordinal
+          (values_in c.change.new.self.files) c.remove.new.self.order c.remove.new.self.ties fits (left c) c.remove.ensures.order c.remove.ensures.ties,
+      subst (λ (xs : List (Filed (Tie Seat))). AreOwn paper_of xs) (sym c.change.ensures.files)
+          (own-with_changed paper_of a.paper (c.number.result - 1) c.left-seat.result x.seats.files of_paper c.self.invariant.1),
+    )

@@ -1,8 +1,9 @@
-use Rattle.std.proofs.Common.{◌∙◌, ap, subst}
+use Rattle.std.proofs.Common.{ℕ, ◌∙◌, ap, subst}
 use Rattle.std.specs.Prelude.{map}
 use Rattle.cr_base.specs.declared.pairs.Tie.{Tie}
 use Rattle.cr_base.specs.Lists.{IsRising}
-use Rattle.cr_base.specs.Pairs.{papers_tied_to}
+use Rattle.cr_base.specs.Pairs.{papers_tied_to, ties_of}
+use Rattle.cr_base.specs.declared.pairs.Order.{Order}
 use Rattle.cr_pairs.specs.Seen.{SeenIndexed}
 use Rattle.cr_pairs.proofs.Indexes.{indexed-papers}
 use Rattle.cr_pairs.proofs.indexed_pairs.IndexedPairs.of_user.Goals as goal
@@ -10,7 +11,9 @@ use Rattle.cr_pairs.proofs.indexed_pairs.IndexedPairs.of_user.Goals as goal
 pub returns-clause-papers : goal.returns-clause-papers
 returns-clause-papers g c =
     let x = c.self.inside in
-    ap (map (λ (t : Tie (Unit {0})). t.pair.paper)) c.of_user.ensures.ties
+    ap (map (λ (t : Tie (Unit {0})). t.pair.paper)) c.of.ensures.ties
+    ∙ ap (λ (o : Order). map (λ (t : Tie (Unit {0})). t.pair.paper) (ties_of o c.number.result x.by_user.ties)) c.self.invariant.by_user
+    ∙ ap (λ (n : ℕ). papers_tied_to n x.by_user.ties) c.number.ensures.value
     ∙ (indexed-papers x.by_paper.order x.by_user.order x.by_paper.ties x.by_user.ties c.self.invariant c.args.user).0
     ∙ ap (λ (s : SeenIndexed g.row.V.Denot). papers_tied_to c.args.user s.ties) c.self.view_is
 

@@ -1,9 +1,13 @@
-use Rattle.std.proofs.Common.{◌∙◌}
-use Rattle.cr_base.specs.declared.filed.Filed.{Filed}
+use Rattle.std.proofs.Common.{List, ◌∙◌, ap, not}
+use Rattle.std.specs.Prelude.{filter}
 use Rattle.cr_base.specs.declared.review.WrittenForm.{WrittenForm}
+use Rattle.cr_base.specs.Lists.{is_nothing}
 use Rattle.cr_reviews.specs.Under.{is_under}
 use Rattle.cr_reviews.proofs.UnderLaws.{found}
 use Rattle.cr_reviews.proofs.reviews.Reviews.has_form.Goals as goal
 
 pub returns : goal.returns
-returns c = c.has_under.ensures ∙ found (λ (x : Filed WrittenForm). x.value) (is_under c.args.ordinal) c.forms.result.now _ c.forms.ensures
+returns c =
+    c.has_under.ensures
+    ∙ found (is_under c.args.ordinal) c.forms.result.now
+    ∙ ap (λ (forms : List WrittenForm). not (is_nothing (filter (is_under c.args.ordinal) forms))) c.forms.ensures

@@ -1,9 +1,13 @@
-use Rattle.std.proofs.Common.{◌∙◌}
-use Rattle.cr_base.specs.declared.filed.Filed.{Filed}
+use Rattle.std.proofs.Common.{List, ◌∙◌, ap, not}
+use Rattle.std.specs.Prelude.{filter}
 use Rattle.cr_base.specs.declared.review.WrittenForm.{WrittenForm}
+use Rattle.cr_base.specs.Lists.{is_nothing}
 use Rattle.cr_reviews.specs.Under.{is_under}
 use Rattle.cr_reviews.proofs.UnderLaws.{found}
 use Rattle.cr_reviews.proofs.reviews.Reviews.labels.Goals as goal
 
 pub returns : goal.returns
-returns c = λ o. c.labels_of.ensures o ∙ found (λ (x : Filed WrittenForm). x.value) (is_under o) c.forms.result.now _ c.forms.ensures
+returns c = λ o.
+    c.labels_of.ensures o
+    ∙ found (is_under o) c.forms.result.now
+    ∙ ap (λ (forms : List WrittenForm). not (is_nothing (filter (is_under o) forms))) c.forms.ensures

@@ -1,6 +1,7 @@
-use Rattle.std.proofs.Common.{◌∙◌}
-use Rattle.cr_base.specs.declared.filed.Filed.{Filed}
+use Rattle.std.proofs.Common.{List, ◌∙◌, ap}
+use Rattle.std.specs.Prelude.{filter}
 use Rattle.cr_base.specs.declared.review.WrittenForm.{WrittenForm}
+use Rattle.cr_base.specs.Lists.{last}
 use Rattle.cr_base.specs.Phases.{is_from}
 use Rattle.cr_reviews.specs.Under.{is_under}
 use Rattle.cr_reviews.proofs.UnderLaws.{last-both}
@@ -8,6 +9,7 @@ use Rattle.cr_reviews.proofs.reviews.Reviews.last_since.Goals as goal
 
 pub returns : goal.returns
 returns c =
+    let then = λ (w : WrittenForm). is_from c.args.phase w.phase in
     c.last_of.ensures
-    ∙ last-both (λ (x : Filed WrittenForm). x.value) (is_under c.args.ordinal) (λ (w : WrittenForm). is_from c.args.phase w.phase)
-    c.forms.result.now _ c.forms.ensures
+    ∙ last-both (is_under c.args.ordinal) then c.forms.result.now
+    ∙ ap (λ (forms : List WrittenForm). last (filter then (filter (is_under c.args.ordinal) forms))) c.forms.ensures

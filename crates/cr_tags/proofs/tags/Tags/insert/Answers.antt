@@ -1,34 +1,44 @@
-use Rattle.std.proofs.Common.{true, ◌∙◌, set, refl, ap, subst}
-use Rattle.cr_base.specs.declared.filed.Filed.{Filed}
+use Rattle.std.proofs.Common.{true, ◌∙◌, sym, ap, subst}
 use Rattle.cr_base.specs.declared.tag.SetTag.{SetTag}
-use Rattle.cr_base.specs.Filed.{filed}
-use Rattle.cr_base.specs.Tags.{IsSortedState, tag_switched}
+use Rattle.cr_base.specs.Filed.{filed, filed_of}
+use Rattle.cr_base.specs.Tags.{tag_switched}
+use Rattle.cr_tags.specs.BinarySearch.{IsAt, IsGapFor}
 use Rattle.cr_tags.specs.Seen.{SeenTags}
 use Rattle.cr_tags.proofs.BinarySearchLaws.{replaced, inserted, sorted-after}
 use Rattle.cr_tags.proofs.tags.Tags.insert.Goals as goal
 
-pub returns-in-Ok-clause-tags : goal.returns-in-Ok-clause-tags
-returns-in-Ok-clause-tags c =
-    let now = c.args.self.now in
-    let sorted = subst (λ (s : SeenTags). IsSortedState s.tags) c.self.view_is c.self.invariant in
-    replaced c.set_at-filed.result now.tags c.self.inside.tags.items _ c.in-Ok.index (ap (λ (s : SeenTags). s.tags) c.self.view_is) sorted c.in-Ok.ensures refl
-    ∙ ap (λ (x : Filed SetTag). tag_switched true x now.tags) c.set_at-filed.ensures
-
 pub invariant_of-self : goal.invariant_of-self
 invariant_of-self c =
-    let sorted = subst (λ (s : SeenTags). IsSortedState s.tags) c.self.view_is c.self.invariant in
-    let x : Filed SetTag = filed c.args.paper (record { tag = c.args.tag; owner = c.args.owner }) in
-    sorted-after true x c.args.self.now.tags (set c.self.inside.tags.items c.in-Ok.index c.set_at-filed.result) sorted (returns-in-Ok-clause-tags c)
+    let paper = c.args.paper in
+    let t : SetTag = record { tag = c.args.tag; owner = c.args.owner } in
+    let tags = c.self.inside.tags.files in
+    let at = subst (λ (s : SeenTags). IsAt t (filed_of paper s.tags) c.in-Ok.index) (sym c.self.view_is) c.in-Ok.ensures in
+    sorted-after true (filed paper t) tags c.change.new.self.files c.self.invariant
+    (c.change.ensures.values ∙ replaced paper t tags c.in-Ok.index c.self.invariant at)
 
-pub returns-in-Ok-insert-clause-tags : goal.returns-in-Ok-insert-clause-tags
-returns-in-Ok-insert-clause-tags c =
-    let now = c.args.self.now in
-    inserted c.set_at-filed.result now.tags c.self.inside.tags.items c.insert.new.self.items c.in-Err.index (ap (λ (s : SeenTags). s.tags) c.self.view_is)
-    c.in-Err.ensures c.in-Ok-insert.ensures.items
-    ∙ ap (λ (x : Filed SetTag). tag_switched true x now.tags) c.set_at-filed.ensures
+pub returns-in-Ok-clause-tags : goal.returns-in-Ok-clause-tags
+returns-in-Ok-clause-tags c =
+    let paper = c.args.paper in
+    let t : SetTag = record { tag = c.args.tag; owner = c.args.owner } in
+    let tags = c.self.inside.tags.files in
+    let at = subst (λ (s : SeenTags). IsAt t (filed_of paper s.tags) c.in-Ok.index) (sym c.self.view_is) c.in-Ok.ensures in
+    c.change.ensures.values ∙ replaced paper t tags c.in-Ok.index c.self.invariant at
+    ∙ ap (λ (s : SeenTags). tag_switched true (filed paper t) s.tags) c.self.view_is
 
-pub invariant_of-self-in-Ok-insert : goal.invariant_of-self-in-Ok-insert
-invariant_of-self-in-Ok-insert c =
-    let sorted = subst (λ (s : SeenTags). IsSortedState s.tags) c.self.view_is c.self.invariant in
-    let x : Filed SetTag = filed c.args.paper (record { tag = c.args.tag; owner = c.args.owner }) in
-    sorted-after true x c.args.self.now.tags c.insert.new.self.items sorted (returns-in-Ok-insert-clause-tags c)
+pub invariant_of-self-in-Err : goal.invariant_of-self-in-Err
+invariant_of-self-in-Err c =
+    let paper = c.args.paper in
+    let t : SetTag = record { tag = c.args.tag; owner = c.args.owner } in
+    let tags = c.self.inside.tags.files in
+    let gap = subst (λ (s : SeenTags). IsGapFor t (filed_of paper s.tags) c.in-Err.index) (sym c.self.view_is) c.in-Err.ensures in
+    sorted-after true (filed paper t) tags c.insert.new.self.files c.self.invariant
+    (c.insert.ensures.values ∙ inserted paper t tags c.in-Err.index c.self.invariant gap)
+
+pub returns-in-Err-clause-tags : goal.returns-in-Err-clause-tags
+returns-in-Err-clause-tags c =
+    let paper = c.args.paper in
+    let t : SetTag = record { tag = c.args.tag; owner = c.args.owner } in
+    let tags = c.self.inside.tags.files in
+    let gap = subst (λ (s : SeenTags). IsGapFor t (filed_of paper s.tags) c.in-Err.index) (sym c.self.view_is) c.in-Err.ensures in
+    c.insert.ensures.values ∙ inserted paper t tags c.in-Err.index c.self.invariant gap
+    ∙ ap (λ (s : SeenTags). tag_switched true (filed paper t) s.tags) c.self.view_is

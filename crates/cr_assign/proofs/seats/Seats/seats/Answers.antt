@@ -1,0 +1,19 @@
+use Rattle.std.proofs.Common.{◌≤◌, ◌∙◌, length, ap, sym, subst}
+use Rattle.cr_base.specs.declared.pairs.Order.TheVariants.{ByPaper}
+use Rattle.cr_base.specs.Pairs.{ties_of}
+use Rattle.cr_base.specs.Seats.{SeatsState}
+use Rattle.cr_kept.proofs.OwnLaws.{own-of}
+use Rattle.cr_assign.specs.Seen.{SeenSeats}
+use Rattle.cr_assign.proofs.LeftLaws.{paper_of}
+use Rattle.cr_assign.proofs.seats.Seats.seats.Goals as goal
+
+pub returns-clause-ties : goal.returns-clause-ties
+returns-clause-ties c =
+    c.of_paper.ensures
+    ∙ own-of paper_of c.args.paper c.self.inside.seats.files c.self.invariant.1
+    ∙ ap (λ (v : SeenSeats). ties_of ByPaper c.args.paper v.seats) c.self.view_is
+
+pub returns-clause-few : goal.returns-clause-few
+returns-clause-few c =
+    subst (λ (ts : SeatsState). length ts ≤ 26)
+    (sym (c.of_paper.ensures ∙ own-of paper_of c.args.paper c.self.inside.seats.files c.self.invariant.1)) (c.self.invariant.0.few c.args.paper)

@@ -1,0 +1,87 @@
+//! What is kept of one paper.
+ghost use Rattle.std.specs.Prelude.{◌≡◌, ◌≤◌, ◌<◌, ◌+◌, ◌++◌, ◌∷◌, [], OnOk, length, set, insert, remove};
+
+use std::alloc::{AllocError, Global};
+use std::marker::Model;
+
+/// The values of one paper, in their order. Contracts see them, and for how many more there is room.
+#[derive(Drop)]
+pub struct Drawer<V> {
+    values: Vec<V>,
+}
+
+impl<V> Model for Drawer<V> {
+    ghost use Rattle.std.specs.Prelude.{◌-◌, vec_len, vec_capacity};
+    ghost use Rattle.cr_kept.specs.Seen.{SeenDrawer};
+
+    ghost Value = { SeenDrawer V };
+
+    ghost view = { λ d. record { values = d.values.items; room = vec_capacity d.values - vec_len d.values } };
+}
+
+impl<V: Drop> Drawer<V> {
+    /// No values; takes no memory.
+    pub fn new(alloc: Global) -> Drawer<V>
+        ensures { result.values ≡ [] }
+    {
+        Drawer {
+            values: Vec::new(alloc),
+        }
+    }
+
+    /// The values. Reads none; takes no memory.
+    pub fn values(&self) -> &[V]
+        ensures { result.now ≡ self.now.values }
+    {
+        &self.values
+    }
+
+    /// Takes the memory for so many more values, where it is taken for at least as many more as there are; an
+    /// error only for lack of memory, and the values are the same either way.
+    pub fn room(&mut self, count: usize) -> Result<(), AllocError>
+        ensures ok { OnOk result (count ≤ self.new.room) }
+        ensures same { self.new.values ≡ self.old.values }
+        ensures keeps { self.old.room ≤ self.new.room }
+    {
+        self.values.reserve(count)
+    }
+
+    /// One more value, for which there is room, behind the others; takes no memory.
+    pub fn push(&mut self, value: V)
+        requires { 0 < self.old.room }
+        ensures values { self.new.values ≡ self.old.values ++ value ∷ [] }
+        ensures room { self.old.room ≤ self.new.room + 1 }
+    {
+        self.values.push_reserved(value);
+    }
+
+    /// Another value at an index, in the place of the one there.
+    pub fn set(&mut self, index: usize, value: V)
+        requires { index < length self.old.values }
+        ensures values { self.new.values ≡ set self.old.values index value }
+        ensures room { self.old.room ≤ self.new.room }
+    {
+        self.values[index] = value;
+    }
+    /// One more value, for which there is room, at an index: those from there on move behind it. Takes no memory.
+    pub fn insert(&mut self, index: usize, value: V)
+        requires index { index ≤ length self.old.values }
+        requires room { 0 < self.old.room }
+        ensures values { self.new.values ≡ insert self.old.values index value }
+        ensures room { self.old.room ≤ self.new.room + 1 }
+    {
+        match self.values.insert(index, value) {
+            Ok(()) => {}
+            Err(_) => unreachable!(),
+        }
+    }
+
+    /// The values without the one at an index: those behind it move up.
+    pub fn remove(&mut self, index: usize)
+        requires { index < length self.old.values }
+        ensures values { self.new.values ≡ remove self.old.values index }
+        ensures room { self.old.room ≤ self.new.room }
+    {
+        self.values.remove(index);
+    }
+}

@@ -1,0 +1,2 @@
+pub mod GroupRooms
+pub mod RoomLaws
