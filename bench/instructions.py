@@ -1,0 +1,94 @@
+#!/usr/bin/env python3
+"""Counts the processor instructions that requests take, by valgrind's callgrind: the same of the same program and input
+whatever else the machine is doing, so that two builds can be compared while provers run.
+
+    bench/instructions.py PROGRAM [OTHER]
+
+`confd pipe` over a small conference of 200 papers in the bidding: a page to a chair, a bid, a search and a bulk of a
+hundred rows, each by what a run with so many of them takes more than one without; and the opening of a store with 2,000
+bids. Needs Debian's valgrind.
+"""
+import json
+import os
+import re
+import subprocess
+import sys
+import tempfile
+
+PAPERS = 200
+
+
+def request(method, path, user=None, body=None):
+    """The bytes of a request; a body that isn't bytes is sent as JSON."""
+    head = [f"{method} {path} HTTP/1.1", "Host: c"]
+    if user:
+        head.append(f"Authorization: Bearer {user}.{user}-secret-000001")
+    text = b"" if body is None else body if isinstance(body, bytes) else json.dumps(body).encode()
+    if body is not None:
+        head.append(f"Content-Length: {len(text)}")
+    return "\r\n".join(head).encode() + b"\r\n\r\n" + text
+
+
+def conference():
+    """Three members, and the papers of as many authors as they need, in the bidding."""
+    authors = [f"u{n}" for n in range(PAPERS // 20)]
+    names = ["alice", "bob", "carol", "dave", *authors]
+    made = [request("POST", "/register", None, {"name": name, "secret": f"{name}-secret-000001"}) for name in names]
+    made += [request("POST", "/members", "alice", {"name": name, "role": "member"}) for name in names[1:4]]
+    made.append(request("POST", "/phase", "alice", {"phase": "submission"}))
+    for n in range(PAPERS):
+        paper = {"title": f"T{n}", "abstract": "a" * 200, "authors": []}
+        made.append(request("POST", "/papers", authors[n // 20], paper))
+    return made + [request("POST", "/phase", "alice", {"phase": "bidding"})]
+
+
+def bid(n):
+    """A bid of a member on one paper after another."""
+    return request("PUT", f"/papers/{1 + n % PAPERS}/bid", "bob", {"bid": n % 20})
+
+
+def bulk(n):
+    """A hundred tags, one on each paper; another one in each bulk."""
+    rows = "".join(f"{paper},tag,,t{n}\n" for paper in range(1, 101))
+    return request("POST", "/assign", "alice", f"paper,action,user,tag\n{rows}".encode())
+
+
+def taken(program, requests, store=None):
+    """The instructions of one run, whose answers are all accepted."""
+    with tempfile.NamedTemporaryFile() as out:
+        words = ["valgrind", "--tool=callgrind", f"--callgrind-out-file={out.name}", program, "pipe"]
+        words += ["--store", store] if store else []
+        ran = subprocess.run(words, input=b"".join(requests), capture_output=True, check=True)
+    refused = [status for status in re.findall(rb"HTTP/1.1 (\d+)", ran.stdout) if not status.startswith(b"2")]
+    if refused:
+        sys.exit(f"{program}: {len(refused)} requests were refused, the first with {refused[0].decode()}")
+    return int(re.search(rb"Collected : (\d+)", ran.stderr)[1])
+
+
+def counts(program, store):
+    """What is measured, by name."""
+    begun = conference()
+    alone = taken(program, begun)
+    measured = {
+        "a page to a chair": [request("GET", "/papers/1", "alice")] * 200,
+        "a bid": [bid(n) for n in range(200)],
+        "a search over 200 papers": [request("GET", "/search?q=%23hot+OR+ti:T1", "alice")] * 20,
+        "a bulk of 100 rows": [bulk(n) for n in range(3)],
+    }
+    found = {name: (taken(program, begun + more) - alone) // len(more) for name, more in measured.items()}
+    return found | {"opening a store": taken(program, [], store)}
+
+
+def main():
+    programs = sys.argv[1:]
+    with tempfile.TemporaryDirectory() as folder:
+        store = os.path.join(folder, "store")
+        rows = b"".join(conference() + [bid(n) for n in range(2000)])
+        subprocess.run([programs[0], "pipe", "--store", store], input=rows, stdout=subprocess.DEVNULL, check=True)
+        told = [counts(program, store) for program in programs]
+    for name in told[0]:
+        print(f"{name}: " + ", ".join(f"{found[name]:,}" for found in told) + " instructions")
+
+
+if __name__ == "__main__":
+    main()
