@@ -8,6 +8,7 @@ ghost use Rattle.cr_base.specs.Checks.{judged, assign_checks, unassign_checks};
 ghost use Rattle.cr_base.specs.Lists.{IsRising};
 ghost use Rattle.cr_base.specs.Pairs.{ties_of};
 ghost use Rattle.cr_base.specs.History.{History};
+ghost use Rattle.cr_base.specs.Steps.{Takes};
 ghost use Rattle.cr_base.specs.Seats.{no_seats, seat_tie, with_seat, vacated, without_seat, seats_after};
 ghost use Rattle.cr_base.specs.Seats.{seats_from, labels_in, ordinal_in, SeatsFit, SeatsFitInTurn};
 ghost use Rattle.cr_rooms.specs.Rooms.{IsNoLess, IsOneLess};
@@ -18,13 +19,14 @@ use crate::earlier::{labels_given, seat_behind};
 use crate::judging;
 use crate::told::assigned_pairs;
 use cr_base::{
-    Entry, Kind, Order, Ordinal, Pair, PaperNo, Role, Rule, Seat, Stamped, Standing, Target, Tie,
-    UserNo,
+    Entry, Kind, Order, Ordinal, Pair, PaperNo, Role, Rule, Seat, Stamped, Standing, Steps, Target,
+    Tie, UserNo,
 };
 use cr_kept::Files;
 use cr_pairs::{PairRows, papers_of};
 use std::alloc::{AllocError, Global};
 use std::marker::Model;
+use std::sync::ledger::Ledger;
 
 /// Who is assigned to which paper, under which label, and who has left it.
 ///
@@ -98,53 +100,66 @@ impl Seats {
     }
 
     /// The seats of the paper, by label, at most 26; those that somebody has left are marked. None where
-    /// there is no such paper. One read by number; takes no memory.
-    pub fn seats(&self, paper: PaperNo) -> &[Tie<Seat>]
+    /// there is no such paper. Found by number; a step for each. Takes no memory.
+    pub fn seats<L: Ledger>(&self, paper: PaperNo, steps: &mut Steps<L>) -> &[Tie<Seat>]
         ensures ties { result.now ≡ ties_of ByPaper paper self.now.seats }
         ensures few { length result.now ≤ 26 }
+        ensures steps { Takes (length (ties_of ByPaper paper self.now.seats)) steps.old steps.new }
     {
-        self.seats.of_paper(paper)
+        self.seats.of_paper(paper, steps)
     }
 
-    /// The ordinal of the label under which the user reviews the paper, and none where she doesn't. One
-    /// read by number, and a binary search among the papers that she reviews.
-    pub fn ordinal_of(&self, user: UserNo, paper: PaperNo) -> Option<Ordinal>
-        ensures { result ≡ ordinal_in self.now.seats (Some user) paper }
+    /// The ordinal of the label under which the user reviews the paper, and none where she doesn't. Found by
+    /// number, and a walk over the paper's seats; a step for each of them.
+    pub fn ordinal_of<L: Ledger>(
+        &self,
+        user: UserNo,
+        paper: PaperNo,
+        steps: &mut Steps<L>,
+    ) -> Option<Ordinal>
+        ensures value { result ≡ ordinal_in self.now.seats (Some user) paper }
+        ensures steps { Takes (length (ties_of ByPaper paper self.now.seats)) steps.old steps.new }
     {
-        self.reviewing.value(&Pair { paper, user })
+        self.seats(paper, steps)
+            .iter()
+            .filter(|seat| !seat.value.vacated)
+            .find(|seat| user.number() == seat.pair.user.number())
+            .map(|seat| seat.value.ordinal)
     }
 
-    /// Whether the user reviews the paper. One read by number, and a binary search among the papers that she
-    /// reviews.
-    pub fn is_reviewer(&self, user: UserNo, paper: PaperNo) -> bool
-        ensures { result ≡ is_some (ordinal_in self.now.seats (Some user) paper) }
+    /// Whether the user reviews the paper. Found by number, and a walk over the paper's seats; a step for each of
+    /// them.
+    pub fn is_reviewer<L: Ledger>(&self, user: UserNo, paper: PaperNo, steps: &mut Steps<L>) -> bool
+        ensures value { result ≡ is_some (ordinal_in self.now.seats (Some user) paper) }
+        ensures steps { Takes (length (ties_of ByPaper paper self.now.seats)) steps.old steps.new }
     {
-        self.ordinal_of(user, paper).is_some()
+        self.ordinal_of(user, paper, steps).is_some()
     }
 
     /// How many labels the paper's reviewers were given, those who have left among them: 0 to 26. One
-    /// read by number.
+    /// read by number; reads no seat.
     pub fn labels_drawn(&self, paper: PaperNo) -> u64
         ensures value { result ≡ labels_in self.now.seats paper }
         ensures few { result ≤ 26 }
     {
-        self.seats(paper).len() as u64
+        self.seats.count_of(paper) as u64
     }
 
     /// The papers that the user reviews, in the order of their numbers, with the ordinals of her labels.
-    /// One read by number; takes no memory.
-    pub fn reviewed(&self, user: UserNo) -> &[Tie<Ordinal>]
+    /// Found by number; a step for each. Takes no memory.
+    pub fn reviewed<L: Ledger>(&self, user: UserNo, steps: &mut Steps<L>) -> &[Tie<Ordinal>]
         ensures papers { (p : _) → list_any (λ m. p == m) (map (λ t. t.pair.paper) result.now)
             ≡ is_some (ordinal_in self.now.seats (Some user) p) }
         ensures rising { IsRising (map (λ t. t.pair.paper) result.now) }
         ensures ordinals { All (λ t. ordinal_in self.now.seats (Some user) t.pair.paper ≡ Some t.value) result.now }
+        ensures steps { Takes (length result.now) steps.old steps.new }
     {
-        self.reviewing.of(user.number())
+        self.reviewing.of(user.number(), steps)
     }
 
-    /// The ordinal under which the user reviews the paper behind earlier entries of the same command. One
-    /// read by number, a binary search, and a walk over the entries, of which there are none but in a command
-    /// of many parts.
+    /// The ordinal under which the user reviews the paper behind earlier entries of the same command. Found
+    /// by number, a walk over the paper's seats, and one over the entries, of which there are none but in a
+    /// command of many parts.
     pub fn ordinal_behind(
         &self,
         user: UserNo,
@@ -154,7 +169,9 @@ impl Seats {
         requires { SeatsFitInTurn self.now.seats earlier.now }
         ensures { result ≡ ordinal_in (seats_from self.now.seats earlier.now) (Some user) paper }
     {
-        let held = self.reviewing.value(&Pair { paper, user });
+        // The table's invariant is known where a field is read.
+        let _ = &self.alloc;
+        let held = self.ordinal_of(user, paper, &mut Steps::uncounted());
         seat_behind(held, earlier, user, paper)
     }
 
@@ -170,8 +187,8 @@ impl Seats {
     /// gets; or the first broken rule. All of it behind earlier entries of the same command, each of which
     /// fits in its turn. `by` is the caller's standing at the paper; `paper` is none where there is no such
     /// paper, `target` none where there is no such user. Whether the paper is withdrawn, and whether the
-    /// user is in conflict with it, stands in none of the seats. Two reads by number, a binary search and two
-    /// walks over the earlier entries, of which there are none but in a command of many parts.
+    /// user is in conflict with it, stands in none of the seats. Two reads by number, a walk over the paper's
+    /// seats and two over the earlier entries, of which there are none but in a command of many parts.
     ///
     /// In this order: `NoPaper`, `NoUser`, `NotChair`, `Conflict` where the caller is in conflict with the
     /// paper, `WrongPhase` before the bidding or after the discussion, `Withdrawn`, `NotAMember`,
@@ -213,7 +230,7 @@ impl Seats {
     /// Whether the caller may take this user off this paper, and then the ordinal under which she reviews
     /// it; or the first broken rule. The parameters are those of `judge_assign`, and `has_form`, whether a
     /// form is written under the user's label, which stands in none of the seats either. It costs one read by
-    /// number, a binary search and one walk.
+    /// number, a walk over the paper's seats and one over the earlier entries.
     ///
     /// In this order: `NoPaper`, `NoUser`, `NotChair`, `Conflict`, `WrongPhase`, `Withdrawn`,
     /// `NotAssigned`, `HasReview` where a form is written.
@@ -283,7 +300,7 @@ impl Seats {
         ensures rooms_by_user { IsNoLess self.old.rooms.reviewing self.new.rooms.reviewing }
     {
         let index = ordinal.number() as usize - 1;
-        let seat = left(&self.seats.of_paper(paper)[index]);
+        let seat = left(&self.seats.of_paper(paper, &mut Steps::uncounted())[index]);
         self.seats.change(paper, index, seat);
         self.reviewing.remove(&Pair { paper, user });
     }

@@ -14,6 +14,7 @@ pub mod RoleLaws
 pub mod RowLaws
 pub mod SeatLaws
 pub mod SortedLists
+pub mod StepLaws
 pub mod ParseLaws
 pub mod TagLaws
 pub mod TargetLaws

@@ -29,6 +29,7 @@ pub mod Short
 pub mod Sources
 pub mod Parse
 pub mod Stage
+pub mod Steps
 pub mod Tables
 pub mod TagTexts
 pub mod Tags

@@ -79,6 +79,7 @@ fn row_command_of(live: &Live, entry: Entry) -> Option<Command>
     ensures row { IfSome result IsRowCommand }
 {
     if !is_of_row(&entry) {
+        drop(entry);
         return None;
     }
     paper_command_of(live, entry)
@@ -95,8 +96,9 @@ fn spells(
     ensures { IfOk result (λ same. IsTrue same
         ↔ (row_of (stamped stamp more entry) ≡ row.now)) }
 {
-    let spelled = entry.to_row(alloc, stamp, more)?;
-    Ok(spelled.is_same(row))
+    let spelled = entry.to_row(alloc, stamp, more);
+    drop(entry);
+    Ok(spelled?.is_same(row))
 }
 
 /// Whether the entry, whose row this is, is what the command that it tells draws behind those that are begun. An error

@@ -1,5 +1,5 @@
 //! A store that is being read, row by row.
-ghost use Rattle.std.specs.Prelude.{◌≡◌, ◌<◌, ◌≤◌, ◌++◌, ◌∷◌, List, [], IfOk, IfErr, length, true, false};
+ghost use Rattle.std.specs.Prelude.{◌≡◌, ◌<◌, ◌≤◌, ◌++◌, ◌∷◌, List, [], IfOk, IfErr, OnOk, length, true, false};
 ghost use Rattle.cr_base.specs.declared.row.Row.{Row};
 ghost use Rattle.cr_base.specs.Rows.{row_of, rows_of, IsBoundedEntry};
 ghost use Rattle.cr_base.specs.Tables.{FitInTurn};
@@ -11,7 +11,7 @@ use crate::rebuilding::begun;
 use crate::rows::copies_of;
 use cr_base::{Row, Stamped};
 use cr_view::Live;
-use std::alloc::Global;
+use std::alloc::{AllocError, Global};
 use std::marker::Model;
 
 /// Why a row was not taken.
@@ -152,8 +152,14 @@ fn read_of_bulk(
 {
     match goes_on(alloc, &live, &begun, &next, &row) {
         Ok(true) => with_next(alloc, log, live, pending, begun, row, next),
-        Ok(false) => Err(ReadError::Bad(row)),
-        Err(_) => Err(ReadError::OutOfMemory),
+        Ok(false) => {
+            drop(next);
+            Err(ReadError::Bad(row))
+        }
+        Err(_) => {
+            drop(next);
+            Err(ReadError::OutOfMemory)
+        }
     }
 }
 
@@ -177,15 +183,10 @@ fn with_next(
         ≡ (rows_of log.items ++ pending.items) ++ row ∷ []) }
     ensures memory { IfErr result (λ e. e ≡ ReadError.OutOfMemory) }
 {
-    if pending.reserve(1).is_err() {
-        return Err(ReadError::OutOfMemory);
-    }
-    if begun.reserve(1).is_err() {
-        return Err(ReadError::OutOfMemory);
-    }
     let more = next.more;
-    pending.push_reserved(row);
-    begun.push_reserved(next);
+    let Ok(()) = add_both(&mut pending, &mut begun, row, next) else {
+        return Err(ReadError::OutOfMemory);
+    };
     if more {
         return Ok(Reading {
             alloc,
@@ -196,6 +197,23 @@ fn with_next(
         });
     }
     with_group(alloc, log, live, pending, begun)
+}
+
+/// Adds a value to each, behind those that are there. It is for any types, so that no check spells out how they go.
+fn add_both<A: Drop, B: Drop>(
+    rows: &mut Vec<A>,
+    entries: &mut Vec<B>,
+    row: A,
+    entry: B,
+) -> Result<(), AllocError>
+    ensures rows { OnOk result (rows.new.items ≡ rows.old.items ++ row ∷ []) }
+    ensures entries { OnOk result (entries.new.items ≡ entries.old.items ++ entry ∷ []) }
+{
+    rows.reserve(1)?;
+    entries.reserve(1)?;
+    rows.push_reserved(row);
+    entries.push_reserved(entry);
+    Ok(())
 }
 
 /// The reading where these rows begin the group of a command: it is added once all its rows are there.

@@ -156,7 +156,10 @@ fn target_command_of(live: &Live, first: Entry) -> Option<Command>
                 user: Some(name),
             })
         }
-        _ => None,
+        other => {
+            drop(other);
+            None
+        }
     }
 }
 
@@ -190,6 +193,7 @@ fn effect_of(live: &Live, first: Stamped, authors: ToldNames) -> Option<Effect>
 {
     let call = call_of(live, first, authors)?;
     if !is_known(live, &call.caller) {
+        drop(call);
         return None;
     }
     match judge(live, call) {

@@ -1,20 +1,20 @@
 -- What the authors by paper and by user are with one more, and how they are read.
-use Rattle.std.proofs.Common.{ℕ, Bool, List, true, false, ◌≡◌, ◌∙◌, ◌||◌, ◌&&◌, [], ◌∷◌, ◌++◌, eqb, arith, refl, sym, ap, subst, Some}
+use Rattle.std.proofs.Common.{ℕ, Bool, List, true, false, ◌≡◌, ◌∙◌, ◌||◌, ◌&&◌, [], ◌∷◌, ◌++◌, eqb, arith, refl, sym, ap, subst}
 use Rattle.std.specs.Prelude.{nat_le, nat_lt, not, filter}
 use Rattle.std.specs.Cmp.Derive.{both_true}
-use Rattle.std.specs.List.{list_any, list_all}
+use Rattle.std.specs.List.{list_all}
 use Rattle.std.proofs.lemmas.Bool.{and_parts}
 use Rattle.std.proofs.lemmas.Bool.Decides.{nat_tests}
 use Rattle.cr_base.specs.declared.pairs.Order.{Order}
-use Rattle.cr_base.specs.declared.pairs.Order.TheVariants.{ByPaper, ByUser}
+use Rattle.cr_base.specs.declared.pairs.Order.TheVariants.{ByUser}
 use Rattle.cr_base.specs.declared.pairs.Pair.{Pair}
 use Rattle.cr_base.specs.declared.pairs.Tie.{Tie}
 use Rattle.cr_base.specs.declared.filed.Filed.{Filed}
 use Rattle.cr_base.specs.Filed.{filed, with_filed}
-use Rattle.cr_base.specs.Lists.{IsRising, is_number}
-use Rattle.cr_base.specs.Pairs.{same_pair, is_tied, major, minor, stands, IsSortedBy, IsAscending, has_pair, with_tie, users_tied_to, papers_tied_to}
+use Rattle.cr_base.specs.Lists.{IsRising}
+use Rattle.cr_base.specs.Pairs.{same_pair, is_tied, major, minor, stands, IsSortedBy, IsAscending, has_pair, with_tie, papers_tied_to}
 use Rattle.cr_base.specs.Ties.{BareTies, pair_of, bare_tie, are_before, are_up_to}
-use Rattle.cr_base.proofs.PairLaws.{IsAscending-with_tie, has_pair-with_tie, list_any-others_of}
+use Rattle.cr_base.proofs.PairLaws.{IsAscending-with_tie, has_pair-with_tie}
 use Rattle.cr_base.proofs.RisingLists.{rising-sorted, rising-others_of, others_of-same}
 use Rattle.cr_base.proofs.SortedLists.{list_all-weaker, filter-all, filter-none}
 use Rattle.cr_base.proofs.TieLaws.{has_pair-push, all-push}
@@ -23,10 +23,6 @@ use Rattle.cr_kept.proofs.OwnLaws.{own-with}
 use Rattle.cr_conflicts.specs.Index.{is_told_before, all_before, AuthorsIndexed}
 
 -- ---- what is read
-
--- an author is one whose pair is there
-pub author-pair : (authors : BareTies) (u p : ℕ) → list_any (is_number (Some u)) (users_tied_to p authors) ≡ has_pair (pair_of p u) authors
-author-pair authors u p = list_any-others_of ByPaper p u authors
 
 -- a user's papers are the same by paper and by user
 module _ (authors : BareTies) (users : Order) (authored : BareTies) (declared bids : Order) (index : AuthorsIndexed authors users authored declared bids) (u : ℕ) where

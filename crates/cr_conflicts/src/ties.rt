@@ -1,9 +1,11 @@
 //! The ties of users to papers, by paper and by user.
-ghost use Rattle.std.specs.Prelude.{◌≡◌, ◌<◌, ◌∷◌, [], IsTrue, OnOk, Some, map, is_some, slice_index, if◌then◌else◌};
+ghost use Rattle.std.specs.Prelude.{◌≡◌, ◌<◌, ◌+◌, ◌∷◌, [], IsTrue, OnOk, Some, length, map, is_some, slice_index};
+ghost use Rattle.std.specs.Prelude.{if◌then◌else◌};
 ghost use Rattle.cr_base.specs.Checks.{judged, bid_checks, conflict_checks};
 ghost use Rattle.cr_base.specs.History.{History};
 ghost use Rattle.cr_base.specs.Lists.{IsRising};
 ghost use Rattle.cr_base.specs.Pairs.{major, with_tie, users_tied_to, papers_tied_to};
+ghost use Rattle.cr_base.specs.Steps.{Takes, TakesAtMost, Halves};
 ghost use Rattle.cr_base.specs.Ties.{no_ties, ties_after, ties_from, switched, pair_of, bare_tie};
 ghost use Rattle.cr_base.specs.Ties.{authors_in, is_author_in, is_conflicted_in, TiesFit};
 ghost use Rattle.cr_base.specs.Ties.{is_conflict_on_in, bid_tie, bid_in, bids_in};
@@ -16,12 +18,13 @@ use crate::earlier::{declared_behind, give_author};
 use crate::judging;
 use crate::told::{authored_pairs, bid_pairs, conflict_pairs};
 use cr_base::{
-    Bid, Entry, Order, Pair, PaperNo, Role, Rule, Stamped, Standing, Target, Tie, UserNo,
+    Bid, Entry, Order, Pair, PaperNo, Role, Rule, Stamped, Standing, Steps, Target, Tie, UserNo,
 };
 use cr_kept::Files;
 use cr_pairs::{IndexedPairs, PairRows, papers_of};
 use std::alloc::{AllocError, Global};
 use std::marker::Model;
+use std::sync::ledger::Ledger;
 
 /// Who is an author of which paper, who is declared in conflict with it, whom its authors named so, and who
 /// has bid on it.
@@ -137,94 +140,145 @@ impl Ties {
     }
 
     /// The authors of the paper, the submitter first and the others in the order in which they were
-    /// told; none where there is no such paper. One read by number; takes no memory.
-    pub fn authors(&self, paper: PaperNo) -> &[Tie<()>]
-        ensures { map (λ t. t.pair.user) result.now ≡ authors_in self.now.ties paper }
+    /// told; none where there is no such paper. Found by number; a step for each. Takes no memory.
+    pub fn authors<L: Ledger>(&self, paper: PaperNo, steps: &mut Steps<L>) -> &[Tie<()>]
+        ensures value { map (λ t. t.pair.user) result.now ≡ authors_in self.now.ties paper }
+        ensures steps { Takes (length (authors_in self.now.ties paper)) steps.old steps.new }
     {
-        self.authors.of_paper(paper)
+        self.authors.of_paper(paper, steps)
     }
 
-    /// Whether the user is an author of the paper; false where there is no such paper. One read
-    /// by number, and a binary search among the papers whose author she is.
-    pub fn is_author(&self, user: UserNo, paper: PaperNo) -> bool
-        ensures { result ≡ is_author_in self.now.ties (Some user) paper }
+    /// Whether the user is an author of the paper; false where there is no such paper. Found by number, and a
+    /// walk over the paper's authors; a step for each of them.
+    pub fn is_author<L: Ledger>(&self, user: UserNo, paper: PaperNo, steps: &mut Steps<L>) -> bool
+        ensures value { result ≡ is_author_in self.now.ties (Some user) paper }
+        ensures steps { Takes (length (authors_in self.now.ties paper)) steps.old steps.new }
     {
-        self.authored.contains(&Pair { paper, user })
+        self.authors(paper, steps)
+            .iter()
+            .map(|tie| tie.pair.user)
+            .any(|author| user.number() == author.number())
     }
 
-    /// The same behind earlier entries of the same command. One read by number, a binary search, and a walk
-    /// over the entries, of which there are none but in a command of many parts.
-    fn is_author_behind(&self, user: UserNo, paper: PaperNo, earlier: &[Stamped]) -> bool
-        ensures { result ≡ is_author_in (ties_from self.now.ties earlier.now) (Some user) paper }
+    /// The same behind earlier entries of the same command. Found by number, a step for each of the paper's
+    /// authors, and a walk over the entries, of which there are none but in a command of many parts.
+    fn is_author_behind<L: Ledger>(
+        &self,
+        user: UserNo,
+        paper: PaperNo,
+        earlier: &[Stamped],
+        steps: &mut Steps<L>,
+    ) -> bool
+        ensures value { result ≡ is_author_in (ties_from self.now.ties earlier.now) (Some user) paper }
+        ensures steps { Takes (length (authors_in self.now.ties paper)) steps.old steps.new }
     {
-        self.is_author(user, paper) || give_author(earlier, user, paper)
+        self.is_author(user, paper, steps) || give_author(earlier, user, paper)
     }
 
-    /// Whether the user is declared in conflict with the paper, behind earlier entries of the same
-    /// command. One read by number, a binary search among the paper's, and a walk over the entries.
-    fn is_declared_behind(&self, user: UserNo, paper: PaperNo, earlier: &[Stamped]) -> bool
-        ensures { result ≡ is_conflict_on_in (ties_from self.now.ties earlier.now) (Some user) paper }
+    /// Whether the user is declared in conflict with the paper; false where there is no such paper. The paper's
+    /// conflicts are found by number; a step for each of them at which the binary search looks.
+    pub fn is_declared<L: Ledger>(&self, user: UserNo, paper: PaperNo, steps: &mut Steps<L>) -> bool
+        ensures value { result ≡ is_conflict_on_in self.now.ties (Some user) paper }
+        ensures steps { Halves (length (users_tied_to paper self.now.ties.conflicts)) steps.old steps.new }
     {
-        let on = self.conflicts.contains(&Pair { paper, user });
+        self.conflicts.contains(&Pair { paper, user }, steps)
+    }
+
+    /// The same behind earlier entries of the same command. As many steps, and a walk over the entries.
+    fn is_declared_behind<L: Ledger>(
+        &self,
+        user: UserNo,
+        paper: PaperNo,
+        earlier: &[Stamped],
+        steps: &mut Steps<L>,
+    ) -> bool
+        ensures value { result ≡ is_conflict_on_in (ties_from self.now.ties earlier.now) (Some user) paper }
+        ensures steps { Halves (length (users_tied_to paper self.now.ties.conflicts)) steps.old steps.new }
+    {
+        let on = self.is_declared(user, paper, steps);
         declared_behind(on, earlier, user, paper)
     }
 
     /// Whether the user is in conflict with the paper, as an author or declared so, behind earlier
-    /// entries of the same command, whatever these are. Two reads by number, two binary searches, and a
-    /// walk over the entries, of which there are none but in a command of many parts.
-    pub fn is_conflicted(&self, user: UserNo, paper: PaperNo, earlier: &[Stamped]) -> bool
-        ensures { result ≡ is_conflicted_in (ties_from self.now.ties earlier.now) (Some user) paper }
+    /// entries of the same command, whatever these are. Two reads by number, at most a step for each of the
+    /// paper's authors and of its conflicts, and a walk over the entries, of which there are none but in a command
+    /// of many parts.
+    pub fn is_conflicted<L: Ledger>(
+        &self,
+        user: UserNo,
+        paper: PaperNo,
+        earlier: &[Stamped],
+        steps: &mut Steps<L>,
+    ) -> bool
+        ensures value { result ≡ is_conflicted_in (ties_from self.now.ties earlier.now) (Some user) paper }
+        ensures steps { TakesAtMost (length (authors_in self.now.ties paper)
+            + length (users_tied_to paper self.now.ties.conflicts)) steps.old steps.new }
     {
-        self.is_author_behind(user, paper, earlier) || self.is_declared_behind(user, paper, earlier)
+        if self.is_author_behind(user, paper, earlier, steps) {
+            return true;
+        }
+        self.is_declared_behind(user, paper, earlier, steps)
     }
 
-    /// Who is declared in conflict with the paper, in the order of user numbers. One read by number;
-    /// takes no memory.
-    pub fn conflicts(&self, paper: PaperNo) -> &[Tie<()>]
-        ensures { map (λ t. t.pair.user) result.now ≡ users_tied_to paper self.now.ties.conflicts }
+    /// Who is declared in conflict with the paper, in the order of user numbers. Found by number; a step for
+    /// each. Takes no memory.
+    pub fn conflicts<L: Ledger>(&self, paper: PaperNo, steps: &mut Steps<L>) -> &[Tie<()>]
+        ensures value { map (λ t. t.pair.user) result.now ≡ users_tied_to paper self.now.ties.conflicts }
+        ensures steps { Takes (length (users_tied_to paper self.now.ties.conflicts)) steps.old steps.new }
     {
-        self.conflicts.of_paper(paper)
+        self.conflicts.of_paper(paper, steps)
     }
 
-    /// Whom the paper's authors named in a conflict with it, in the order of user numbers. One read by
-    /// number; takes no memory.
-    pub fn declared(&self, paper: PaperNo) -> &[Tie<()>]
-        ensures { map (λ t. t.pair.user) result.now ≡ users_tied_to paper self.now.ties.declared }
+    /// Whom the paper's authors named in a conflict with it, in the order of user numbers. Found by number; a
+    /// step for each. Takes no memory.
+    pub fn declared<L: Ledger>(&self, paper: PaperNo, steps: &mut Steps<L>) -> &[Tie<()>]
+        ensures value { map (λ t. t.pair.user) result.now ≡ users_tied_to paper self.now.ties.declared }
+        ensures steps { Takes (length (users_tied_to paper self.now.ties.declared)) steps.old steps.new }
     {
-        self.declared.of(paper.number())
+        self.declared.of(paper.number(), steps)
     }
 
-    /// The papers whose author the user is, in the order of their numbers. One read by number; takes
-    /// no memory.
-    pub fn authored(&self, user: UserNo) -> &[Tie<()>]
+    /// The papers whose author the user is, in the order of their numbers. Found by number; a step for each.
+    /// Takes no memory.
+    pub fn authored<L: Ledger>(&self, user: UserNo, steps: &mut Steps<L>) -> &[Tie<()>]
         ensures papers { map (λ t. t.pair.paper) result.now ≡ papers_tied_to user self.now.ties.authors }
         ensures rising { IsRising (papers_tied_to user self.now.ties.authors) }
+        ensures steps { Takes (length (papers_tied_to user self.now.ties.authors)) steps.old steps.new }
     {
-        self.authored.of(user.number())
+        self.authored.of(user.number(), steps)
     }
 
-    /// The papers with which the user is declared in conflict, in the order of their numbers. One
-    /// read by number; takes no memory.
-    pub fn conflicting(&self, user: UserNo) -> &[Tie<()>]
+    /// The papers with which the user is declared in conflict, in the order of their numbers. Found by number; a
+    /// step for each. Takes no memory.
+    pub fn conflicting<L: Ledger>(&self, user: UserNo, steps: &mut Steps<L>) -> &[Tie<()>]
         ensures papers { map (λ t. t.pair.paper) result.now ≡ papers_tied_to user self.now.ties.conflicts }
         ensures rising { IsRising (papers_tied_to user self.now.ties.conflicts) }
+        ensures steps { Takes (length (papers_tied_to user self.now.ties.conflicts)) steps.old steps.new }
     {
-        self.conflicts.of_user(user)
+        self.conflicts.of_user(user, steps)
     }
 
-    /// The user's last bid on the paper, and none where she has told none. One read by number, and a binary
-    /// search among the paper's.
-    pub fn bid_of(&self, user: UserNo, paper: PaperNo) -> Option<Bid>
-        ensures { result ≡ bid_in self.now.ties (Some user) paper }
+    /// The user's last bid on the paper, and none where she has told none. The paper's bids are found by number; a
+    /// step for each of them at which the binary search looks.
+    pub fn bid_of<L: Ledger>(
+        &self,
+        user: UserNo,
+        paper: PaperNo,
+        steps: &mut Steps<L>,
+    ) -> Option<Bid>
+        ensures value { result ≡ bid_in self.now.ties (Some user) paper }
+        ensures steps { Halves (length (bids_in self.now.ties paper)) steps.old steps.new }
     {
-        self.bids.value(&Pair { paper, user })
+        self.bids.value(&Pair { paper, user }, steps)
     }
 
-    /// The last bids on the paper, in the order of user numbers. One read by number; takes no memory.
-    pub fn bids(&self, paper: PaperNo) -> &[Tie<Bid>]
-        ensures { map (λ t. record { user = t.pair.user; value = t.value }) result.now ≡ bids_in self.now.ties paper }
+    /// The last bids on the paper, in the order of user numbers. Found by number; a step for each. Takes no memory.
+    pub fn bids<L: Ledger>(&self, paper: PaperNo, steps: &mut Steps<L>) -> &[Tie<Bid>]
+        ensures value { map (λ t. record { user = t.pair.user; value = t.value }) result.now
+            ≡ bids_in self.now.ties paper }
+        ensures steps { Takes (length (bids_in self.now.ties paper)) steps.old steps.new }
     {
-        self.bids.of(paper.number())
+        self.bids.of(paper.number(), steps)
     }
 
     /// Whether the caller may bid on this paper, or the first broken rule. `by` is her standing at the
@@ -251,9 +305,9 @@ impl Ties {
     /// Whether the caller may turn this user's conflict with this paper on or off, or the first broken
     /// rule, behind earlier entries of the same command, whatever these are. `by` is her standing at
     /// the paper, `maker` her number; `paper` is none where there is no such paper, `target` none where
-    /// there is no such user. Whether the paper is withdrawn stands in none of the ties. Two binary
-    /// searches at most, and two walks over the earlier entries, of which there are none but in a
-    /// command of many parts.
+    /// there is no such user. Whether the paper is withdrawn stands in none of the ties. A walk over the
+    /// paper's authors, a binary search among its conflicts, and two walks over the earlier entries, of
+    /// which there are none but in a command of many parts.
     ///
     /// First come `NoPaper` and `NoUser`. On, before the bidding: `NotAuthor`, `Withdrawn`, `NotAMember`;
     /// from the bidding to the discussion, of herself: `NotMember`, `Withdrawn`, of another: `NotChair`,
@@ -280,8 +334,8 @@ impl Ties {
         let Some((user, role)) = target else {
             return Err(Rule::NoUser);
         };
-        let author = self.is_author_behind(*user, *paper, earlier);
-        let declared = self.is_declared_behind(*user, *paper, earlier);
+        let author = self.is_author_behind(*user, *paper, earlier, &mut Steps::uncounted());
+        let declared = self.is_declared_behind(*user, *paper, earlier, &mut Steps::uncounted());
         let target = Target {
             role: *role,
             herself: user.number() == maker.number(),
@@ -338,8 +392,8 @@ impl Ties {
     /// One more entry, for which there is room; takes no memory. The paper that it adds comes behind
     /// all that have authors, and a co-author's is the last of these, of which she is no author yet. A
     /// submission, a co-author or a bid costs two reads by number and a binary search among the paper's or the
-    /// user's ties, a conflict four of each at most, and each a move of those ties behind the index, of 4 to 6
-    /// bytes.
+    /// user's ties, a conflict a walk over the paper's authors and three of each at most, and each a move of those
+    /// ties behind the index, of 4 to 6 bytes.
     pub fn apply(&mut self, stamped: &Stamped)
         requires room { TiesHaveRoom (stamped.now ∷ []) self.old.rooms }
         requires fits { TiesFit self.old.ties stamped.now.entry }
@@ -351,7 +405,7 @@ impl Ties {
             Entry::Submitted { paper, .. } => self.add_author(*paper, stamped.stamp.maker),
             Entry::Coauthor { paper, user } => self.add_author(*paper, *user),
             Entry::Conflict { paper, user, on } => {
-                let wrote = self.is_author(stamped.stamp.maker, *paper);
+                let wrote = self.is_author(stamped.stamp.maker, *paper, &mut Steps::uncounted());
                 insert_where(&mut self.declared, wrote, bare(*paper, *user));
                 switch(&mut self.conflicts, *paper, *user, *on);
             }

@@ -1,15 +1,18 @@
 //! The decisions on papers.
 ghost use Rattle.std.specs.Prelude.{◌≡◌, [], ◌∷◌, OnOk, IfOk, is_some};
 ghost use Rattle.std.specs.List.{filter_map};
+ghost use Rattle.std.specs.Option.{IfSome};
 ghost use Rattle.cr_base.specs.Checks.{judged, decide_checks};
 ghost use Rattle.cr_base.specs.Decisions.{no_decisions, decisions_after, decision_in};
 ghost use Rattle.cr_base.specs.History.{History};
+ghost use Rattle.cr_base.specs.Steps.{Takes, TakesAtMost};
 ghost use Rattle.cr_decisions.specs.Room.{paper_decided, DecisionsHaveRoom};
 
-use cr_base::{Decision, Entry, PaperNo, Rule, Stamped, Standing};
+use cr_base::{Decision, Entry, PaperNo, Rule, Stamped, Standing, Steps};
 use cr_kept::Files;
 use std::alloc::{AllocError, Global};
 use std::marker::Model;
+use std::sync::ledger::Ledger;
 
 /// What was decided of papers: all decisions on each, in the order in which they came. The last one counts.
 ///
@@ -40,12 +43,14 @@ impl Decisions {
         }
     }
 
-    /// The last decision on the paper, and none where there is none or no such paper. One read by number;
-    /// takes no memory.
-    pub fn last(&self, paper: PaperNo) -> Option<Decision>
-        ensures { result ≡ decision_in self.now.decisions paper }
+    /// The last decision on the paper, and none where there is none or no such paper. Found by number; a step
+    /// where there is one. Takes no memory.
+    pub fn last<L: Ledger>(&self, paper: PaperNo, steps: &mut Steps<L>) -> Option<Decision>
+        ensures value { result ≡ decision_in self.now.decisions paper }
+        ensures steps { TakesAtMost 1 steps.old steps.new }
+        ensures told { IfSome result (λ value. Takes 1 steps.old steps.new) }
     {
-        self.decisions.of_paper(paper).last().copied()
+        self.decisions.last(paper, steps).copied()
     }
 
     /// Whether the caller may decide on this paper, or the first broken rule. `by` is her standing at the paper;

@@ -15,6 +15,7 @@ pub mod ListCuts
 pub mod NumberAgreement
 pub mod OrderAgreement
 pub mod PaperAgreement
+pub mod RecordLaws
 pub mod ReviewAgreement
 pub mod RoleAgreement
 pub mod RuleLaws

@@ -1,3 +1,4 @@
 pub mod Groups
 pub mod Invariants
 pub mod Laws
+pub mod Records

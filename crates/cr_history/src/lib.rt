@@ -5,7 +5,11 @@
 //! add to one by the rules. The functions here do nothing: each has a law as its contract.
 #![tactic(auto)]
 
+ghost use Rattle.std.specs.Prelude.{ℕ, ◌≤◌};
+ghost use Rattle.cr_base.specs.History.{History};
+ghost use Rattle.cr_base.specs.Tables.{tables_of};
 ghost use Rattle.cr_history.specs.Laws.{TablesTell, FormsTell, GrowthKeeps};
+ghost use Rattle.cr_history.specs.Records.{entries_on, records_on, records_declared};
 
 /// The tables tell what the history tells, where each entry fits in its turn and a paper's co-authors are told
 /// before any conflict with it: how any user stands to the conference and to any paper; the accounts with their
@@ -31,4 +35,14 @@ pub fn law_forms()
 /// fits the tables in its turn. What a command adds is never cut off.
 pub fn law_growth()
     ensures { GrowthKeeps }
+{}
+
+/// The tables keep no more records of a paper than any history has entries on it: its authors, the conflicts with it
+/// that are on, its seats, the last bids on it, its forms, its uploads and its tags, all together (the rows of a paper
+/// in HotCRP's schema). So it is too with whom its authors declared in the place of the conflicts that are on. Whatever
+/// reads each of these once reads no more of them than there are entries on this paper, however many there are on
+/// others. Comments aren't among them.
+pub fn law_records()
+    ensures kept { (p : ℕ) (H : History) → records_on p (tables_of H) ≤ entries_on p H }
+    ensures declared { (p : ℕ) (H : History) → records_declared p (tables_of H) ≤ entries_on p H }
 {}

@@ -1,6 +1,6 @@
 -- What a command draws that names a paper and a user, by reads of the tables; `user` is whom they have for the name.
 use Rattle.std.proofs.Common.{ℕ, Bool, true, false, ◌≡◌, ◌+◌, List, ◌∷◌, refl, sym, ap, subst, ◌∙◌, ◌||◌, Option, Some, None, Result, Ok}
-use Rattle.std.specs.Prelude.{IsSome, is_some, not, unwrap_or}
+use Rattle.std.specs.Prelude.{IsSome, is_some, unwrap_or}
 use Rattle.std.specs.List.{list_any}
 use Rattle.std.specs.Option.{option_map, option_and_then}
 use Rattle.cr_base.specs.declared.entry.Account.{Account}

@@ -15,7 +15,7 @@ use Rattle.cr_base.specs.declared.words.Role.TheVariants.{Chair}
 use Rattle.cr_base.specs.Accounts.{number_at}
 use Rattle.cr_base.specs.Calls.{call_by, stamp_by}
 use Rattle.cr_base.specs.Checks.{judged, register_checks, phase_checks, mode_checks, revise_checks, upload_checks}
-use Rattle.cr_base.specs.Drawn.{Drawn, grouped, registration, registration_drawn, phase_drawn, mode_drawn, upload_drawn}
+use Rattle.cr_base.specs.Drawn.{Drawn, grouped, registration_drawn, phase_drawn, mode_drawn, upload_drawn}
 use Rattle.cr_base.specs.Judging.{judge_by_role}
 use Rattle.cr_base.specs.Papers.{PapersState, uploads_at, own_bytes}
 use Rattle.cr_base.specs.Sources.{standing_at}

@@ -1,5 +1,5 @@
 -- What a command comes to, by the tables.
-use Rattle.std.proofs.Common.{ℕ, true, false, ◌≡◌, List, [], refl, sym, ap, ◌∙◌, Option, Some, None, Result, Ok, Err, IfOk}
+use Rattle.std.proofs.Common.{ℕ, true, false, ◌≡◌, List, refl, sym, ap, ◌∙◌, Option, Some, None, Result, Ok, Err, IfOk}
 use Rattle.std.specs.Prelude.{IsErrAnd}
 use Rattle.std.proofs.lemmas.Bool.{true≢false}
 use Rattle.cr_base.specs.declared.command.Call.{Call}

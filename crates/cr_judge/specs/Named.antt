@@ -1,6 +1,6 @@
 -- What a command names, and what the rules make of it, by reads of the tables; the caller is `maker`, or the maker of
 -- `stamp`.
-use Rattle.std.specs.Prelude.{ℕ, Bool, ◌+◌, ◌==◌, List, [], ◌∷◌, length, Option, Some, None, Result}
+use Rattle.std.specs.Prelude.{ℕ, Bool, ◌+◌, ◌==◌, List, [], length, Option, Some, None, Result}
 use Rattle.std.specs.Prelude.{is_some, is_none, unwrap_or, if◌then◌else◌}
 use Rattle.std.specs.List.{flat_map, list_any}
 use Rattle.std.specs.Option.{option_map, option_and_then}

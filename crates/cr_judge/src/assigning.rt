@@ -10,7 +10,7 @@ ghost use Rattle.cr_judge.specs.Rows.{AreEarlier};
 
 use crate::effect::{Effect, alone};
 use crate::named::{held, is_conflicted, named_paper, ordinal_of, target_of, user_of};
-use cr_base::{Bid, Entry, Kind, PaperNo, Rule, Short, Stamp, Stamped, UserNo};
+use cr_base::{Bid, Entry, Kind, PaperNo, Rule, Short, Stamp, Stamped, Steps, UserNo};
 use cr_view::Live;
 
 pub(crate) fn bid(
@@ -126,8 +126,8 @@ pub(crate) fn unassignment(
 }
 
 /// Whether a form is written under the label under which the user reviews the paper behind the earlier entries; false
-/// where she doesn't. One binary search and a walk over these entries, and where she does a walk over the paper's
-/// forms.
+/// where she doesn't. A walk over the paper's seats and one over these entries, and where she does a walk over the
+/// paper's forms.
 fn has_written(
     live: &Live,
     user: &Option<UserNo>,
@@ -141,7 +141,10 @@ fn has_written(
         return false;
     };
     match ordinal_of(live, user, paper, earlier) {
-        Some(ordinal) => live.review_table().has_form(*number, ordinal),
+        Some(ordinal) => {
+            live.review_table()
+                .has_form(*number, ordinal, &mut Steps::uncounted())
+        }
         None => false,
     }
 }

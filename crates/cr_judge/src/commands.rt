@@ -31,9 +31,10 @@ use cr_view::Live;
 ///
 /// Takes no memory: the command's texts and its content are moved. A registration, a naming, a
 /// conflict, an assignment and the end of one take one look-up by name, a submission one for each
-/// co-author told. Where a paper is named, how the caller stands to it takes four binary searches of
-/// ties and seats; a conflict takes three more at most, an assignment five, its end four and a walk over
-/// the paper's forms, a review three and such a walk, and a comment three. All else is a few reads by
+/// co-author told. Where a paper is named, how the caller stands to it takes walks over the paper's
+/// authors and seats and a binary search among its conflicts, and how a user stands who is named with it
+/// takes as much at most; the end of an assignment takes a walk over the paper's forms too, a review such
+/// a walk and one more over the seats, and a comment one more over the seats. All else is a few reads by
 /// number.
 pub fn judge(live: &Live, call: Call) -> Result<Effect, Rule>
     requires caller { HasCaller call }

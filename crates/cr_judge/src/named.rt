@@ -13,7 +13,7 @@ ghost use Rattle.cr_judge.specs.Named.{named_at, there_in, target_with};
 ghost use Rattle.cr_judge.specs.Rows.{AreEarlier};
 ghost use Rattle.cr_judge.specs.Targets.{target_at};
 
-use cr_base::{Ordinal, PaperNo, Role, Short, Stamped, Standing, UserNo};
+use cr_base::{Ordinal, PaperNo, Role, Short, Stamped, Standing, Steps, UserNo};
 use cr_view::Live;
 
 /// What is there, where something is.
@@ -75,13 +75,15 @@ fn is_withdrawn(live: &Live, paper: &Option<PaperNo>) -> bool
     ensures { result ≡ at_some (is_withdrawn_at live.now.tables.papers) paper.now }
 {
     match paper {
-        Some(paper) => live.paper_table().is_withdrawn(*paper),
+        Some(paper) => live
+            .paper_table()
+            .is_withdrawn(*paper, &mut Steps::uncounted()),
         None => false,
     }
 }
 
-/// What a user is to the conference and to the paper. Takes no memory; a few reads by number, four binary searches of
-/// ties and seats, and three walks over the earlier entries.
+/// What a user is to the conference and to the paper. Takes no memory; a few reads by number, two walks over the paper's
+/// authors, one over its seats, a binary search among its conflicts, and three walks over the earlier entries.
 fn standing_behind(
     live: &Live,
     user: &Option<UserNo>,
@@ -92,9 +94,11 @@ fn standing_behind(
     ensures { result ≡ standing_at (tables_from live.now.tables earlier.now) user.now paper.now }
 {
     let stage = live.stage_table();
+    let phase = stage.phase(&mut Steps::uncounted());
+    let mode = stage.mode(&mut Steps::uncounted());
     Standing {
-        phase: stage.phase(),
-        mode: stage.mode(),
+        phase,
+        mode,
         role: live.account_table().standing_for(user),
         author: live.is_author(user, paper),
         conflicted: is_conflicted(live, user, paper, earlier),
@@ -117,7 +121,10 @@ pub(crate) fn is_conflicted(
         return false;
     };
     match paper {
-        Some(paper) => live.tie_table().is_conflicted(*user, *paper, earlier),
+        Some(paper) => {
+            live.tie_table()
+                .is_conflicted(*user, *paper, earlier, &mut Steps::uncounted())
+        }
         None => false,
     }
 }

@@ -1,8 +1,12 @@
 //! What is kept of one paper.
-ghost use Rattle.std.specs.Prelude.{◌≡◌, ◌≤◌, ◌<◌, ◌+◌, ◌++◌, ◌∷◌, [], OnOk, length, set, insert, remove};
+ghost use Rattle.std.specs.Prelude.{◌≡◌, ◌≤◌, ◌<◌, ◌+◌, ◌++◌, ◌∷◌, [], OnOk, length, set, insert, remove, slice_get};
+ghost use Rattle.std.specs.Option.{option_copied, IfSome};
+ghost use Rattle.cr_base.specs.Steps.{Takes, TakesAtMost};
 
+use cr_base::Steps;
 use std::alloc::{AllocError, Global};
 use std::marker::Model;
+use std::sync::ledger::Ledger;
 
 /// The values of one paper, in their order. Contracts see them, and for how many more there is room.
 #[derive(Drop)]
@@ -29,11 +33,31 @@ impl<V: Drop> Drawer<V> {
         }
     }
 
-    /// The values. Reads none; takes no memory.
-    pub fn values(&self) -> &[V]
-        ensures { result.now ≡ self.now.values }
+    /// How many there are. Reads none.
+    pub fn count(&self) -> usize
+        ensures { result ≡ length self.now.values }
     {
+        self.values.len()
+    }
+
+    /// The values, to be read: a step for each. Takes no memory.
+    pub fn values<L: Ledger>(&self, steps: &mut Steps<L>) -> &[V]
+        ensures values { result.now ≡ self.now.values }
+        ensures steps { Takes (length self.now.values) steps.old steps.new }
+    {
+        steps.ticks(self.values.len() as u64);
         &self.values
+    }
+
+    /// The value at an index, and none past the last. A step where there is one.
+    pub fn get<L: Ledger>(&self, index: usize, steps: &mut Steps<L>) -> Option<&V>
+        ensures value { option_copied result ≡ slice_get self.now.values index }
+        ensures steps { TakesAtMost 1 steps.old steps.new }
+        ensures told { IfSome result (λ value. Takes 1 steps.old steps.new) }
+    {
+        let value = self.values.get(index)?;
+        steps.ticks(1);
+        Some(value)
     }
 
     /// Takes the memory for so many more values, where it is taken for at least as many more as there are; an
@@ -63,6 +87,7 @@ impl<V: Drop> Drawer<V> {
     {
         self.values[index] = value;
     }
+
     /// One more value, for which there is room, at an index: those from there on move behind it. Takes no memory.
     pub fn insert(&mut self, index: usize, value: V)
         requires index { index ≤ length self.old.values }

@@ -1,13 +1,17 @@
 //! Values of papers, each paper's own together.
-ghost use Rattle.std.specs.Prelude.{◌≡◌, ◌≤◌, ◌<◌, [], OnOk, length, slice_index, set, insert, remove};
+ghost use Rattle.std.specs.Prelude.{◌≡◌, ◌≤◌, ◌<◌, [], OnOk, length, slice_get, slice_index, set, insert, remove};
+ghost use Rattle.std.specs.Option.{option_copied, IfSome};
+ghost use Rattle.cr_base.specs.Lists.{last};
+ghost use Rattle.cr_base.specs.Steps.{Takes, TakesAtMost};
 ghost use Rattle.cr_base.specs.Filed.{filed, with_filed, filed_of};
 ghost use Rattle.cr_rooms.specs.Rooms.{times, HasRoom, IsNoLess, IsOneLess};
 ghost use Rattle.cr_kept.specs.Drawers.{files_from, rooms_of, with_changed, with_values};
 
 use crate::drawer::Drawer;
-use cr_base::PaperNo;
+use cr_base::{PaperNo, Steps};
 use std::alloc::{AllocError, Global};
 use std::marker::Model;
+use std::sync::ledger::Ledger;
 
 /// Values of papers: each paper's own stand together, in the order in which they came, and are found by its
 /// number. A paper without values costs the place of a drawer, of 24 bytes, up to the last one that has some.
@@ -41,14 +45,50 @@ impl<V: Drop> Files<V> {
         }
     }
 
-    /// The values of the paper, in the order in which they came. One read by number; takes no memory.
-    pub fn of_paper(&self, paper: PaperNo) -> &[V]
-        ensures { result.now ≡ filed_of paper self.now.files }
+    /// How many values the paper has. Reads none of them.
+    pub fn count_of(&self, paper: PaperNo) -> usize
+        ensures { result ≡ length (filed_of paper self.now.files) }
     {
         match self.drawers.get(paper.number() as usize) {
-            Some(drawer) => drawer.values(),
+            Some(drawer) => drawer.count(),
+            None => 0,
+        }
+    }
+
+    /// The values of the paper, in the order in which they came, to be read: a step for each. They are found by
+    /// number; takes no memory.
+    pub fn of_paper<L: Ledger>(&self, paper: PaperNo, steps: &mut Steps<L>) -> &[V]
+        ensures values { result.now ≡ filed_of paper self.now.files }
+        ensures steps { Takes (length (filed_of paper self.now.files)) steps.old steps.new }
+    {
+        match self.drawers.get(paper.number() as usize) {
+            Some(drawer) => drawer.values(steps),
             None => &[],
         }
+    }
+
+    /// The paper's value at an index among those that it has, and none past the last. Found by number, without
+    /// reading another; a step where there is one.
+    pub fn get<L: Ledger>(&self, paper: PaperNo, index: usize, steps: &mut Steps<L>) -> Option<&V>
+        ensures value { option_copied result ≡ slice_get (filed_of paper self.now.files) index }
+        ensures steps { TakesAtMost 1 steps.old steps.new }
+        ensures told { IfSome result (λ value. Takes 1 steps.old steps.new) }
+    {
+        match self.drawers.get(paper.number() as usize) {
+            Some(drawer) => drawer.get(index, steps),
+            None => None,
+        }
+    }
+
+    /// The paper's last value, and none where it has none. Found by number, without reading another; a step where
+    /// there is one.
+    pub fn last<L: Ledger>(&self, paper: PaperNo, steps: &mut Steps<L>) -> Option<&V>
+        ensures value { option_copied result ≡ last (filed_of paper self.now.files) }
+        ensures steps { TakesAtMost 1 steps.old steps.new }
+        ensures told { IfSome result (λ value. Takes 1 steps.old steps.new) }
+    {
+        let index = self.count_of(paper).checked_sub(1)?;
+        self.get(paper, index, steps)
     }
 
     /// Takes the memory for so many more values of the paper; an error only for lack of memory, and the values
@@ -102,6 +142,7 @@ impl<V: Drop> Files<V> {
         let drawer = &mut self.drawers[paper.number() as usize];
         drawer.set(index, value);
     }
+
     /// One more value of the paper, for which there is room, at this index among those that it has. One read by
     /// number; takes no memory, and moves those of the paper from there on.
     pub fn insert(&mut self, paper: PaperNo, index: usize, value: V)

@@ -1,15 +1,17 @@
 //! Ties of papers and users that are found by paper and by user.
-ghost use Rattle.std.specs.Prelude.{◌≡◌, ◌<◌, [], OnOk, map, slice_index};
+ghost use Rattle.std.specs.Prelude.{◌≡◌, ◌<◌, [], OnOk, length, map, slice_index};
 ghost use Rattle.cr_base.specs.Lists.{IsRising};
 ghost use Rattle.cr_base.specs.Pairs.{IsAscending, major, has_pair, tie_value};
 ghost use Rattle.cr_base.specs.Pairs.{with_tie, without_pair, ties_of, papers_tied_to};
 ghost use Rattle.cr_base.specs.declared.pairs.Order.TheVariants.{ByPaper, ByUser};
+ghost use Rattle.cr_base.specs.Steps.{Takes, Halves};
 ghost use Rattle.cr_rooms.specs.Rooms.{HasRoom, IsNoLess, IsOneLess};
 
 use crate::PairRows;
-use cr_base::{Order, Pair, PaperNo, Tie, UserNo};
+use cr_base::{Order, Pair, PaperNo, Steps, Tie, UserNo};
 use std::alloc::{AllocError, Global};
 use std::marker::Model;
+use std::sync::ledger::Ledger;
 
 /// A map from pairs of a paper and a user to a small value, in the order of papers, then users, and
 /// the same pairs in the order of users, then papers.
@@ -48,35 +50,42 @@ impl<V: Copy + Drop> IndexedPairs<V> {
         }
     }
 
-    /// Whether the pair is there. One read by number, and a binary search among the paper's ties.
-    pub fn contains(&self, pair: &Pair) -> bool
-        ensures { result ≡ has_pair pair.now self.now.ties }
+    /// Whether the pair is there. The paper's ties are found by number; a step for each of them at which the binary
+    /// search looks.
+    pub fn contains<L: Ledger>(&self, pair: &Pair, steps: &mut Steps<L>) -> bool
+        ensures value { result ≡ has_pair pair.now self.now.ties }
+        ensures steps { Halves (length (ties_of ByPaper pair.now.paper self.now.ties)) steps.old steps.new }
     {
-        self.by_paper.contains(pair)
+        self.by_paper.contains(pair, steps)
     }
 
-    /// What is kept of the pair, and none where it isn't there. One read by number, and a binary search among the
-    /// paper's ties.
-    pub fn value(&self, pair: &Pair) -> Option<V>
-        ensures { result ≡ tie_value pair.now self.now.ties }
+    /// What is kept of the pair, and none where it isn't there. The paper's ties are found by number; a step for each
+    /// of them at which the binary search looks.
+    pub fn value<L: Ledger>(&self, pair: &Pair, steps: &mut Steps<L>) -> Option<V>
+        ensures value { result ≡ tie_value pair.now self.now.ties }
+        ensures steps { Halves (length (ties_of ByPaper pair.now.paper self.now.ties)) steps.old steps.new }
     {
-        self.by_paper.value(pair)
+        self.by_paper.value(pair, steps)
     }
 
-    /// The ties of a paper, in the order of their users' numbers. One read by number; takes no memory.
-    pub fn of_paper(&self, paper: PaperNo) -> &[Tie<V>]
+    /// The ties of a paper, in the order of their users' numbers, to be read. They are found by number; a step for
+    /// each. Takes no memory.
+    pub fn of_paper<L: Ledger>(&self, paper: PaperNo, steps: &mut Steps<L>) -> &[Tie<V>]
         ensures ties { result.now ≡ ties_of ByPaper paper self.now.ties }
         ensures order { IsAscending ByPaper self.now.ties }
+        ensures steps { Takes (length (ties_of ByPaper paper self.now.ties)) steps.old steps.new }
     {
-        self.by_paper.of(paper.number())
+        self.by_paper.of(paper.number(), steps)
     }
 
-    /// The pairs of a user, in the order of their papers' numbers. One read by number; takes no memory.
-    pub fn of_user(&self, user: UserNo) -> &[Tie<()>]
+    /// The pairs of a user, in the order of their papers' numbers, to be read. They are found by number; a step for
+    /// each. Takes no memory.
+    pub fn of_user<L: Ledger>(&self, user: UserNo, steps: &mut Steps<L>) -> &[Tie<()>]
         ensures papers { map (λ t. t.pair.paper) result.now ≡ papers_tied_to user self.now.ties }
         ensures rising { IsRising (papers_tied_to user self.now.ties) }
+        ensures steps { Takes (length (papers_tied_to user self.now.ties)) steps.old steps.new }
     {
-        self.by_user.of(user.number())
+        self.by_user.of(user.number(), steps)
     }
 
     /// Takes the memory for one more tie of each of these pairs, as often as its paper is there and as often as its

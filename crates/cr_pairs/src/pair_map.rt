@@ -1,12 +1,15 @@
 //! Ties of papers and users, each pair at most once, in ascending order.
-ghost use Rattle.std.specs.Prelude.{◌≡◌, ◌≤◌, ◌<◌, ◌+◌, [], OnOk, MatchResult};
+ghost use Rattle.std.specs.Prelude.{◌≡◌, ◌≤◌, ◌<◌, ◌+◌, [], OnOk, MatchResult, length, slice_index_or};
+ghost use Rattle.cr_base.specs.declared.pairs.Tie.{Tie};
 ghost use Rattle.cr_base.specs.Pairs.{has_pair, tie_value, with_tie, without_pair};
+ghost use Rattle.cr_base.specs.Steps.{Takes, Halves};
 ghost use Rattle.cr_pairs.specs.BinarySearch.{IsAt, IsGapFor, pair_order};
 
-use cr_base::{Order, Pair, Tie};
+use cr_base::{Order, Pair, Steps, Tie};
 use std::alloc::{AllocError, Global};
 use std::cmp::Ordering;
 use std::marker::Model;
+use std::sync::ledger::Ledger;
 
 /// A map from pairs of a paper and a user to a small value, in ascending order: by paper, then user,
 /// or by user, then paper. With the value `()` it is a set of pairs.
@@ -50,27 +53,32 @@ impl<V: Copy + Drop> PairMap<V> {
         }
     }
 
-    /// Whether the pair is there. One binary search.
-    pub(crate) fn contains(&self, pair: &Pair) -> bool
-        ensures { result ≡ has_pair pair.now self.now.ties }
+    /// Whether the pair is there. A step for each tie at which the binary search looks.
+    pub(crate) fn contains<L: Ledger>(&self, pair: &Pair, steps: &mut Steps<L>) -> bool
+        ensures value { result ≡ has_pair pair.now self.now.ties }
+        ensures steps { Halves (length self.now.ties) steps.old steps.new }
     {
-        self.index_of(pair).is_ok()
+        self.index_of(pair, steps).is_ok()
     }
 
-    /// What is kept of the pair, and none where it isn't there. One binary search.
-    pub(crate) fn value(&self, pair: &Pair) -> Option<V>
-        ensures { result ≡ tie_value pair.now self.now.ties }
+    /// What is kept of the pair, and none where it isn't there. A step for each tie at which the binary search looks,
+    /// the one that it finds among them.
+    pub(crate) fn value<L: Ledger>(&self, pair: &Pair, steps: &mut Steps<L>) -> Option<V>
+        ensures value { result ≡ tie_value pair.now self.now.ties }
+        ensures steps { Halves (length self.now.ties) steps.old steps.new }
     {
-        match self.index_of(pair) {
+        match self.index_of(pair, steps) {
             Ok(index) => Some(self.ties[index].value),
             Err(_) => None,
         }
     }
 
-    /// The ties, in order. Reads none; takes no memory.
-    pub(crate) fn ties(&self) -> &[Tie<V>]
-        ensures { result.now ≡ self.now.ties }
+    /// The ties, in order, to be read: a step for each. Takes no memory.
+    pub(crate) fn ties<L: Ledger>(&self, steps: &mut Steps<L>) -> &[Tie<V>]
+        ensures ties { result.now ≡ self.now.ties }
+        ensures steps { Takes (length self.now.ties) steps.old steps.new }
     {
+        steps.ticks(self.ties.len() as u64);
         &self.ties
     }
 
@@ -93,7 +101,7 @@ impl<V: Copy + Drop> PairMap<V> {
         ensures ties { self.new.ties ≡ with_tie self.old.order tie self.old.ties }
         ensures room { self.old.room ≤ self.new.room + 1 }
     {
-        match self.index_of(&tie.pair) {
+        match self.index_of(&tie.pair, &mut Steps::uncounted()) {
             Ok(index) => self.ties[index] = tie,
             Err(index) => match self.ties.insert(index, tie) {
                 Ok(()) => {}
@@ -109,17 +117,40 @@ impl<V: Copy + Drop> PairMap<V> {
         ensures ties { self.new.ties ≡ without_pair pair.now self.old.ties }
         ensures room { self.old.room ≤ self.new.room }
     {
-        if let Ok(index) = self.index_of(pair) {
+        let found = self.index_of(pair, &mut Steps::uncounted());
+        if let Ok(index) = found {
             self.ties.remove(index);
         }
     }
 
-    /// Where the pair stands, or else where it would stand.
-    fn index_of(&self, pair: &Pair) -> Result<usize, usize>
-        ensures { MatchResult result (IsAt pair.now self.now.ties) (IsGapFor self.now.order pair.now self.now.ties) }
+    /// The pair's place among these, to be compared: one step.
+    fn compared_at<L: Ledger>(&self, index: usize, pair: &Pair, steps: &mut Steps<L>) -> Ordering
+        requires { index < length self.now.ties }
+        ensures order { (d : Tie V) → result
+            ≡ pair_order self.now.order (slice_index_or self.now.ties index d).pair pair.now }
+        ensures steps { Takes 1 steps.old steps.new }
     {
-        let order = self.order;
-        self.ties
-            .binary_search_by(|tie| compare(order, &tie.pair, pair))
+        steps.ticks(1);
+        compare(self.order, &self.ties[index].pair, pair)
+    }
+
+    /// Where the pair stands, or else where it would stand: a binary search, with a step for each tie at which it
+    /// looks.
+    fn index_of<L: Ledger>(&self, pair: &Pair, steps: &mut Steps<L>) -> Result<usize, usize>
+        ensures index { MatchResult result (IsAt pair.now self.now.ties)
+            (IsGapFor self.now.order pair.now self.now.ties) }
+        ensures steps { Halves (length self.now.ties) steps.old steps.new }
+    {
+        let mut low = 0;
+        let mut high = self.ties.len();
+        while low < high {
+            let middle = low + (high - low) / 2;
+            match self.compared_at(middle, pair, steps) {
+                Ordering::Less => low = middle + 1,
+                Ordering::Equal => return Ok(middle),
+                Ordering::Greater => high = middle,
+            }
+        }
+        Err(low)
     }
 }

@@ -1,13 +1,15 @@
 //! Ties of papers and users, those of each number together.
 ghost use Rattle.std.specs.Prelude.{◌≡◌, ◌≤◌, ◌<◌, [], OnOk, length, slice_index, map};
 ghost use Rattle.cr_base.specs.Pairs.{IsAscending, major, has_pair, tie_value, with_tie, without_pair, ties_of};
+ghost use Rattle.cr_base.specs.Steps.{Takes, Halves};
 ghost use Rattle.cr_rooms.specs.Rooms.{times, HasRoom, IsNoLess, IsOneLess};
 ghost use Rattle.cr_pairs.specs.Rows.{ties_in, rooms_of, AreRows};
 
 use crate::pair_map::PairMap;
-use cr_base::{Order, Pair, Tie};
+use cr_base::{Order, Pair, Steps, Tie};
 use std::alloc::{AllocError, Global};
 use std::marker::Model;
+use std::sync::ledger::Ledger;
 
 /// A map from pairs of a paper and a user to a small value, in ascending order: by paper, then user, or by user,
 /// then paper. With the value `()` it is a set of pairs. The ties of each paper, or of each user, are a row of
@@ -55,34 +57,41 @@ impl<V: Copy + Drop> PairRows<V> {
         self.order
     }
 
-    /// Whether the pair is there. One read by number, and a binary search in the row.
-    pub fn contains(&self, pair: &Pair) -> bool
-        ensures { result ≡ has_pair pair.now self.now.ties }
+    /// Whether the pair is there. Its row is found by number; a step for each tie of it at which the binary search
+    /// looks.
+    pub fn contains<L: Ledger>(&self, pair: &Pair, steps: &mut Steps<L>) -> bool
+        ensures value { result ≡ has_pair pair.now self.now.ties }
+        ensures steps { Halves (length (ties_of self.now.order (major self.now.order pair.now) self.now.ties))
+            steps.old steps.new }
     {
         match self.rows.get(pair.major(self.order) as usize) {
-            Some(row) => row.contains(pair),
+            Some(row) => row.contains(pair, steps),
             None => false,
         }
     }
 
-    /// What is kept of the pair, and none where it isn't there. One read by number, and a binary search in the row.
-    pub fn value(&self, pair: &Pair) -> Option<V>
-        ensures { result ≡ tie_value pair.now self.now.ties }
+    /// What is kept of the pair, and none where it isn't there. Its row is found by number; a step for each tie of it
+    /// at which the binary search looks.
+    pub fn value<L: Ledger>(&self, pair: &Pair, steps: &mut Steps<L>) -> Option<V>
+        ensures value { result ≡ tie_value pair.now self.now.ties }
+        ensures steps { Halves (length (ties_of self.now.order (major self.now.order pair.now) self.now.ties))
+            steps.old steps.new }
     {
         match self.rows.get(pair.major(self.order) as usize) {
-            Some(row) => row.value(pair),
+            Some(row) => row.value(pair, steps),
             None => None,
         }
     }
 
-    /// The ties with this number, in order: a paper's in the order of their users' numbers, or a user's in that of
-    /// their papers'. One read by number; takes no memory.
-    pub fn of(&self, number: u64) -> &[Tie<V>]
+    /// The ties with this number, in order, to be read: a paper's in the order of their users' numbers, or a user's
+    /// in that of their papers'. They are found by number; a step for each. Takes no memory.
+    pub fn of<L: Ledger>(&self, number: u64, steps: &mut Steps<L>) -> &[Tie<V>]
         ensures ties { result.now ≡ ties_of self.now.order number self.now.ties }
         ensures order { IsAscending self.now.order self.now.ties }
+        ensures steps { Takes (length (ties_of self.now.order number self.now.ties)) steps.old steps.new }
     {
         match self.rows.get(number as usize) {
-            Some(row) => row.ties(),
+            Some(row) => row.ties(steps),
             None => &[],
         }
     }

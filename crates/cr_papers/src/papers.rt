@@ -2,23 +2,26 @@
 ghost use Rattle.std.specs.Prelude.{◌≡◌, ◌≤◌, ◌<◌, ◌+◌, ◌^◌, ◌==◌, [], ◌∷◌, not, OnOk};
 ghost use Rattle.std.specs.Prelude.{IfOk, Some, length, map, find, unwrap_or};
 ghost use Rattle.std.specs.List.{filter_map, list_any};
-ghost use Rattle.std.specs.Option.{option_map, option_copied};
+ghost use Rattle.std.specs.Option.{option_map, option_copied, IfSome};
 ghost use Rattle.cr_base.specs.Checks.{judged, submit_checks, revise_checks, upload_checks};
 ghost use Rattle.cr_base.specs.History.{History};
-ghost use Rattle.cr_base.specs.Lists.{last, numbers_from};
+ghost use Rattle.cr_base.specs.Lists.{last, numbered, numbers_from};
 ghost use Rattle.cr_base.specs.Papers.{no_papers, papers_after, paper_count};
 ghost use Rattle.cr_base.specs.Papers.{paper_numbers, title_at, abstract_at, PapersFit};
 ghost use Rattle.cr_base.specs.Papers.{is_withdrawn_at, uploads_at, own_count, own_bytes};
+ghost use Rattle.cr_base.specs.Steps.{Takes, TakesAtMost};
 ghost use Rattle.cr_papers.specs.Named.{named_in};
 ghost use Rattle.cr_papers.specs.Room.{paper_uploaded, PapersHaveRoom};
 
 use crate::uploads::Uploads;
 use cr_base::{
-    Blob, Entry, LAST_NUMBER, Paper, PaperNo, Rule, Stamped, Standing, Text, UserNo, Versions,
+    Blob, Entry, Kept, LAST_NUMBER, Paper, PaperNo, Rule, Stamped, Standing, Steps, Text, UserNo,
+    Versions,
 };
 use cr_kept::Sums;
 use std::alloc::{AllocError, Global};
 use std::marker::Model;
+use std::sync::ledger::Ledger;
 
 /// The most papers that one user may submit.
 pub const MOST_OWN_PAPERS: u64 = 20;
@@ -35,7 +38,7 @@ pub const MOST_OWN_BYTES: u64 = 67_108_864;
 #[derive(Drop)]
 pub struct Papers {
     alloc: Global,
-    papers: Vec<Paper>,
+    papers: Vec<Kept<Paper>>,
     uploads: Uploads,
     submitted: Sums,
     uploaded: Sums,
@@ -107,29 +110,47 @@ impl Papers {
         paper.number() <= self.count()
     }
 
-    /// The last title that a paper was given, and none where there is no such paper. One read by
-    /// number.
-    pub fn last_title(&self, paper: PaperNo) -> Option<&Text>
-        ensures { option_copied result ≡ title_at self.now.papers paper }
+    /// What is kept of a paper, and none where there is no such paper. Found by number; a step where there is
+    /// one.
+    pub fn paper_of<L: Ledger>(&self, paper: PaperNo, steps: &mut Steps<L>) -> Option<&Paper>
+        ensures value { option_copied result ≡ numbered self.now.papers.papers paper }
+        ensures steps { TakesAtMost 1 steps.old steps.new }
+        ensures told { IfSome result (λ value. Takes 1 steps.old steps.new) }
     {
         let paper = self.papers.get(paper.from_zero())?;
+        Some(paper.get(steps))
+    }
+
+    /// The last title that a paper was given, and none where there is no such paper. Found by number; a step
+    /// where there is one.
+    pub fn last_title<L: Ledger>(&self, paper: PaperNo, steps: &mut Steps<L>) -> Option<&Text>
+        ensures value { option_copied result ≡ title_at self.now.papers paper }
+        ensures steps { TakesAtMost 1 steps.old steps.new }
+        ensures told { IfSome result (λ value. Takes 1 steps.old steps.new) }
+    {
+        let paper = self.paper_of(paper, steps)?;
         Some(&paper.title)
     }
 
-    /// The last abstract that a paper was given, and none where there is no such paper. One read by
-    /// number.
-    pub fn last_abstract(&self, paper: PaperNo) -> Option<&Text>
-        ensures { option_copied result ≡ abstract_at self.now.papers paper }
+    /// The last abstract that a paper was given, and none where there is no such paper. Found by number; a step
+    /// where there is one.
+    pub fn last_abstract<L: Ledger>(&self, paper: PaperNo, steps: &mut Steps<L>) -> Option<&Text>
+        ensures value { option_copied result ≡ abstract_at self.now.papers paper }
+        ensures steps { TakesAtMost 1 steps.old steps.new }
+        ensures told { IfSome result (λ value. Takes 1 steps.old steps.new) }
     {
-        let paper = self.papers.get(paper.from_zero())?;
+        let paper = self.paper_of(paper, steps)?;
         Some(&paper.abstract_)
     }
 
-    /// Whether a paper was withdrawn; false where there is no such paper. One read by number.
-    pub fn is_withdrawn(&self, paper: PaperNo) -> bool
-        ensures { result ≡ is_withdrawn_at self.now.papers paper }
+    /// Whether a paper was withdrawn; false where there is no such paper. Found by number; a step where there is
+    /// one.
+    pub fn is_withdrawn<L: Ledger>(&self, paper: PaperNo, steps: &mut Steps<L>) -> bool
+        ensures value { result ≡ is_withdrawn_at self.now.papers paper }
+        ensures steps { TakesAtMost 1 steps.old steps.new }
+        ensures told { IfSome (numbered self.now.papers.papers paper) (λ there. Takes 1 steps.old steps.new) }
     {
-        match self.papers.get(paper.from_zero()) {
+        match self.paper_of(paper, steps) {
             Some(paper) => paper.withdrawn,
             None => false,
         }
@@ -139,7 +160,7 @@ impl Papers {
 /// What is read of a paper's uploads.
 impl Papers {
     /// How many versions a paper has, 0 where there is no such paper. They are numbered from 1, so this
-    /// is the last one's number too. One read by number.
+    /// is the last one's number too. Reads none of them.
     pub fn version_count(&self, paper: PaperNo) -> u64
         ensures count { result ≡ length (uploads_at self.now.papers paper) }
         ensures numbers { map (λ u. u.version) (uploads_at self.now.papers paper)
@@ -149,35 +170,54 @@ impl Papers {
         self.uploads.count(paper)
     }
 
-    /// The number of a paper's last version, and none where it has none. One read by number.
-    pub fn last_version(&self, paper: PaperNo) -> Option<u64>
-        ensures { result ≡ option_map (λ u. u.version) (last (uploads_at self.now.papers paper)) }
+    /// The number of a paper's last version, and none where it has none. Found by number; a step where there is
+    /// one.
+    pub fn last_version<L: Ledger>(&self, paper: PaperNo, steps: &mut Steps<L>) -> Option<u64>
+        ensures value { result ≡ option_map (λ u. u.version) (last (uploads_at self.now.papers paper)) }
+        ensures steps { TakesAtMost 1 steps.old steps.new }
+        ensures told { IfSome result (λ value. Takes 1 steps.old steps.new) }
     {
-        self.uploads.last_version(paper)
+        self.uploads.last_version(paper, steps)
     }
 
-    /// The numbers of a paper's versions, in ascending order; an error only for lack of memory. One read by
-    /// number, and a walk over the versions.
-    pub fn versions(&self, alloc: Global, paper: PaperNo) -> Result<Versions, AllocError>
-        ensures { IfOk result (λ versions. versions ≡ map (λ u. u.version) (uploads_at self.now.papers paper)) }
+    /// The numbers of a paper's versions, in ascending order; an error only for lack of memory. Found by number; a
+    /// step for each of the versions.
+    pub fn versions<L: Ledger>(
+        &self,
+        alloc: Global,
+        paper: PaperNo,
+        steps: &mut Steps<L>,
+    ) -> Result<Versions, AllocError>
+        ensures value { IfOk result (λ versions. versions ≡ map (λ u. u.version) (uploads_at self.now.papers paper)) }
+        ensures steps { Takes (length (uploads_at self.now.papers paper)) steps.old steps.new }
     {
-        self.uploads.versions(alloc, paper)
+        self.uploads.versions(alloc, paper, steps)
     }
 
-    /// The content of a version of a paper, and none where there is no such version. Two reads by
-    /// number.
-    pub fn content(&self, paper: PaperNo, version: u64) -> Option<&Blob>
-        ensures { option_copied result ≡ option_map (λ u. u.content)
+    /// The content of a version of a paper, and none where there is no such version. Found by number; a step where
+    /// there is one.
+    pub fn content<L: Ledger>(
+        &self,
+        paper: PaperNo,
+        version: u64,
+        steps: &mut Steps<L>,
+    ) -> Option<&Blob>
+        ensures value { option_copied result ≡ option_map (λ u. u.content)
             (find (λ u. u.version == version) (uploads_at self.now.papers paper)) }
+        ensures steps { TakesAtMost 1 steps.old steps.new }
+        ensures told { IfSome result (λ value. Takes 1 steps.old steps.new) }
     {
-        self.uploads.content(paper, version)
+        self.uploads.content(paper, version, steps)
     }
 
-    /// The content of a paper's last version, and none where it has none. One read by number.
-    pub fn last_content(&self, paper: PaperNo) -> Option<&Blob>
-        ensures { option_copied result ≡ option_map (λ u. u.content) (last (uploads_at self.now.papers paper)) }
+    /// The content of a paper's last version, and none where it has none. Found by number; a step where there is
+    /// one.
+    pub fn last_content<L: Ledger>(&self, paper: PaperNo, steps: &mut Steps<L>) -> Option<&Blob>
+        ensures value { option_copied result ≡ option_map (λ u. u.content) (last (uploads_at self.now.papers paper)) }
+        ensures steps { TakesAtMost 1 steps.old steps.new }
+        ensures told { IfSome result (λ value. Takes 1 steps.old steps.new) }
     {
-        self.uploads.last_content(paper)
+        self.uploads.last_content(paper, steps)
     }
 }
 
@@ -275,7 +315,7 @@ impl Papers {
         if !by.phase.papers_may_change() {
             return Err(Rule::WrongPhase);
         }
-        if self.is_withdrawn(paper) {
+        if self.is_withdrawn(paper, &mut Steps::uncounted()) {
             return Err(Rule::Withdrawn);
         }
         Ok(())
@@ -316,11 +356,11 @@ impl Papers {
                 ..
             } => {
                 self.submitted.add(stamp.maker, 1);
-                self.papers.push_reserved(Paper {
+                self.papers.push_reserved(Kept::new(Paper {
                     title,
                     abstract_,
                     withdrawn: false,
-                });
+                }));
             }
             Entry::Revised {
                 paper,
@@ -328,8 +368,7 @@ impl Papers {
                 abstract_,
             } => {
                 let revised = &mut self.papers[paper.from_zero()];
-                revised.title = title;
-                revised.abstract_ = abstract_;
+                revised.revise(title, abstract_);
             }
             Entry::Uploaded {
                 paper,
@@ -341,7 +380,8 @@ impl Papers {
                 self.uploads.add(paper, version, content);
             }
             Entry::Withdrawn { paper } => {
-                self.papers[paper.from_zero()].withdrawn = true;
+                let withdrawn = &mut self.papers[paper.from_zero()];
+                withdrawn.withdraw();
             }
             _ => {}
         }

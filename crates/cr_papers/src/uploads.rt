@@ -1,29 +1,31 @@
 //! What was uploaded to papers, by version.
-ghost use Rattle.std.specs.Prelude.{◌≡◌, ◌≤◌, ◌<◌, ◌+◌, ◌^◌, ◌==◌, []};
-ghost use Rattle.std.specs.Prelude.{OnOk, IfOk, length, map, find, slice_get, slice_index};
-ghost use Rattle.std.specs.Option.{option_map, option_copied};
+ghost use Rattle.std.specs.Prelude.{◌≡◌, ◌<◌, ◌+◌, ◌^◌, ◌==◌, []};
+ghost use Rattle.std.specs.Prelude.{OnOk, IfOk, length, map, find, slice_index};
+ghost use Rattle.std.specs.Option.{option_map, option_copied, IfSome};
 ghost use Rattle.cr_base.specs.Filed.{filed, with_filed, filed_of};
 ghost use Rattle.cr_base.specs.Lists.{last, numbers_from};
+ghost use Rattle.cr_base.specs.Steps.{Takes, TakesAtMost};
 ghost use Rattle.cr_rooms.specs.Rooms.{HasRoom, IsNoLess, IsOneLess};
 
-use cr_base::{Blob, PaperNo, Versions};
+use cr_base::{Blob, PaperNo, Steps, Versions};
 use cr_kept::Files;
 use std::alloc::{AllocError, Global};
 use std::marker::Model;
+use std::sync::ledger::Ledger;
 
 /// A version of a paper's content. Contracts see it as `Upload`.
 #[derive(Drop)]
-pub(crate) struct Kept {
+pub(crate) struct Version {
     version: u64,
     content: Blob,
 }
 
-impl Model for Kept {
+impl Model for Version {
     ghost use Rattle.cr_base.specs.History.{Upload};
 
     ghost Value = { Upload };
 
-    ghost view = { λ k. record { version = k.version; content = k.content } };
+    ghost view = { λ v. record { version = v.version; content = v.content } };
 }
 
 /// The versions of each paper, in the order in which they were uploaded.
@@ -32,7 +34,7 @@ impl Model for Kept {
 /// are 1, 2 and so on: that is true of every table.
 #[derive(Drop)]
 pub(crate) struct Uploads {
-    uploads: Files<Kept>,
+    uploads: Files<Version>,
 }
 
 impl Model for Uploads {
@@ -57,61 +59,101 @@ impl Uploads {
         }
     }
 
-    /// The versions of a paper, in their order; none where there is no such paper. One read by number.
-    fn of_paper(&self, paper: PaperNo) -> &[Kept]
-        ensures uploads { result.now ≡ filed_of paper self.now.uploads }
-        ensures numbers { map (λ u. u.version) result.now ≡ numbers_from 1 result.now }
-    {
-        self.uploads.of_paper(paper)
-    }
-
     /// How many versions a paper has, 0 where there is no such paper. They are numbered from 1, so this
-    /// is the last one's number too. One read by number.
+    /// is the last one's number too. None of them is read.
     pub(crate) fn count(&self, paper: PaperNo) -> u64
         ensures count { result ≡ length (filed_of paper self.now.uploads) }
         ensures numbers { map (λ u. u.version) (filed_of paper self.now.uploads)
             ≡ numbers_from 1 (filed_of paper self.now.uploads) }
         ensures few { result < 2 ^ 63 }
     {
-        self.of_paper(paper).len() as u64
+        self.uploads.of_paper(paper, &mut Steps::uncounted()).len() as u64
     }
 
-    /// The number of a paper's last version, and none where it has none. One read by number.
-    pub(crate) fn last_version(&self, paper: PaperNo) -> Option<u64>
-        ensures { result ≡ option_map (λ u. u.version) (last (filed_of paper self.now.uploads)) }
+    /// The number of a paper's last version, and none where it has none. Found by number; a step where there is
+    /// one.
+    pub(crate) fn last_version<L: Ledger>(
+        &self,
+        paper: PaperNo,
+        steps: &mut Steps<L>,
+    ) -> Option<u64>
+        ensures value { result ≡ option_map (λ u. u.version) (last (filed_of paper self.now.uploads)) }
+        ensures steps { TakesAtMost 1 steps.old steps.new }
+        ensures told { IfSome result (λ value. Takes 1 steps.old steps.new) }
     {
-        let kept = last_of(self.of_paper(paper))?;
-        Some(kept.version)
+        let last = self.uploads.last(paper, steps)?;
+        Some(last.version)
     }
 
-    /// The numbers of a paper's versions, in ascending order; an error only for lack of memory. One read by
-    /// number, and a walk over the versions.
-    pub(crate) fn versions(&self, alloc: Global, paper: PaperNo) -> Result<Versions, AllocError>
-        ensures { IfOk result (λ versions. versions ≡ map (λ u. u.version) (filed_of paper self.now.uploads)) }
+    /// The numbers of a paper's versions, in ascending order; an error only for lack of memory. Found by number; a
+    /// step for each of the versions.
+    pub(crate) fn versions<L: Ledger>(
+        &self,
+        alloc: Global,
+        paper: PaperNo,
+        steps: &mut Steps<L>,
+    ) -> Result<Versions, AllocError>
+        ensures value { IfOk result (λ versions. versions ≡ map (λ u. u.version) (filed_of paper self.now.uploads)) }
+        ensures steps { Takes (length (filed_of paper self.now.uploads)) steps.old steps.new }
     {
         let numbers = self
-            .of_paper(paper)
+            .uploads
+            .of_paper(paper, steps)
             .iter()
-            .map(|kept| kept.version)
+            .map(|version| version.version)
             .collect(alloc)?;
         Ok(Versions::from_vec(numbers))
     }
 
-    /// The content of a version of a paper, and none where there is no such version. Two reads by number.
-    pub(crate) fn content(&self, paper: PaperNo, version: u64) -> Option<&Blob>
-        ensures { option_copied result ≡ option_map (λ u. u.content)
-            (find (λ u. u.version == version) (filed_of paper self.now.uploads)) }
+    /// The version of this number of a paper, and none where there is no such version. Versions are numbered from
+    /// 1, so it is found by number; a step where there is one.
+    fn version_of<L: Ledger>(
+        &self,
+        paper: PaperNo,
+        version: u64,
+        steps: &mut Steps<L>,
+    ) -> Option<&Version>
+        ensures value { option_copied result ≡ find (λ u. u.version == version) (filed_of paper self.now.uploads) }
+        ensures steps { TakesAtMost 1 steps.old steps.new }
+        ensures told { IfSome result (λ value. Takes 1 steps.old steps.new) }
     {
-        let kept = version_of(self.of_paper(paper), version)?;
-        Some(&kept.content)
+        let uploads = &self.uploads;
+        if version == 0 {
+            return None;
+        }
+        uploads.get(paper, (version - 1) as usize, steps)
     }
 
-    /// The content of a paper's last version, and none where it has none. One read by number.
-    pub(crate) fn last_content(&self, paper: PaperNo) -> Option<&Blob>
-        ensures { option_copied result ≡ option_map (λ u. u.content) (last (filed_of paper self.now.uploads)) }
+    /// The content of a version of a paper, and none where there is no such version. Found by number; a step where
+    /// there is one.
+    pub(crate) fn content<L: Ledger>(
+        &self,
+        paper: PaperNo,
+        version: u64,
+        steps: &mut Steps<L>,
+    ) -> Option<&Blob>
+        ensures value { option_copied result ≡ option_map (λ u. u.content)
+            (find (λ u. u.version == version) (filed_of paper self.now.uploads)) }
+        ensures steps { TakesAtMost 1 steps.old steps.new }
+        ensures told { IfSome result (λ value. Takes 1 steps.old steps.new) }
     {
-        let kept = last_of(self.of_paper(paper))?;
-        Some(&kept.content)
+        let version = self.version_of(paper, version, steps)?;
+        Some(&version.content)
+    }
+
+    /// The content of a paper's last version, and none where it has none. Found by number; a step where there is
+    /// one.
+    pub(crate) fn last_content<L: Ledger>(
+        &self,
+        paper: PaperNo,
+        steps: &mut Steps<L>,
+    ) -> Option<&Blob>
+        ensures value { option_copied result ≡ option_map (λ u. u.content) (last (filed_of paper self.now.uploads)) }
+        ensures steps { TakesAtMost 1 steps.old steps.new }
+        ensures told { IfSome result (λ value. Takes 1 steps.old steps.new) }
+    {
+        let last = self.uploads.last(paper, steps)?;
+        Some(&last.content)
     }
 }
 
@@ -135,32 +177,6 @@ impl Uploads {
             ≡ with_filed (filed paper (record { version = version; content = content })) self.old.uploads }
         ensures rooms { IsOneLess paper self.old.rooms self.new.rooms }
     {
-        self.uploads.file(paper, Kept { version, content });
+        self.uploads.file(paper, Version { version, content });
     }
-}
-
-/// The version of a number, if there is one, where they are numbered from 1.
-fn version_of(versions: &[Kept], version: u64) -> Option<&Kept>
-    requires { map (λ u. u.version) versions.now ≡ numbers_from 1 versions.now }
-    ensures { option_copied result ≡ find (λ u. u.version == version) versions.now }
-{
-    if version == 0 {
-        return None;
-    }
-    version_at(versions, (version - 1) as usize)
-}
-
-/// The version at an index, if there is one.
-fn version_at(versions: &[Kept], index: usize) -> Option<&Kept>
-    ensures { option_copied result ≡ slice_get versions.now index }
-{
-    let kept = versions.get(index)?;
-    Some(kept)
-}
-
-/// The last version, if there is one.
-fn last_of(versions: &[Kept]) -> Option<&Kept>
-    ensures { option_copied result ≡ last versions.now }
-{
-    versions.last()
 }

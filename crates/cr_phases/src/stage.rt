@@ -3,9 +3,11 @@ ghost use Rattle.std.specs.Prelude.{◌≡◌, ◌∷◌, [], not};
 ghost use Rattle.cr_base.specs.Checks.{judged, ◌breaks◌, phase_checks, mode_checks};
 ghost use Rattle.cr_base.specs.Words.{is_chair};
 ghost use Rattle.cr_base.specs.Stage.{first_stage, stage_after};
+ghost use Rattle.cr_base.specs.Steps.{Takes};
 
-use cr_base::{Entry, Mode, Phase, Rule, Stamped, Standing};
+use cr_base::{Entry, Kept, Mode, Phase, Rule, Stamped, Standing, Steps};
 use std::marker::Model;
+use std::sync::ledger::Ledger;
 
 /// The phase and the mode of the conference. Of fixed size: no call takes memory, and none fails for
 /// want of it.
@@ -13,8 +15,8 @@ use std::marker::Model;
 /// Contracts see both.
 #[derive(Drop)]
 pub struct Stage {
-    phase: Phase,
-    mode: Mode,
+    phase: Kept<Phase>,
+    mode: Kept<Mode>,
 }
 
 impl Model for Stage {
@@ -41,23 +43,25 @@ impl Stage {
         ensures { result ≡ first_stage }
     {
         Stage {
-            phase: Phase::Setup,
-            mode: Mode::Blind,
+            phase: Kept::new(Phase::Setup),
+            mode: Kept::new(Mode::Blind),
         }
     }
 
-    /// The phase.
-    pub fn phase(&self) -> Phase
-        ensures { result ≡ self.now.phase }
+    /// The phase. One step.
+    pub fn phase<L: Ledger>(&self, steps: &mut Steps<L>) -> Phase
+        ensures value { result ≡ self.now.phase }
+        ensures steps { Takes 1 steps.old steps.new }
     {
-        self.phase
+        *self.phase.get(steps)
     }
 
-    /// The mode.
-    pub fn mode(&self) -> Mode
-        ensures { result ≡ self.now.mode }
+    /// The mode. One step.
+    pub fn mode<L: Ledger>(&self, steps: &mut Steps<L>) -> Mode
+        ensures value { result ≡ self.now.mode }
+        ensures steps { Takes 1 steps.old steps.new }
     {
-        self.mode
+        *self.mode.get(steps)
     }
 
     /// Whether the caller may set this phase, or the first broken rule: `NotChair` where she is no
@@ -67,7 +71,7 @@ impl Stage {
         ensures { result ≡ judged (phase_checks by.now self.now.phase to) tt }
     {
         chairs_only(by)?;
-        if !self.phase.is_before(to) {
+        if !self.phase(&mut Steps::uncounted()).is_before(to) {
             return Err(Rule::WrongPhase);
         }
         Ok(())
@@ -80,7 +84,7 @@ impl Stage {
         ensures { result ≡ judged (mode_checks by.now self.now.phase) tt }
     {
         chairs_only(by)?;
-        if !self.phase.mode_may_be_set() {
+        if !self.phase(&mut Steps::uncounted()).mode_may_be_set() {
             return Err(Rule::WrongPhase);
         }
         Ok(())
@@ -91,8 +95,8 @@ impl Stage {
         ensures { self.new ≡ stage_after self.old stamped.now.entry }
     {
         match &stamped.entry {
-            Entry::PhaseSet { phase } => self.phase = *phase,
-            Entry::ModeSet { mode } => self.mode = *mode,
+            Entry::PhaseSet { phase } => self.phase.set(*phase),
+            Entry::ModeSet { mode } => self.mode.set(*mode),
             _ => {}
         }
     }

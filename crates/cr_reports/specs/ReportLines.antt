@@ -1,6 +1,6 @@
 -- What a user is told as a report, by the tables.
 use Rattle.std.specs.Prelude.{ℕ, Bool, true, false, not, ◌≡◌, ◌+◌, ◌&&◌, List, [], ◌∷◌, ◌++◌}
-use Rattle.std.specs.Prelude.{decimal, codes, Option, Some, None, Result, Ok}
+use Rattle.std.specs.Prelude.{decimal, codes, Option, Some, None, Result, Ok, unwrap_or}
 use Rattle.std.specs.List.{flat_map}
 use Rattle.std.specs.Option.{option_map}
 use Rattle.cr_base.specs.declared.report.Report.{Report}
@@ -11,13 +11,15 @@ use Rattle.cr_base.specs.Checks.{judged}
 use Rattle.cr_base.specs.History.{FormTold}
 use Rattle.cr_base.specs.Lists.{listed}
 use Rattle.cr_base.specs.Page.{shows_reviewer}
-use Rattle.cr_base.specs.Reports.{decision_line, hundredths, in_four, in_two}
-use Rattle.cr_base.specs.Reports.{is_clear_of, last_scores, letter_form, line_end}
-use Rattle.cr_base.specs.Reports.{report_checks, report_told, scores_line, space, title_by, two_decimals, writer_named}
+use Rattle.cr_base.specs.Reports.{decision_line, decision_word, hundredths, in_four, in_two}
+use Rattle.cr_base.specs.Reports.{is_clear_of, last_scores, letter_form, line_end, paper_mark}
+use Rattle.cr_base.specs.Reports.{report_checks, report_told, scores_line, space, title_by, to_left}
+use Rattle.cr_base.specs.Reports.{two_decimals, writer_named}
 use Rattle.cr_base.specs.Reviews.{last_form_in, written_told}
 use Rattle.cr_base.specs.Sources.{decision_by, facts_of_tables, shown_in_tables}
 use Rattle.cr_base.specs.Tables.{Tables}
 use Rattle.cr_view.specs.declared.reports.ScoreSum.{ScoreSum}
+use Rattle.cr_view.specs.PaperSeen.{PaperSeen, decision_seen, title_seen, withdrawn_seen}
 use Rattle.cr_view.specs.Reviews.{label_name}
 
 -- the report that is due to a user, or the first broken rule
@@ -54,6 +56,28 @@ decision_line_at t p = decision_line (facts_of_tables t None) (shown_in_tables t
 -- 1 where the paper is told to the user and its decision is such a one, else 0
 abbrev pub counted : Tables → ℕ → (Option Decision → Bool) → ℕ → ℕ
 counted t user is_such p = one (is_open_to t user p && is_such (decided t p))
+
+-- the same of what a caller sees of a paper: it is told to her; its title; its line in each report; and 1 where it is
+-- told to her and its decision is such a one, else 0
+abbrev pub is_open_seen : PaperSeen → Bool
+is_open_seen s = not s.by.conflicted && not (withdrawn_seen s)
+
+abbrev pub titled : PaperSeen → List ℕ
+titled s = unwrap_or (title_seen s) []
+
+abbrev pub paper_line_seen : PaperSeen → List ℕ
+paper_line_seen s =
+    in_four s.paper ++ space ++ paper_mark (withdrawn_seen s) s.by.conflicted ++ space ++ titled s ++ line_end
+
+abbrev pub scores_line_seen : Tables → PaperSeen → List ℕ
+scores_line_seen t s = scores_line s.paper (last_scores (shown_in_tables t) s.paper) (titled s)
+
+abbrev pub decision_line_seen : PaperSeen → List ℕ
+decision_line_seen s =
+    in_four s.paper ++ space ++ to_left 6 (decision_word (decision_seen s)) ++ space ++ titled s ++ line_end
+
+abbrev pub counted_seen : (Option Decision → Bool) → PaperSeen → ℕ
+counted_seen is_such s = one (is_open_seen s && is_such (decision_seen s))
 
 -- the last form under a label of a paper, for one who stands so to it
 abbrev pub forms_under : Tables → Standing → ℕ → ℕ → List ℕ

@@ -7,7 +7,7 @@ ghost use Rattle.cr_reports.specs.Loads.{AreFew, Becomes, load_at, no_load, with
 ghost use Rattle.cr_reports.specs.Loads.{with_paper, with_papers, with_seat};
 
 use crate::counts::Load;
-use cr_base::{LAST_NUMBER, PaperNo, Seat, Tie, UserNo};
+use cr_base::{LAST_NUMBER, PaperNo, Seat, Steps, Tie, UserNo};
 use cr_view::Live;
 use std::alloc::{AllocError, Global};
 
@@ -54,7 +54,7 @@ fn count_paper(loads: &mut [Load], live: &Live, paper: PaperNo)
     }
 }
 
-/// Counts the paper's seats, where the caller is in no conflict with it.
+/// Counts the paper's seats, where the caller is in no conflict with it. Nothing else is read of the paper.
 fn count_clear(loads: &mut [Load], live: &Live, caller: UserNo, paper: PaperNo)
     requires long { length loads.old ≡ 10000 }
     requires few { AreFew (2 ^ 31) loads.old }
@@ -62,15 +62,18 @@ fn count_clear(loads: &mut [Load], live: &Live, caller: UserNo, paper: PaperNo)
     ensures counted { Becomes loads.old loads.new (λ user load. with_clear live.now.tables caller user load paper) }
     ensures few { (n : ℕ) → AreFew n loads.old → AreFew (n + 26) loads.new }
 {
-    if live.is_in_conflict(caller, paper) {
+    if live
+        .tie_table()
+        .is_conflicted(caller, paper, &[], &mut Steps::uncounted())
+    {
         return;
     }
     count_paper(loads, live, paper);
 }
 
 /// How much each user reviews of the papers that the caller is in no conflict with; an error only for lack of memory.
-/// One pass over all papers: of each two binary searches at most for the conflict, two for its seats, and for each of
-/// these what `is_written` does. Takes 32 bytes for each number that a user may have.
+/// One pass over all papers: of each what `is_conflicted` of `Ties` costs, and of those that count what `seats` of
+/// `Live` does, and for each seat what `is_written` does. Takes 32 bytes for each number that a user may have.
 pub(crate) fn count_all(alloc: Global, live: &Live, caller: UserNo) -> Result<Vec<Load>, AllocError>
     ensures long { IfOk result (λ loads. length loads.items ≡ 10000) }
     ensures counted { IfOk result (λ loads. (user : ℕ) → user < 10000 → load_at loads.items user

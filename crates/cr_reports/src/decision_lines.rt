@@ -3,14 +3,15 @@ ghost use Rattle.std.specs.Prelude.{◌≡◌, ◌++◌, ◌+◌, ◌<◌, ◌^�
 ghost use Rattle.cr_base.specs.Reports.{decision_word, decisions_end, decisions_told};
 ghost use Rattle.cr_base.specs.Reports.{is_accepting, is_undecided, is_rejecting};
 ghost use Rattle.cr_base.specs.Sources.{facts_of_tables, shown_in_tables};
-ghost use Rattle.cr_reports.specs.ReportLines.{counted, decided, decision_line_at, is_open_to};
+ghost use Rattle.cr_reports.specs.ReportLines.{counted, counted_seen, decision_line_at, decision_line_seen};
+ghost use Rattle.cr_reports.specs.ReportLines.{is_open_seen, is_open_to};
 
 use crate::columns::{append_in_four, append_left};
-use crate::listed::is_open_to;
+use crate::listed::{is_open, title};
 use crate::put::{append, append_number, append_space, end_line};
 use crate::tally::Tally;
-use cr_base::{Decision, PaperNo, UserNo};
-use cr_view::Live;
+use cr_base::{Decision, PaperNo, Steps, UserNo};
+use cr_view::{Live, PaperFacts};
 use std::alloc::AllocError;
 
 /// A decision by its word, and where nothing was decided by that for none.
@@ -23,25 +24,45 @@ pub(crate) fn decision_word(decision: &Option<Decision>) -> &'static str
     }
 }
 
-/// Appends the line of a paper of which this was decided.
-fn append_line(
-    into: &mut Vec<u8>,
-    live: &Live,
-    paper: PaperNo,
-    decision: &Option<Decision>,
-) -> Result<(), AllocError>
-    requires { decision.now ≡ decided live.now.tables paper }
-    ensures { OnOk result (into.new.items ≡ into.old.items ++ decision_line_at live.now.tables paper) }
+/// Appends the line of a paper of which these are the facts.
+fn append_line(into: &mut Vec<u8>, facts: &PaperFacts<'_>) -> Result<(), AllocError>
+    ensures { OnOk result (into.new.items ≡ into.old.items ++ decision_line_seen facts.now) }
 {
-    append_in_four(into, paper.number())?;
+    append_in_four(into, facts.paper().number())?;
     append_space(into)?;
-    append_left(into, 6, decision_word(decision).as_bytes())?;
+    append_left(into, 6, decision_word(&facts.decision()).as_bytes())?;
     append_space(into)?;
-    append(into, live.title(paper))?;
+    append(into, title(facts))?;
     end_line(into)
 }
 
-/// Appends the line of a paper, where it is told to the user, and counts it.
+/// The same, where it is told to the user, and counts the paper.
+fn append_open(
+    into: &mut Vec<u8>,
+    tally: &mut Tally,
+    facts: &PaperFacts<'_>,
+) -> Result<(), AllocError>
+    requires accepted { tally.old.accepted < 2 ^ 32 }
+    requires rejected { tally.old.rejected < 2 ^ 32 }
+    requires undecided { tally.old.undecided < 2 ^ 32 }
+    ensures text { OnOk result (into.new.items
+        ≡ into.old.items ++ (if is_open_seen facts.now then decision_line_seen facts.now else [])) }
+    ensures accepted { OnOk result (tally.new.accepted
+        ≡ tally.old.accepted + counted_seen is_accepting facts.now) }
+    ensures rejected { OnOk result (tally.new.rejected
+        ≡ tally.old.rejected + counted_seen is_rejecting facts.now) }
+    ensures undecided { OnOk result (tally.new.undecided
+        ≡ tally.old.undecided + counted_seen is_undecided facts.now) }
+{
+    if !is_open(facts) {
+        return Ok(());
+    }
+    append_line(into, facts)?;
+    tally.add(&facts.decision());
+    Ok(())
+}
+
+/// Appends the line of a paper, where it is told to the user, and counts it. Its facts are read once.
 fn append_paper(
     into: &mut Vec<u8>,
     tally: &mut Tally,
@@ -62,13 +83,8 @@ fn append_paper(
     ensures undecided { OnOk result (tally.new.undecided
         ≡ tally.old.undecided + counted live.now.tables user is_undecided paper) }
 {
-    if !is_open_to(live, user, paper) {
-        return Ok(());
-    }
-    let decision = live.decision(paper);
-    append_line(into, live, paper, &decision)?;
-    tally.add(&decision);
-    Ok(())
+    let facts = live.facts(&Some(user), paper, &mut Steps::uncounted());
+    append_open(into, tally, &facts)
 }
 
 /// Appends the last line, of how many papers were decided which way.

@@ -7,9 +7,10 @@ ghost use Rattle.cr_base.specs.Sources.{facts_of_tables, shown_in_tables};
 ghost use Rattle.cr_reports.specs.ReportLines.{form_grades, form_heading, forms_under};
 
 use crate::decision_lines::decision_word;
+use crate::listed::title;
 use crate::put::{append, append_number, end_line};
 use cr_anonymity::letter;
-use cr_base::{MOST_LABELS, Ordinal, PaperNo, Short, Standing, UserNo, WrittenForm};
+use cr_base::{MOST_LABELS, Ordinal, PaperNo, Short, Standing, Steps, UserNo, WrittenForm};
 use cr_view::Live;
 use std::alloc::AllocError;
 
@@ -123,7 +124,7 @@ fn append_decided(into: &mut Vec<u8>, word: &str) -> Result<(), AllocError>
     end_line(into)
 }
 
-/// Appends the letter on a paper.
+/// Appends the letter on a paper. Its facts are read once.
 pub(crate) fn append_letter(
     into: &mut Vec<u8>,
     live: &Live,
@@ -134,8 +135,8 @@ pub(crate) fn append_letter(
         ≡ into.old.items ++ letter_told (facts_of_tables live.now.tables (Some user))
         (shown_in_tables live.now.tables) paper) }
 {
-    append_named(into, paper, live.title(paper))?;
-    append_decided(into, decision_word(&live.decision(paper)))?;
-    let by = live.standing(&Some(user), &Some(paper));
-    append_forms(into, live, &by, paper)
+    let facts = live.facts(&Some(user), paper, &mut Steps::uncounted());
+    append_named(into, paper, title(&facts))?;
+    append_decided(into, decision_word(&facts.decision()))?;
+    append_forms(into, live, facts.by(), paper)
 }

@@ -1,5 +1,5 @@
 //! The reports: what is told of all papers, or of one, as plain text. Each is written in one pass over what it lists,
-//! from single fields of the tables; no page is made for a line.
+//! from the facts of a paper, read once, or from single fields of the tables; no page is made for a line.
 #![tactic(auto)]
 
 mod columns;

@@ -1,14 +1,22 @@
-//! Which papers are told to a member of the committee line by line.
+//! What reports ask of a paper's facts: whether it is told to a member of the committee line by line, and its title.
 ghost use Rattle.std.specs.Prelude.{◌≡◌};
-ghost use Rattle.cr_reports.specs.ReportLines.{is_open_to};
+ghost use Rattle.cr_reports.specs.ReportLines.{is_open_seen, titled};
 
-use cr_base::{PaperNo, UserNo};
-use cr_view::Live;
+use cr_view::PaperFacts;
 
-/// Whether the user is in no conflict with the paper, and it isn't withdrawn. Two binary searches
-/// at most, and a read by number.
-pub(crate) fn is_open_to(live: &Live, user: UserNo, paper: PaperNo) -> bool
-    ensures { result ≡ is_open_to live.now.tables user paper }
+/// Whether the user is in no conflict with the paper, and it isn't withdrawn. Reads no table.
+pub(crate) fn is_open(facts: &PaperFacts<'_>) -> bool
+    ensures { result ≡ is_open_seen facts.now }
 {
-    !live.is_in_conflict(user, paper) && !live.is_withdrawn(paper)
+    !facts.by().conflicted && !facts.is_withdrawn()
+}
+
+/// The paper's last title; no bytes where there is no such paper. Reads no table.
+pub(crate) fn title<'a>(facts: &PaperFacts<'a>) -> &'a [u8]
+    ensures { result.now ≡ titled facts.now }
+{
+    match facts.title() {
+        Some(title) => title.as_str().as_bytes(),
+        None => b"",
+    }
 }

@@ -2,11 +2,13 @@
 ghost use Rattle.std.specs.Prelude.{◌≡◌, ◌++◌, OnOk, Some};
 ghost use Rattle.cr_base.specs.Reports.{paper_line, paper_mark, papers_end, papers_told};
 ghost use Rattle.cr_base.specs.Sources.{facts_of_tables, shown_in_tables};
+ghost use Rattle.cr_reports.specs.ReportLines.{paper_line_seen};
 
 use crate::columns::append_in_four;
+use crate::listed::title;
 use crate::put::{append, append_number, append_space, end_line};
-use cr_base::{PaperNo, UserNo};
-use cr_view::Live;
+use cr_base::{PaperNo, Steps, UserNo};
+use cr_view::{Live, PaperFacts};
 use std::alloc::AllocError;
 
 /// The mark of a paper that is withdrawn or isn't, and with which the caller is in conflict or isn't.
@@ -23,7 +25,20 @@ fn mark(withdrawn: bool, conflicted: bool) -> &'static str
     "-"
 }
 
-/// Appends the line of a paper.
+/// Appends the line of a paper of which these are the facts.
+fn append_line(into: &mut Vec<u8>, facts: &PaperFacts<'_>) -> Result<(), AllocError>
+    ensures { OnOk result (into.new.items ≡ into.old.items ++ paper_line_seen facts.now) }
+{
+    let mark = mark(facts.is_withdrawn(), facts.by().conflicted);
+    append_in_four(into, facts.paper().number())?;
+    append_space(into)?;
+    append(into, mark.as_bytes())?;
+    append_space(into)?;
+    append(into, title(facts))?;
+    end_line(into)
+}
+
+/// Appends the line of a paper. Its facts are read once.
 fn append_paper(
     into: &mut Vec<u8>,
     live: &Live,
@@ -34,13 +49,8 @@ fn append_paper(
         ≡ into.old.items ++ paper_line (facts_of_tables live.now.tables (Some user))
         (shown_in_tables live.now.tables) paper) }
 {
-    let mark = mark(live.is_withdrawn(paper), live.is_in_conflict(user, paper));
-    append_in_four(into, paper.number())?;
-    append_space(into)?;
-    append(into, mark.as_bytes())?;
-    append_space(into)?;
-    append(into, live.title(paper))?;
-    end_line(into)
+    let facts = live.facts(&Some(user), paper, &mut Steps::uncounted());
+    append_line(into, &facts)
 }
 
 /// Appends the last line, of how many papers there are.

@@ -2,14 +2,15 @@
 ghost use Rattle.std.specs.Prelude.{◌≡◌, ◌≤◌, ◌*◌, ◌++◌, OnOk, Some, if◌then◌else◌, []};
 ghost use Rattle.cr_base.specs.Reports.{scores_told};
 ghost use Rattle.cr_base.specs.Sources.{facts_of_tables, shown_in_tables};
-ghost use Rattle.cr_reports.specs.ReportLines.{is_open_to, scored_line, scores_line_at};
+ghost use Rattle.cr_reports.specs.ReportLines.{is_open_seen, is_open_to, scored_line, scores_line_at};
+ghost use Rattle.cr_reports.specs.ReportLines.{scores_line_seen};
 
 use crate::columns::{append_in_four, append_in_two};
-use crate::listed::is_open_to;
+use crate::listed::{is_open, title};
 use crate::mean::{append_two_decimals, hundredths};
 use crate::put::{append, append_space, end_line};
-use cr_base::{PaperNo, UserNo};
-use cr_view::{Live, ScoreSum};
+use cr_base::{PaperNo, Steps, UserNo};
+use cr_view::{Live, PaperFacts, ScoreSum};
 use std::alloc::AllocError;
 
 /// Appends the line of a paper with these scores, of which there are some.
@@ -34,19 +35,32 @@ fn append_scored(
     end_line(into)
 }
 
-/// Appends the line of a paper that is told, where it has scores.
+/// Appends the line of a paper of which these are the facts, where it has scores.
 #[tactic(auto, using(crate::proofs::OpenLaws::scores_some, crate::proofs::OpenLaws::scores_none))]
-fn append_line(into: &mut Vec<u8>, live: &Live, paper: PaperNo) -> Result<(), AllocError>
-    ensures { OnOk result (into.new.items ≡ into.old.items ++ scores_line_at live.now.tables paper) }
+fn append_line(into: &mut Vec<u8>, live: &Live, facts: &PaperFacts<'_>) -> Result<(), AllocError>
+    ensures { OnOk result (into.new.items
+        ≡ into.old.items ++ scores_line_seen live.now.tables facts.now) }
 {
-    let scores = live.scores(paper);
+    let scores = live.scores(facts.paper());
     if scores.count == 0 {
         return Ok(());
     }
-    append_scored(into, paper, &scores, live.title(paper))
+    append_scored(into, facts.paper(), &scores, title(facts))
 }
 
-/// Appends the line of a paper, where it is told to the user and has scores.
+/// The same, where it is told to the user. Scores are read of no other paper.
+fn append_open(into: &mut Vec<u8>, live: &Live, facts: &PaperFacts<'_>) -> Result<(), AllocError>
+    ensures { OnOk result (into.new.items
+        ≡ into.old.items ++ (if is_open_seen facts.now
+        then scores_line_seen live.now.tables facts.now else [])) }
+{
+    if !is_open(facts) {
+        return Ok(());
+    }
+    append_line(into, live, facts)
+}
+
+/// Appends the line of a paper, where it is told to the user and has scores. Its facts are read once.
 fn append_paper(
     into: &mut Vec<u8>,
     live: &Live,
@@ -57,10 +71,8 @@ fn append_paper(
         ≡ into.old.items ++ (if is_open_to live.now.tables user paper
         then scores_line_at live.now.tables paper else [])) }
 {
-    if !is_open_to(live, user, paper) {
-        return Ok(());
-    }
-    append_line(into, live, paper)
+    let facts = live.facts(&Some(user), paper, &mut Steps::uncounted());
+    append_open(into, live, &facts)
 }
 
 /// Appends the line of each paper that is told and has scores.

@@ -8,16 +8,18 @@ ghost use Rattle.cr_base.specs.History.{History};
 ghost use Rattle.cr_base.specs.Lists.{last};
 ghost use Rattle.cr_base.specs.Reviews.{no_reviews, reviews_after, last_form_in};
 ghost use Rattle.cr_base.specs.Reviews.{last_form_before, forms_from, is_written_in};
+ghost use Rattle.cr_base.specs.Steps.{Takes};
 ghost use Rattle.cr_reviews.specs.Labels.{has_label};
 ghost use Rattle.cr_reviews.specs.Room.{paper_reviewed, ReviewsHaveRoom};
 ghost use Rattle.cr_reviews.specs.Under.{forms_by};
 
 use crate::forms::{Written, count_under, has_under, labels_of, last_of};
 use crate::labels::Labels;
-use cr_base::{Entry, Ordinal, PaperNo, Phase, Rule, Stamped, Standing, WrittenForm};
+use cr_base::{Entry, Ordinal, PaperNo, Phase, Rule, Stamped, Standing, Steps, WrittenForm};
 use cr_kept::Files;
 use std::alloc::{AllocError, Global};
 use std::marker::Model;
+use std::sync::ledger::Ledger;
 
 /// The forms of each paper in the order in which they were written, all of them; and the phase, which each
 /// form takes over when it is written.
@@ -55,55 +57,78 @@ impl Reviews {
     }
 
     /// The forms of the paper, under all labels, in the order in which they were written; none where there
-    /// is no such paper. One read by number; takes no memory.
-    pub fn forms(&self, paper: PaperNo) -> &[WrittenForm]
-        ensures { result.now ≡ filed_of paper self.now.reviews.forms }
+    /// is no such paper. Found by number, to be read: a step for each. Takes no memory.
+    pub fn forms<L: Ledger>(&self, paper: PaperNo, steps: &mut Steps<L>) -> &[WrittenForm]
+        ensures forms { result.now ≡ filed_of paper self.now.reviews.forms }
+        ensures steps { Takes (length (filed_of paper self.now.reviews.forms)) steps.old steps.new }
     {
-        self.forms.of_paper(paper)
+        self.forms.of_paper(paper, steps)
     }
 
-    /// The last form under the paper's label of this ordinal, and none where there is none. One read
-    /// by number, and a walk over the paper's forms back to it.
-    pub fn last(&self, paper: PaperNo, ordinal: Ordinal) -> Option<&WrittenForm>
-        ensures { option_copied result ≡ last_form_in self.now.reviews paper ordinal }
+    /// The last form under the paper's label of this ordinal, and none where there is none. Found by number, and a
+    /// walk over the paper's forms: a step for each of them.
+    pub fn last<L: Ledger>(
+        &self,
+        paper: PaperNo,
+        ordinal: Ordinal,
+        steps: &mut Steps<L>,
+    ) -> Option<&WrittenForm>
+        ensures value { option_copied result ≡ last_form_in self.now.reviews paper ordinal }
+        ensures steps { Takes (length (filed_of paper self.now.reviews.forms)) steps.old steps.new }
     {
-        last_of(self.forms(paper), ordinal, Written::Ever)
+        last_of(self.forms(paper, steps), ordinal, Written::Ever)
     }
 
     /// The last of them that was written before the phase began, and none where there is none. It costs the
     /// same.
-    pub fn last_before(
+    pub fn last_before<L: Ledger>(
         &self,
         paper: PaperNo,
         ordinal: Ordinal,
         phase: Phase,
+        steps: &mut Steps<L>,
     ) -> Option<&WrittenForm>
-        ensures { option_copied result ≡ last_form_before self.now.reviews paper ordinal phase }
+        ensures value { option_copied result ≡ last_form_before self.now.reviews paper ordinal phase }
+        ensures steps { Takes (length (filed_of paper self.now.reviews.forms)) steps.old steps.new }
     {
-        last_of(self.forms(paper), ordinal, Written::Before(phase))
+        last_of(self.forms(paper, steps), ordinal, Written::Before(phase))
     }
 
     /// The last of them that was written in the phase or later, and none where there is none. It costs the same.
-    pub fn last_since(&self, paper: PaperNo, ordinal: Ordinal, phase: Phase) -> Option<&WrittenForm>
-        ensures { option_copied result ≡ last (forms_from self.now.reviews paper ordinal phase) }
+    pub fn last_since<L: Ledger>(
+        &self,
+        paper: PaperNo,
+        ordinal: Ordinal,
+        phase: Phase,
+        steps: &mut Steps<L>,
+    ) -> Option<&WrittenForm>
+        ensures value { option_copied result ≡ last (forms_from self.now.reviews paper ordinal phase) }
+        ensures steps { Takes (length (filed_of paper self.now.reviews.forms)) steps.old steps.new }
     {
-        last_of(self.forms(paper), ordinal, Written::Since(phase))
+        last_of(self.forms(paper, steps), ordinal, Written::Since(phase))
     }
 
-    /// Whether there is a form under the paper's label of this ordinal. One read by number, and a walk over
-    /// the paper's forms up to the first.
-    pub fn has_form(&self, paper: PaperNo, ordinal: Ordinal) -> bool
-        ensures { result ≡ is_written_in self.now.reviews paper ordinal }
+    /// Whether there is a form under the paper's label of this ordinal. Found by number, and a walk over the
+    /// paper's forms: a step for each of them.
+    pub fn has_form<L: Ledger>(
+        &self,
+        paper: PaperNo,
+        ordinal: Ordinal,
+        steps: &mut Steps<L>,
+    ) -> bool
+        ensures value { result ≡ is_written_in self.now.reviews paper ordinal }
+        ensures steps { Takes (length (filed_of paper self.now.reviews.forms)) steps.old steps.new }
     {
-        has_under(self.forms(paper), ordinal)
+        has_under(self.forms(paper, steps), ordinal)
     }
 
-    /// The labels of the paper under which there is a form. One read by number, and one walk over the
-    /// paper's forms.
-    pub fn labels(&self, paper: PaperNo) -> Labels
-        ensures { (o : ℕ) → has_label result o ≡ is_written_in self.now.reviews paper o }
+    /// The labels of the paper under which there is a form. Found by number, and one walk over the paper's forms:
+    /// a step for each of them.
+    pub fn labels<L: Ledger>(&self, paper: PaperNo, steps: &mut Steps<L>) -> Labels
+        ensures value { (o : ℕ) → has_label result o ≡ is_written_in self.now.reviews paper o }
+        ensures steps { Takes (length (filed_of paper self.now.reviews.forms)) steps.old steps.new }
     {
-        labels_of(self.forms(paper))
+        labels_of(self.forms(paper, steps))
     }
 
     /// The version that a form under this label of this paper would be now, the count of forms under the
@@ -150,7 +175,9 @@ impl Reviews {
         ensures few { result < 2 ^ 63 }
     {
         match ordinal {
-            Some(ordinal) => count_under(self.forms(paper), *ordinal) as u64,
+            Some(ordinal) => {
+                count_under(self.forms(paper, &mut Steps::uncounted()), *ordinal) as u64
+            }
             None => 0,
         }
     }

@@ -1,36 +1,42 @@
 -- What a user who asks of a paper is told of it, by the tables.
-use Rattle.std.specs.Prelude.{ℕ, List, Option, Some, None, if◌then◌else◌}
+use Rattle.std.specs.Prelude.{ℕ, ◌≡◌, List, Option, Some, None, if◌then◌else◌}
 use Rattle.cr_base.specs.declared.search.Step.{Step}
-use Rattle.cr_base.specs.Answering.{page_by}
+use Rattle.cr_base.specs.declared.words.Decision.{Decision}
+use Rattle.cr_base.specs.Page.{gets_abstract, gets_decision, gets_title, where_told}
 use Rattle.cr_base.specs.Searching.{PaperTold, search_holds, term_holds}
-use Rattle.cr_base.specs.Sources.{Facts, is_accepted_in, shown_in_tables, standing_at}
 use Rattle.cr_base.specs.Tables.{Tables}
 use Rattle.cr_search_eval.specs.declared.asked.Asked.{Asked}
 use Rattle.cr_view.specs.Fields.{comments_told, reviews_told}
-use Rattle.cr_view.specs.Replies.{facts_at}
+use Rattle.cr_view.specs.PaperSeen.{PaperSeen, paper_seen_at, page_seen}
+use Rattle.cr_view.specs.PaperSeen.{abstract_seen, accepted_seen, decision_seen, title_seen}
 
 -- the paper, as the user asks of it
 abbrev pub asked_of : Tables → ℕ → ℕ → Asked
-asked_of t user paper = record {
-  user = user;
-  paper = paper;
-  by = standing_at t (Some user) (Some paper);
-  accepted = is_accepted_in t paper;
-}
+asked_of t user paper = record { user = user; facts = paper_seen_at t (Some user) paper }
 
--- the facts that her page of it reads
-abbrev pub facts_for : Tables → Asked → Facts
-facts_for t asked = record (facts_at t (Some asked.user) asked.by) { accepted = λ (p : ℕ). asked.accepted }
+-- it is asked of these tables
+abbrev pub IsAsked : Tables → Asked → Type 0
+IsAsked t asked = asked.facts ≡ paper_seen_at t (Some asked.user) asked.facts.paper
 
 -- what she is told of it
 abbrev pub told_at : Tables → Asked → PaperTold
 told_at t asked = record {
-  page = page_by (facts_for t asked) (shown_in_tables t) (Some asked.user) asked.paper;
-  accepted = asked.accepted;
-  conflicted = asked.by.conflicted;
-  reviews = reviews_told t (Some asked.user) asked.by asked.paper;
-  comments = comments_told t asked.by asked.paper;
+  page = page_seen t (Some asked.user) asked.facts;
+  accepted = accepted_seen asked.facts;
+  conflicted = asked.facts.by.conflicted;
+  reviews = reviews_told t (Some asked.user) asked.facts.by asked.facts.paper;
+  comments = comments_told t asked.facts.by asked.facts.paper;
 }
+
+-- the keys of its page that its facts tell
+abbrev pub title_told : PaperSeen → Option (List ℕ)
+title_told s = where_told (gets_title s.by (accepted_seen s)) (title_seen s)
+
+abbrev pub abstract_told : PaperSeen → Option (List ℕ)
+abstract_told s = where_told (gets_abstract s.by (accepted_seen s)) (abstract_seen s)
+
+abbrev pub decision_told : PaperSeen → Option (Option Decision)
+decision_told s = where_told (gets_decision s.by (accepted_seen s)) (Some (decision_seen s))
 
 -- the title of a paper of which that is told, where the search holds of it
 abbrev pub title_found : PaperTold → List Step → Option (List ℕ)

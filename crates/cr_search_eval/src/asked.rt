@@ -2,32 +2,26 @@
 ghost use Rattle.std.specs.Prelude.{◌≡◌};
 ghost use Rattle.cr_search_eval.specs.Asked.{asked_of};
 
-use cr_base::{PaperNo, Standing, UserNo};
-use cr_view::Live;
+use cr_base::{PaperNo, Steps, UserNo};
+use cr_view::{Live, PaperFacts};
 
-/// A paper, and how the user who asks of it stands to it: told once for all terms.
-#[derive(Clone, Copy)]
-pub(crate) struct Asked {
+/// A paper, as a user asks of it: read once for all terms.
+#[derive(Drop)]
+pub(crate) struct Asked<'a> {
     /// Who asks.
     pub(crate) user: UserNo,
-    /// The paper.
-    pub(crate) paper: PaperNo,
-    /// How she stands to it.
-    pub(crate) by: Standing,
-    /// Whether it is accepted.
-    pub(crate) accepted: bool,
+    /// What is asked of the paper for her.
+    pub(crate) facts: PaperFacts<'a>,
 }
 
-impl Asked {
-    /// The paper, as the user asks of it. It costs what `standing` and `is_accepted` of the tables do.
-    pub(crate) fn new(live: &Live, user: UserNo, paper: PaperNo) -> Asked
+impl<'a> Asked<'a> {
+    /// The paper, as the user asks of it. It costs what `facts` of the tables does.
+    pub(crate) fn new(live: &'a Live, user: UserNo, paper: PaperNo) -> Asked<'a>
         ensures { result ≡ asked_of live.now.tables user paper }
     {
         Asked {
             user,
-            paper,
-            by: live.standing(&Some(user), &Some(paper)),
-            accepted: live.is_accepted(paper),
+            facts: live.facts(&Some(user), paper, &mut Steps::uncounted()),
         }
     }
 }

@@ -2,7 +2,7 @@
 ghost use Rattle.std.specs.Prelude.{◌≡◌, ◌≤◌, ◌<◌, ◌+◌, ◌-◌, drop, length, take};
 ghost use Rattle.cr_base.specs.Search.{Tree, steps_of};
 ghost use Rattle.cr_base.specs.Searching.{search_holds, term_holds, tree_holds};
-ghost use Rattle.cr_search_eval.specs.Asked.{told_at};
+ghost use Rattle.cr_search_eval.specs.Asked.{IsAsked, told_at};
 ghost use Rattle.cr_search_eval.specs.Spelled.{Spelled};
 
 use crate::asked::Asked;
@@ -13,7 +13,8 @@ use cr_view::Live;
 /// Whether the search holds of the paper; the empty one does. A term is tried where the truth
 /// isn't known by those before it;
 /// takes no memory.
-pub(crate) fn search_holds(live: &Live, asked: &Asked, search: &Search) -> bool
+pub(crate) fn search_holds(live: &Live, asked: &Asked<'_>, search: &Search) -> bool
+    requires { IsAsked live.now.tables asked.now }
     ensures { result ≡ search_holds (term_holds (told_at live.now.tables asked.now)) search.now }
 {
     let steps = search.steps();
@@ -33,8 +34,9 @@ fn operands(steps: &[Step], second: u16) -> (&[Step], &[Step])
 }
 
 /// Whether the search that these steps spell holds: the last one is its operation, behind its operands.
-fn steps_hold(live: &Live, asked: &Asked, steps: &[Step]) -> bool
-    requires { Spelled steps.now }
+fn steps_hold(live: &Live, asked: &Asked<'_>, steps: &[Step]) -> bool
+    requires asked { IsAsked live.now.tables asked.now }
+    requires spelled { Spelled steps.now }
     ensures { (t : Tree) → steps.now ≡ steps_of t
         → result ≡ tree_holds (term_holds (told_at live.now.tables asked.now)) t }
 {

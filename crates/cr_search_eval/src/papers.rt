@@ -14,8 +14,8 @@ use cr_base::{FoundPaper, FoundPapers, PaperNo, Reply, Search, Text, UserNo};
 use cr_view::Live;
 use std::alloc::{AllocError, Global};
 
-/// Whether the search holds of the paper, by what the user is told of it. A few reads by number and four binary
-/// searches for how she stands to the paper, and for each term that decides it what its field costs; takes no memory.
+/// Whether the search holds of the paper, by what the user is told of it. It costs what `facts` of the tables does, and
+/// for each term that decides it what its field costs beside; takes no memory.
 pub fn matches(live: &Live, user: UserNo, search: &Search, paper: PaperNo) -> bool
     ensures { result ≡ search_holds
         (term_holds (told_of_paper (facts_of_tables live.now.tables (Some user)) (shown_in_tables live.now.tables)
@@ -35,7 +35,7 @@ fn title_found<'a>(
     ensures { option_copied result ≡ title_found (told_to live.now.tables user paper) search.now }
 {
     let asked = Asked::new(live, user, paper);
-    let title = live.title_told(&asked.by, asked.accepted, asked.paper)?;
+    let title = asked.facts.title_told()?;
     if search_holds(live, &asked, search) {
         Some(title)
     } else {

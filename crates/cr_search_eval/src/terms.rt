@@ -1,12 +1,13 @@
 //! One term of a search at one paper.
-ghost use Rattle.std.specs.Prelude.{◌≡◌, false, if◌then◌else◌, not};
+ghost use Rattle.std.specs.Prelude.{◌≡◌, false, if◌then◌else◌, is_some, not};
 ghost use Rattle.std.specs.List.{list_any};
 ghost use Rattle.std.specs.Option.{option_copied, option_map, option_map_or};
 ghost use Rattle.cr_base.specs.Accounts.{account_at};
 ghost use Rattle.cr_base.specs.Searching.{has_decision, has_feature, name_has, number_decided};
 ghost use Rattle.cr_base.specs.Searching.{reviewer_has, stands_so, term_holds, text_has};
-ghost use Rattle.cr_base.specs.declared.search.Feature.TheVariants as features;
-ghost use Rattle.cr_search_eval.specs.Asked.{told_at};
+ghost use Rattle.cr_base.specs.Tables.{Tables};
+ghost use Rattle.cr_search_eval.specs.Asked.{IsAsked, told_at};
+ghost use Rattle.cr_search_eval.specs.Asked.{abstract_told, decision_told, title_told};
 ghost use Rattle.cr_view.specs.Replies.{holder_name};
 
 use crate::asked::Asked;
@@ -14,58 +15,53 @@ use crate::text::contains;
 use cr_base::{Blob, Decision, Feature, Seat, Short, Standing, Status, Term, Text, Tie};
 use cr_view::Live;
 
-/// Whether the term holds of the paper. It costs the one read that the field which it names does (see `Live`), and a
-/// look at each byte of the texts that it looks into; takes no memory.
-pub(crate) fn term_holds(live: &Live, asked: &Asked, term: &Term) -> bool
+/// Whether the term holds of the paper. It costs the one read that the field which it names does, if it does (see
+/// `Live`), and a look at each byte of the texts that it looks into; takes no memory.
+pub(crate) fn term_holds(live: &Live, asked: &Asked<'_>, term: &Term) -> bool
+    requires { IsAsked live.now.tables asked.now }
     ensures { result ≡ term_holds (told_at live.now.tables asked.now) term.now }
 {
     match term {
-        Term::Plain(value) => in_title(live, asked, value) || in_abstract(live, asked, value),
-        Term::Title(value) => in_title(live, asked, value),
-        Term::Abstract(value) => in_abstract(live, asked, value),
+        Term::Plain(value) => in_title(asked, value) || in_abstract(asked, value),
+        Term::Title(value) => in_title(asked, value),
+        Term::Abstract(value) => in_abstract(asked, value),
         Term::Author(value) => in_author(live, asked, value),
         Term::Reviewer(value) => in_reviewer(live, asked, value),
-        Term::Tag(tag) => live.tells_tag(asked.user, &asked.by, asked.paper, tag),
-        Term::Decision(decision) => is_decided(live, asked, decision),
-        Term::Status(status) => stands_so(live, asked, *status),
+        Term::Tag(tag) => live.tells_tag(asked.user, &asked.facts, tag),
+        Term::Decision(decision) => is_decided(asked, decision),
+        Term::Status(status) => stands_so(asked, *status),
         Term::Has(feature) => has_feature(live, asked, *feature),
     }
 }
 
 /// Whether the title has the value.
-fn in_title(live: &Live, asked: &Asked, value: &Blob) -> bool
-    ensures { result ≡ text_has value.now (told_at live.now.tables asked.now).page.title }
+fn in_title(asked: &Asked<'_>, value: &Blob) -> bool
+    ensures { result ≡ text_has value.now (title_told asked.now.facts) }
 {
-    text_has(
-        value,
-        live.title_told(&asked.by, asked.accepted, asked.paper),
-    )
+    text_has(value, asked.facts.title_told())
 }
 
 /// Whether the abstract has it.
-fn in_abstract(live: &Live, asked: &Asked, value: &Blob) -> bool
-    ensures { result ≡ text_has value.now (told_at live.now.tables asked.now).page.abstract_ }
+fn in_abstract(asked: &Asked<'_>, value: &Blob) -> bool
+    ensures { result ≡ text_has value.now (abstract_told asked.now.facts) }
 {
-    text_has(
-        value,
-        live.abstract_told(&asked.by, asked.accepted, asked.paper),
-    )
+    text_has(value, asked.facts.abstract_told())
 }
 
 /// Whether the name of an author has it.
-fn in_author(live: &Live, asked: &Asked, value: &Blob) -> bool
+fn in_author(live: &Live, asked: &Asked<'_>, value: &Blob) -> bool
     ensures { result ≡ name_has value.now (told_at live.now.tables asked.now).page.authors }
 {
-    let ties = live.authors_told(&asked.by, asked.accepted, asked.paper);
+    let ties = live.authors_told(&asked.facts);
     some_tied_has(live, value, ties)
 }
 
 /// Whether the name of a reviewer has it.
-fn in_reviewer(live: &Live, asked: &Asked, value: &Blob) -> bool
+fn in_reviewer(live: &Live, asked: &Asked<'_>, value: &Blob) -> bool
     ensures { result ≡ reviewer_has value.now (told_at live.now.tables asked.now).page.reviewers }
 {
-    let seats = live.seats_told(&asked.by, asked.paper);
-    some_seated_has(live, &asked.by, value, seats)
+    let seats = live.seats_told(&asked.facts);
+    some_seated_has(live, asked.facts.by(), value, seats)
 }
 
 /// Whether a text that is there has the value.
@@ -120,10 +116,10 @@ fn some_seated_has(live: &Live, by: &Standing, value: &Blob, seats: &[Tie<Seat>]
 }
 
 /// Whether the decision is this one, or none was made, as is told.
-fn is_decided(live: &Live, asked: &Asked, decision: &Option<Decision>) -> bool
-    ensures { result ≡ has_decision decision.now (told_at live.now.tables asked.now).page.decision }
+fn is_decided(asked: &Asked<'_>, decision: &Option<Decision>) -> bool
+    ensures { result ≡ has_decision decision.now (decision_told asked.now.facts) }
 {
-    match live.decision_told(&asked.by, asked.accepted, asked.paper) {
+    match asked.facts.decision_told() {
         Some(told) => number_decided(&told) == number_decided(decision),
         None => false,
     }
@@ -140,13 +136,13 @@ fn number_decided(decision: &Option<Decision>) -> u64
 }
 
 /// Whether the paper stands so.
-fn stands_so(live: &Live, asked: &Asked, status: Status) -> bool
-    ensures { result ≡ stands_so status (told_at live.now.tables asked.now) }
+fn stands_so(asked: &Asked<'_>, status: Status) -> bool
+    ensures { (t : Tables) → result ≡ stands_so status (told_at t asked.now) }
 {
     match status {
-        Status::Active => is_told(live.withdrawal_told(&asked.by, asked.paper), false),
-        Status::Withdrawn => is_told(live.withdrawal_told(&asked.by, asked.paper), true),
-        Status::Accepted => asked.accepted,
+        Status::Active => is_told(asked.facts.withdrawal_told(), false),
+        Status::Withdrawn => is_told(asked.facts.withdrawal_told(), true),
+        Status::Accepted => asked.facts.is_accepted(),
     }
 }
 
@@ -161,26 +157,25 @@ fn is_told(told: Option<bool>, so: bool) -> bool
 }
 
 /// Whether the paper has that.
-fn has_feature(live: &Live, asked: &Asked, feature: Feature) -> bool
+fn has_feature(live: &Live, asked: &Asked<'_>, feature: Feature) -> bool
+    requires { IsAsked live.now.tables asked.now }
     ensures { result ≡ has_feature feature (told_at live.now.tables asked.now) }
 {
     match feature {
-        Feature::Content => live.tells_version(&asked.by, asked.accepted, asked.paper),
-        Feature::Review => live.tells_review(&Some(asked.user), &asked.by, asked.paper),
-        Feature::Comment => live.tells_comment(&asked.by, asked.paper),
-        Feature::Decision => tells_decision(live, asked),
-        Feature::Conflict => asked.by.conflicted,
-        Feature::Mine => live
-            .label_told(&Some(asked.user), &asked.by, asked.paper)
-            .is_some(),
+        Feature::Content => live.tells_version(&asked.facts),
+        Feature::Review => live.tells_review(&Some(asked.user), &asked.facts),
+        Feature::Comment => live.tells_comment(&asked.facts),
+        Feature::Decision => tells_decision(asked),
+        Feature::Conflict => asked.facts.by().conflicted,
+        Feature::Mine => asked.facts.label_told().is_some(),
     }
 }
 
 /// Whether a decision is told.
-fn tells_decision(live: &Live, asked: &Asked) -> bool
-    ensures { result ≡ has_feature features.Decision (told_at live.now.tables asked.now) }
+fn tells_decision(asked: &Asked<'_>) -> bool
+    ensures { result ≡ option_map_or (λ d. is_some d) (decision_told asked.now.facts) false }
 {
-    match live.decision_told(&asked.by, asked.accepted, asked.paper) {
+    match asked.facts.decision_told() {
         Some(told) => told.is_some(),
         None => false,
     }

@@ -67,9 +67,11 @@ pub(crate) fn take_turn<K: Keeper>(book: &mut Book<K>, wish: Wish) -> TurnResult
 {
     let caller = caller_of(book, &wish);
     if is_unauthorized(book, &caller, &wish.what) {
+        drop(wish);
         return TurnResult::Refused(Refused::Unauthorized);
     }
     let what = wish.what;
+    drop(wish.credentials);
     match what {
         What::NoRoute => TurnResult::Refused(Refused::NoRoute),
         What::WrongMethod(resource) => TurnResult::Refused(Refused::WrongMethod(resource)),

@@ -1,11 +1,12 @@
 //! The tags that are on.
 ghost use Rattle.std.specs.Prelude.{◌≡◌, ◌<◌, ◌&&◌, [], ◌∷◌, OnOk, IfOk, MatchResult};
-ghost use Rattle.std.specs.Prelude.{Some, true, false, is_some, slice_index};
+ghost use Rattle.std.specs.Prelude.{Some, true, false, is_some, length, slice_index};
 ghost use Rattle.std.specs.Str.{bytes_eq};
 ghost use Rattle.std.specs.List.{filter_map, list_any};
 ghost use Rattle.cr_base.specs.Checks.{judged, tag_checks};
 ghost use Rattle.cr_base.specs.Filed.{filed, filed_of};
 ghost use Rattle.cr_base.specs.History.{History};
+ghost use Rattle.cr_base.specs.Steps.{Takes};
 ghost use Rattle.cr_rooms.specs.Rooms.{IsNoLess, IsOneLess};
 ghost use Rattle.cr_base.specs.TagTexts.{is_for_chairs};
 ghost use Rattle.cr_base.specs.Tags.{no_tags, tag_owner, is_tag_for, tags_for, tag_switched, tags_after, tags_in};
@@ -13,10 +14,11 @@ ghost use Rattle.cr_tags.specs.BinarySearch.{IsAt, IsGapFor};
 ghost use Rattle.cr_tags.specs.Room.{paper_tagged, TagsHaveRoom};
 
 use crate::order::compare;
-use cr_base::{Entry, PaperNo, Rule, SetTag, Stamped, Standing, Tag, TagList, UserNo};
+use cr_base::{Entry, PaperNo, Rule, SetTag, Stamped, Standing, Steps, Tag, TagList, UserNo};
 use cr_kept::Files;
 use std::alloc::{AllocError, Global};
 use std::marker::Model;
+use std::sync::ledger::Ledger;
 
 /// The tags that are on: each paper's own together, by their bytes; a private one as often as users have set it,
 /// by their numbers.
@@ -143,27 +145,37 @@ impl Tags {
     }
 
     /// The tags on the paper that are for this user, by their bytes: everyone's, her own private ones, and
-    /// those for chairs where she is one. None where there is no such paper. One read by number, and a copy
-    /// of those tags, of 48 bytes each; an error only for lack of memory.
-    pub fn tags_for(
+    /// those for chairs where she is one. None where there is no such paper. Found by number; a step for each of
+    /// the paper's tags, and a copy of those for her, of 48 bytes each. An error only for lack of memory.
+    pub fn tags_for<L: Ledger>(
         &self,
         alloc: Global,
         user: UserNo,
         paper: PaperNo,
         chair: bool,
+        steps: &mut Steps<L>,
     ) -> Result<TagList, AllocError>
-        ensures { IfOk result (λ tags. tags ≡ tags_in self.now.tags (Some user) chair paper) }
+        ensures value { IfOk result (λ tags. tags ≡ tags_in self.now.tags (Some user) chair paper) }
+        ensures steps { Takes (length (filed_of paper self.now.tags)) steps.old steps.new }
     {
-        let tags = those_for(alloc, self.tags.of_paper(paper), user, chair)?;
+        let tags = those_for(alloc, self.tags.of_paper(paper, steps), user, chair)?;
         Ok(TagList::from_vec(tags))
     }
 
-    /// Whether this tag is among those on the paper that are for this user, as `tags_for` tells them. One read
-    /// by number, and a walk over the paper's tags up to it; takes no memory.
-    pub fn has_for(&self, user: UserNo, paper: PaperNo, chair: bool, tag: &Tag) -> bool
-        ensures { result ≡ list_any (bytes_eq tag.now) (tags_in self.now.tags (Some user) chair paper) }
+    /// Whether this tag is among those on the paper that are for this user, as `tags_for` tells them. Found by
+    /// number; a step for each of the paper's tags. Takes no memory.
+    pub fn has_for<L: Ledger>(
+        &self,
+        user: UserNo,
+        paper: PaperNo,
+        chair: bool,
+        tag: &Tag,
+        steps: &mut Steps<L>,
+    ) -> bool
+        ensures value { result ≡ list_any (bytes_eq tag.now) (tags_in self.now.tags (Some user) chair paper) }
+        ensures steps { Takes (length (filed_of paper self.now.tags)) steps.old steps.new }
     {
-        has_it_for(self.tags.of_paper(paper), tag, user, chair)
+        has_it_for(self.tags.of_paper(paper, steps), tag, user, chair)
     }
 
     /// Where the tag stands among those on the paper, or else where it would stand.
@@ -172,7 +184,7 @@ impl Tags {
             (IsGapFor tag.now (filed_of paper self.now.tags)) }
     {
         self.tags
-            .of_paper(paper)
+            .of_paper(paper, &mut Steps::uncounted())
             .binary_search_by(|other| compare(other, tag))
     }
 }

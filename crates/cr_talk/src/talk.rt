@@ -3,13 +3,15 @@ ghost use Rattle.std.specs.Prelude.{◌≡◌, ◌+◌, [], ◌∷◌, OnOk, IfO
 ghost use Rattle.std.specs.List.{filter_map};
 ghost use Rattle.cr_base.specs.Checks.{judged, comment_checks};
 ghost use Rattle.cr_base.specs.History.{History};
+ghost use Rattle.cr_base.specs.Steps.{Takes};
 ghost use Rattle.cr_base.specs.Talk.{no_talk, talk_after, comments_in, own_comments_in, TalkFit};
 ghost use Rattle.cr_talk.specs.Room.{paper_commented, TalkHasRoom};
 
-use cr_base::{Comment, Entry, PaperNo, Rule, Stamped, Standing, UserNo};
+use cr_base::{Comment, Entry, PaperNo, Rule, Stamped, Standing, Steps, UserNo};
 use cr_kept::{Files, Sums};
 use std::alloc::{AllocError, Global};
 use std::marker::Model;
+use std::sync::ledger::Ledger;
 
 /// The most comments that one user may write, on all papers.
 pub const MOST_OWN_COMMENTS: u64 = 1_000;
@@ -52,12 +54,13 @@ impl Talk {
         }
     }
 
-    /// The comments on the paper, by number; none where there is no such paper. One read by number; takes no
-    /// memory.
-    pub fn comments(&self, paper: PaperNo) -> &[Comment]
-        ensures { result.now ≡ comments_in self.now.talk paper }
+    /// The comments on the paper, by number; none where there is no such paper. Found by number, to be read: a step
+    /// for each. Takes no memory.
+    pub fn comments<L: Ledger>(&self, paper: PaperNo, steps: &mut Steps<L>) -> &[Comment]
+        ensures comments { result.now ≡ comments_in self.now.talk paper }
+        ensures steps { Takes (length (comments_in self.now.talk paper)) steps.old steps.new }
     {
-        self.comments.of_paper(paper)
+        self.comments.of_paper(paper, steps)
     }
 
     /// How many comments the user has written, 0 to 1,000. One read by number.
@@ -102,7 +105,7 @@ impl Talk {
         if self.count_of_user(maker) >= MOST_OWN_COMMENTS {
             return Err(Rule::QuotaComments);
         }
-        Ok(self.comments(*paper).len() as u64 + 1)
+        Ok(self.comments(*paper, &mut Steps::uncounted()).len() as u64 + 1)
     }
 }
 

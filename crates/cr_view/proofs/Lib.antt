@@ -6,7 +6,9 @@ pub mod FieldLaws
 pub mod JudgeLaws
 pub mod MeLaws
 pub mod NobodyLaws
+pub mod PageLaws
 pub mod ReportLaws
 pub mod ReviewLaws
 pub mod ReviewingLaws
 pub mod RoomLaws
+pub mod StepLaws

@@ -2,6 +2,7 @@ pub mod Accepted
 pub mod Callers
 pub mod Comments
 pub mod Fields
+pub mod PaperSeen
 pub mod Replies
 pub mod Reports
 pub mod Reviews

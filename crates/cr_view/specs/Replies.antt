@@ -81,10 +81,7 @@ facts_at t user by = record {
   accepted = is_accepted_in t;
 }
 
--- the page of a paper, for such a user; and the page that is due to a user, or the first broken rule
-abbrev pub page_at : Tables → Option ℕ → Standing → ℕ → Page
-page_at t user by p = page_by (facts_at t user by) (shown_in_tables t) user p
-
+-- the page that is due to a user, or the first broken rule
 abbrev pub page_due : Tables → Option ℕ → Option ℕ → Result Page Rule
 page_due t user paper = due_at queries.Page (λ (facts : Facts) (shown : Shown). page_by facts shown user) t user paper
 

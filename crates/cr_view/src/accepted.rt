@@ -1,30 +1,38 @@
 //! Which papers are accepted, who may ask for them, and what everyone is told of them.
 ghost use Rattle.std.specs.Prelude.{◌≡◌, ◌++◌, [], IfOk, None, OnOk, unwrap_or};
 ghost use Rattle.cr_base.specs.Answering.{accepted_by, accepted_paper, login_wanted};
-ghost use Rattle.cr_base.specs.Decisions.{is_published};
+ghost use Rattle.cr_base.specs.Decisions.{is_accepted_when, is_published};
 ghost use Rattle.cr_base.specs.Lists.{at_some, given};
 ghost use Rattle.cr_base.specs.Papers.{title_at};
 ghost use Rattle.cr_base.specs.Sources.{facts_of_tables, shown_in_tables, is_accepted_in};
 
 use crate::live::Live;
-use cr_base::{AcceptedPaper, AcceptedPapers, Decision, PaperNo, Query, Text};
+use cr_base::{AcceptedPaper, AcceptedPapers, Decision, PaperNo, Phase, Query, Steps, Text};
 use std::alloc::{AllocError, Global};
+
+/// Whether a paper that is withdrawn or isn't, and of which this was decided last, is accepted in this phase: it was
+/// decided to accept it, it isn't withdrawn, and its authors are told, which they are from the notification on.
+pub(crate) fn is_accepted_when(phase: Phase, withdrawn: bool, decision: Option<Decision>) -> bool
+    ensures { result ≡ is_accepted_when phase withdrawn decision }
+{
+    match decision {
+        Some(Decision::Accept) => !withdrawn && phase.papers_may_be_accepted(),
+        _ => false,
+    }
+}
 
 /// Which papers are accepted.
 impl Live {
-    /// Whether the paper is accepted: the last decision on it is to accept it, it isn't withdrawn, and its
-    /// authors are told, which they are from the notification on. Takes no memory; before the notification no
-    /// search, else two binary searches and a read by number.
+    /// Whether the paper is accepted, as `is_accepted_when` tells it; false where there is no such paper. Three reads
+    /// by number; takes no memory.
     pub fn is_accepted(&self, paper: PaperNo) -> bool
         ensures { result ≡ is_accepted_in self.now.tables paper }
     {
-        if !self.stage.phase().papers_may_be_accepted() {
-            return false;
-        }
-        match self.decisions.last(paper) {
-            Some(Decision::Accept) => !self.papers.is_withdrawn(paper),
-            _ => false,
-        }
+        is_accepted_when(
+            self.stage.phase(&mut Steps::uncounted()),
+            self.papers.is_withdrawn(paper, &mut Steps::uncounted()),
+            self.decisions.last(paper, &mut Steps::uncounted()),
+        )
     }
 
     /// Whether a paper is named, and is accepted.
@@ -42,7 +50,9 @@ impl Live {
         ensures { result ≡ is_published self.now.tables.stage.phase
             (at_some (is_accepted_in self.now.tables) paper.now) }
     {
-        self.stage.phase().publishes(self.has_accepted(paper))
+        self.stage
+            .phase(&mut Steps::uncounted())
+            .publishes(self.has_accepted(paper))
     }
 
     /// Whether nobody may not ask this: what is asked for is a registered user's, and isn't the page or the
@@ -63,7 +73,7 @@ impl Live {
 impl Live {
     /// The accepted papers, by number, each with its last title and the names of its authors, the submitter
     /// first; an error only for lack of memory. A walk over all papers, which costs each what `is_accepted`
-    /// does; of those that are accepted a binary search, and a look-up for each author. Shares the titles, and
+    /// does; of those that are accepted two more, and a look-up for each author. Shares the titles, and
     /// takes no memory but for the answer.
     pub fn accepted_papers(&self, alloc: Global) -> Result<AcceptedPapers, AllocError>
         ensures { IfOk result (λ papers. papers
@@ -98,7 +108,7 @@ impl Live {
         ensures { IfOk result (λ told. told
             ≡ accepted_paper (facts_of_tables self.now.tables None) (shown_in_tables self.now.tables) paper) }
     {
-        let authors = self.names(alloc, self.ties.authors(paper))?;
+        let authors = self.names(alloc, self.ties.authors(paper, &mut Steps::uncounted()))?;
         let title = self.title_or_none(alloc, paper)?;
         Ok(AcceptedPaper {
             authors,
@@ -111,7 +121,7 @@ impl Live {
     fn title_or_none(&self, alloc: Global, paper: PaperNo) -> Result<Text, AllocError>
         ensures { IfOk result (λ title. title ≡ unwrap_or (title_at self.now.tables.papers paper) []) }
     {
-        match self.papers.last_title(paper) {
+        match self.papers.last_title(paper, &mut Steps::uncounted()) {
             Some(title) => title.copy(),
             None => Text::from_str(alloc, ""),
         }

@@ -12,7 +12,8 @@ use crate::live::Live;
 use crate::queries::AnswerError;
 use cr_anonymity::shows_writer;
 use cr_base::{
-    Comment, CommentLine, CommentLines, Ordinal, PaperNo, Reply, Rule, Short, Standing, UserNo,
+    Comment, CommentLine, CommentLines, Ordinal, PaperNo, Reply, Rule, Short, Standing, Steps,
+    UserNo,
 };
 use std::alloc::{AllocError, Global};
 
@@ -53,7 +54,10 @@ impl Live {
             Err(rule) => return Err(AnswerError::Rule(rule)),
         };
         match paper {
-            Some(paper) => { Ok(self.comment_lines(alloc, &by, self.talk.comments(*paper))?) }
+            Some(paper) => {
+                let comments = self.talk.comments(*paper, &mut Steps::uncounted());
+                Ok(self.comment_lines(alloc, &by, comments)?)
+            }
             None => unreachable!(),
         }
     }

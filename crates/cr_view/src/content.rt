@@ -9,7 +9,7 @@ ghost use Rattle.cr_view.specs.Replies.{content_due, content_reader_at, content_
 
 use crate::live::Live;
 use crate::queries::AnswerError;
-use cr_base::{Blob, PaperNo, Reply, Rule, Standing, UserNo};
+use cr_base::{Blob, PaperNo, Reply, Rule, Standing, Steps, UserNo};
 
 impl Live {
     /// The content of a version of a paper, or of its last one, as a user, or nobody, may read it, or the
@@ -121,14 +121,14 @@ impl Live {
         ensures { option_copied result ≡ content_at self.now.tables by.now.author paper version }
     {
         let Some(version) = version else {
-            return self.papers.last_content(paper);
+            return self.papers.last_content(paper, &mut Steps::uncounted());
         };
         if by.author {
-            return self.papers.content(paper, version);
+            return self.papers.content(paper, version, &mut Steps::uncounted());
         }
-        let last = self.papers.last_version(paper)?;
+        let last = self.papers.last_version(paper, &mut Steps::uncounted())?;
         if last == version {
-            return self.papers.last_content(paper);
+            return self.papers.last_content(paper, &mut Steps::uncounted());
         }
         None
     }

@@ -5,16 +5,19 @@
 mod accepted;
 mod comments;
 mod content;
+mod facts;
 mod fields;
 mod lists;
 mod live;
 mod me;
 mod page;
+mod page_lists;
 mod queries;
 mod reports;
 mod reviewing;
 mod reviews;
 
+pub use facts::PaperFacts;
 pub use live::Live;
 pub use queries::AnswerError;
 pub use reports::ScoreSum;

@@ -1,19 +1,17 @@
 //! The tables of a history, and what a user is by them.
-ghost use Rattle.std.specs.Prelude.{◌≡◌, [], ◌∷◌, ◌++◌, IsTrue, OnOk, is_some};
+ghost use Rattle.std.specs.Prelude.{◌≡◌, [], ◌∷◌, ◌++◌, IsTrue, OnOk};
 ghost use Rattle.std.specs.Option.{option_map};
 ghost use Rattle.cr_base.specs.Accounts.{number_at, account_at, caller_at};
-ghost use Rattle.cr_base.specs.Sources.{standing_at};
 ghost use Rattle.cr_base.specs.History.{History};
 ghost use Rattle.cr_base.specs.Lists.{at_some};
 ghost use Rattle.cr_base.specs.Papers.{paper_count};
-ghost use Rattle.cr_base.specs.Seats.{ordinal_in};
 ghost use Rattle.cr_base.specs.Tables.{no_tables, tables_after, tables_from, Fits, FitInTurn};
-ghost use Rattle.cr_base.specs.Ties.{is_author_in, is_conflicted_in, are_within, AreWithin};
+ghost use Rattle.cr_base.specs.Ties.{is_author_in, are_within, AreWithin};
 ghost use Rattle.cr_view.specs.Room.{RoomFor};
 
 use cr_accounts::Accounts;
 use cr_assign::Seats;
-use cr_base::{Digest, Entry, PaperNo, Short, Stamped, Standing, UserNo};
+use cr_base::{Digest, Entry, PaperNo, Short, Stamped, Steps, UserNo};
 use cr_conflicts::Ties;
 use cr_decisions::Decisions;
 use cr_papers::Papers;
@@ -187,22 +185,6 @@ impl Live {
         self.accounts.caller(name, digest)
     }
 
-    /// What a user, or nobody, is to the conference and to a paper, where one is named. A
-    /// caller who is nobody is an `Account` without ties. Takes no memory; a few reads by number, and
-    /// four binary searches of ties and seats.
-    pub fn standing(&self, user: &Option<UserNo>, paper: &Option<PaperNo>) -> Standing
-        ensures { result ≡ standing_at self.now.tables user.now paper.now }
-    {
-        Standing {
-            phase: self.stage.phase(),
-            mode: self.stage.mode(),
-            role: self.accounts.standing_for(user),
-            author: self.is_author(user, paper),
-            conflicted: self.is_conflicted(user, paper),
-            reviewer: self.is_reviewer(user, paper),
-        }
-    }
-
     /// Whether the user is an author of the paper; false for nobody, and where no paper is named.
     pub fn is_author(&self, user: &Option<UserNo>, paper: &Option<PaperNo>) -> bool
         ensures { result ≡ at_some (is_author_in self.now.tables.ties user.now) paper.now }
@@ -211,33 +193,7 @@ impl Live {
             return false;
         };
         match paper {
-            Some(paper) => self.ties.is_author(*user, *paper),
-            None => false,
-        }
-    }
-
-    /// Whether the user is in conflict with the paper; false for nobody, and where no paper is named.
-    fn is_conflicted(&self, user: &Option<UserNo>, paper: &Option<PaperNo>) -> bool
-        ensures { result ≡ at_some (is_conflicted_in self.now.tables.ties user.now) paper.now }
-    {
-        let Some(user) = user else {
-            return false;
-        };
-        match paper {
-            Some(paper) => self.ties.is_conflicted(*user, *paper, &[]),
-            None => false,
-        }
-    }
-
-    /// Whether the user reviews the paper; false for nobody, and where no paper is named.
-    fn is_reviewer(&self, user: &Option<UserNo>, paper: &Option<PaperNo>) -> bool
-        ensures { result ≡ at_some (λ p. is_some (ordinal_in self.now.tables.seats user.now p)) paper.now }
-    {
-        let Some(user) = user else {
-            return false;
-        };
-        match paper {
-            Some(paper) => self.seats.is_reviewer(*user, *paper),
+            Some(paper) => self.ties.is_author(*user, *paper, &mut Steps::uncounted()),
             None => false,
         }
     }

@@ -8,7 +8,7 @@ ghost use Rattle.cr_base.specs.Lists.{given};
 ghost use Rattle.cr_base.specs.Ties.{is_author_in};
 
 use crate::live::Live;
-use cr_base::{Me, PaperNo, PaperNos, Short, Tie, UserNo};
+use cr_base::{Me, PaperNo, PaperNos, Short, Steps, Tie, UserNo};
 use std::alloc::{AllocError, Global};
 
 impl Live {
@@ -19,9 +19,13 @@ impl Live {
         ensures { IfOk result (λ me. me ≡ me_by (facts_of_tables self.now.tables (Some user)) user) }
     {
         self.law_within();
-        let papers = papers_of(alloc, self.ties.authored(user))?;
-        let conflicts = self.others(alloc, user, self.ties.conflicting(user))?;
-        let assigned = papers_of(alloc, self.seats.reviewed(user))?;
+        let papers = papers_of(alloc, self.ties.authored(user, &mut Steps::uncounted()))?;
+        let conflicts = self.others(
+            alloc,
+            user,
+            self.ties.conflicting(user, &mut Steps::uncounted()),
+        )?;
+        let assigned = papers_of(alloc, self.seats.reviewed(user, &mut Steps::uncounted()))?;
         Ok(Me {
             assigned,
             bytes: self.papers.bytes_of_user(user),
@@ -52,7 +56,9 @@ impl Live {
     {
         let mut papers = Vec::with_capacity(alloc, ties.len())?;
         for tie in ties {
-            let other = !self.ties.is_author(user, tie.pair.paper);
+            let other = !self
+                .ties
+                .is_author(user, tie.pair.paper, &mut Steps::uncounted());
             push_where(&mut papers, other, tie.pair.paper)?;
         }
         Ok(PaperNos::from_vec(papers))

@@ -1,28 +1,34 @@
 //! What queries are answered by the tables.
-ghost use Rattle.std.specs.Prelude.{◌≡◌, ◌≢◌, IfOk, IsSome, IsTrue, OnErr, Some};
+ghost use Rattle.std.specs.Prelude.{◌≡◌, ◌≢◌, ◌+◌, ◌||◌, IfOk, IsSome, IsTrue, OnErr, Some, length, unwrap_or};
+ghost use Rattle.std.specs.Option.{option_copied, option_map};
 ghost use Rattle.cr_base.specs.Accounts.{lines_of};
 ghost use Rattle.cr_base.specs.Answering.{query_checks, answer_by_role};
 ghost use Rattle.cr_base.specs.Checks.{judged};
+ghost use Rattle.cr_base.specs.Filed.{filed_of};
 ghost use Rattle.cr_base.specs.Page.{gets_tags, gets_versions, where_told};
 ghost use Rattle.cr_base.specs.Sources.{facts_of_tables, shown_in_tables, has_paper};
+ghost use Rattle.cr_base.specs.Papers.{uploads_at};
+ghost use Rattle.cr_base.specs.Steps.{TakesAtMost};
 ghost use Rattle.cr_base.specs.Tags.{tags_in};
 ghost use Rattle.cr_base.specs.Words.{is_chair, is_member};
 ghost use Rattle.cr_base.specs.declared.command.Query.TheVariants as queries;
 ghost use Rattle.cr_view.specs.Callers.{HasAsker};
 ghost use Rattle.cr_view.specs.Replies.{AnswersAsDue, ShowsAsDue, conference_at, names_of};
-ghost use Rattle.cr_view.specs.Replies.{page_at, page_due, reader_at, versions_at};
+ghost use Rattle.cr_view.specs.PaperSeen.{accepted_seen, facts_reads, page_listed, page_reads};
+ghost use Rattle.cr_view.specs.PaperSeen.{page_seen, paper_seen_at, TakesFew};
+ghost use Rattle.cr_view.specs.Replies.{page_due, versions_at};
 
+use crate::facts::PaperFacts;
 use crate::lists::push_some;
 use crate::live::Live;
-use crate::page::{
-    conflict_told, gets_conflicts, gets_declared, gets_tags, gets_versions, last_alone, shared,
-};
-use cr_anonymity::shows_author;
+use crate::page::{gets_tags, gets_versions, last_alone, shared};
+use crate::page_lists::PageLists;
 use cr_base::{
-    AccountLines, Conference, Names, Page, PaperNo, Query, Reply, Rule, Standing, TagList, Tie,
+    AccountLines, Conference, Names, Page, PaperNo, Query, Reply, Rule, Steps, TagList, Tie,
     UserNo, Versions,
 };
 use std::alloc::{AllocError, Global};
+use std::sync::ledger::Ledger;
 
 /// The caller of a query that is a user's.
 fn maker(caller: &Option<UserNo>) -> UserNo
@@ -33,6 +39,13 @@ fn maker(caller: &Option<UserNo>) -> UserNo
         Some(user) => *user,
         None => unreachable!(),
     }
+}
+
+/// Whether the caller may see the page of a paper of which this is asked.
+fn may_see_page(facts: &PaperFacts<'_>) -> bool
+    ensures { result ≡ (is_member facts.now.by.role || facts.now.by.author || accepted_seen facts.now) }
+{
+    facts.by().role.is_member() || facts.by().author || facts.is_accepted()
 }
 
 /// Who may ask.
@@ -50,7 +63,7 @@ impl Live {
         match query {
             Query::Me | Query::Accounts | Query::Phase | Query::AcceptedPapers => Ok(()),
             Query::Search { .. } => Ok(()),
-            Query::Page { paper } => self.reader(user, paper).and(Ok(())),
+            Query::Page { paper } => self.may_see(user, paper),
             Query::Content { paper } => self.may_read(user, paper, None),
             Query::Version { paper, version } => self.may_read(user, paper, Some(*version)),
             Query::Reviews { paper } => self.reviews_reader(user, paper).and(Ok(())),
@@ -59,18 +72,40 @@ impl Live {
         }
     }
 
-    /// How she stands to the paper whose page she may see, or the first broken rule.
-    fn reader(&self, user: &Option<UserNo>, paper: &Option<PaperNo>) -> Result<Standing, Rule>
-        ensures { result ≡ reader_at queries.Page self.now.tables user.now paper.now }
+    /// What is asked of the paper whose page she may see, or the first broken rule.
+    fn page_facts<L: Ledger>(
+        &self,
+        user: &Option<UserNo>,
+        paper: &Option<PaperNo>,
+        steps: &mut Steps<L>,
+    ) -> Result<PaperFacts<'_>, Rule>
+        ensures facts { result ≡ judged (query_checks (facts_of_tables self.now.tables user.now)
+            (shown_in_tables self.now.tables) (queries.Page paper.now))
+            (paper_seen_at self.now.tables user.now (unwrap_or paper.now 0)) }
+        ensures steps { TakesAtMost (facts_reads self.now.tables (unwrap_or paper.now 0)) steps.old steps.new }
     {
-        if !self.has_paper(paper) {
+        let Some(paper) = paper else {
+            return Err(Rule::NoPaper);
+        };
+        if !self.papers.has(*paper) {
             return Err(Rule::NoPaper);
         }
-        let by = self.standing(user, paper);
-        if !(by.role.is_member() || by.author || self.has_accepted(paper)) {
+        let facts = self.facts(user, *paper, steps);
+        if !may_see_page(&facts) {
             return Err(Rule::NotMember);
         }
-        Ok(by)
+        Ok(facts)
+    }
+
+    /// Whether she may see the paper's page, or the first broken rule.
+    fn may_see(&self, user: &Option<UserNo>, paper: &Option<PaperNo>) -> Result<(), Rule>
+        ensures { result ≡ judged (query_checks (facts_of_tables self.now.tables user.now)
+            (shown_in_tables self.now.tables) (queries.Page paper.now)) tt }
+    {
+        match self.page_facts(user, paper, &mut Steps::uncounted()) {
+            Ok(_) => Ok(()),
+            Err(rule) => Err(rule),
+        }
     }
 
     /// Whether there is such a paper.
@@ -131,10 +166,7 @@ impl Live {
             Query::Accounts => Ok(Reply::Accounts(self.accounts(alloc)?)),
             Query::Phase => Ok(Reply::Conference(self.conference())),
             Query::AcceptedPapers => Ok(Reply::AcceptedPapers(self.accepted_papers(alloc)?)),
-            Query::Page { paper } => match self.show(alloc, caller, paper) {
-                Ok(page) => Ok(Reply::Page(page)),
-                Err(error) => Err(error),
-            },
+            Query::Page { paper } => self.page_reply(alloc, caller, paper),
             Query::Content { paper } => self.content_reply(caller, paper, None),
             Query::Version { paper, version } => self.content_reply(caller, paper, Some(*version)),
             Query::Reviews { paper } => self.reviews_reply(alloc, caller, paper),
@@ -156,132 +188,164 @@ impl Live {
         ensures { result ≡ conference_at self.now.tables }
     {
         Conference {
-            mode: self.stage.mode(),
+            mode: self.stage.mode(&mut Steps::uncounted()),
             papers: self.papers.count(),
-            phase: self.stage.phase(),
+            phase: self.stage.phase(&mut Steps::uncounted()),
         }
     }
 
-    /// The page of a paper as a user, or nobody, may see it, or the first broken rule, as `may` tells
-    /// it; an error for lack of memory only where no rule is broken. Shares the texts that are told, and
-    /// no others.
-    pub fn show(
+    /// The page of a paper as a user, or nobody, may see it, or the first broken rule, as `may` tells it; an error for
+    /// lack of memory only where no rule is broken. Shares the texts that are told, and no others. The paper is found
+    /// by number. The steps are at most twice as many as there are entries on it, and 16, whatever else is kept; of
+    /// what is told by name a look-up each.
+    pub fn show<L: Ledger>(
         &self,
         alloc: Global,
         user: &Option<UserNo>,
         paper: &Option<PaperNo>,
+        steps: &mut Steps<L>,
     ) -> Result<Page, AnswerError>
-        ensures { ShowsAsDue result (page_due self.now.tables user.now paper.now) }
+        ensures page { ShowsAsDue result (page_due self.now.tables user.now paper.now) }
+        ensures steps { TakesFew self.now.tables (unwrap_or paper.now 0) steps.old steps.new }
     {
-        let by = match self.reader(user, paper) {
-            Ok(by) => by,
+        let facts = match self.page_facts(user, paper, steps) {
+            Ok(facts) => facts,
             Err(rule) => return Err(AnswerError::Rule(rule)),
         };
-        match paper {
-            Some(paper) => Ok(self.page(alloc, user, &by, *paper)?),
-            None => unreachable!(),
-        }
+        Ok(self.page(alloc, user, &facts, steps)?)
     }
 
-    /// What a user, or nobody, who stands so to a paper is told of it; members of the committee are users.
-    fn page(
+    /// The same as a reply, whose steps nobody counts.
+    fn page_reply(
         &self,
         alloc: Global,
         user: &Option<UserNo>,
-        by: &Standing,
-        paper: PaperNo,
-    ) -> Result<Page, AllocError>
-        requires { IsTrue (is_member by.now.role) → IsSome user.now }
-        ensures { IfOk result (λ page. page ≡ page_at self.now.tables user.now by.now paper) }
+        paper: &Option<PaperNo>,
+    ) -> Result<Reply, AnswerError>
+        ensures { AnswersAsDue result (answer_by_role self.now.tables user.now (queries.Page paper.now)) }
     {
-        let accepted = self.is_accepted(paper);
-        let title = shared(self.title_told(by, accepted, paper))?;
-        let abstract_ = shared(self.abstract_told(by, accepted, paper))?;
-        let bids = self.bids_told(alloc, by, paper)?;
-        let reviewers = self.reviewers_told(alloc, by, paper)?;
-        let authors = self.names_where(
-            alloc,
-            shows_author(by, accepted),
-            self.ties.authors(paper),
-        )?;
-        let conflicts = self.names_where(alloc, gets_conflicts(by), self.ties.conflicts(paper))?;
-        let declared = self.names_where(alloc, gets_declared(by), self.ties.declared(paper))?;
-        let versions = self.versions_told(alloc, by, accepted, paper)?;
-        let tags = self.tags_told(alloc, user, by, paper)?;
+        match self.show(alloc, user, paper, &mut Steps::uncounted()) {
+            Ok(page) => Ok(Reply::Page(page)),
+            Err(error) => Err(error),
+        }
+    }
+
+    /// What a user, or nobody, is told of a paper of which this is asked; members of the committee are users.
+    fn page<L: Ledger>(
+        &self,
+        alloc: Global,
+        user: &Option<UserNo>,
+        facts: &PaperFacts<'_>,
+        steps: &mut Steps<L>,
+    ) -> Result<Page, AllocError>
+        requires { IsTrue (is_member facts.now.by.role) → IsSome user.now }
+        ensures page { IfOk result (λ page. page ≡ page_seen self.now.tables user.now facts.now) }
+        ensures steps { TakesAtMost (page_reads self.now.tables facts.now.by facts.now.paper) steps.old steps.new }
+    {
+        let lists = self.page_lists(user, facts, steps);
+        let versions = self.versions_told(alloc, facts, steps)?;
+        let tags = self.tags_told(alloc, user, facts, steps)?;
+        self.page_of(alloc, facts, &lists, versions, tags)
+    }
+
+    /// The page of a paper of which this is asked, with these lists of it.
+    fn page_of(
+        &self,
+        alloc: Global,
+        facts: &PaperFacts<'_>,
+        lists: &PageLists<'_>,
+        versions: Option<Versions>,
+        tags: Option<TagList>,
+    ) -> Result<Page, AllocError>
+        ensures { IfOk result (λ page. page ≡ page_listed self.now.tables facts.now lists.now versions tags) }
+    {
+        let authors = self.names_told(alloc, &lists.authors)?;
+        let conflicts = self.names_told(alloc, &lists.conflicts)?;
+        let declared = self.names_told(alloc, &lists.declared)?;
+        let bids = self.bids_told(alloc, &lists.bids)?;
+        let reviewers = self.reviewers_told(alloc, facts.by(), &lists.reviewers)?;
+        let title = shared(facts.title_told())?;
+        let abstract_ = shared(facts.abstract_told())?;
         Ok(Page {
-            paper,
+            paper: facts.paper(),
             abstract_,
             authors,
-            bid: self.bid_told(user, by, paper),
+            bid: lists.bid,
             bids,
-            conflict: conflict_told(by),
+            conflict: facts.conflict_told(),
             conflicts,
-            decision: self.decision_told(by, accepted, paper),
+            decision: facts.decision_told(),
             declared,
-            label: self.label_told(user, by, paper),
+            label: facts.label_told(),
             reviewers,
             tags,
             title,
             versions,
-            withdrawn: self.withdrawal_told(by, paper),
+            withdrawn: facts.withdrawal_told(),
         })
     }
 
-    /// The versions that she is told who stands so to the paper: all to authors, the last alone to others.
-    fn versions_told(
+    /// The versions that she is told: all to authors, a step for each, the last alone to others.
+    fn versions_told<L: Ledger>(
         &self,
         alloc: Global,
-        by: &Standing,
-        accepted: bool,
-        paper: PaperNo,
+        facts: &PaperFacts<'_>,
+        steps: &mut Steps<L>,
     ) -> Result<Option<Versions>, AllocError>
-        ensures { IfOk result (λ versions. versions
-            ≡ where_told (gets_versions by.now accepted) (Some (versions_at self.now.tables by.now.author paper))) }
+        ensures versions { IfOk result (λ versions. versions
+            ≡ where_told (gets_versions facts.now.by (accepted_seen facts.now))
+            (Some (versions_at self.now.tables facts.now.by.author facts.now.paper))) }
+        ensures steps { TakesAtMost (length (uploads_at self.now.tables.papers facts.now.paper) + 1)
+            steps.old steps.new }
     {
-        if !gets_versions(by, accepted) {
+        if !gets_versions(facts.by(), facts.is_accepted()) {
             return Ok(None);
         }
-        if by.author {
-            return Ok(Some(self.papers.versions(alloc, paper)?));
+        if facts.by().author {
+            return Ok(Some(self.papers.versions(alloc, facts.paper(), steps)?));
         }
-        Ok(Some(last_alone(alloc, self.papers.last_version(paper))?))
+        let last = self.papers.last_version(facts.paper(), steps);
+        Ok(Some(last_alone(alloc, last)?))
     }
 
-    /// The tags that are on and for her, where she is told them.
-    fn tags_told(
+    /// The tags that are on and for her, where she is told them. A step for each of the paper's tags.
+    fn tags_told<L: Ledger>(
         &self,
         alloc: Global,
         user: &Option<UserNo>,
-        by: &Standing,
-        paper: PaperNo,
+        facts: &PaperFacts<'_>,
+        steps: &mut Steps<L>,
     ) -> Result<Option<TagList>, AllocError>
-        requires { IsTrue (is_member by.now.role) → IsSome user.now }
-        ensures { IfOk result (λ tags. tags ≡ where_told (gets_tags by.now)
-            (Some (tags_in self.now.tables.tags user.now (is_chair by.now.role) paper))) }
+        requires { IsTrue (is_member facts.now.by.role) → IsSome user.now }
+        ensures tags { IfOk result (λ tags. tags ≡ where_told (gets_tags facts.now.by)
+            (Some (tags_in self.now.tables.tags user.now (is_chair facts.now.by.role) facts.now.paper))) }
+        ensures steps { TakesAtMost (length (filed_of facts.now.paper self.now.tables.tags)) steps.old steps.new }
     {
-        if !gets_tags(by) {
+        if !gets_tags(facts.by()) {
             return Ok(None);
         }
-        let chair = by.role.is_chair();
-        Ok(Some(self.tags.tags_for(alloc, maker(user), paper, chair)?))
+        let chair = facts.by().role.is_chair();
+        Ok(Some(
+            self.tags
+                .tags_for(alloc, maker(user), facts.paper(), chair, steps)?,
+        ))
     }
 }
 
 /// The names of those who are tied to a paper.
 impl Live {
     /// The names of the users of these ties, where they are told.
-    fn names_where(
+    fn names_told(
         &self,
         alloc: Global,
-        told: bool,
-        ties: &[Tie<()>],
+        ties: &Option<&[Tie<()>]>,
     ) -> Result<Option<Names>, AllocError>
-        ensures { IfOk result (λ names. names ≡ where_told told (Some (names_of self.now.tables ties.now))) }
+        ensures { IfOk result (λ names. names ≡ option_map (names_of self.now.tables) (option_copied ties.now)) }
     {
-        if !told {
-            return Ok(None);
+        match ties {
+            Some(ties) => Ok(Some(self.names(alloc, ties)?)),
+            None => Ok(None),
         }
-        Ok(Some(self.names(alloc, ties)?))
     }
 
     /// The names of the users of these ties, without those whom nobody knows.

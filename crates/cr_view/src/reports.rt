@@ -4,19 +4,18 @@ ghost use Rattle.std.specs.Option.{option_copied, option_map};
 ghost use Rattle.cr_base.specs.Checks.{judged};
 ghost use Rattle.cr_base.specs.Lists.{listed, total};
 ghost use Rattle.cr_base.specs.Pairs.{ties_of};
-ghost use Rattle.cr_base.specs.Papers.{is_withdrawn_at};
 ghost use Rattle.cr_base.specs.Reports.{chairs_report, last_scores, letter_checks};
-ghost use Rattle.cr_base.specs.Reports.{members_report, report_checks, title_by};
+ghost use Rattle.cr_base.specs.Reports.{members_report, report_checks};
 ghost use Rattle.cr_base.specs.Reviews.{is_written_in, last_form_in, written_told};
-ghost use Rattle.cr_base.specs.Sources.{decision_by, facts_of_tables, shown_in_tables, standing_at};
+ghost use Rattle.cr_base.specs.Sources.{facts_of_tables, shown_in_tables};
 ghost use Rattle.cr_base.specs.declared.pairs.Order.TheVariants.{ByPaper};
 ghost use Rattle.cr_reviews.specs.Labels.{has_label};
 ghost use Rattle.cr_view.specs.Reports.{last_discussed, score_sum, score_under};
 
 use crate::live::Live;
 use cr_base::{
-    Decision, Grade, MOST_LABELS, Ordinal, PaperNo, Phase, Report, Rule, Seat, Standing, Tie,
-    UserNo, WrittenForm,
+    Grade, MOST_LABELS, Ordinal, PaperNo, Phase, Report, Rule, Seat, Standing, Steps, Tie, UserNo,
+    WrittenForm,
 };
 use cr_reviews::Labels;
 
@@ -82,68 +81,30 @@ impl Live {
     }
 }
 
-/// What a paper is.
-impl Live {
-    /// The bytes of its last title, and none where there is no such paper. One read by number.
-    pub fn title(&self, paper: PaperNo) -> &[u8]
-        ensures { result.now ≡ title_by (shown_in_tables self.now.tables) paper }
-    {
-        match self.papers.last_title(paper) {
-            Some(title) => title.as_str().as_bytes(),
-            None => &[],
-        }
-    }
-
-    /// Whether it is withdrawn. One read by number.
-    pub fn is_withdrawn(&self, paper: PaperNo) -> bool
-        ensures { result ≡ is_withdrawn_at self.now.tables.papers paper }
-    {
-        self.papers.is_withdrawn(paper)
-    }
-
-    /// Whether the user is in conflict with it. Two binary searches at most.
-    pub fn is_in_conflict(&self, user: UserNo, paper: PaperNo) -> bool
-        ensures { result ≡ (standing_at self.now.tables (Some user) (Some paper)).conflicted }
-    {
-        self.ties.is_conflicted(user, paper, &[])
-    }
-
-    /// What was decided of it last: to accept it, where it is accepted. Three binary searches
-    /// at most, and a read by number.
-    pub fn decision(&self, paper: PaperNo) -> Option<Decision>
-        ensures { result ≡ decision_by (facts_of_tables self.now.tables None) (shown_in_tables self.now.tables) paper }
-    {
-        if self.is_accepted(paper) {
-            return Some(Decision::Accept);
-        }
-        self.decisions.last(paper)
-    }
-}
-
 /// Who reviews it, and whether she has written.
 impl Live {
     /// The seats of all who were ever assigned to it, at most 26, those that somebody has left
-    /// among them. Two binary searches.
+    /// among them. Found by number.
     pub fn seats(&self, paper: PaperNo) -> &[Tie<Seat>]
         ensures ties { result.now ≡ ties_of ByPaper paper self.now.tables.seats }
         ensures few { length result.now ≤ 26 }
     {
-        self.seats.seats(paper)
+        self.seats.seats(paper, &mut Steps::uncounted())
     }
 
-    /// Whether there is a form under its label of this ordinal. Two binary searches, and a walk
+    /// Whether there is a form under its label of this ordinal. Found by number, and a walk
     /// over its forms up to the first.
     pub fn is_written(&self, paper: PaperNo, label: Ordinal) -> bool
         ensures { result ≡ is_written_in self.now.tables.reviews paper label }
     {
-        self.reviews.has_form(paper, label)
+        self.reviews.has_form(paper, label, &mut Steps::uncounted())
     }
 
-    /// The last form under the label. Two binary searches, and a walk over its forms back to it.
+    /// The last form under the label. Found by number, and a walk over its forms back to it.
     pub fn last_form(&self, paper: PaperNo, label: Ordinal) -> Option<&WrittenForm>
         ensures { option_copied result ≡ last_form_in self.now.tables.reviews paper label }
     {
-        self.reviews.last(paper, label)
+        self.reviews.last(paper, label, &mut Steps::uncounted())
     }
 }
 
@@ -177,14 +138,14 @@ impl ScoreSum {
 
 /// Its scores.
 impl Live {
-    /// The scores of the last forms under its labels that the committee discusses, counted and summed. Two binary
-    /// searches and a walk over its forms, and for each label under which there is one the same twice.
+    /// The scores of the last forms under its labels that the committee discusses, counted and summed. A walk
+    /// over its forms, and for each label under which there is one two more at most.
     pub fn scores(&self, paper: PaperNo) -> ScoreSum
         ensures value { result ≡ score_sum (last_scores (shown_in_tables self.now.tables) paper) }
         ensures count { result.count ≤ 26 }
         ensures sum { result.sum ≤ 5 * result.count }
     {
-        let written = self.reviews.labels(paper);
+        let written = self.reviews.labels(paper, &mut Steps::uncounted());
         let mut scores = ScoreSum { count: 0, sum: 0 };
         for before in 0..MOST_LABELS {
             scores = scores.with(self.score_under(&written, paper, Ordinal::new(before + 1)));
@@ -208,9 +169,14 @@ impl Live {
     fn last_discussed(&self, paper: PaperNo, label: Ordinal) -> Option<&WrittenForm>
         ensures { option_map written_told (option_copied result) ≡ last_discussed self.now.tables paper label }
     {
-        match self.reviews.last_since(paper, label, Phase::Discussion) {
+        match self
+            .reviews
+            .last_since(paper, label, Phase::Discussion, &mut Steps::uncounted())
+        {
             Some(form) => Some(form),
-            None => self.reviews.last_before(paper, label, Phase::Discussion),
+            None => self
+                .reviews
+                .last_before(paper, label, Phase::Discussion, &mut Steps::uncounted()),
         }
     }
 }

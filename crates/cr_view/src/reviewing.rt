@@ -1,91 +1,54 @@
 //! What a page tells of bids on a paper and of its reviewers.
-ghost use Rattle.std.specs.Prelude.{◌≡◌, IfOk, Some, map, unwrap_or};
+ghost use Rattle.std.specs.Prelude.{◌≡◌, IfOk, map};
+ghost use Rattle.std.specs.Option.{option_copied, option_map};
 ghost use Rattle.cr_base.specs.Accounts.{lines_of};
 ghost use Rattle.cr_base.specs.Answering.{bidder_told};
-ghost use Rattle.cr_base.specs.Page.{gets_bid, gets_bids, gets_label, gets_reviewers, where_told};
-ghost use Rattle.cr_base.specs.Reviews.{is_written_in};
-ghost use Rattle.cr_base.specs.Seats.{ordinal_in, reviewers_in};
-ghost use Rattle.cr_base.specs.Ties.{bid_in, bids_in};
-ghost use Rattle.cr_base.specs.Words.{no_bid};
+ghost use Rattle.cr_base.specs.Seats.{ordinal_in};
 ghost use Rattle.cr_reviews.specs.Labels.{has_label};
+ghost use Rattle.cr_view.specs.PaperSeen.{reviewers_read};
 ghost use Rattle.cr_view.specs.Replies.{bid_of, bidders_of, reviewer_of, reviewers_of, holder_name, seated};
 
 use crate::lists::push_some;
 use crate::live::Live;
-use crate::page::{done_told, gets_bid, gets_bids, gets_label, gets_reviewers, kind_told};
+use crate::page::{done_told, kind_told};
+use crate::page_lists::SeatsRead;
 use cr_anonymity::shows_reviewer;
 use cr_base::{
-    Bid, Bidder, Bids, Ordinal, PaperNo, Reviewer, Reviewers, Seat, Short, Standing, Tie, UserNo,
+    Bid, Bidder, Bids, Ordinal, PaperNo, Reviewer, Reviewers, Seat, Short, Standing, Steps, Tie,
+    UserNo,
 };
 use cr_reviews::Labels;
 use std::alloc::{AllocError, Global};
 
-/// Her own bid and her own label.
+/// Her own label.
 impl Live {
-    /// The ordinal of the label under which the user reviews the paper; none for nobody.
+    /// The ordinal of the label under which the user reviews the paper; none for nobody. A walk over the paper's
+    /// seats, at most 26.
     pub(crate) fn ordinal_of(&self, user: &Option<UserNo>, paper: PaperNo) -> Option<Ordinal>
         ensures { result ≡ ordinal_in self.now.tables.seats user.now paper }
     {
         match user {
-            Some(user) => self.seats.ordinal_of(*user, paper),
+            Some(user) => self.seats.ordinal_of(*user, paper, &mut Steps::uncounted()),
             None => None,
         }
-    }
-
-    /// Her last bid, and 0 where she has told none, where she is told it.
-    pub(crate) fn bid_told(
-        &self,
-        user: &Option<UserNo>,
-        by: &Standing,
-        paper: PaperNo,
-    ) -> Option<Bid>
-        ensures { result ≡ where_told (gets_bid by.now)
-            (Some (unwrap_or (bid_in self.now.tables.ties user.now paper) no_bid)) }
-    {
-        if !gets_bid(by) {
-            return None;
-        }
-        let Some(user) = user else {
-            return Some(Bid::zero());
-        };
-        match self.ties.bid_of(*user, paper) {
-            Some(bid) => Some(bid),
-            None => Some(Bid::zero()),
-        }
-    }
-
-    /// The ordinal of her label, where she is told it. One binary search.
-    pub fn label_told(
-        &self,
-        user: &Option<UserNo>,
-        by: &Standing,
-        paper: PaperNo,
-    ) -> Option<Ordinal>
-        ensures { result ≡ where_told (gets_label by.now) (ordinal_in self.now.tables.seats user.now paper) }
-    {
-        if !gets_label(by) {
-            return None;
-        }
-        self.ordinal_of(user, paper)
     }
 }
 
 /// All bids.
 impl Live {
-    /// The last bids on the paper, where they are told.
+    /// These bids, where they are told.
     pub(crate) fn bids_told(
         &self,
         alloc: Global,
-        by: &Standing,
-        paper: PaperNo,
+        ties: &Option<&[Tie<Bid>]>,
     ) -> Result<Option<Bids>, AllocError>
         ensures { IfOk result (λ bids. bids
-            ≡ where_told (gets_bids by.now) (Some (bidders_of self.now.tables (bids_in self.now.tables.ties paper)))) }
+            ≡ option_map (λ ties. bidders_of self.now.tables (map bid_of ties)) (option_copied ties.now)) }
     {
-        if !gets_bids(by) {
-            return Ok(None);
+        match ties {
+            Some(ties) => Ok(Some(self.bidders(alloc, ties)?)),
+            None => Ok(None),
         }
-        Ok(Some(self.bidders(alloc, self.ties.bids(paper))?))
     }
 
     /// These bids, without those of users whom nobody knows.
@@ -115,23 +78,21 @@ impl Live {
 
 /// Who reviews.
 impl Live {
-    /// Who reviews the paper, where that is told, each as she is told of who stands so to it.
+    /// Those of these seats that nobody has left, where they are told, each as she is told of who stands so to the
+    /// paper.
     pub(crate) fn reviewers_told(
         &self,
         alloc: Global,
         by: &Standing,
-        paper: PaperNo,
+        read: &Option<SeatsRead<'_>>,
     ) -> Result<Option<Reviewers>, AllocError>
         ensures { IfOk result (λ reviewers. reviewers
-            ≡ where_told (gets_reviewers by.now)
-            (Some (reviewers_of self.now.tables by.now (is_written_in self.now.tables.reviews paper)
-            (reviewers_in self.now.tables.seats paper)))) }
+            ≡ option_map (reviewers_read self.now.tables by.now) read.now) }
     {
-        if !gets_reviewers(by) {
-            return Ok(None);
+        match read {
+            Some(read) => Ok(Some(self.reviewers(alloc, by, read.seats, &read.written)?)),
+            None => Ok(None),
         }
-        let written = self.reviews.labels(paper);
-        Ok(Some(self.reviewers(alloc, by, self.seats.seats(paper), &written)?))
     }
 
     /// Those of these seats that nobody has left; a form is written under each of these labels.

@@ -18,7 +18,7 @@ use crate::queries::AnswerError;
 use cr_anonymity::shows_reviewer;
 use cr_base::{
     MOST_LABELS, Ordinal, PaperNo, Phase, Reply, ReviewLine, ReviewLines, Rule, Seat, Short,
-    Standing, Tie, UserNo, WrittenForm,
+    Standing, Steps, Tie, UserNo, WrittenForm,
 };
 use std::alloc::{AllocError, Global};
 
@@ -225,7 +225,7 @@ impl Live {
     ) -> Result<ReviewLines, AllocError>
         ensures { IfOk result (λ lines. lines ≡ by_labels (label_reviews self.now.tables by.now paper) most_labels) }
     {
-        let written = self.reviews.labels(paper);
+        let written = self.reviews.labels(paper, &mut Steps::uncounted());
         let mut lines = Vec::new(alloc);
         for before in 0..MOST_LABELS {
             let label = Ordinal::new(before + 1);
@@ -253,19 +253,21 @@ impl Live {
             user: self.label_name(by, paper, label),
         };
         if by.author {
-            return push_form(lines, &heading, self.reviews.last(paper, label));
+            return push_form(
+                lines,
+                &heading,
+                self.reviews.last(paper, label, &mut Steps::uncounted()),
+            );
         }
-        let before = self.reviews.last_before(paper, label, Phase::Discussion);
+        let before = self
+            .reviews
+            .last_before(paper, label, Phase::Discussion, &mut Steps::uncounted());
         push_form(lines, &heading, before)?;
-        push_forms(
-            lines,
-            &heading,
-            self.reviews.forms(paper),
-            Phase::Discussion,
-        )
+        let forms = self.reviews.forms(paper, &mut Steps::uncounted());
+        push_forms(lines, &heading, forms, Phase::Discussion)
     }
 
-    /// The name of whoever was assigned under the label, where it is told. Two binary searches, a walk over the
+    /// The name of whoever was assigned under the label, where it is told. Found by number: a walk over the
     /// paper's seats and one read by number, where it is.
     pub fn label_name(&self, by: &Standing, paper: PaperNo, label: Ordinal) -> Option<Short>
         ensures { result ≡ label_name self.now.tables (shows_reviewer by.now) paper label }
@@ -273,7 +275,7 @@ impl Live {
         if !shows_reviewer(by) {
             return None;
         }
-        let user = user_under(self.seats.seats(paper), label)?;
+        let user = user_under(self.seats.seats(paper, &mut Steps::uncounted()), label)?;
         self.accounts.name_of(user)
     }
 
@@ -299,7 +301,7 @@ impl Live {
         push_forms(
             &mut lines,
             &heading,
-            self.reviews.forms(paper),
+            self.reviews.forms(paper, &mut Steps::uncounted()),
             Phase::Setup,
         )?;
         Ok(ReviewLines::from_vec(lines))

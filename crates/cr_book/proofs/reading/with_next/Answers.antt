@@ -4,23 +4,22 @@ use Rattle.cr_base.specs.declared.row.Row.{Row}
 use Rattle.cr_base.specs.History.{History}
 use Rattle.cr_base.specs.Rows.{rows_of}
 use Rattle.cr_book.specs.Reading.{IsGoing, IsReading}
-use Rattle.cr_book.proofs.OpeningLaws.{appended}
 use Rattle.cr_book.proofs.reading.with_next.Goals as goal
 
 pub invariant_of-result : goal.invariant_of-result
 invariant_of-result c =
-    subst (λ (rows : List Row). IsReading c.args.log.items c.args.live.tables rows c.push_reserved-2.new.self.items)
-    (sym (appended c.args.pending.items c.reserve.new.self.items c.push_reserved.new.self.items c.args.row c.push_reserved.ensures.items c.reserve.ensures.items))
+    subst (λ (rows : List Row). IsReading c.args.log.items c.args.live.tables rows c.add_both.new.entries.items)
+    (sym c.in-Ok.ensures.rows)
     (subst (λ (begun : History). IsReading c.args.log.items c.args.live.tables (c.args.pending.items ++ c.args.row ∷ []) begun)
-    (sym (appended c.args.begun.items c.reserve-2.new.self.items c.push_reserved-2.new.self.items c.args.next c.push_reserved-2.ensures.items c.reserve-2.ensures.items))
+    (sym c.in-Ok.ensures.entries)
     (c.requires.more c.if-more.true))
 
 pub with_group-requires-clause-going : goal.with_group-requires-clause-going
 with_group-requires-clause-going c =
-    subst (λ (rows : List Row). IsGoing c.args.log.items c.args.live.tables rows c.push_reserved-2.new.self.items)
-    (sym (appended c.args.pending.items c.reserve.new.self.items c.push_reserved.new.self.items c.args.row c.push_reserved.ensures.items c.reserve.ensures.items))
+    subst (λ (rows : List Row). IsGoing c.args.log.items c.args.live.tables rows c.add_both.new.entries.items)
+    (sym c.in-Ok.ensures.rows)
     (subst (λ (begun : History). IsGoing c.args.log.items c.args.live.tables (c.args.pending.items ++ c.args.row ∷ []) begun)
-    (sym (appended c.args.begun.items c.reserve-2.new.self.items c.push_reserved-2.new.self.items c.args.next c.push_reserved-2.ensures.items c.reserve-2.ensures.items))
+    (sym c.in-Ok.ensures.entries)
     (c.requires.last c.if-more.false))
 
 pub returns-clause-ok : goal.returns-clause-ok
@@ -29,6 +28,6 @@ returns-clause-ok c =
     (λ after is.
     is
     ∙ ap (λ (rows : List Row). rows_of c.args.log.items ++ rows)
-    (appended c.args.pending.items c.reserve.new.self.items c.push_reserved.new.self.items c.args.row c.push_reserved.ensures.items c.reserve.ensures.items)
+    c.in-Ok.ensures.rows
     ∙ sym (append_assoc (rows_of c.args.log.items) c.args.pending.items (c.args.row ∷ [])))
     c.with_group.ensures.ok

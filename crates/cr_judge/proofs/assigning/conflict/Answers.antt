@@ -5,7 +5,7 @@ use Rattle.cr_base.specs.declared.entry.Stamp.{Stamp}
 use Rattle.cr_base.specs.declared.reply.Rule.TheVariants as rules
 use Rattle.cr_base.specs.declared.target.Target.{Target}
 use Rattle.cr_base.specs.declared.words.Role.{Role}
-use Rattle.cr_base.specs.Checks.{NamedPaper, ◌breaks◌, conflict_checks}
+use Rattle.cr_base.specs.Checks.{NamedPaper, conflict_checks}
 use Rattle.cr_base.specs.Drawn.{conflict_drawn}
 use Rattle.cr_base.specs.Tables.{tables_from}
 use Rattle.cr_base.specs.Ties.{ties_from}

@@ -1,4 +1,4 @@
-use Rattle.std.proofs.Common.{ℕ, Bool, false, Option, Some, Ok, Err, ◌∙◌, ◌+◌, ap, sym, refl}
+use Rattle.std.proofs.Common.{ℕ, Bool, false, Option, Some, Ok, Err, ◌∙◌, ap, sym, refl}
 use Rattle.std.specs.Prelude.{is_some, unwrap_or}
 use Rattle.std.proofs.lemmas.Bool.{true≢false}
 use Rattle.cr_base.specs.declared.entry.Stamp.{Stamp}

@@ -1,4 +1,4 @@
-use Rattle.std.proofs.Common.{ℕ, Bool, Option, Some, Ok, Err, ◌∙◌, ◌+◌, ap, length, sym, refl}
+use Rattle.std.proofs.Common.{ℕ, Bool, Option, Some, Ok, Err, ◌∙◌, ap, length, sym, refl}
 use Rattle.std.specs.Prelude.{unwrap_or}
 use Rattle.cr_base.specs.declared.entry.Entry.TheVariants as entries
 use Rattle.cr_base.specs.declared.entry.Stamp.{Stamp}

@@ -10,4 +10,4 @@ returns-in_default c =
 pub returns-in-Some-paper : goal.returns-in-Some-paper
 returns-in-Some-paper c =
     conflicted-behind c.args.live.now.tables c.args.earlier.now c.requires.rows c.args.user.now c.args.paper.now
-    c.tie_table.result.now.ties c.tie_table.ensures c.in-Some.user c.in-Some-paper.paper c.is_conflicted.result c.in-Some.is c.in-Some-paper.is c.is_conflicted.ensures
+    c.tie_table.result.now.ties c.tie_table.ensures c.in-Some.user c.in-Some-paper.paper c.is_conflicted.result c.in-Some.is c.in-Some-paper.is c.is_conflicted.ensures.value

@@ -6,48 +6,48 @@ use Rattle.cr_search_eval.proofs.EvaluateLaws.{and-cut, and-false, and-true, cut
 use Rattle.cr_search_eval.proofs.evaluate.+steps_hold.Goals as goal
 
 pub overflow_sub-steps : goal.overflow_sub-steps
-overflow_sub-steps t c = let some = some-step c.args.steps.now c.requires in omega (arith, some)
+overflow_sub-steps t c = let some = some-step c.args.steps.now c.requires.spelled in omega (arith, some)
 
 pub bounds-steps-steps : goal.bounds-steps-steps
-bounds-steps-steps t c = let some = some-step c.args.steps.now c.requires in omega (arith, some)
+bounds-steps-steps t c = let some = some-step c.args.steps.now c.requires.spelled in omega (arith, some)
 
 pub slice_bounds-steps_hold-count : goal.slice_bounds-steps_hold-count
-slice_bounds-steps_hold-count t c = let some = some-step c.args.steps.now c.requires in omega (arith, some)
+slice_bounds-steps_hold-count t c = let some = some-step c.args.steps.now c.requires.spelled in omega (arith, some)
 
 pub steps_hold-requires : goal.steps_hold-requires
 steps_hold-requires t c =
     let steps = c.args.steps.now in
-    let some = some-step steps c.requires in
-    let cut = cut-last steps (take (length steps - 1) steps) step.Not c.index-steps-steps.result c.requires.0 c.requires.1 refl (sym c.in-Not.is ∙ c.index-steps-steps.is) in
-    (search rules, not-spelled (take (length steps - 1) steps) c.requires.0 cut.0 cut.1)
+    let some = some-step steps c.requires.spelled in
+    let cut = cut-last steps (take (length steps - 1) steps) step.Not c.index-steps-steps.result c.requires.spelled.0 c.requires.spelled.1 refl (sym c.in-Not.is ∙ c.index-steps-steps.is) in
+    (search rules, (c.requires.asked, not-spelled (take (length steps - 1) steps) c.requires.spelled.0 cut.0 cut.1))
 
 pub operands-requires : goal.operands-requires
 operands-requires t c =
-    (and-cut c.args.steps.now c.in-And.second c.index-steps-steps.result c.index-steps-steps.result c.requires.0 c.requires.1 c.index-steps-steps.is c.in-And.is).3.within
+    (and-cut c.args.steps.now c.in-And.second c.index-steps-steps.result c.index-steps-steps.result c.requires.spelled.0 c.requires.spelled.1 c.index-steps-steps.is c.in-And.is).3.within
 
 pub steps_hold-requires-in-And : goal.steps_hold-requires-in-And
 steps_hold-requires-in-And t c =
-    let cut = and-cut c.args.steps.now c.in-And.second c.index-steps-steps.result c.index-steps-steps.result c.requires.0 c.requires.1 c.index-steps-steps.is c.in-And.is in
-    (search rules, (cut.0, c.operands.ensures.first ∙ cut.3.first))
+    let cut = and-cut c.args.steps.now c.in-And.second c.index-steps-steps.result c.index-steps-steps.result c.requires.spelled.0 c.requires.spelled.1 c.index-steps-steps.is c.in-And.is in
+    (search rules, (c.requires.asked, (cut.0, c.operands.ensures.first ∙ cut.3.first)))
 
 pub steps_hold-requires-then-steps_hold : goal.steps_hold-requires-then-steps_hold
 steps_hold-requires-then-steps_hold t c =
-    let cut = and-cut c.args.steps.now c.in-And.second c.index-steps-steps.result c.index-steps-steps.result c.requires.0 c.requires.1 c.index-steps-steps.is c.in-And.is in
-    (search rules, (cut.1, c.operands.ensures.second ∙ cut.3.second))
+    let cut = and-cut c.args.steps.now c.in-And.second c.index-steps-steps.result c.index-steps-steps.result c.requires.spelled.0 c.requires.spelled.1 c.index-steps-steps.is c.in-And.is in
+    (search rules, (c.requires.asked, (cut.1, c.operands.ensures.second ∙ cut.3.second)))
 
 pub operands-requires-in-Or : goal.operands-requires-in-Or
 operands-requires-in-Or t c =
-    (or-cut c.args.steps.now c.in-Or.second c.index-steps-steps.result c.index-steps-steps.result c.requires.0 c.requires.1 c.index-steps-steps.is c.in-Or.is).3.within
+    (or-cut c.args.steps.now c.in-Or.second c.index-steps-steps.result c.index-steps-steps.result c.requires.spelled.0 c.requires.spelled.1 c.index-steps-steps.is c.in-Or.is).3.within
 
 pub steps_hold-requires-in-Or : goal.steps_hold-requires-in-Or
 steps_hold-requires-in-Or t c =
-    let cut = or-cut c.args.steps.now c.in-Or.second c.index-steps-steps.result c.index-steps-steps.result c.requires.0 c.requires.1 c.index-steps-steps.is c.in-Or.is in
-    (search rules, (cut.0, c.operands-in-Or.ensures.first ∙ cut.3.first))
+    let cut = or-cut c.args.steps.now c.in-Or.second c.index-steps-steps.result c.index-steps-steps.result c.requires.spelled.0 c.requires.spelled.1 c.index-steps-steps.is c.in-Or.is in
+    (search rules, (c.requires.asked, (cut.0, c.operands-in-Or.ensures.first ∙ cut.3.first)))
 
 pub steps_hold-requires-else-steps_hold-2 : goal.steps_hold-requires-else-steps_hold-2
 steps_hold-requires-else-steps_hold-2 t c =
-    let cut = or-cut c.args.steps.now c.in-Or.second c.index-steps-steps.result c.index-steps-steps.result c.requires.0 c.requires.1 c.index-steps-steps.is c.in-Or.is in
-    (search rules, (cut.1, c.operands-in-Or.ensures.second ∙ cut.3.second))
+    let cut = or-cut c.args.steps.now c.in-Or.second c.index-steps-steps.result c.index-steps-steps.result c.requires.spelled.0 c.requires.spelled.1 c.index-steps-steps.is c.in-Or.is in
+    (search rules, (c.requires.asked, (cut.1, c.operands-in-Or.ensures.second ∙ cut.3.second)))
 
 pub returns-in-Term : goal.returns-in-Term
 returns-in-Term t c =

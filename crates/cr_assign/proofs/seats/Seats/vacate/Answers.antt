@@ -16,7 +16,7 @@ bounds-of_paper-index c =
     let x = c.self.inside in
     let a = c.args in
     let fits = subst (λ (v : SeenSeats). SeatsFit v.seats (Unassigned a.paper a.user a.ordinal)) (sym c.self.view_is) c.requires.fits in
-    subst (λ (ts : SeatsState). c.number.result - 1 < length ts) (sym c.of_paper.ensures)
+    subst (λ (ts : SeatsState). c.number.result - 1 < length ts) (sym c.of_paper.ensures.values)
     (is-held x.seats.files x.reviewing.order x.reviewing.ties c.self.invariant.0 c.self.invariant.1 a.paper a.user a.ordinal (c.number.result - 1) fits (omega (arith, c.number.ensures.value)))
 
 pub change-requires : goal.change-requires
@@ -34,7 +34,7 @@ left c =
     let fits = subst (λ (v : SeenSeats). SeatsFit v.seats (Unassigned a.paper a.user a.ordinal)) (sym c.self.view_is) c.requires.fits in
     ap (λ (xs : List (Filed (Tie Seat))). values_in xs) c.change.ensures.files
     ∙ marked x.seats.files x.reviewing.order x.reviewing.ties c.self.invariant.0 c.self.invariant.1 a.paper a.user a.ordinal (c.number.result - 1) fits (omega (arith, c.number.ensures.value))
-    c.of_paper.result.now c.left-seat.result c.index-of_paper-index.result c.of_paper.ensures
+    c.of_paper.result.now c.left-seat.result c.index-of_paper-index.result c.of_paper.ensures.values
     (c.left-seat.ensures ∙ ap (λ (t : Tie Seat). vacated t) c.index-of_paper-index.is)
 
 pub returns-clause-after : goal.returns-clause-after
@@ -46,7 +46,7 @@ invariant_of-self c =
     let a = c.args in
     let fits = subst (λ (v : SeenSeats). SeatsFit v.seats (Unassigned a.paper a.user a.ordinal)) (sym c.self.view_is) c.requires.fits in
     let of_paper = its-paper x.seats.files x.reviewing.order x.reviewing.ties c.self.invariant.0 c.self.invariant.1 a.paper a.user a.ordinal (c.number.result - 1) fits (omega (arith, c.number.ensures.value))
-    c.of_paper.result.now c.left-seat.result c.index-of_paper-index.result c.of_paper.ensures
+    c.of_paper.result.now c.left-seat.result c.index-of_paper-index.result c.of_paper.ensures.values
     (c.left-seat.ensures ∙ ap (λ (t : Tie Seat). vacated t) c.index-of_paper-index.is) in (
       indexed-unassigned (values_in x.seats.files) x.reviewing.order x.reviewing.ties c.self.invariant.0 a.paper a.user a.ordinal
           (values_in c.change.new.self.files) c.remove.new.self.order c.remove.new.self.ties fits (left c) c.remove.ensures.order c.remove.ensures.ties,

@@ -1,13 +1,14 @@
-use Rattle.std.proofs.Common.{◌∙◌, Some, ap, sym}
-use Rattle.cr_base.specs.Ties.{pair_of, is_author_in}
-use Rattle.cr_kept.specs.Own.{values_in}
-use Rattle.cr_conflicts.specs.Seen.{SeenTies}
-use Rattle.cr_conflicts.proofs.IndexLaws.{author-pair}
+use Rattle.std.proofs.Common.{ℕ, ◌∙◌, eqb, Some, ap, rules, tests}
+use Rattle.std.specs.List.{list_any}
+use Rattle.std.proofs.lemmas.Iterator.{YieldsList-from_slice, YieldsList-from_map}
+use Rattle.std.proofs.lemmas.Iterator.Search.{any_from_yields_List}
+use Rattle.cr_base.specs.declared.pairs.Tie.{Tie}
+use Rattle.cr_base.specs.Lists.{is_number}
 use Rattle.cr_conflicts.proofs.ties.Ties.is_author.Goals as goal
 
-pub returns : goal.returns
-returns c =
-    c.contains.ensures
-    ∙ c.self.invariant.0.same (pair_of c.args.paper c.args.user)
-    ∙ sym (author-pair (values_in c.self.inside.authors.files) c.args.user c.args.paper)
-    ∙ ap (λ (v : SeenTies). is_author_in v.ties (Some c.args.user) c.args.paper) c.self.view_is
+pub returns-clause-value : goal.returns-clause-value
+returns-clause-value g c =
+    any_from_yields_List (λ (n : ℕ). eqb c.args.user n) _ _ _ c.any.ensures.ran
+    (YieldsList-from_map _ (λ (t : Tie (Unit {0})). t.pair.user) (YieldsList-from_slice c.authors.result.now cc) c.map.ensures.closure (λ x r q k. search (rules, tests)))
+    (λ x b q k. search (rules, tests))
+    ∙ ap (list_any (is_number (Some c.args.user))) c.authors.ensures.value

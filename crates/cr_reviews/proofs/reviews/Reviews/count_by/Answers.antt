@@ -14,5 +14,5 @@ returns-in-Some-clause-value c =
     rw c.in-Some.is
     (c.count_under.ensures
     ∙ sym (length-filter (is_under ordinal) c.forms.result.now)
-    ∙ ap (λ (all : List WrittenForm). length (filter (is_under ordinal) all)) c.forms.ensures
+    ∙ ap (λ (all : List WrittenForm). length (filter (is_under ordinal) all)) c.forms.ensures.forms
     ∙ sym (ap length (append-nil (map written_told forms)) ∙ length-map forms written_told))

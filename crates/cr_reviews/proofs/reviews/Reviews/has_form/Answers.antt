@@ -6,8 +6,8 @@ use Rattle.cr_reviews.specs.Under.{is_under}
 use Rattle.cr_reviews.proofs.UnderLaws.{found}
 use Rattle.cr_reviews.proofs.reviews.Reviews.has_form.Goals as goal
 
-pub returns : goal.returns
-returns c =
+pub returns-clause-value : goal.returns-clause-value
+returns-clause-value g c =
     c.has_under.ensures
     ∙ found (is_under c.args.ordinal) c.forms.result.now
-    ∙ ap (λ (forms : List WrittenForm). not (is_nothing (filter (is_under c.args.ordinal) forms))) c.forms.ensures
+    ∙ ap (λ (forms : List WrittenForm). not (is_nothing (filter (is_under c.args.ordinal) forms))) c.forms.ensures.forms

@@ -6,8 +6,8 @@ use Rattle.cr_reviews.specs.Under.{is_under}
 use Rattle.cr_reviews.proofs.UnderLaws.{found}
 use Rattle.cr_reviews.proofs.reviews.Reviews.labels.Goals as goal
 
-pub returns : goal.returns
-returns c = λ o.
+pub returns-clause-value : goal.returns-clause-value
+returns-clause-value g c = λ o.
     c.labels_of.ensures o
     ∙ found (is_under o) c.forms.result.now
-    ∙ ap (λ (forms : List WrittenForm). not (is_nothing (filter (is_under o) forms))) c.forms.ensures
+    ∙ ap (λ (forms : List WrittenForm). not (is_nothing (filter (is_under o) forms))) c.forms.ensures.forms

@@ -6,8 +6,8 @@ use Rattle.cr_reviews.specs.Under.{is_under}
 use Rattle.cr_reviews.proofs.UnderLaws.{last-found}
 use Rattle.cr_reviews.proofs.reviews.Reviews.last.Goals as goal
 
-pub returns : goal.returns
-returns c =
+pub returns-clause-value : goal.returns-clause-value
+returns-clause-value g c =
     c.last_of.ensures
     ∙ last-found (is_under c.args.ordinal) c.forms.result.now
-    ∙ ap (λ (forms : List WrittenForm). last (filter (is_under c.args.ordinal) forms)) c.forms.ensures
+    ∙ ap (λ (forms : List WrittenForm). last (filter (is_under c.args.ordinal) forms)) c.forms.ensures.forms

@@ -7,9 +7,9 @@ use Rattle.cr_reviews.specs.Under.{is_under}
 use Rattle.cr_reviews.proofs.UnderLaws.{last-both}
 use Rattle.cr_reviews.proofs.reviews.Reviews.last_since.Goals as goal
 
-pub returns : goal.returns
-returns c =
+pub returns-clause-value : goal.returns-clause-value
+returns-clause-value g c =
     let then = λ (w : WrittenForm). is_from c.args.phase w.phase in
     c.last_of.ensures
     ∙ last-both (is_under c.args.ordinal) then c.forms.result.now
-    ∙ ap (λ (forms : List WrittenForm). last (filter then (filter (is_under c.args.ordinal) forms))) c.forms.ensures
+    ∙ ap (λ (forms : List WrittenForm). last (filter then (filter (is_under c.args.ordinal) forms))) c.forms.ensures.forms

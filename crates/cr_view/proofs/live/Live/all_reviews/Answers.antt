@@ -16,7 +16,7 @@ loop-before-preserved c =
     let o : ℕ = c.new-label.result in
     let told : ℕ → List ReviewLine = label_reviews t by p in
     let before : List ReviewLine = c.loop-before.lines.items in
-    let has = c.labels-written.ensures o ∙ ap (λ (v : SeenTables). is_written_in v.tables.reviews p o) c.self.view_is in
+    let has = c.labels-written.ensures.value o ∙ ap (λ (v : SeenTables). is_written_in v.tables.reviews p o) c.self.view_is in
     elim c.if-has.branch [
       | then-has+in_ok-push_label w ↦
           labels-step told c.loop-before.before before _ c.loop-before.invariant

@@ -9,7 +9,7 @@ pub loop-before-preserved : goal.loop-before-preserved
 loop-before-preserved c =
     let t = c.args.self.now.tables in
     let o : ℕ = c.new.result in
-    let has = c.has.ensures ∙ c.labels-written.ensures o ∙ ap (λ (v : SeenTables). is_written_in v.tables.reviews c.args.paper o) c.self.view_is in
+    let has = c.has.ensures ∙ c.labels-written.ensures.value o ∙ ap (λ (v : SeenTables). is_written_in v.tables.reviews c.args.paper o) c.self.view_is in
     none-more (is_written_in t.reviews c.args.paper) c.loop-before.before c.loop-before.invariant
     (sym (ap (is_written_in t.reviews c.args.paper) c.new.ensures) ∙ sym has ∙ c.if-has.false)
 
@@ -17,7 +17,7 @@ pub returns-then-has : goal.returns-then-has
 returns-then-has c =
     let t = c.args.self.now.tables in
     let o : ℕ = c.new.result in
-    let has = c.has.ensures ∙ c.labels-written.ensures o ∙ ap (λ (v : SeenTables). is_written_in v.tables.reviews c.args.paper o) c.self.view_is in
+    let has = c.has.ensures ∙ c.labels-written.ensures.value o ∙ ap (λ (v : SeenTables). is_written_in v.tables.reviews c.args.paper o) c.self.view_is in
     sym
     (some-within (is_written_in t.reviews c.args.paper) c.loop-before.before 26 (omega arith)
     (sym (ap (is_written_in t.reviews c.args.paper) c.new.ensures) ∙ sym has ∙ c.if-has.true))

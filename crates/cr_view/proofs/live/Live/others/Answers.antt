@@ -12,7 +12,7 @@ loop-tie-preserved c =
     let before : List ℕ = c.loop-tie.papers.items in
     let ties = c.args.self.now.tables.ties in
     let paper : ℕ = c.tie-item.result.pair.paper in
-    let hers = c.is_author-other.ensures ∙ ap (λ (v : SeenTables). is_author_in v.tables.ties (Some c.args.user) paper) c.self.view_is in
+    let hers = c.is_author-other.ensures.value ∙ ap (λ (v : SeenTables). is_author_in v.tables.ties (Some c.args.user) paper) c.self.view_is in
     let pushed =
     c.in_ok-push_where.ensures
     ∙ ap (λ b. before ++ given (not b) paper) hers

@@ -18,10 +18,10 @@ returns c =
     let o : ℕ = c.args.label in
     let told : List ReviewLine = c.args.lines.now.items in
     let heading : Option (List ℕ) → Heading = λ name. record { to_author = by.author; label = o; user = name } in
-    let forms = c.forms.ensures ∙ ap (λ (v : SeenTables). filed_of p v.tables.reviews.forms) c.self.view_is in
-    let last = c.last_before-before.ensures ∙ ap (λ (v : SeenTables). last_form_before v.tables.reviews p o Discussion) c.self.view_is in
+    let forms = c.forms-forms.ensures.forms ∙ ap (λ (v : SeenTables). filed_of p v.tables.reviews.forms) c.self.view_is in
+    let last = c.last_before-before.ensures.value ∙ ap (λ (v : SeenTables). last_form_before v.tables.reviews p o Discussion) c.self.view_is in
     subst (λ (l : List ReviewLine). OnOk c.push_forms.result (c.push_forms.new.lines.items ≡ l))
-    (label-discussed t by p o (heading c.label_name.result) _ c.forms.result.now told c.push_form-2.new.lines.items
+    (label-discussed t by p o (heading c.label_name.result) _ c.forms-forms.result.now told c.push_form-2.new.lines.items
     c.if-by.false last forms c.in_ok-push_form.ensures
     ∙ ap (λ (name : Option (List ℕ)). told ++ map (review_line (heading name)) (forms_shown t by p o)) c.label_name.ensures)
     c.push_forms.ensures

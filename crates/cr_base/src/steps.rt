@@ -1,0 +1,68 @@
+//! How many stored records were read.
+ghost use Rattle.std.specs.Prelude.{◌≡◌, ◌<◌, Some, None};
+ghost use Rattle.cr_base.specs.Steps.{Takes};
+
+use std::marker::{Brand, Model};
+use std::sync::ledger::{Blank, Book, Ledger, Share};
+
+/// The ledger of those who count nothing: none is ever opened for it.
+pub type Uncounted = Brand;
+
+/// How many stored records were read, each by a call that ticks. Of who counts nothing it says nothing. Ticking is no
+/// code, whoever counts.
+///
+/// Contracts see the number, or none where nothing is counted.
+pub struct Steps<L: Ledger> {
+    tokens: Option<(Book<L>, Share<L>)>,
+}
+
+// Written out, so that a caller doesn't prove again how the tokens are dropped.
+impl<L: Ledger> Drop for Steps<L> {
+    fn drop(self) {
+        let Steps { tokens: _ } = self;
+    }
+}
+
+impl<L: Ledger> Model for Steps<L> {
+    ghost use Rattle.std.specs.Prelude.{ℕ, ◌<◌, Option};
+    ghost use Rattle.std.specs.Option.{option_map, IfSome};
+
+    ghost Value = { Option ℕ };
+
+    ghost view = { λ s. option_map (λ t. t.0.total) s.tokens };
+
+    ghost invariant = { λ s. IfSome s.tokens (λ t. 0 < t.1.parts) };
+}
+
+impl Steps<Uncounted> {
+    /// Steps that nobody counts.
+    pub fn uncounted() -> Steps<Uncounted>
+        ensures { result ≡ None }
+    {
+        Steps { tokens: None }
+    }
+}
+
+impl<L: Ledger> Steps<L> {
+    /// No steps yet, to be counted in a ledger of their own.
+    pub fn new(blank: Blank) -> Steps<L>
+        requires name { blank.name ≡ L.name }
+        requires parts { blank.parts ≡ L.parts }
+        requires some { 0 < L.parts }
+        ensures { result ≡ Some 0 }
+    {
+        Steps {
+            tokens: Some(blank.open()),
+        }
+    }
+
+    /// So many more.
+    pub fn ticks(&mut self, count: u64)
+        ensures { Takes count self.old self.new }
+    {
+        match &mut self.tokens {
+            Some((book, share)) => book.add(share, count),
+            None => {}
+        }
+    }
+}

@@ -1,0 +1,305 @@
+//! What is asked of one paper for one caller, read once: pages, searches and reports are functions of it.
+ghost use Rattle.std.specs.Prelude.{◌≡◌, Some};
+ghost use Rattle.std.specs.Option.{option_copied};
+ghost use Rattle.cr_base.specs.Page.{gets_title, gets_abstract, gets_conflict, gets_decision};
+ghost use Rattle.cr_base.specs.Page.{gets_label, gets_withdrawn, where_told};
+ghost use Rattle.cr_base.specs.Sources.{standing_at};
+ghost use Rattle.cr_base.specs.Steps.{TakesAtMost};
+ghost use Rattle.cr_view.specs.PaperSeen.{paper_seen_at, stance_at, tie_at, tie_reads, facts_reads};
+ghost use Rattle.cr_view.specs.PaperSeen.{title_seen, abstract_seen, withdrawn_seen, accepted_seen, decision_seen};
+
+use crate::accepted::is_accepted_when;
+use crate::live::Live;
+use crate::page::{
+    conflict_told, gets_abstract, gets_decision, gets_label, gets_title, withdrawn_told,
+};
+use cr_base::{Decision, Ordinal, Paper, PaperNo, Standing, Steps, Text, Uncounted, UserNo};
+use std::marker::Model;
+use std::sync::ledger::Ledger;
+
+/// What a user, or nobody, is to a paper.
+#[derive(Drop)]
+pub(crate) struct PaperTie {
+    /// Whether she is an author of it.
+    author: bool,
+    /// Whether she is in conflict with it, as each author is.
+    conflicted: bool,
+    /// The ordinal of the label under which she reviews it, if she does.
+    label: Option<Ordinal>,
+}
+
+/// What is asked of one paper for one caller: how she stands to it, the label under which she reviews it, the last
+/// decision on it, its texts and whether it is withdrawn. It is lent by the tables; lists are no part of it, since
+/// they are read where they are told.
+///
+/// Contracts see these.
+#[derive(Drop)]
+pub struct PaperFacts<'a> {
+    paper: PaperNo,
+    by: Standing,
+    label: Option<Ordinal>,
+    decision: Option<Decision>,
+    kept: Option<&'a Paper>,
+}
+
+impl<'a> Model for PaperFacts<'a> {
+    ghost use Rattle.std.specs.Option.{option_copied};
+    ghost use Rattle.cr_view.specs.PaperSeen.{PaperSeen};
+
+    ghost Value = { PaperSeen };
+
+    ghost view = { λ f. record {
+      paper = f.paper;
+      by = f.by;
+      label = f.label;
+      decision = f.decision;
+      kept = option_copied f.kept;
+    } };
+}
+
+/// What they are. No call takes memory, or reads the tables.
+impl<'a> PaperFacts<'a> {
+    /// The paper's number.
+    pub fn paper(&self) -> PaperNo
+        ensures { result ≡ self.now.paper }
+    {
+        self.paper
+    }
+
+    /// How the caller stands to it.
+    pub fn by(&self) -> &Standing
+        ensures { result.now ≡ self.now.by }
+    {
+        &self.by
+    }
+
+    /// The ordinal of the label under which she reviews it, if she does.
+    pub fn label(&self) -> Option<Ordinal>
+        ensures { result ≡ self.now.label }
+    {
+        self.label
+    }
+
+    /// Whether it is withdrawn; false where there is no such paper.
+    pub fn is_withdrawn(&self) -> bool
+        ensures { result ≡ withdrawn_seen self.now }
+    {
+        match self.kept {
+            Some(paper) => paper.withdrawn,
+            None => false,
+        }
+    }
+
+    /// Whether it is accepted.
+    pub fn is_accepted(&self) -> bool
+        ensures { result ≡ accepted_seen self.now }
+    {
+        is_accepted_when(self.by.phase, self.is_withdrawn(), self.decision)
+    }
+
+    /// What was decided of it last: to accept it, where it is accepted.
+    pub fn decision(&self) -> Option<Decision>
+        ensures { result ≡ decision_seen self.now }
+    {
+        if self.is_accepted() {
+            return Some(Decision::Accept);
+        }
+        self.decision
+    }
+
+    /// Its last title, and none where there is no such paper.
+    pub fn title(&self) -> Option<&'a Text>
+        ensures { option_copied result ≡ title_seen self.now }
+    {
+        match self.kept {
+            Some(paper) => Some(&paper.title),
+            None => None,
+        }
+    }
+
+    /// Its last abstract, and none where there is no such paper.
+    fn abstract_text(&self) -> Option<&'a Text>
+        ensures { option_copied result ≡ abstract_seen self.now }
+    {
+        match self.kept {
+            Some(paper) => Some(&paper.abstract_),
+            None => None,
+        }
+    }
+}
+
+/// What the caller is told of them.
+impl<'a> PaperFacts<'a> {
+    /// The title, where it is told.
+    pub fn title_told(&self) -> Option<&'a Text>
+        ensures { option_copied result ≡ where_told (gets_title self.now.by (accepted_seen self.now))
+            (title_seen self.now) }
+    {
+        if !gets_title(&self.by, self.is_accepted()) {
+            return None;
+        }
+        self.title()
+    }
+
+    /// The abstract, where it is told.
+    pub fn abstract_told(&self) -> Option<&'a Text>
+        ensures { option_copied result ≡ where_told (gets_abstract self.now.by (accepted_seen self.now))
+            (abstract_seen self.now) }
+    {
+        if !gets_abstract(&self.by, self.is_accepted()) {
+            return None;
+        }
+        self.abstract_text()
+    }
+
+    /// What was decided of the paper, where it is told.
+    pub fn decision_told(&self) -> Option<Option<Decision>>
+        ensures { result ≡ where_told (gets_decision self.now.by (accepted_seen self.now))
+            (Some (decision_seen self.now)) }
+    {
+        if !gets_decision(&self.by, self.is_accepted()) {
+            return None;
+        }
+        Some(self.decision())
+    }
+
+    /// Whether the paper is withdrawn, where that is told.
+    pub fn withdrawal_told(&self) -> Option<bool>
+        ensures { result ≡ where_told (gets_withdrawn self.now.by) (Some (withdrawn_seen self.now)) }
+    {
+        withdrawn_told(&self.by, self.is_withdrawn())
+    }
+
+    /// Whether she is in conflict with it, where that is told.
+    pub(crate) fn conflict_told(&self) -> Option<bool>
+        ensures { result ≡ where_told (gets_conflict self.now.by) (Some self.now.by.conflicted) }
+    {
+        conflict_told(&self.by)
+    }
+
+    /// The ordinal of her label, where she is told it.
+    pub fn label_told(&self) -> Option<Ordinal>
+        ensures { result ≡ where_told (gets_label self.now.by) self.now.label }
+    {
+        if !gets_label(&self.by) {
+            return None;
+        }
+        self.label
+    }
+}
+
+/// How they are read.
+impl Live {
+    /// What a user, or nobody, is to the paper: a step for each of its authors and its seats at most, and those of a
+    /// search among the users declared in conflict with it.
+    fn tie_to<L: Ledger>(
+        &self,
+        user: &Option<UserNo>,
+        paper: PaperNo,
+        steps: &mut Steps<L>,
+    ) -> PaperTie
+        ensures tie { result ≡ tie_at self.now.tables user.now paper }
+        ensures steps { TakesAtMost (tie_reads self.now.tables paper) steps.old steps.new }
+    {
+        match user {
+            Some(user) => self.tie_of(*user, paper, steps),
+            None => PaperTie {
+                author: false,
+                conflicted: false,
+                label: None,
+            },
+        }
+    }
+
+    /// What a user is to the paper.
+    fn tie_of<L: Ledger>(&self, user: UserNo, paper: PaperNo, steps: &mut Steps<L>) -> PaperTie
+        ensures tie { result ≡ tie_at self.now.tables (Some user) paper }
+        ensures steps { TakesAtMost (tie_reads self.now.tables paper) steps.old steps.new }
+    {
+        let author = self.ties.is_author(user, paper, steps);
+        let declared = self.ties.is_declared(user, paper, steps);
+        let label = self.seats.ordinal_of(user, paper, steps);
+        PaperTie {
+            author,
+            conflicted: author || declared,
+            label,
+        }
+    }
+
+    /// What a user, or nobody, is to the conference, and to a paper to which she has this tie. Two steps.
+    fn stance<L: Ledger>(
+        &self,
+        user: &Option<UserNo>,
+        tie: &PaperTie,
+        steps: &mut Steps<L>,
+    ) -> Standing
+        ensures standing { result ≡ stance_at self.now.tables user.now tie.now }
+        ensures steps { TakesAtMost 2 steps.old steps.new }
+    {
+        let phase = self.stage.phase(steps);
+        let mode = self.stage.mode(steps);
+        Standing {
+            phase,
+            mode,
+            role: self.accounts.standing_for(user),
+            author: tie.author,
+            conflicted: tie.conflicted,
+            reviewer: tie.label.is_some(),
+        }
+    }
+
+    /// What is asked of the paper for a user, or nobody, of whom it tells the same where there is no such paper. It is
+    /// found by number: a step for each of its authors and its seats at most, those of a search among the users
+    /// declared in conflict with it, and four; takes no memory.
+    pub fn facts<L: Ledger>(
+        &self,
+        user: &Option<UserNo>,
+        paper: PaperNo,
+        steps: &mut Steps<L>,
+    ) -> PaperFacts<'_>
+        ensures facts { result ≡ paper_seen_at self.now.tables user.now paper }
+        ensures steps { TakesAtMost (facts_reads self.now.tables paper) steps.old steps.new }
+    {
+        let tie = self.tie_to(user, paper, steps);
+        let by = self.stance(user, &tie, steps);
+        let decision = self.decisions.last(paper, steps);
+        let kept = self.papers.paper_of(paper, steps);
+        PaperFacts {
+            paper,
+            by,
+            label: tie.label,
+            decision,
+            kept,
+        }
+    }
+
+    /// What a user, or nobody, is to the conference and to a paper, where one is named. A caller who is nobody is an
+    /// `Account` without ties. Takes no memory; of the paper it reads the authors, the seats and, by a search, who is
+    /// declared in conflict with it.
+    pub fn standing(&self, user: &Option<UserNo>, paper: &Option<PaperNo>) -> Standing
+        ensures { result ≡ standing_at self.now.tables user.now paper.now }
+    {
+        let steps = &mut Steps::uncounted();
+        let tie = self.tie_where(user, paper, steps);
+        self.stance(user, &tie, steps)
+    }
+
+    /// What a user, or nobody, is to a paper, where one is named; nothing where none is.
+    fn tie_where(
+        &self,
+        user: &Option<UserNo>,
+        paper: &Option<PaperNo>,
+        steps: &mut Steps<Uncounted>,
+    ) -> PaperTie
+        ensures { (standing_at self.now.tables user.now paper.now) ≡ stance_at self.now.tables user.now result }
+    {
+        match paper {
+            Some(paper) => self.tie_to(user, *paper, steps),
+            None => PaperTie {
+                author: false,
+                conflicted: false,
+                label: None,
+            },
+        }
+    }
+}
