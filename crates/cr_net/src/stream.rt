@@ -2,6 +2,7 @@
 ghost use Rattle.std.specs.Prelude.{◌≡◌, ◌≤◌, ℕ, None, ⊤, length};
 ghost use Rattle.std.specs.Io.{ReadsAtMost, WritesAtMost};
 ghost use Rattle.cr_ports.specs.Count.{Rises};
+ghost use Rattle.cr_net.specs.Steps.{read_step, write_step};
 
 use crate::time::{AGAIN, Span, is_broken_off};
 use cr_ports::{ReadStep, Sink, Source, WriteStep};
@@ -163,6 +164,29 @@ impl Half {
     }
 }
 
+/// What a read is told as: 0 bytes are the end, and each `Err` is a fault.
+fn read_step(got: &io::Result<usize>) -> ReadStep
+    ensures { result ≡ read_step got.now }
+{
+    match got {
+        Ok(0) => ReadStep::End,
+        Ok(n) => ReadStep::Got(*n),
+        Err(_) => ReadStep::Failed,
+    }
+}
+
+/// What a write of a piece of so many bytes is told as: each `Err` is a fault, and so is one that took nothing of a
+/// piece that isn't empty.
+fn write_step(took: &io::Result<usize>, len: usize) -> WriteStep
+    ensures { result ≡ write_step took.now len }
+{
+    match took {
+        Ok(0) if len > 0 => WriteStep::Failed,
+        Ok(n) => WriteStep::Took(*n),
+        Err(_) => WriteStep::Failed,
+    }
+}
+
 /// What a client sends. Each request has 60 seconds to come whole, from the first read behind the last answer on; but
 /// where that read finds nothing for 5 seconds, it fails, as one does past the 60. So a client that keeps its
 /// connection and asks nothing holds its worker for 5 seconds. A connection's first request has the 60. A span may
@@ -233,17 +257,13 @@ impl Source for TcpSource {
 
     /// Each `Err` is a fault, the end of the time among them.
     fn read(&mut self, buf: &mut [u8]) -> ReadStep {
-        match self.read_in_time(buf) {
-            Ok(0) => {
-                self.is_ended = true;
-                ReadStep::End
-            }
-            Ok(n) => ReadStep::Got(n),
-            Err(_) => {
-                self.half.failed();
-                ReadStep::Failed
-            }
+        let step = read_step(&self.read_in_time(buf));
+        match step {
+            ReadStep::Got(_) => {}
+            ReadStep::End => self.is_ended = true,
+            ReadStep::Failed => self.half.failed(),
         }
+        step
     }
 }
 
@@ -279,17 +299,15 @@ impl Sink for TcpSink {
 
     /// Each `Err` is a fault, the end of the time among them, and so is a write that takes nothing.
     fn write(&mut self, piece: &[u8]) -> WriteStep {
-        match self.half.write_on(piece) {
-            Ok(n) if n == piece.len() => {
+        let step = write_step(&self.half.write_on(piece), piece.len());
+        match step {
+            WriteStep::Took(n) if n == piece.len() => {
                 self.half.shared.answered.store(true, Ordering::SeqCst);
-                WriteStep::Took(n)
             }
-            Ok(n) if n > 0 => WriteStep::Took(n),
-            _ => {
-                self.half.failed();
-                WriteStep::Failed
-            }
+            WriteStep::Took(_) => {}
+            WriteStep::Failed => self.half.failed(),
         }
+        step
     }
 
     /// From the next write on the answer's time is measured.

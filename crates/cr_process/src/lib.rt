@@ -5,6 +5,10 @@
 //! threads, and has nothing else in it.
 #![tactic(auto)]
 
+ghost use Rattle.std.specs.Prelude.{◌≡◌};
+ghost use Rattle.std.specs.Process as ended;
+ghost use Rattle.cr_top.specs.Exits.{exit_status};
+
 use cr_net::TcpGates;
 use cr_ports::{ReadSource, WriteSink};
 use cr_sqlite::SqliteShelf;
@@ -75,6 +79,13 @@ fn tell(
     }
 }
 
+// The status of the process whose run ended so.
+fn status_of(exit: Exit) -> ExitCode
+    ensures { ended.exit_status result ≡ exit_status exit }
+{
+    ExitCode::from(exit.code())
+}
+
 /// Does what the command line asks for, and gives the status that the process is to end with. `handle` is the same
 /// runtime, as one that may wait: a library can't tell that of `rt`.
 pub fn run<R: Threads + Wait + Sync>(rt: &HostRuntime, handle: &R) -> ExitCode {
@@ -84,7 +95,7 @@ pub fn run<R: Threads + Wait + Sync>(rt: &HostRuntime, handle: &R) -> ExitCode {
     let mut gates = TcpGates::new(rt);
     let Ok(words) = words(rt) else {
         let _ = tell(rt, &[], Exit::OutOfMemory, &shelf, &gates);
-        return ExitCode::from(Exit::OutOfMemory.code());
+        return status_of(Exit::OutOfMemory);
     };
     let exit = run_top(
         handle,
@@ -97,5 +108,5 @@ pub fn run<R: Threads + Wait + Sync>(rt: &HostRuntime, handle: &R) -> ExitCode {
     );
     // The status says the same, so a line that can't be written is left out.
     let _ = tell(rt, words.as_slice(), exit, &shelf, &gates);
-    ExitCode::from(exit.code())
+    status_of(exit)
 }

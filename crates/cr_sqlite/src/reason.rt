@@ -57,6 +57,12 @@ pub enum StoreError {
 }
 
 impl From<Error> for StoreError {
+    ghost use Rattle.std.specs.Prelude.{◌≡◌};
+    ghost use Rattle.cr_sqlite.specs.Telling.{store_error};
+
+    // Which error gives which.
+    ghost from_gives = { λ error e. e ≡ store_error error };
+
     fn from(error: Error) -> StoreError {
         match error {
             Error::SqliteFailure(ErrorCode::OutOfMemory) => StoreError::OutOfMemory,
