@@ -3,7 +3,8 @@
 use crate::connection::{Connection, Talk};
 use crate::message::add_answer;
 use crate::store::{add_row, copied, read_row};
-use crate::text::{LineError, read_number};
+use crate::text::{LineError, read_before, read_number};
+use crate::time::Time;
 use cr_base::Row;
 use cr_top::Exit;
 use std::alloc::{AllocError, Global};
@@ -27,10 +28,14 @@ pub struct Case {
     pub rows: Vec<Row>,
     /// The rows that are due there behind it, where they are told.
     pub rows_due: Option<Vec<Row>>,
+    /// At which address the gates are asked for doors, where that is told; empty where they aren't asked.
+    pub listen: Option<String>,
     /// How often some answers come on the connections.
     pub times: Vec<Times>,
     /// In which ways it is run.
     pub ways: Ways,
+    // When the answers come that are told next.
+    time: Time,
 }
 
 /// How often an answer comes on all connections together.
@@ -68,13 +73,15 @@ pub enum Ways {
     EachRead,
     /// For each number of bytes behind which the output may fail, once.
     EachWrite,
+    /// For each call of the clock that may fail, once.
+    EachClock,
     /// For each number of rows behind which the store may end, once.
     EachRow,
 }
 
 impl Case {
     /// A case of `confd pipe` that sends nothing yet.
-    pub fn new(alloc: Global, title: &str) -> Result<Case, AllocError> {
+    pub fn new(alloc: Global, title: &str) -> Result<Case, LineError> {
         Ok(Case {
             title: String::from_str(alloc, title)?,
             words: words_of(alloc, "confd pipe")?,
@@ -90,8 +97,10 @@ impl Case {
             },
             rows: Vec::new(alloc),
             rows_due: None,
+            listen: None,
             times: Vec::new(alloc),
             ways: Ways::AllCuts,
+            time: Time::usual()?,
         })
     }
 
@@ -149,11 +158,22 @@ impl Case {
                 self.words = words_of(alloc, rest)?;
                 Ok(())
             }
+            "~" => {
+                self.time = Time::read(rest)?;
+                Ok(())
+            }
             "=@" => self.add_row_due(alloc, rest),
             "=times" => self.add_times(alloc, rest),
+            "=listen" => {
+                self.listen = Some(String::from_str(alloc, rest)?);
+                Ok(())
+            }
             _ if form.starts_with('!') => self.add_fault(alloc, form, rest),
             _ if form.starts_with('=') => self.add_end(alloc, form, rest),
-            _ => self.current().add(alloc, number, form, rest),
+            _ => {
+                let time = self.time;
+                self.current().add(alloc, &time, number, form, rest)
+            }
         }
     }
 
@@ -174,23 +194,24 @@ impl Case {
         let (times, text) = rest.split_once(' ').ok_or(LineError::NoForm)?;
         let times = read_number(times)? as u64;
         let mut answer = Vec::new(alloc);
-        add_answer(alloc, &mut answer, text, false)?;
+        add_answer(alloc, &mut answer, &self.time, text, false)?;
         self.times.push(Times { times, answer })?;
         Ok(())
     }
 
-    // !open, !append N, !row N, !gates, !door N CALL, !each end, !each read, !each write, !each row, !whole
+    // !open, !append N, !row N, !gates, !door N CALL, !each WHAT, !whole
     fn add_fault(&mut self, alloc: Global, form: &str, rest: &str) -> Result<(), LineError> {
         match (form, rest) {
             ("!open", "") => self.faults.is_shut = true,
-            ("!append", _) => self.faults.appends.push(before(rest)?)?,
-            ("!row", _) => self.faults.reads.push(before(rest)?)?,
+            ("!append", _) => self.faults.appends.push(read_before(rest)?)?,
+            ("!row", _) => self.faults.reads.push(read_before(rest)?)?,
             ("!gates", "") => self.faults.has_no_doors = true,
             ("!door", _) => return add_door(alloc, &mut self.faults.doors, rest),
             ("!whole", "") => self.ways = Ways::Whole,
             ("!each", "end") => self.ways = Ways::EachEnd,
             ("!each", "read") => self.ways = Ways::EachRead,
             ("!each", "write") => self.ways = Ways::EachWrite,
+            ("!each", "clock") => self.ways = Ways::EachClock,
             ("!each", "row") => self.ways = Ways::EachRow,
             _ => return self.current().add_fault(form, rest),
         }
@@ -206,6 +227,7 @@ impl Case {
             ("=write_fault", "") => self.exit = Exit::WriteFault,
             ("=keeper_fault", "") => self.exit = Exit::KeeperFault,
             ("=listen_fault", "") => self.exit = Exit::ListenFault,
+            ("=clock_fault", "") => self.exit = Exit::ClockFault,
             ("=no_user", "") => self.exit = Exit::NoUser,
             ("=bad_store", _) => {
                 let (row, kind) = rest.split_once(' ').ok_or(LineError::NoForm)?;
@@ -228,19 +250,13 @@ impl Case {
 fn add_door(alloc: Global, doors: &mut Vec<Vec<u64>>, text: &str) -> Result<(), LineError> {
     let (door, call) = text.split_once(' ').ok_or(LineError::NoForm)?;
     let door = read_number(door)?;
-    let call = before(call)?;
+    let call = read_before(call)?;
     for _ in doors.len()..door {
         doors.push(Vec::new(alloc))?;
     }
     let index = door.checked_sub(1).ok_or(LineError::NoForm)?;
     doors.get_mut(index).ok_or(LineError::NoForm)?.push(call)?;
     Ok(())
-}
-
-// One less than a number from 1.
-fn before(text: &str) -> Result<u64, LineError> {
-    let number = read_number(text)?.checked_sub(1).ok_or(LineError::NoForm)?;
-    Ok(number as u64)
 }
 
 // The words of a command line.

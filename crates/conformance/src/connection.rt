@@ -2,8 +2,9 @@
 
 use crate::message::{add_answer, add_request};
 use crate::store::read_row;
-use crate::text::{LineError, add_raw, read_number};
-use cr_base::Row;
+use crate::text::{LineError, add_raw, read_before, read_number};
+use crate::time::Time;
+use cr_base::{Moment, Row};
 use std::alloc::Global;
 
 /// What is sent on one connection, where it fails, and what is due.
@@ -21,6 +22,10 @@ pub struct Talk {
     pub write: Option<usize>,
     /// Where the bytes begin that aren't to be read, where some are told.
     pub unread: Option<usize>,
+    /// The moments that its clock gives: one an answer.
+    pub moments: Vec<Moment>,
+    /// The number of its clock's call that fails, from 0.
+    pub clock: Option<u64>,
 }
 
 /// A line that tells an answer.
@@ -32,6 +37,8 @@ pub struct Mark {
     pub sent: usize,
     /// How many bytes are due up to its end.
     pub end: usize,
+    /// How many moments the clock has given by then.
+    pub moments: usize,
     /// How many rows are kept by then, where that is told.
     pub rows: Option<u64>,
     /// What may be answered in its place.
@@ -77,23 +84,27 @@ impl Talk {
             read: None,
             write: None,
             unread: None,
+            moments: Vec::new(alloc),
+            clock: None,
         }
     }
 
-    /// Adds what a line says of what is sent and due, which has this number in the file.
+    /// Adds what a line says of what is sent and due at this time, which has this number in the file.
     pub fn add(
         &mut self,
         alloc: Global,
+        time: &Time,
         number: usize,
         form: &str,
         rest: &str,
     ) -> Result<(), LineError> {
         if form.starts_with('<') {
-            self.add_due(alloc, form, rest)?;
+            self.add_due(alloc, time, form, rest)?;
             self.answers.push(Mark {
                 line: number,
                 sent: self.sent.len(),
                 end: self.due.len(),
+                moments: self.moments.len(),
                 rows: None,
                 others: Vec::new(alloc),
                 kept: None,
@@ -105,27 +116,35 @@ impl Talk {
         }
         match form {
             ">" => add_request(alloc, &mut self.sent, rest),
-            "|" => self.add_other(alloc, rest),
+            "|" => self.add_other(alloc, time, rest),
             _ => Err(LineError::NoForm),
         }
     }
 
     // < CODE CONTENT, <! CODE CONTENT, <<[N] TEXT
-    fn add_due(&mut self, alloc: Global, form: &str, rest: &str) -> Result<(), LineError> {
-        match form {
-            "<" => add_answer(alloc, &mut self.due, rest, false),
-            "<!" => add_answer(alloc, &mut self.due, rest, true),
-            _ => match form.strip_prefix("<<") {
-                Some(count) => add_raw(&mut self.due, count, rest),
-                None => Err(LineError::NoForm),
-            },
+    fn add_due(
+        &mut self,
+        alloc: Global,
+        time: &Time,
+        form: &str,
+        rest: &str,
+    ) -> Result<(), LineError> {
+        if let Some(count) = form.strip_prefix("<<") {
+            return add_raw(&mut self.due, count, rest);
         }
+        let closes = match form {
+            "<" => false,
+            "<!" => true,
+            _ => return Err(LineError::NoForm),
+        };
+        self.moments.push(time.moment)?;
+        add_answer(alloc, &mut self.due, time, rest, closes)
     }
 
     // | CODE CONTENT
-    fn add_other(&mut self, alloc: Global, rest: &str) -> Result<(), LineError> {
+    fn add_other(&mut self, alloc: Global, time: &Time, rest: &str) -> Result<(), LineError> {
         let mut other = Vec::new(alloc);
-        add_answer(alloc, &mut other, rest, false)?;
+        add_answer(alloc, &mut other, time, rest, false)?;
         self.last()?.others.push(other)?;
         Ok(())
     }
@@ -135,11 +154,12 @@ impl Talk {
         self.answers.last_mut().ok_or(LineError::NoForm)
     }
 
-    /// Adds what a line says that fails: `!read [N]`, `!write [N]`.
+    /// Adds what a line says that fails: `!read [N]`, `!write [N]`, `!clock N`.
     pub fn add_fault(&mut self, form: &str, rest: &str) -> Result<(), LineError> {
         match form {
             "!read" => self.read = Some(behind(self.sent.len(), rest)?),
             "!write" => self.write = Some(behind(self.due.len(), rest)?),
+            "!clock" => self.clock = Some(read_before(rest)?),
             _ => return Err(LineError::NoForm),
         }
         Ok(())

@@ -48,6 +48,14 @@ fn add_lines(alloc: Global, case: &mut Case, first: usize, text: &str) -> Result
     Ok(number)
 }
 
+// A case of this title, whose line has this number in the file.
+fn begun(alloc: Global, number: usize, title: &str) -> Result<Case, FileError> {
+    match Case::new(alloc, title) {
+        Ok(case) => Ok(case),
+        Err(error) => Err(FileError::at(error, number)),
+    }
+}
+
 /// The cases that a file's text tells. Each begins at a line `== TITLE`; what stands ahead of the first of
 /// them, a line at least, stands ahead of each.
 pub fn read_cases(alloc: Global, text: &str) -> Result<Vec<Case>, FileError> {
@@ -57,7 +65,7 @@ pub fn read_cases(alloc: Global, text: &str) -> Result<Vec<Case>, FileError> {
     let mut number = shared.lines().count().saturating_add(1);
     for part in parts {
         let (title, lines) = part.split_once('\n').unwrap_or((part, ""));
-        let mut case = Case::new(alloc, title)?;
+        let mut case = begun(alloc, number, title)?;
         add_lines(alloc, &mut case, 1, shared)?;
         number = add_lines(alloc, &mut case, number.saturating_add(1), lines)?;
         cases.push(case)?;

@@ -1,8 +1,9 @@
 //! Whole runs as data: the case files of the folder that this runs in, against the program.
 //!
 //! A case is what is sent, on the program's own input or on many connections, and what is due: each answer's every
-//! byte, and how the run ends. It is run by `top` over streams, a store and gates in memory, with its bytes whole and
-//! cut into pieces in several ways, and gets a line: that all is as due, or the first difference.
+//! byte, and how the run ends. It is run by `top` over streams, a store, gates and clocks in memory, with its bytes
+//! whole and cut into pieces in several ways, and gets a line: that all is as due, or the first difference. Each
+//! connection has a clock, which has a moment for each answer that is due there and no more.
 //!
 //! A case file is lines of these forms. What stands ahead of the first case stands ahead of each.
 //!
@@ -11,7 +12,7 @@
 //! - `$ WORDS`: the words of the command line, where they aren't `confd pipe`
 //! - `> NAME METHOD PATH [BODY]`: NAME sends a request with her secret `NAME-secret-000001`; a NAME with a point is
 //!   the token `NAME.SECRET`, `-` sends none
-//! - `< CODE CONTENT`: an answer is due; `<!` where the connection closes behind it
+//! - `< CODE CONTENT`: an answer is due, and its date with it; `<!` where the connection closes behind it
 //! - `< CODE HEAD CONTENT`: an answer to HEAD is due: the head alone of what GET would be answered
 //! - `< CODE Allow: METHODS; CONTENT`: the same with the field Allow
 //! - `< CODE bytes: CONTENT`: an answer with a paper's content is due, which is no JSON; behind `HEAD` too
@@ -20,8 +21,8 @@
 //! - `*N LINE`: N times that line, with the number of the time, from 1, in place of each `\#`
 //! - `!read [N]`, `!write [N]`: the input fails behind what is sent so far, the output behind what
 //!   is due so far, or N bytes later
-//! - `@ ROW`: a row that stands in the store `f` ahead of the run: `KIND MAKER MORE N1 N2 N3 N4 N5 B1 B2`, `-` for no
-//!   bytes, `#` ahead of hexadecimal digits
+//! - `@ ROW`: a row that stands in the store `f` ahead of the run: `KIND MAKER MORE AT N1 N2 N3 N4 N5 B1 B2`, `-` for
+//!   no bytes, `#` ahead of hexadecimal digits
 //! - `@N ROW`: the same in place of row number N, from 0, of those told so far
 //! - `=@ same`, `=@ ROW`: the rows that are due there behind the run: those that stood there
 //!   ahead of it; and then this one
@@ -31,9 +32,12 @@
 //! - `!each end`, `!each read`, `!each write`: the case is run once for each place at which the input may
 //!   end, may fail, the output may fail
 //! - `!each row`: the case is run once for each row at which the store may end
+//! - `~ SECONDS DATE`: answers that are told from here on have this date, and the clock gives these seconds for each;
+//!   where no line tells it, `784111777 Sun, 06 Nov 1994 08:49:37 GMT`
+//! - `!clock N`: call number N of the clock fails, from 1; `!each clock`: the case is run once for each call that may
 //! - `!whole`: the case is run with its bytes whole alone
-//! - `=cut`, `=usage`, `=read_fault`, `=write_fault`, `=keeper_fault`, `=listen_fault`, `=no_user`: how the run ends,
-//!   where that isn't with status 0
+//! - `=cut`, `=usage`, `=read_fault`, `=write_fault`, `=keeper_fault`, `=listen_fault`, `=no_user`, `=clock_fault`:
+//!   how the run ends, where that isn't with status 0
 //! - `=bad_store ROW KIND`: it ends since that row, from 0, of that kind, is a bad one
 //! - `=rows N`: N rows are kept by the answer ahead of this line
 //! - `=unread`: what is sent from here on isn't read, where the bytes come one by one
@@ -46,6 +50,7 @@
 //! - `!gates`: the gates can't be opened
 //! - `!door N CALL`: call number CALL of door number N fails, both from 1
 //! - `=unasked`: no door is asked for this connection
+//! - `=listen ADDRESS`: the gates were asked for doors once, at this address; `=listen`: they weren't asked
 //!
 //! Door number 1 gives the first connections, up to its share, door number 2 the next ones, and so on. With one worker
 //! they are served in their order.
@@ -62,6 +67,7 @@ mod run;
 mod served;
 mod store;
 mod text;
+mod time;
 mod verdict;
 
 use case::Case;

@@ -1,6 +1,7 @@
 //! The bytes of requests and answers that a line of a case tells in short.
 
 use crate::text::{LineError, add_text};
+use crate::time::Time;
 use std::alloc::{AllocError, Global};
 
 // The phrase of a status code.
@@ -91,19 +92,30 @@ fn add_allow<'a>(into: &mut Vec<u8>, text: &'a str) -> Result<&'a str, LineError
     Ok(rest)
 }
 
-/// Adds the answer that `CODE [Allow: METHODS; ][HEAD ][bytes: |text: ]CONTENT` tells. Behind `HEAD` stands the
-/// content that GET would be answered, of which an answer to HEAD has the length alone. Behind `bytes:` stands a
-/// paper's content, which is sent as it is, behind `text:` a report, and else an object of JSON.
+// Adds the field that tells the date.
+fn add_date(into: &mut Vec<u8>, time: &Time) -> Result<(), AllocError> {
+    into.extend_from_slice(b"Date: ")?;
+    into.extend_from_slice(time.date.as_slice())?;
+    into.extend_from_slice(b"\r\n")?;
+    Ok(())
+}
+
+/// Adds the answer of this time that `CODE [Allow: METHODS; ][HEAD ][bytes: |text: ]CONTENT` tells. Behind `HEAD`
+/// stands the content that GET would be answered, of which an answer to HEAD has the length alone. Behind `bytes:`
+/// stands a paper's content, which is sent as it is, behind `text:` a report, and else an object of JSON.
 pub fn add_answer(
     alloc: Global,
     into: &mut Vec<u8>,
+    time: &Time,
     text: &str,
     closes: bool,
 ) -> Result<(), LineError> {
     let (code, rest) = text.split_once(' ').ok_or(LineError::NoForm)?;
     let phrase = phrase(code).ok_or(LineError::NoForm)?;
     add_parts(into, &["HTTP/1.1 ", code, " "])?;
-    add_parts(into, &[phrase, "\r\n", challenge(code)])?;
+    add_parts(into, &[phrase, "\r\n"])?;
+    add_date(into, time)?;
+    add_parts(into, &[challenge(code)])?;
     let rest = add_allow(into, rest)?;
     add_content(alloc, into, rest, closes)
 }

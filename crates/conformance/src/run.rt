@@ -2,8 +2,8 @@
 
 use crate::connection::{Connection, Talk};
 use crate::store::{PATH, Store, copied};
-use cr_base::Row;
-use cr_ports::{MemGates, MemShelf, MemSink, MemSource};
+use cr_base::{Moment, Row};
+use cr_ports::{MemClock, MemGates, MemShelf, MemSink, MemSource};
 use cr_top::{Exit, run_top};
 use std::alloc::{AllocError, Global};
 use std::sync::Wait;
@@ -76,6 +76,15 @@ impl Cut {
     }
 }
 
+// What tells the time: these moments, and none at the call that fails.
+fn clock_of(alloc: Global, moments: &[Moment], fault: Option<u64>) -> Result<MemClock, AllocError> {
+    let mut failing = Vec::new(alloc);
+    if let Some(call) = fault {
+        failing.push(call)?;
+    }
+    Ok(MemClock::new(moments.to_vec(alloc)?, failing))
+}
+
 /// What the gates give, and what fails of them.
 #[derive(Clone, Copy, Drop)]
 pub struct Doors<'a> {
@@ -97,6 +106,10 @@ pub struct Input<'a> {
     pub read_fault: Option<usize>,
     /// Behind how many bytes the output fails.
     pub write_fault: Option<usize>,
+    /// The moments that the clock gives.
+    pub moments: &'a [Moment],
+    /// The number of the clock's call that fails, from 0.
+    pub clock_fault: Option<u64>,
     pub store: Store<'a>,
     pub doors: Doors<'a>,
 }
@@ -107,6 +120,7 @@ struct Outside {
     sink: MemSink,
     shelf: MemShelf,
     gates: MemGates,
+    clock: MemClock,
 }
 
 // Written out, so that a caller doesn't prove again how each part is dropped.
@@ -117,6 +131,7 @@ impl Drop for Outside {
             sink: _,
             shelf: _,
             gates: _,
+            clock: _,
         } = self;
     }
 }
@@ -127,6 +142,8 @@ pub struct Came {
     pub out: Vec<u8>,
     /// How many bytes of its input weren't read.
     pub unread: usize,
+    /// How many moments its clock wasn't asked for.
+    pub unasked: usize,
 }
 
 /// What came of a run.
@@ -137,6 +154,8 @@ pub struct Outcome {
     pub connections: Vec<Came>,
     /// The rows that stand in the store.
     pub rows: Vec<Row>,
+    /// The addresses that doors were asked for at.
+    pub asked: Vec<String>,
 }
 
 // Written out, as that of `Outside`.
@@ -147,15 +166,22 @@ impl Drop for Outcome {
             own: _,
             connections: _,
             rows: _,
+            asked: _,
         } = self;
     }
 }
 
 // What came of a connection.
-fn end_of(alloc: Global, source: &MemSource, sink: &MemSink) -> Result<Came, AllocError> {
+fn end_of(
+    alloc: Global,
+    source: &MemSource,
+    sink: &MemSink,
+    clock: &MemClock,
+) -> Result<Came, AllocError> {
     Ok(Came {
         out: sink.taken().to_vec(alloc)?,
         unread: source.unread().len(),
+        unasked: clock.coming().len(),
     })
 }
 
@@ -164,8 +190,8 @@ fn ends_of(alloc: Global, gates: &MemGates) -> Result<Vec<Came>, AllocError> {
     let mut all = Vec::new(alloc);
     for door in gates.doors() {
         for served in door.served() {
-            let (source, sink) = &served.back;
-            all.push(end_of(alloc, source, sink)?)?;
+            let (source, sink, clock) = &served.back;
+            all.push(end_of(alloc, source, sink, clock)?)?;
         }
     }
     Ok(all)
@@ -175,10 +201,20 @@ fn ends_of(alloc: Global, gates: &MemGates) -> Result<Vec<Came>, AllocError> {
 fn outcome_of(alloc: Global, exit: Exit, outside: &Outside) -> Result<Outcome, AllocError> {
     Ok(Outcome {
         exit,
-        own: end_of(alloc, &outside.source, &outside.sink)?,
+        own: end_of(alloc, &outside.source, &outside.sink, &outside.clock)?,
         connections: ends_of(alloc, &outside.gates)?,
         rows: copied(alloc, outside.shelf.rows_at(PATH))?,
+        asked: texts(alloc, outside.gates.asked())?,
     })
+}
+
+// A copy of the texts.
+fn texts(alloc: Global, texts: &[String]) -> Result<Vec<String>, AllocError> {
+    let mut copies = Vec::new(alloc);
+    for text in texts {
+        copies.push(String::from_str(alloc, text.as_str())?)?;
+    }
+    Ok(copies)
 }
 
 // A copy of the lists.
@@ -201,6 +237,7 @@ impl Outside {
             &mut self.sink,
             &mut self.shelf,
             &mut self.gates,
+            &mut self.clock,
         )
     }
 }
@@ -218,7 +255,8 @@ impl Input<'_> {
         for _ in 0..count {
             let source = self.cut.source(alloc, talk.sent.as_slice(), talk.read)?;
             let sink = self.out_cut.sink(alloc, room, talk.write)?;
-            gates.add(alloc, source, sink)?;
+            let clock = clock_of(alloc, talk.moments.as_slice(), talk.clock)?;
+            gates.add(alloc, source, sink, clock)?;
         }
         Ok(())
     }
@@ -254,6 +292,7 @@ impl Input<'_> {
             sink: self.out_cut.sink(alloc, room, self.write_fault)?,
             shelf: self.store.shelf(alloc)?,
             gates: self.gates(alloc)?,
+            clock: clock_of(alloc, self.moments, self.clock_fault)?,
         })
     }
 

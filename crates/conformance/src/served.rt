@@ -123,6 +123,14 @@ impl Looked<'_> {
         if unread.is_some_and(|unread| unread != self.came.unread) {
             return differing(alloc, "unread", &Some(self.came.unread), &unread);
         }
+        if self.came.unasked != 0 {
+            return differing(
+                alloc,
+                "moments that nobody asked for",
+                &self.came.unasked,
+                &0,
+            );
+        }
         Ok(None)
     }
 }

@@ -83,6 +83,12 @@ pub fn read_number(text: &str) -> Result<usize, LineError> {
     }
 }
 
+/// One less than the number, from 1, that a text is in decimal.
+pub fn read_before(text: &str) -> Result<u64, LineError> {
+    let number = read_number(text)?.checked_sub(1).ok_or(LineError::NoForm)?;
+    Ok(number as u64)
+}
+
 // Adds a text so many times, as it is.
 fn add_times(into: &mut Vec<u8>, count: &str, text: &str) -> Result<(), LineError> {
     for _ in 0..read_number(count)? {

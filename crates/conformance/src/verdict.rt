@@ -46,6 +46,8 @@ struct Due<'a> {
     rows: Option<u64>,
     rows_due: Option<&'a [Row]>,
     unread: Option<usize>,
+    /// How many moments the clock has given.
+    moments: usize,
 }
 
 /// The first difference between what is due of a case and what comes, in words; none where all is as due.
@@ -72,6 +74,7 @@ fn runs(case: &Case) -> usize {
         Ways::Whole => 1,
         Ways::EachEnd | Ways::EachRead => case.talk.sent.len().saturating_add(1),
         Ways::EachWrite => case.talk.due.len(),
+        Ways::EachClock => case.talk.moments.len(),
         Ways::EachRow => case.rows.len().saturating_add(1),
     }
 }
@@ -91,6 +94,7 @@ fn name_of(ways: Ways, number: usize) -> &'static str {
         Ways::EachEnd => "the input ends behind a number of bytes",
         Ways::EachRead => "the input fails behind a number of bytes",
         Ways::EachWrite => "the output fails behind a number of bytes",
+        Ways::EachClock => "the clock fails behind a number of moments",
         Ways::EachRow => "the store ends behind a number of rows",
     }
 }
@@ -141,6 +145,8 @@ fn input_of(case: &Case, cut: Cut, out_cut: Cut) -> Input<'_> {
         out_cut,
         read_fault: case.talk.read,
         write_fault: case.talk.write,
+        moments: case.talk.moments.as_slice(),
+        clock_fault: case.talk.clock,
         store: store_of(case, case.rows.as_slice()),
         doors: doors_of(case),
     }
@@ -165,6 +171,10 @@ fn input_at(case: &Case, number: usize) -> Input<'_> {
             write_fault: Some(number),
             ..input_of(case, Cut::WHOLE, Cut::BYTES)
         },
+        Ways::EachClock => Input {
+            clock_fault: Some(number as u64),
+            ..input_of(case, Cut::BYTES, Cut::WHOLE)
+        },
         Ways::EachRow => Input {
             store: store_of(case, first_rows(case, number)),
             ..input_of(case, Cut::WHOLE, Cut::WHOLE)
@@ -179,6 +189,7 @@ fn due_at(case: &Case, number: usize) -> Due<'_> {
         Ways::EachEnd => due_of_end(case, number),
         Ways::EachRead => due_of_read(case, number),
         Ways::EachWrite => due_of_write(case, number),
+        Ways::EachClock => due_of_clock(case, number),
         Ways::EachRow => due_of_rows(case, number),
     }
 }
@@ -198,6 +209,7 @@ fn due_of_cut(case: &Case, cut: Cut) -> Due<'_> {
         rows: rows_by(case.talk.answers.as_slice()),
         rows_due: case.rows_due.as_ref().map(|rows| rows.as_slice()),
         unread: unread_due(&case.talk, cut),
+        moments: case.talk.moments.len(),
     }
 }
 
@@ -217,6 +229,11 @@ fn end_of(answers: &[Mark]) -> usize {
     answers.last().map_or(0, |mark| mark.end)
 }
 
+// How many moments the clock has given for these answers.
+fn moments_by(answers: &[Mark]) -> usize {
+    answers.last().map_or(0, |mark| mark.moments)
+}
+
 // Where the input ends behind so many bytes. The end is clean where an answer is due there, or nothing was
 // sent.
 fn due_of_end(case: &Case, count: usize) -> Due<'_> {
@@ -228,6 +245,7 @@ fn due_of_end(case: &Case, count: usize) -> Due<'_> {
         rows: rows_by(answers),
         rows_due: None,
         unread: None,
+        moments: moments_by(answers),
     }
 }
 
@@ -240,6 +258,7 @@ fn due_of_read(case: &Case, count: usize) -> Due<'_> {
         rows: rows_by(answers),
         rows_due: None,
         unread: Some(case.talk.sent.len().saturating_sub(count)),
+        moments: moments_by(answers),
     }
 }
 
@@ -259,12 +278,30 @@ fn begun(case: &Case, count: usize) -> &[Mark] {
 
 // Where the output fails behind so many bytes.
 fn due_of_write(case: &Case, count: usize) -> Due<'_> {
+    let begun = begun(case, count);
     Due {
         out: front(case.talk.due.as_slice(), Some(count)),
         exit: Exit::WriteFault,
-        rows: rows_by(begun(case, count)),
+        rows: rows_by(begun),
         rows_due: None,
         unread: None,
+        moments: moments_by(begun),
+    }
+}
+
+// Where the clock fails behind so many moments: the answers that had one are whole, and nothing is judged behind them.
+// What isn't to be read then is what is sent behind the request that gets none.
+fn due_of_clock(case: &Case, count: usize) -> Due<'_> {
+    let marks = case.talk.answers.as_slice();
+    let answers = marks.get(..count).unwrap_or(marks);
+    let sent = marks.get(count).map(|mark| mark.sent);
+    Due {
+        out: front(case.talk.due.as_slice(), Some(end_of(answers))),
+        exit: Exit::ClockFault,
+        rows: rows_by(answers),
+        rows_due: None,
+        unread: sent.map(|sent| case.talk.sent.len().saturating_sub(sent)),
+        moments: count,
     }
 }
 
@@ -280,6 +317,7 @@ fn due_of_rows(case: &Case, count: usize) -> Due<'_> {
             rows: Some(count as u64),
             rows_due: None,
             unread: None,
+            moments: 0,
         },
         _ => due_of_cut(case, Cut::WHOLE),
     }
@@ -308,7 +346,7 @@ fn differing_outcome(
     if outcome.own.out.as_slice() != due.out {
         return Ok(Some(differing_answer(alloc, case, outcome.own.out.as_slice(), due.out)?));
     }
-    if let Some(why) = differing_end(alloc, outcome, due)? {
+    if let Some(why) = differing_end(alloc, case, outcome, due)? {
         return Ok(Some(why));
     }
     let rows = outcome.rows.as_slice();
@@ -360,9 +398,26 @@ pub fn differing<T: Debug>(
     Ok(Some(format!(in alloc; "{what}: came {came:?}, due {due:?}")?))
 }
 
+// The address at which the gates were asked for doors, where it isn't the one that is due.
+fn differing_address(
+    alloc: Global,
+    case: &Case,
+    asked: &[String],
+) -> Result<Option<String>, AllocError> {
+    let Some(due) = &case.listen else {
+        return Ok(None);
+    };
+    let came = asked.first().map_or("", |address| address.as_str());
+    if asked.len() > 1 || came != due.as_str() {
+        return differing(alloc, "address", &came, &due.as_str());
+    }
+    Ok(None)
+}
+
 // The first difference beside the answers.
 fn differing_end(
     alloc: Global,
+    case: &Case,
     outcome: &Outcome,
     due: &Due<'_>,
 ) -> Result<Option<String>, AllocError> {
@@ -383,5 +438,9 @@ fn differing_end(
     if due.unread.is_some() && unread != due.unread {
         return differing(alloc, "unread", &unread, &due.unread);
     }
-    Ok(None)
+    let moments = case.talk.moments.len().saturating_sub(outcome.own.unasked);
+    if moments != due.moments {
+        return differing(alloc, "moments", &moments, &due.moments);
+    }
+    differing_address(alloc, case, outcome.asked.as_slice())
 }

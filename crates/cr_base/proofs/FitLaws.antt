@@ -135,7 +135,7 @@ module _ (t : Tables) (within : AreWithin (paper_count t.papers) t.ties) (stamp 
   judged-fits (Register name digest) drawn accepted =
       let n : ℕ = length t.accounts in
       let checks = register_checks (is_some (number_at t.accounts name)) n in
-      let k = judged-Ok checks (registration_drawn stamp (n + 1) name digest) drawn (sym (judge_by_role-register t (Some maker) name digest) ∙ accepted) in
+      let k = judged-Ok checks (registration_drawn stamp (n + 1) name digest) drawn (sym (judge_by_role-register t (call_by stamp (Register name digest)) name digest refl) ∙ accepted) in
       subst (λ (d : Drawn). FitInTurn t d.group) k.1 (registration-in_turn t stamp (n + 1) name digest (registration-fits t.accounts name digest (n + 1) (sym (judged-none checks (n + 1) k.0))))
   judged-fits (SetPhase to) drawn accepted =
       let k = judged-Ok (phase_checks (standing_at t (Some maker) None) t.stage.phase to) (phase_drawn stamp to) drawn accepted in

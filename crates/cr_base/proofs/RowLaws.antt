@@ -105,11 +105,11 @@ unused-zero n h = omega arith
 -- a row is the one with its fields
 same_row : (r : Row) (k : EntryKind) (a b c d f : ℕ) (x y : List ℕ) → kind_number k ≡ r.kind → FitsShape (shape_of k) r → d ≡ r.n4 → f ≡ r.n5 → a ≡ r.n1 → b
     ≡ r.n2 → c ≡ r.n3 → x ≡ r.b1 → y ≡ r.b2
-    → record { kind = kind_number k; maker = r.maker; more = cond (r.more == 1) 1 0; n1 = a; n2 = b; n3 = c; n4 = d; n5 = f; b1 = x; b2 = y } ≡ r
+    → record { kind = kind_number k; maker = r.maker; more = cond (r.more == 1) 1 0; at = r.at; n1 = a; n2 = b; n3 = c; n4 = d; n5 = f; b1 = x; b2 = y } ≡ r
 same_row r k a b c d f x y hk fits h4 h5 h1 h2 h3 hx hy =
     let o = bit r.more fits.more in
-    let e : record { kind = kind_number k; maker = r.maker; more = cond (r.more == 1) 1 0; n1 = a; n2 = b; n3 = c; n4 = d; n5 = f; b1 = x; b2 = y }
-    ≡ record { kind = r.kind; maker = r.maker; more = r.more; n1 = r.n1; n2 = r.n2; n3 = r.n3; n4 = r.n4; n5 = r.n5; b1 = r.b1; b2 = r.b2 } = cc in
+    let e : record { kind = kind_number k; maker = r.maker; more = cond (r.more == 1) 1 0; at = r.at; n1 = a; n2 = b; n3 = c; n4 = d; n5 = f; b1 = x; b2 = y }
+    ≡ record { kind = r.kind; maker = r.maker; more = r.more; at = r.at; n1 = r.n1; n2 = r.n2; n3 = r.n3; n4 = r.n4; n5 = r.n5; b1 = r.b1; b2 = r.b2 } = cc in
     e
 
 -- what a field spells that holds a number as it is, a mark, or nothing

@@ -14,6 +14,7 @@ pub mod Judging
 pub mod Labels
 pub mod Lists
 pub mod Logins
+pub mod Moments
 pub mod Page
 pub mod Pairs
 pub mod Papers

@@ -166,6 +166,7 @@ row_of s =
       kind = kind_number (kind_of s.entry);
       maker = s.stamp.maker;
       more = bit_number s.more;
+      at = s.stamp.at;
       n1 = f.n1;
       n2 = f.n2;
       n3 = f.n3;
@@ -178,6 +179,10 @@ row_of s =
 -- RowsOf: one row for each entry, in order
 abbrev pub rows_of : List Stamped → List Row
 rows_of history = map row_of history
+
+-- the row of a store that keeps moments, for a row of one that kept none: the same, at the first moment
+abbrev pub migrated : Row → Row
+migrated r = record r { at = 0 }
 
 -- the numbers and bytes of an entry are within the bounds of its kind, so that it has a row
 abbrev pub IsBoundedEntry : Stamped → Type 0

@@ -8,6 +8,7 @@ use Rattle.cr_base.specs.declared.shape.TextKind.TheVariants.{Nothing, Name, Dig
 use Rattle.cr_base.specs.declared.shape.TextKind.TheVariants.{Content, ReviewText, CommentText, Tag}
 use Rattle.cr_base.specs.declared.entry.Stamp.{Stamp}
 use Rattle.cr_base.specs.declared.row.Row.{Row}
+use Rattle.cr_base.specs.Moments.{IsMoment}
 use Rattle.cr_base.specs.TagTexts.{is_tag}
 use Rattle.cr_base.specs.Texts.{IsName, IsTitle, IsAbstract, IsContent, IsReviewText, IsCommentText}
 
@@ -103,10 +104,11 @@ HasText Tag bytes = IsTrue (is_tag bytes)
 
 -- the stamp that a row's fields spell, and that its fields are as they may be in every kind
 abbrev pub stamp_in : Row → Stamp
-stamp_in r = record { maker = r.maker }
+stamp_in r = record { maker = r.maker; at = r.at }
 
 pub record FitsStamp (stamp : Stamp) : Type 0 where
   pub maker : InRange user_range stamp.maker
+  pub at : IsMoment stamp.at
 
 -- the row's fields are as the shape wants them
 pub record FitsShape (s : Shape) (r : Row) : Type 0 where

@@ -6,6 +6,7 @@ use crate::ask::Ask;
 use crate::bid::Bid;
 use crate::entry::Digest;
 use crate::form::Form;
+use crate::moment::Moment;
 use crate::numbers::{PaperNo, UserNo};
 use crate::report::Report;
 use crate::search::Search;
@@ -135,11 +136,13 @@ pub enum Command {
     },
 }
 
-/// A command and who gives it.
+/// A command, who gives it, and when.
 #[derive(Drop)]
 pub struct Call {
     /// Who gives it; nobody registers, and every other command is a user's.
     pub caller: Option<UserNo>,
+    /// The moment of its request.
+    pub at: Moment,
     /// What is to change.
     pub command: Command,
 }

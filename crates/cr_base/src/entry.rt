@@ -4,6 +4,7 @@ ghost use Rattle.cr_base.specs.Rows.{kind_of};
 
 use crate::bid::Bid;
 use crate::form::Form;
+use crate::moment::Moment;
 use crate::numbers::{Ordinal, PaperNo, UserNo};
 use crate::tag::Tag;
 use crate::texts::{Blob, Short, Text, TwoTexts};
@@ -197,11 +198,13 @@ pub enum EntryKind {
     Decided,
 }
 
-/// What a command's entries have alike, beside what each says: who gave it.
+/// What a command's entries have alike, beside what each says: who gave it, and when.
 #[derive(Clone, Copy, PartialEq, Eq)]
 pub struct Stamp {
     /// Who gave the command; of a registration the new user.
     pub maker: UserNo,
+    /// The moment of the command's request.
+    pub at: Moment,
 }
 
 /// An entry with the stamp of its command, and whether another entry of the same command follows.

@@ -1,5 +1,6 @@
 //! Rows: what a keeper keeps of entries.
 ghost use Rattle.std.specs.Prelude.{◌≡◌, ◌↔◌, IsTrue, IfOk};
+ghost use Rattle.cr_base.specs.Rows.{migrated};
 
 use crate::texts::Blob;
 use std::alloc::AllocError;
@@ -14,6 +15,8 @@ pub struct Row {
     pub maker: u64,
     /// 1 on each entry of a command but its last one, which has 0.
     pub more: u64,
+    /// The moment of the command's request, in seconds since 1970-01-01T00:00:00Z.
+    pub at: u64,
     /// The first number of the entry, by its kind; 0 where unused, as in the four others.
     pub n1: u64,
     /// The second number.
@@ -39,6 +42,7 @@ impl Row {
             kind: self.kind,
             maker: self.maker,
             more: self.more,
+            at: self.at,
             n1: self.n1,
             n2: self.n2,
             n3: self.n3,
@@ -56,6 +60,7 @@ impl Row {
         self.kind == other.kind
             && self.maker == other.maker
             && self.more == other.more
+            && self.at == other.at
             && self.n1 == other.n1
             && self.n2 == other.n2
             && self.n3 == other.n3
@@ -64,4 +69,12 @@ impl Row {
             && self.b1.is_same(&other.b1)
             && self.b2.is_same(&other.b2)
     }
+}
+
+/// The row of a store of version 2 that a row of version 1 gives. Version 1 kept no moment: `at` is 0, and every other
+/// field stays. Takes no memory.
+pub fn migrate_row(row: Row) -> Row
+    ensures { result ≡ migrated row }
+{
+    Row { at: 0, ..row }
 }

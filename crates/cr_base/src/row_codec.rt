@@ -1,5 +1,6 @@
 //! The row of an entry, and the entry of a row, kind by kind.
 ghost use Rattle.std.specs.Prelude.{◌≡◌, ◌≢◌, ◌≤◌, [], length, IfOk, IfSome, IfNone, Some, IsTrue};
+ghost use Rattle.cr_base.specs.Moments.{IsMoment};
 ghost use Rattle.cr_base.specs.TagTexts.{is_tag};
 ghost use Rattle.cr_base.specs.Shapes.{FitsShape, FitsStamp, stamp_in};
 ghost use Rattle.cr_base.specs.Rows.{kind_name, kind_number, shape_of, row_of, fields_of};
@@ -10,6 +11,7 @@ ghost use Rattle.cr_base.specs.declared.entry.Stamped.{Stamped};
 use crate::bid::Bid;
 use crate::entry::{Digest, Entry, EntryKind, Stamp, Stamped};
 use crate::form::Form;
+use crate::moment::Moment;
 use crate::numbers::{Grade, Ordinal, PaperNo, UserNo};
 use crate::row::Row;
 use crate::shape::{
@@ -162,6 +164,7 @@ impl Entry {
             kind,
             maker: stamp.maker.number(),
             more: u64::from(more),
+            at: stamp.at.seconds(),
             n1: numbers.n1,
             n2: numbers.n2,
             n3: numbers.n3,
@@ -386,6 +389,17 @@ fn label_of_number(number: u64) -> Option<Ordinal>
     }
 }
 
+/// The moment of so many seconds, where there is one.
+fn moment_of_seconds(seconds: u64) -> Moment
+    requires { IsMoment seconds }
+    ensures { result ≡ seconds }
+{
+    match Moment::new(seconds) {
+        Some(moment) => moment,
+        None => unreachable!(),
+    }
+}
+
 /// The tag that bytes of a tag's grammar are.
 fn tag_of(bytes: &Blob) -> Tag
     requires { IsTrue (is_tag bytes.now) }
@@ -519,6 +533,7 @@ impl Stamp {
     {
         Stamp {
             maker: UserNo::new(row.maker),
+            at: moment_of_seconds(row.at),
         }
     }
 }

@@ -3,6 +3,7 @@ ghost use Rattle.std.specs.Prelude.{◌≡◌, ◌↔◌, IsTrue};
 ghost use Rattle.cr_base.specs.Shapes.{FitsShape, FitsStamp, stamp_in, HasText, InRange, IsAtMost};
 
 use crate::bid::HIGHEST_RAISED;
+use crate::moment::LAST_MOMENT;
 use crate::numbers::{HIGHEST_GRADE, LAST_NUMBER, MOST_LABELS};
 use crate::row::Row;
 use crate::tag::is_tag;
@@ -240,5 +241,5 @@ impl Shape {
 fn fits_stamp(row: &Row) -> bool
     ensures { IsTrue result ↔ FitsStamp (stamp_in row.now) }
 {
-    USERS.holds(row.maker)
+    USERS.holds(row.maker) && row.at <= LAST_MOMENT
 }

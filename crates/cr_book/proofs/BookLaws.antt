@@ -23,7 +23,7 @@ use Rattle.cr_base.specs.Sources.{facts_of_tables}
 use Rattle.cr_base.specs.Tables.{Tables, tables_of, tables_from}
 use Rattle.cr_policy.specs.Judge.{judge, judge_bulk, answer, needs_login}
 use Rattle.cr_policy.specs.View.{view}
-use Rattle.cr_policy.specs.Legal.{Legal, MayAsk}
+use Rattle.cr_policy.specs.Legal.{IsBulkAllowed, Legal, MayAsk}
 use Rattle.cr_policy.proofs.LegalLaws.{Legal-judge, Legal-judge_bulk, Legal-answer, Legal-needs_login, Legal-number_of, Legal-caller_of}
 use Rattle.cr_history.specs.Invariants.{IsRegistered}
 use Rattle.cr_history.proofs.TableAgreement.{tables_of-append, rows_of-append}
@@ -84,23 +84,23 @@ judged-by_view rows h log t keeper call judgement same sound is =
     ∙ ap (λ (x : Tables). judge_by_role x call) (sym sound.same)
     ∙ sym is
 
--- and so it is of a bulk, where its caller has registered
+-- and so it is of a bulk that is allowed
 pub bulk-by_view : {K : Type 0} (rows : K → Option (List Row)) (h log : History) (t : Tables) (keeper : K) (bulk : BulkCall) (judgement : Result Drawn Broken)
-    → h ≡ log → IsSound rows h t keeper → IsRegistered log bulk.stamp.maker → bulk_by_role t bulk ≡ judgement
+    → h ≡ log → IsSound rows h t keeper → IsBulkAllowed log bulk → bulk_by_role t bulk ≡ judgement
     → judge_bulk (view (Some bulk.stamp.maker) log) bulk ≡ judgement
-bulk-by_view rows h log t keeper bulk judgement same sound registered is =
+bulk-by_view rows h log t keeper bulk judgement same sound allowed is =
     sym (ap (λ (x : History). judge_bulk (view (Some bulk.stamp.maker) x) bulk) same)
-    ∙ Legal-judge_bulk h bulk sound.legal (subst (λ (x : History). IsRegistered x bulk.stamp.maker) (sym same) registered)
+    ∙ Legal-judge_bulk h bulk sound.legal (subst (λ (x : History). IsRegistered x bulk.stamp.maker) (sym same) allowed.caller) allowed.moment
     ∙ ap (λ (x : Tables). bulk_by_role x bulk) (sym sound.same)
     ∙ is
 
 -- what it adds
 pub bulk-drawn : {K : Type 0} (rows : K → Option (List Row)) (h log : History) (t : Tables) (keeper : K) (bulk : BulkCall) (group : History)
-    → h ≡ log → IsSound rows h t keeper → IsRegistered log bulk.stamp.maker → group ≡ grouped bulk.stamp (entries_of group)
+    → h ≡ log → IsSound rows h t keeper → IsBulkAllowed log bulk → group ≡ grouped bulk.stamp (entries_of group)
     → bulk_by_role t bulk ≡ Ok (bulk_drawn bulk.stamp (length group) (entries_of group))
     → judge_bulk (view (Some bulk.stamp.maker) log) bulk ≡ Ok (record { group = group; receipt = receipts.Rows (length group) })
-bulk-drawn rows h log t keeper bulk group same sound registered grouped is =
-    bulk-by_view rows h log t keeper bulk _ same sound registered is
+bulk-drawn rows h log t keeper bulk group same sound allowed grouped is =
+    bulk-by_view rows h log t keeper bulk _ same sound allowed is
     ∙ ap (λ (g : History). let drawn : Drawn = record { group = g; receipt = receipts.Rows (length group) } in Ok drawn) (sym grouped)
 
 -- where something is drawn, no error is told

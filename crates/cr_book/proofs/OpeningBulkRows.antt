@@ -14,6 +14,7 @@ use Rattle.cr_base.specs.Bulk.{bulk_drawn, tables_basis}
 use Rattle.cr_base.specs.Calls.{BulkCall}
 use Rattle.cr_base.specs.Drawn.{Drawn, stamped, grouped}
 use Rattle.cr_base.specs.History.{History}
+use Rattle.cr_base.specs.Shapes.{FitsStamp}
 use Rattle.cr_base.specs.Rows.{row_of, rows_of, IsBoundedEntry}
 use Rattle.cr_base.specs.Tables.{Tables, tables_of, tables_from}
 use Rattle.cr_base.proofs.RowLaws.{same_entry}
@@ -49,7 +50,7 @@ bulk-of : (H group : History) → Legal H → MayAddRows H group → BulkOf H gr
 bulk-of H group legal add =
     let stamp : Stamp = add.bulk.stamp in
     let t : Tables = tables_of H in
-    let parts = bulk-parts (tables_basis stamp.maker) t add.bulk add.drawn (sym (Legal-judge_bulk H add.bulk legal add.allowed.caller) ∙ add.accepted) in
+    let parts = bulk-parts (tables_basis stamp.maker) t add.bulk add.drawn (sym (Legal-judge_bulk H add.bulk legal add.allowed.caller add.allowed.moment) ∙ add.accepted) in
     let rebuilt = rows-drawn stamp 1 t add.bulk.rows parts.entries parts.accepted in
     let many = rebuilt.count in
     let bound = add.allowed.bounded in
@@ -63,18 +64,18 @@ bulk-of H group legal add =
     }
 
 -- entries that are drawn are a bulk's
-bulk-may : (H : History) (stamp : Stamp) (entries : List Entry) → Legal H → may_bulk (tables_of H) stamp.maker ≡ true
+bulk-may : (H : History) (stamp : Stamp) → FitsStamp stamp → (entries : List Entry) → Legal H → may_bulk (tables_of H) stamp.maker ≡ true
     → AllByRecursion (λ (e : Entry). IsBoundedEntry (unfinished stamp e)) entries → AreDrawn (tables_of H) stamp entries → length entries ≤ 512
     → Legal (H ++ grouped stamp entries)
-bulk-may H stamp entries legal may bounded drawn few =
+bulk-may H stamp fits entries legal may bounded drawn few =
     let t : Tables = tables_of H in
     let rows = rows-spelled stamp 1 t entries (row_names H legal) bounded drawn in
     let parts = may-parts t stamp.maker may in
     let registered = registered-known H stamp.maker legal ∙ parts.0 in
     let many = rows.1 in
     let bulk : BulkCall = record { stamp = stamp; rows = rows.0 } in
-    Legal-bulk_accepted H bulk (bulk_drawn stamp (length rows.0) entries) legal (record { caller = registered; bounded = omega (arith, many, few) })
-    (Legal-judge_bulk H bulk legal registered ∙ parts-bulk (tables_basis stamp.maker) t bulk entries parts.1 rows.2)
+    Legal-bulk_accepted H bulk (bulk_drawn stamp (length rows.0) entries) legal (record { caller = registered; bounded = omega (arith, many, few); moment = fits.at })
+    (Legal-judge_bulk H bulk legal registered fits.at ∙ parts-bulk (tables_basis stamp.maker) t bulk entries parts.1 rows.2)
 
 -- ---- the first entry of a group
 
@@ -87,10 +88,10 @@ head-of stamp e [] first rest other is = ap begins_bulk (sym (first_is (stamped 
 head-of stamp e (next ∷ es) first rest other is = ap begins_bulk (sym (first_is (unfinished stamp e) first (grouped stamp (next ∷ es)) rest is)) ∙ other
 
 call-first : (H g : History) (first : Stamped) (rest : History) → Adds H g → g ≡ first ∷ rest → begins_bulk first ≡ false
-call-first H g first rest (single stamp e made marked ruled) is =
+call-first H g first rest (single stamp e moment made marked ruled) is =
     ap begins_bulk (sym (first_is (stamped stamp false e) first [] rest is))
-call-first H g first rest (submitted stamp paper title abstract users made ruled registered) is = head-of stamp (Submitted paper title abstract) _ first rest refl is
-call-first H g first rest (first_user stamp name digest is_first texts) is =
+call-first H g first rest (submitted stamp paper title abstract users moment made ruled registered) is = head-of stamp (Submitted paper title abstract) _ first rest refl is
+call-first H g first rest (first_user stamp name digest moment is_first texts) is =
     ap begins_bulk (sym (first_is (unfinished stamp (Registered stamp.maker name digest)) first _ rest is))
 
 -- a group that begins no bulk of more than one row is a call's: a bulk of one row adds what the row's command does
@@ -241,7 +242,7 @@ no-call : (H group begun rest : History) (next : Stamped) → MayAdd H group →
 no-call H group begun rest next add first is = by begun first is
   where
     added : Adds H group
-    added = subst (λ (g : History). Adds H g) (sym add.group_is) (accepted-adds H add.call add.drawn add.allowed.bounded add.allowed.caller add.accepted)
+    added = subst (λ (g : History). Adds H g) (sym add.group_is) (accepted-adds H add.call add.drawn add.allowed add.accepted)
 
     by : (begun : History) → begins_bulk (first_of begun next) ≡ true → group ≡ begun ++ next ∷ rest → ⊥
     by [] first is = true≢false (sym first ∙ call-first H group next rest added is)
@@ -343,7 +344,7 @@ module _ (log : History) (pending : List Row) (begun : History) (row : Row) (nex
       record {
         legal = reading.legal;
         same = refl;
-        next = subst (λ (g : History). Legal (log ++ g)) (sym group_is) (bulk-may log stamp entries reading.legal may_parts.1 all_bounded drawn (omega (arith, few, n)));
+        next = subst (λ (g : History). Legal (log ++ g)) (sym group_is) (bulk-may log stamp bounded.stamp entries reading.legal may_parts.1 all_bounded drawn (omega (arith, few, n)));
         whole = subst (λ (g : History). IsGroup g) (sym group_is) (grouped-some stamp before.entries next.entry);
         begins = ap (λ (rows : List Row). take (length rows) (rows_of (begun ++ next ∷ []))) rows_with ∙ take_whole (rows_of (begun ++ next ∷ [])) ∙ sym rows_with;
       }
@@ -402,7 +403,7 @@ module _ (log : History) (pending : List Row) (begun : History) (row : Row) (nex
       let m = length-append entries (tagged ∷ []) in
       record {
         history = log ++ grouped stamp (entries ++ tagged ∷ []);
-        legal = bulk-may log stamp (entries ++ tagged ∷ []) reading.legal may_parts.1 (all-more (λ (e : Entry). IsBoundedEntry (unfinished stamp e)) entries tagged all_bounded tag_bounded)
+        legal = bulk-may log stamp bounded.stamp (entries ++ tagged ∷ []) reading.legal may_parts.1 (all-more (λ (e : Entry). IsBoundedEntry (unfinished stamp e)) entries tagged all_bounded tag_bounded)
             (tag-next t stamp entries clear.paper (97 ∷ []) true may_parts.1 clear.clear drawn) (omega (arith, few, n, m));
         after = row_of last ∷ [];
         rows_are = rows_of-append log (grouped stamp (entries ++ tagged ∷ []))

@@ -36,7 +36,7 @@ use Rattle.cr_base.specs.Bulk.{entries_of}
 use Rattle.cr_base.specs.HistoryFacts.{role_of}
 use Rattle.cr_base.specs.History.{History, Registration, all_told, registration_told}
 use Rattle.cr_base.specs.Judging.{judge_by_role}
-use Rattle.cr_base.specs.Calls.{call_by, call_of, stamp_by}
+use Rattle.cr_base.specs.Calls.{call_by, stamp_of}
 use Rattle.cr_base.specs.Drawn.{Drawn, besides, stamped, grouped, registration_drawn, phase_drawn, submission_drawn, revision_drawn, upload_drawn, withdrawal_drawn, naming_drawn, mode_drawn}
 use Rattle.cr_base.specs.Drawn.{bid_drawn, review_drawn, comment_drawn, decision_drawn}
 use Rattle.cr_base.specs.Lists.{is_nothing, listed}
@@ -55,6 +55,7 @@ use Rattle.cr_book.proofs.OpeningNames.{AreNamedOnce, named, found_by_name}
 use Rattle.cr_book.proofs.OpeningBulks.{none_some, some_is, with-name, row-judges, told-of_row, drawn-of_row, one_is}
 use Rattle.cr_book.proofs.OpeningLegal.{MayAdd}
 use Rattle.cr_base.specs.Rows.{rows_of, IsBoundedEntry}
+use Rattle.cr_base.specs.Shapes.{FitsStamp}
 use Rattle.cr_base.specs.Tables.{Tables, tables_of}
 use Rattle.cr_base.specs.Words.{role_number, is_member}
 use Rattle.cr_base.proofs.AccountLaws.{number_in-lines_of}
@@ -68,7 +69,7 @@ use Rattle.cr_history.proofs.LineAgreement.{accounts_of-tables}
 use Rattle.cr_base.specs.Bulk.{IsRowCommand}
 use Rattle.cr_book.proofs.OpeningRowCommands.{row-adds}
 use Rattle.cr_book.specs.BulkRebuilding.{is_of_row, IsDrawn}
-use Rattle.cr_book.specs.Rebuilding.{name_told, giver_told, command_told, paper_command_told, user_command_told, is_known, authors_told, call_told, drawn_of, drawn_told, drawn_by_rows}
+use Rattle.cr_book.specs.Rebuilding.{name_told, giver_told, call_given, command_told, paper_command_told, user_command_told, is_known, authors_told, call_told, drawn_of, drawn_told, drawn_by_rows}
 
 -- ---- who is known
 
@@ -233,28 +234,32 @@ module _ (t : Tables) (rows : List Row) (drawn : Drawn) (begins : take (length r
     begins = begins;
   }
 
-  register-told : (name digest : List ℕ) → judge_by_role t (call_of None (Register name digest)) ≡ Ok drawn → ToldByRows t rows drawn
-  register-told name digest accepted =
+  register-told : (call : Call) (name digest : List ℕ) → judge_by_role t (record call { caller = None; command = Register name digest }) ≡ Ok drawn
+      → ToldByRows t rows drawn
+  register-told call name digest accepted =
       let n : ℕ = length (lines_of t.accounts) in
-      let k = judged-Ok (register_checks (is_some (number_in (lines_of t.accounts) name)) n) (registration_drawn (stamp_by 0) (n + 1) name digest) drawn accepted in
+      let k = judged-Ok (register_checks (is_some (number_in (lines_of t.accounts) name)) n) (registration_drawn (stamp 0) (n + 1) name digest) drawn accepted in
       by (eqb (n + 1) 1) (n + 1) (sym (ap (λ (d : Drawn). d.group) k.1))
     where
+      stamp : ℕ → Stamp
+      stamp user = record (stamp_of call) { maker = user }
+
       begun : (user : ℕ) (more : Bool) (rest : History)
-          → drawn.group ≡ stamped (stamp_by user) more (Registered user name digest) ∷ rest → ToldByRows t rows drawn
+          → drawn.group ≡ stamped (stamp user) more (Registered user name digest) ∷ rest → ToldByRows t rows drawn
       begun user more rest is =
-          let first : Stamped = stamped (stamp_by user) more (Registered user name digest) in
+          let first : Stamped = stamped (stamp user) more (Registered user name digest) in
           record {
             first = first;
             rest = rest;
             group_is = is;
             given = drawn;
-            told = told-judged t (authors_told t user rows) first (call_of None (Register name digest)) (Ok drawn) refl refl accepted;
+            told = told-judged t (authors_told t user rows) first (record call { caller = None; command = Register name digest }) (Ok drawn) refl refl accepted;
             begins = begins;
           }
 
       by : (b : Bool) (user : ℕ) → drawn.group
-          ≡ grouped (stamp_by user) (cond b (Registered user name digest ∷ Named user roles.Chair ∷ []) (Registered user name digest ∷ [])) → ToldByRows t rows drawn
-      by true user is = begun user true (stamped (stamp_by user) false (Named user roles.Chair) ∷ []) is
+          ≡ grouped (stamp user) (cond b (Registered user name digest ∷ Named user roles.Chair ∷ []) (Registered user name digest ∷ [])) → ToldByRows t rows drawn
+      by true user is = begun user true (stamped (stamp user) false (Named user roles.Chair) ∷ []) is
       by false user is = begun user false [] is
 
   module _ (stamp : Stamp) (known : is_known t (Some stamp.maker) ≡ true) where
@@ -379,31 +384,36 @@ accepted-told H call drawn r behind legal allowed accepted begins bounded = by c
     registered : (user : ℕ) → IsUser H (Some user) → is_known t (Some user) ≡ true
     registered user is = sym (registered-known H user legal) ∙ is
 
-    by : (caller : Option ℕ) (command : Command) → IsCaller H caller command → IsBoundedCommand command → judge_by_role t (call_of caller command) ≡ Ok drawn
+    stamp : ℕ → Stamp
+    stamp user = record (stamp_of call) { maker = user }
+
+    by : (caller : Option ℕ) (command : Command) → IsCaller H caller command → IsBoundedCommand command → judge_by_role t (record call { caller = caller; command = command }) ≡ Ok drawn
         → ToldByRows t rows drawn
-    by caller (Register name digest) is within judges = register-told t rows drawn begins name digest (ap (λ (c : Option ℕ). judge_by_role t (call_of c (Register name digest))) (sym is) ∙ judges)
+    by caller (Register name digest) is within judges =
+        register-told t rows drawn begins call name digest
+        (ap (λ (c : Option ℕ). judge_by_role t (record call { caller = c; command = Register name digest })) (sym is) ∙ judges)
     by None (Tag paper tag on) is within judges = absurd (subst (λ (login : Bool). CallsAs H login None) (tags-login paper tag on) is)
     by None command is within judges = absurd is
-    by (Some user) (SetPhase to) is within judges = stage-told t rows drawn begins (stamp_by user) (registered user is) to judges
-    by (Some user) (SetMode to) is within judges = mode-told t rows drawn begins (stamp_by user) (registered user is) to judges
-    by (Some user) (Submit title abstract authors) is within judges = submission-told t (found_by_name H legal) (stamp_by user) (registered user is) drawn r behind title abstract authors within.2 judges begins bounded
-    by (Some user) (Revise paper title abstract) is within judges = revision-told t rows drawn begins (stamp_by user) (registered user is) paper title abstract judges
-    by (Some user) (Upload paper content) is within judges = upload-told t rows drawn begins (stamp_by user) (registered user is) paper content judges
-    by (Some user) (Withdraw paper) is within judges = withdrawal-told t rows drawn begins (stamp_by user) (registered user is) paper judges
-    by (Some user) (Name name role) is within judges = name-told t rows drawn begins (stamp_by user) (registered user is) name role judges
+    by (Some user) (SetPhase to) is within judges = stage-told t rows drawn begins (stamp user) (registered user is) to judges
+    by (Some user) (SetMode to) is within judges = mode-told t rows drawn begins (stamp user) (registered user is) to judges
+    by (Some user) (Submit title abstract authors) is within judges = submission-told t (found_by_name H legal) (stamp user) (registered user is) drawn r behind title abstract authors within.2 judges begins bounded
+    by (Some user) (Revise paper title abstract) is within judges = revision-told t rows drawn begins (stamp user) (registered user is) paper title abstract judges
+    by (Some user) (Upload paper content) is within judges = upload-told t rows drawn begins (stamp user) (registered user is) paper content judges
+    by (Some user) (Withdraw paper) is within judges = withdrawal-told t rows drawn begins (stamp user) (registered user is) paper judges
+    by (Some user) (Name name role) is within judges = name-told t rows drawn begins (stamp user) (registered user is) name role judges
     by (Some user) (SetConflict paper name on) is within judges =
-        row-told t rows drawn begins (stamp_by user) (registered user is) (SetConflict paper name on) tt judges
-    by (Some user) (commands.Bid paper value) is within judges = bid-told t rows drawn begins (stamp_by user) (registered user is) paper value judges
+        row-told t rows drawn begins (stamp user) (registered user is) (SetConflict paper name on) tt judges
+    by (Some user) (commands.Bid paper value) is within judges = bid-told t rows drawn begins (stamp user) (registered user is) paper value judges
     by (Some user) (Assign paper name kind) is within judges =
-        row-told t rows drawn begins (stamp_by user) (registered user is) (Assign paper name kind) tt judges
+        row-told t rows drawn begins (stamp user) (registered user is) (Assign paper name kind) tt judges
     by (Some user) (Unassign paper name) is within judges =
-        row-told t rows drawn begins (stamp_by user) (registered user is) (Unassign paper name) tt judges
-    by (Some user) (Review paper form) is within judges = review-told t rows drawn begins (stamp_by user) (registered user is) paper form judges
-    by (Some user) (Comment paper text) is within judges = comment-told t rows drawn begins (stamp_by user) (registered user is) paper text judges
+        row-told t rows drawn begins (stamp user) (registered user is) (Unassign paper name) tt judges
+    by (Some user) (Review paper form) is within judges = review-told t rows drawn begins (stamp user) (registered user is) paper form judges
+    by (Some user) (Comment paper text) is within judges = comment-told t rows drawn begins (stamp user) (registered user is) paper text judges
     by (Some user) (Tag paper tag on) is within judges =
         let made = subst (λ (login : Bool). CallsAs H login (Some user)) (tags-login paper tag on) is in
-        row-told t rows drawn begins (stamp_by user) (registered user made) (Tag paper tag on) tt judges
-    by (Some user) (Decide paper decision) is within judges = decision-told t rows drawn begins (stamp_by user) (registered user is) paper decision judges
+        row-told t rows drawn begins (stamp user) (registered user made) (Tag paper tag on) tt judges
+    by (Some user) (Decide paper decision) is within judges = decision-told t rows drawn begins (stamp user) (registered user is) paper decision judges
 
 -- ---- the call of an entry
 
@@ -412,7 +422,7 @@ record Judges (t : Tables) (authors : List (Option (List ℕ))) (first : Stamped
   command : Command
   told : command_told t authors first.entry ≡ Some command
   known : is_known t (giver_told first.stamp.maker first.entry) ≡ true
-  judged : judge_by_role t (call_of (giver_told first.stamp.maker first.entry) command) ≡ Ok drawn
+  judged : judge_by_role t (call_given first command) ≡ Ok drawn
 
 told-judges : (t : Tables) (authors : List (Option (List ℕ))) (first : Stamped) (drawn : Drawn) → drawn_told t authors first ≡ Some drawn
     → Judges t authors first drawn
@@ -422,15 +432,15 @@ told-judges t authors first drawn told = by (command_told t authors first.entry)
     caller = giver_told first.stamp.maker first.entry
 
     of_command : (command : Command) → command_told t authors first.entry ≡ Some command → (known : Bool) (r : Result Drawn Rule)
-        → is_known t caller ≡ known → judge_by_role t (call_of caller command) ≡ r → cond known (result_ok r) None ≡ Some drawn → Judges t authors first drawn
+        → is_known t caller ≡ known → judge_by_role t (call_given first command) ≡ r → cond known (result_ok r) None ≡ Some drawn → Judges t authors first drawn
     of_command command is true (Ok d) known judges same = record { command = command; told = is; known = known; judged = judges ∙ ap Ok (some_is d drawn same) }
     of_command command is true (Err rule) known judges same = absurd (none_some drawn same)
     of_command command is false r known judges same = absurd (none_some drawn same)
 
-    by : (o : Option Command) → command_told t authors first.entry ≡ o → option_and_then (drawn_of t) (option_map (call_of caller) o) ≡ Some drawn
+    by : (o : Option Command) → command_told t authors first.entry ≡ o → option_and_then (drawn_of t) (option_map (call_given first) o) ≡ Some drawn
         → Judges t authors first drawn
     by None is same = absurd (none_some drawn same)
-    by (Some command) is same = of_command command is (is_known t caller) (judge_by_role t (call_of caller command)) refl refl same
+    by (Some command) is same = of_command command is (is_known t caller) (judge_by_role t (call_given first command)) refl refl same
 
 member_named : (role : Role) → 1 ≤ role_number role → is_member role ≡ true
 member_named roles.Account h = absurd (omega (arith, h))
@@ -444,79 +454,80 @@ module _ (H : History) (legal : Legal H) where
   registered : (user : ℕ) → is_known t (Some user) ≡ true → IsRegistered H user
   registered user known = registered-known H user legal ∙ known
 
-  -- the command that an entry tells is allowed, where it is known
-  same-allowed : (caller : Option ℕ) (told command : Command) → Some told ≡ Some command → IsAllowed H (call_of caller told)
-      → IsAllowed H (call_of caller command)
-  same-allowed caller told command is allowed =
-      subst (λ (c : Command). IsAllowed H (call_of caller c)) (some_is told command is) allowed
+  -- the command that a user's entry tells is allowed, where she may give it and its parts are within the bounds
+  same-allowed : (stamp : Stamp) → FitsStamp stamp → (told command : Command) → Some told ≡ Some command → IsCaller H (Some stamp.maker) told
+      → IsBoundedCommand told → IsAllowed H (call_by stamp command)
+  same-allowed stamp fits told command is made bounded =
+      subst (λ (c : Command). IsAllowed H (call_by stamp c)) (some_is told command is) (record { caller = made; bounded = bounded; moment = fits.at })
 
   -- a submission is allowed, where it has no more co-authors than there may be
-  submission-allowed : (maker : ℕ) (title abstract : List ℕ) (authors : List (Option (List ℕ))) (command : Command) → IsTitle title → IsAbstract abstract
-      → IsRegistered H maker → cond (nat_le (length authors) 19) (Some (Submit title abstract authors)) None ≡ Some command
-      → IsAllowed H (call_of (Some maker) command)
-  submission-allowed maker title abstract authors command is_title is_abstract made told = by (nat_le (length authors) 19) refl told
+  submission-allowed : (stamp : Stamp) → FitsStamp stamp → (title abstract : List ℕ) (authors : List (Option (List ℕ))) (command : Command)
+      → IsTitle title → IsAbstract abstract
+      → IsRegistered H stamp.maker → cond (nat_le (length authors) 19) (Some (Submit title abstract authors)) None ≡ Some command
+      → IsAllowed H (call_by stamp command)
+  submission-allowed stamp fits title abstract authors command is_title is_abstract made told = by (nat_le (length authors) 19) refl told
     where
       by : (b : Bool) → nat_le (length authors) 19 ≡ b → cond b (Some (Submit title abstract authors)) None ≡ Some command
-          → IsAllowed H (call_of (Some maker) command)
+          → IsAllowed H (call_by stamp command)
       by true few told =
           let le : length authors ≤ 19 = few_of (length authors) few in
-          same-allowed (Some maker) (Submit title abstract authors) command told (record { caller = made; bounded = (is_title, is_abstract, le) })
+          same-allowed stamp fits (Submit title abstract authors) command told made (is_title, is_abstract, le)
         where
           few_of : (n : ℕ) → nat_le n 19 ≡ true → n ≤ 19
           few_of n h = grind (arith, nat_tests, h)
       by false few told = absurd (none_some command told)
 
   -- a command that names a user is allowed, where it is with every name
-  target-allowed : (maker user : ℕ) (command : Command) (aimed : List ℕ → Command)
-      → ((name : List ℕ) → IsAllowed H (call_of (Some maker) (aimed name))) → option_map aimed (name_told t user) ≡ Some command
-      → IsAllowed H (call_of (Some maker) command)
-  target-allowed maker user command aimed allowed told =
+  target-allowed : (stamp : Stamp) → FitsStamp stamp → (user : ℕ) (command : Command) (aimed : List ℕ → Command)
+      → ((name : List ℕ) → IsCaller H (Some stamp.maker) (aimed name)) → ((name : List ℕ) → IsBoundedCommand (aimed name))
+      → option_map aimed (name_told t user) ≡ Some command → IsAllowed H (call_by stamp command)
+  target-allowed stamp fits user command aimed made bounded told =
       let name = with-name (name_told t user) aimed command told in
-      subst (λ (c : Command). IsAllowed H (call_of (Some maker) c)) name.2 (allowed name.0)
+      same-allowed stamp fits (aimed name.0) command (ap (λ (c : Command). Some c) name.2) (made name.0) (bounded name.0)
 
   -- a user's is allowed, where the entry is within its bounds
   user-allowed : (authors : List (Option (List ℕ))) (stamp : Stamp) (more : Bool) (e : Entry) (command : Command)
       → IsBoundedEntry (stamped stamp more e) → IsRegistered H stamp.maker → user_command_told t authors e ≡ Some command
-      → IsAllowed H (call_of (Some stamp.maker) command)
-  user-allowed authors stamp more (PhaseSet to) command bounded made told =
-      same-allowed (Some stamp.maker) (SetPhase to) command told (record { caller = made; bounded = tt })
-  user-allowed authors stamp more (ModeSet to) command bounded made told =
-      same-allowed (Some stamp.maker) (SetMode to) command told (record { caller = made; bounded = tt })
-  user-allowed authors stamp more (Submitted paper title abstract) command bounded made told = submission-allowed stamp.maker title abstract authors command bounded.b1 bounded.b2 made told
+      → IsAllowed H (call_by stamp command)
+  user-allowed authors stamp more (PhaseSet to) command bounded made told = same-allowed stamp bounded.stamp (SetPhase to) command told made tt
+  user-allowed authors stamp more (ModeSet to) command bounded made told = same-allowed stamp bounded.stamp (SetMode to) command told made tt
+  user-allowed authors stamp more (Submitted paper title abstract) command bounded made told =
+      submission-allowed stamp bounded.stamp title abstract authors command bounded.b1 bounded.b2 made told
   user-allowed authors stamp more (Revised paper title abstract) command bounded made told =
-      same-allowed (Some stamp.maker) (Revise (Some paper) title abstract) command told (record { caller = made; bounded = (bounded.b1, bounded.b2) })
+      same-allowed stamp bounded.stamp (Revise (Some paper) title abstract) command told made (bounded.b1, bounded.b2)
   user-allowed authors stamp more (Uploaded paper version content) command bounded made told =
-      same-allowed (Some stamp.maker) (Upload (Some paper) content) command told (record { caller = made; bounded = bounded.b1 })
+      same-allowed stamp bounded.stamp (Upload (Some paper) content) command told made bounded.b1
   user-allowed authors stamp more (Withdrawn paper) command bounded made told =
-      same-allowed (Some stamp.maker) (Withdraw (Some paper)) command told (record { caller = made; bounded = tt })
+      same-allowed stamp bounded.stamp (Withdraw (Some paper)) command told made tt
   user-allowed authors stamp more (entries.Bid paper value) command bounded made told =
-      same-allowed (Some stamp.maker) (commands.Bid (Some paper) value) command told (record { caller = made; bounded = bounded.n2.1 })
+      same-allowed stamp bounded.stamp (commands.Bid (Some paper) value) command told made bounded.n2.1
   user-allowed authors stamp more (Reviewed paper ordinal version form) command bounded made told =
       let within : IsForm form = record { score = bounded.n4; confidence = bounded.n5; to_authors = bounded.b1; to_pc = bounded.b2 } in
-      same-allowed (Some stamp.maker) (Review (Some paper) form) command told (record { caller = made; bounded = within })
+      same-allowed stamp bounded.stamp (Review (Some paper) form) command told made within
   user-allowed authors stamp more (Commented paper n ordinal text) command bounded made told =
-      same-allowed (Some stamp.maker) (Comment (Some paper) text) command told (record { caller = made; bounded = bounded.b1 })
+      same-allowed stamp bounded.stamp (Comment (Some paper) text) command told made bounded.b1
   user-allowed authors stamp more (Tagged paper tag on) command bounded made told =
       let caller = subst (λ (login : Bool). CallsAs H login (Some stamp.maker)) (sym (tags-login (Some paper) tag on)) made in
-      same-allowed (Some stamp.maker) (Tag (Some paper) tag on) command told (record { caller = caller; bounded = bounded.b1 })
+      same-allowed stamp bounded.stamp (Tag (Some paper) tag on) command told caller bounded.b1
   user-allowed authors stamp more (Decided paper decision) command bounded made told =
-      same-allowed (Some stamp.maker) (Decide (Some paper) decision) command told (record { caller = made; bounded = tt })
+      same-allowed stamp bounded.stamp (Decide (Some paper) decision) command told made tt
   user-allowed authors stamp more (Named user role) command bounded made told =
-      target-allowed stamp.maker user command (λ name. Name (Some name) role) (λ name. record { caller = made; bounded = member_named role bounded.n2.0 }) told
+      target-allowed stamp bounded.stamp user command (λ name. Name (Some name) role) (λ name. made) (λ name. member_named role bounded.n2.0) told
   user-allowed authors stamp more (Conflict paper user on) command bounded made told =
-      target-allowed stamp.maker user command (λ name. SetConflict (Some paper) (Some name) on) (λ name. record { caller = made; bounded = tt }) told
+      target-allowed stamp bounded.stamp user command (λ name. SetConflict (Some paper) (Some name) on) (λ name. made) (λ name. tt) told
   user-allowed authors stamp more (Assigned paper user kind ordinal) command bounded made told =
-      target-allowed stamp.maker user command (λ name. Assign (Some paper) (Some name) kind) (λ name. record { caller = made; bounded = tt }) told
+      target-allowed stamp bounded.stamp user command (λ name. Assign (Some paper) (Some name) kind) (λ name. made) (λ name. tt) told
   user-allowed authors stamp more (Unassigned paper user ordinal) command bounded made told =
-      target-allowed stamp.maker user command (λ name. Unassign (Some paper) (Some name)) (λ name. record { caller = made; bounded = tt }) told
+      target-allowed stamp bounded.stamp user command (λ name. Unassign (Some paper) (Some name)) (λ name. made) (λ name. tt) told
   user-allowed authors stamp more e command bounded made told = absurd (none_some command told)
 
   -- and so is any
   told-allowed : (authors : List (Option (List ℕ))) (stamp : Stamp) (more : Bool) (e : Entry) (command : Command)
       → IsBoundedEntry (stamped stamp more e) → is_known t (giver_told stamp.maker e) ≡ true → command_told t authors e ≡ Some command
-      → IsAllowed H (call_of (giver_told stamp.maker e) command)
+      → IsAllowed H (call_given (stamped stamp more e) command)
   told-allowed authors stamp more (Registered user name digest) command bounded known told =
-      same-allowed None (Register name digest) command told (record { caller = refl; bounded = (bounded.b1, bounded.b2) })
+      subst (λ (c : Command). IsAllowed H (record (call_by stamp c) { caller = None })) (some_is (Register name digest) command told)
+      (record { caller = refl; bounded = (bounded.b1, bounded.b2); moment = bounded.stamp.at })
   told-allowed authors stamp more e command bounded known told = user-allowed authors stamp more e command bounded (registered stamp.maker known) told
 
   -- so an allowed call adds what the call of such an entry draws
@@ -524,12 +535,11 @@ module _ (H : History) (legal : Legal H) where
       → MayAdd H drawn.group
   told-adds authors first drawn bounded told =
       let j = told-judges t authors first drawn told in
-      let caller = giver_told first.stamp.maker first.entry in
       record {
-        call = call_of caller j.command;
+        call = call_given first j.command;
         allowed = told-allowed authors first.stamp first.more first.entry j.command bounded j.known j.told;
         drawn = drawn;
-        accepted = Legal-judge H (call_of caller j.command) legal ∙ j.judged;
+        accepted = Legal-judge H (call_given first j.command) legal ∙ j.judged;
         group_is = refl;
       }
 

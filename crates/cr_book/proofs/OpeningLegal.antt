@@ -40,13 +40,13 @@ grouped-group stamp e (next ∷ []) = (refl, refl)
 grouped-group stamp e (next ∷ more ∷ es) = (refl, grouped-group stamp next (more ∷ es))
 
 adds-group : (H g : History) → Adds H g → IsGroup g
-adds-group H g (single stamp e made marked ruled) = refl
-adds-group H g (submitted stamp paper title abstract users made ruled registered) = grouped-group stamp (Submitted paper title abstract) _
-adds-group H g (first_user stamp name digest is texts) = (refl, refl)
+adds-group H g (single stamp e moment made marked ruled) = refl
+adds-group H g (submitted stamp paper title abstract users moment made ruled registered) = grouped-group stamp (Submitted paper title abstract) _
+adds-group H g (first_user stamp name digest moment is texts) = (refl, refl)
 
 -- what is added is a group
 pub may_add-group : (H g : History) → MayAdd H g → IsGroup g
-may_add-group H g add = subst (λ (x : History). IsGroup x) (sym add.group_is) (adds-group H add.drawn.group (accepted-adds H add.call add.drawn add.allowed.bounded add.allowed.caller add.accepted))
+may_add-group H g add = subst (λ (x : History). IsGroup x) (sym add.group_is) (adds-group H add.drawn.group (accepted-adds H add.call add.drawn add.allowed add.accepted))
 
 -- ---- one bulk that adds
 

@@ -16,7 +16,7 @@ use Rattle.cr_base.specs.declared.entry.Entry.TheVariants.{Reviewed, Commented, 
 use Rattle.cr_base.specs.declared.entry.Stamped.{Stamped}
 use Rattle.cr_base.specs.declared.row.Row.{Row}
 use Rattle.cr_base.specs.Accounts.{account_at}
-use Rattle.cr_base.specs.Calls.{call_of}
+use Rattle.cr_base.specs.Calls.{call_by}
 use Rattle.cr_base.specs.History.{History}
 use Rattle.cr_base.specs.Judging.{judge_by_role}
 use Rattle.cr_base.specs.Lists.{given}
@@ -102,14 +102,18 @@ user_command_told t authors (Submitted paper title abstract) =
     if nat_le (length authors) 19 then Some (commands.Submit title abstract authors) else None
 user_command_told t authors e = paper_command_told t e
 
--- what it was, by whomever it was given; and its call, by the stamp and the entry
+-- what it was, by whomever it was given
 abbrev pub command_told : Tables → List (Option (List ℕ)) → Entry → Option Command
 command_told t authors (Registered user name digest) = Some (commands.Register name digest)
 command_told t authors e = user_command_told t authors e
 
+-- the call of such a command: as the stamp has it, but for a registration, which nobody gives
+abbrev pub call_given : Stamped → Command → Call
+call_given first command = record (call_by first.stamp command) { caller = giver_told first.stamp.maker first.entry }
+
+-- the call of a group, by its first entry
 abbrev pub call_told : Tables → List (Option (List ℕ)) → Stamped → Option Call
-call_told t authors first =
-    option_map (call_of (giver_told first.stamp.maker first.entry)) (command_told t authors first.entry)
+call_told t authors first = option_map (call_given first) (command_told t authors first.entry)
 
 -- nobody, or a user who has registered
 abbrev pub is_known : Tables → Option ℕ → Bool

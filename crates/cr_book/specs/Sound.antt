@@ -1,10 +1,9 @@
 -- What is true of every book, and what a command or a bulk did to one.
-use Rattle.std.specs.Prelude.{ℕ, ◌≡◌, ◌++◌, List, Option, Some, Ok, IfSome}
-use Rattle.cr_base.specs.declared.bulk.BulkRow.{BulkRow}
-use Rattle.cr_base.specs.declared.command.Command.{Command}
+use Rattle.std.specs.Prelude.{◌≡◌, ◌++◌, List, Option, Some, Ok, IfSome}
+use Rattle.cr_base.specs.declared.command.Call.{Call}
 use Rattle.cr_base.specs.declared.row.Row.{Row}
 use Rattle.cr_base.specs.declared.reply.Receipt.{Receipt}
-use Rattle.cr_base.specs.Calls.{call_of, bulk_by}
+use Rattle.cr_base.specs.Calls.{BulkCall}
 use Rattle.cr_base.specs.History.{History}
 use Rattle.cr_base.specs.Drawn.{Drawn}
 use Rattle.cr_base.specs.Rows.{rows_of}
@@ -24,17 +23,17 @@ pub record IsSound {K : Type 0} (rows : K → Option (List Row)) (log : History)
   pub same : tables ≡ tables_of log
   pub kept : IsKept rows keeper log
 
--- Judge accepted the command on the caller's view, the receipt is the one drawn, and the
+-- Judge accepted the call on its caller's view, the receipt is the one drawn, and the
 -- history grew by the group drawn
-pub record Accepts (old new : History) (caller : Option ℕ) (command : Command) (receipt : Receipt) : Type 0 where
+pub record Accepts (old new : History) (call : Call) (receipt : Receipt) : Type 0 where
   pub drawn : Drawn
-  pub judged : judge (view caller old) (call_of caller command) ≡ Ok drawn
+  pub judged : judge (view call.caller old) call ≡ Ok drawn
   pub receipt_is : receipt ≡ drawn.receipt
   pub added : new ≡ old ++ drawn.group
 
 -- the same of a bulk
-pub record AcceptsBulk (old new : History) (user : ℕ) (rows : List BulkRow) (receipt : Receipt) : Type 0 where
+pub record AcceptsBulk (old new : History) (bulk : BulkCall) (receipt : Receipt) : Type 0 where
   pub drawn : Drawn
-  pub judged : judge_bulk (view (Some user) old) (bulk_by user rows) ≡ Ok drawn
+  pub judged : judge_bulk (view (Some bulk.stamp.maker) old) bulk ≡ Ok drawn
   pub receipt_is : receipt ≡ drawn.receipt
   pub added : new ≡ old ++ drawn.group

@@ -24,8 +24,8 @@ use crate::kinds::count_of_kind;
 use crate::opening::{OpenError, read_all};
 use crate::rows::{copies_of, rows_of};
 use cr_base::{
-    Broken, BulkRows, Call, Command, Digest, EntryKind, Query, Receipt, Reply, Report, Rule,
-    Search, Short, Stamp, Stamped, UserNo,
+    Broken, BulkRows, Call, Command, Digest, EntryKind, Moment, Query, Receipt, Reply, Report,
+    Rule, Search, Short, Stamp, Stamped, UserNo,
 };
 use cr_judge::judge;
 use cr_lock::Stands;
@@ -115,7 +115,8 @@ impl<K: Keeper> Book<K> {
         keeper
     }
 
-    /// Judges a command of this caller, and where no rule is broken, keeps what it adds and applies it.
+    /// Judges a command of this caller, given at this moment, and where no rule is broken, keeps what it adds and
+    /// applies it. Each entry that it adds has the moment.
     ///
     /// The caller is nobody on a registration, and the command is within the bounds on its parts. On
     /// each error the history and the keeper's rows stay as they were. A broken rule is told whatever
@@ -126,23 +127,25 @@ impl<K: Keeper> Book<K> {
         &mut self,
         caller: &Option<UserNo>,
         command: Command,
+        at: Moment,
     ) -> Result<Receipt, BookError<Rule>>
-        requires { IsAllowed self.old.log (call_of caller.now command) }
+        requires { IsAllowed self.old.log (call_of caller.now at command) }
 
-        ensures accepted { IfOk result (λ receipt. Accepts self.old.log self.new.log caller.now command receipt) }
+        ensures accepted { IfOk result
+            (λ receipt. Accepts self.old.log self.new.log (call_of caller.now at command) receipt) }
 
         // A rule is told exactly where Judge gives it, and then nothing changes.
-        ensures rule { (rule : Rule) → judge (view caller.now self.old.log) (call_of caller.now command) ≡ Err rule
+        ensures rule { (rule : Rule) → judge (view caller.now self.old.log) (call_of caller.now at command) ≡ Err rule
             → result ≡ Err (BookError.Broken rule) }
         ensures only_rule { (rule : Rule) → result ≡ Err (BookError.Broken rule)
-            → judge (view caller.now self.old.log) (call_of caller.now command) ≡ Err rule }
+            → judge (view caller.now self.old.log) (call_of caller.now at command) ≡ Err rule }
         ensures rule_stays { (rule : Rule) → result ≡ Err (BookError.Broken rule) → self.new ≡ self.old }
 
         // The other errors come only where Judge accepts the command.
         ensures memory { result ≡ Err BookError.OutOfMemory
-            → IsOk (judge (view caller.now self.old.log) (call_of caller.now command)) }
+            → IsOk (judge (view caller.now self.old.log) (call_of caller.now at command)) }
         ensures lost { result ≡ Err BookError.KeeperFault
-            → IsOk (judge (view caller.now self.old.log) (call_of caller.now command)) }
+            → IsOk (judge (view caller.now self.old.log) (call_of caller.now at command)) }
 
         ensures log_stays { OnErr result (self.new.log ≡ self.old.log) }
         ensures rows_stay { OnErr result (K.rows self.new.keeper ≡ K.rows self.old.keeper) }
@@ -154,6 +157,7 @@ impl<K: Keeper> Book<K> {
     {
         let call = Call {
             caller: *caller,
+            at,
             command,
         };
         let effect = match judge(&self.live, call) {
@@ -170,8 +174,8 @@ impl<K: Keeper> Book<K> {
         }
     }
 
-    /// Judges a bulk of this caller, each row behind those before it, and where no rule is broken, keeps the
-    /// entries of all rows and applies them.
+    /// Judges a bulk of this caller, given at this moment, each row behind those before it, and where no rule is
+    /// broken, keeps the entries of all rows, each with the moment, and applies them.
     ///
     /// The caller is a registered user. On each error the history and the keeper's rows stay as they were: so of a
     /// bulk with a broken row nothing is kept. What is broken is told whatever memory there is, since judging takes
@@ -181,24 +185,30 @@ impl<K: Keeper> Book<K> {
     ///
     /// Costs one judgement for each row, which walks over the entries of the rows before it, at most
     /// 511; the keeper is asked once.
-    pub fn bulk(&mut self, caller: UserNo, rows: BulkRows) -> Result<Receipt, BookError<Broken>>
-        requires { IsBulkAllowed self.old.log (bulk_by caller rows) }
+    pub fn bulk(
+        &mut self,
+        caller: UserNo,
+        rows: BulkRows,
+        at: Moment,
+    ) -> Result<Receipt, BookError<Broken>>
+        requires { IsBulkAllowed self.old.log (bulk_by caller at rows) }
 
-        ensures accepted { IfOk result (λ receipt. AcceptsBulk self.old.log self.new.log caller rows receipt) }
+        ensures accepted { IfOk result
+            (λ receipt. AcceptsBulk self.old.log self.new.log (bulk_by caller at rows) receipt) }
 
         // What is broken is told exactly where Judge gives it, and then nothing changes.
         ensures broken { (broken : Broken)
-            → judge_bulk (view (Some caller) self.old.log) (bulk_by caller rows) ≡ Err broken
+            → judge_bulk (view (Some caller) self.old.log) (bulk_by caller at rows) ≡ Err broken
             → result ≡ Err (BookError.Broken broken) }
         ensures only_broken { (broken : Broken) → result ≡ Err (BookError.Broken broken)
-            → judge_bulk (view (Some caller) self.old.log) (bulk_by caller rows) ≡ Err broken }
+            → judge_bulk (view (Some caller) self.old.log) (bulk_by caller at rows) ≡ Err broken }
         ensures broken_stays { (broken : Broken) → result ≡ Err (BookError.Broken broken) → self.new ≡ self.old }
 
         // The other errors come only where Judge accepts the bulk.
         ensures memory { result ≡ Err BookError.OutOfMemory
-            → IsOk (judge_bulk (view (Some caller) self.old.log) (bulk_by caller rows)) }
+            → IsOk (judge_bulk (view (Some caller) self.old.log) (bulk_by caller at rows)) }
         ensures lost { result ≡ Err BookError.KeeperFault
-            → IsOk (judge_bulk (view (Some caller) self.old.log) (bulk_by caller rows)) }
+            → IsOk (judge_bulk (view (Some caller) self.old.log) (bulk_by caller at rows)) }
 
         ensures log_stays { OnErr result (self.new.log ≡ self.old.log) }
         ensures rows_stay { OnErr result (K.rows self.new.keeper ≡ K.rows self.old.keeper) }
@@ -208,7 +218,7 @@ impl<K: Keeper> Book<K> {
         ensures count { K.faults self.old.keeper ≤ K.faults self.new.keeper }
         ensures legal { Legal self.new.log }
     {
-        let stamp = Stamp { maker: caller };
+        let stamp = Stamp { maker: caller, at };
         let group = match judge_bulk(&self.live, &stamp, rows) {
             Ok(group) => group,
             Err(broken) => return Err(BookError::Broken(broken)),

@@ -182,8 +182,13 @@ fn call_of(live: &Live, first: Stamped, authors: ToldNames) -> Option<Call>
     ensures { result ≡ call_told live.now.tables authors first }
 {
     let caller = caller_of(&first);
+    let at = first.stamp.at;
     let command = command_of(live, first.entry, authors)?;
-    Some(Call { caller, command })
+    Some(Call {
+        caller,
+        at,
+        command,
+    })
 }
 
 /// What that call comes to; none where its caller isn't known, or it breaks a rule.

@@ -7,7 +7,6 @@ use Rattle.cr_base.specs.declared.command.Command.TheVariants.{Register}
 use Rattle.cr_base.specs.declared.reply.Rule.{Rule}
 use Rattle.cr_base.specs.declared.words.Phase.{Phase}
 use Rattle.cr_base.specs.declared.words.Role.TheVariants.{Member}
-use Rattle.cr_base.specs.Calls.{call_of}
 use Rattle.cr_base.specs.Drawn.{Drawn}
 use Rattle.cr_base.specs.History.{History}
 use Rattle.cr_base.specs.HistoryFacts.{papers_of}
@@ -20,7 +19,7 @@ use Rattle.cr_drill.specs.declared.dice.Roll.{Roll}
 use Rattle.cr_drill.specs.declared.drill_commands.Operation.{Operation}
 use Rattle.cr_drill.specs.Cast.{operation_in, actor_of, cast_name, command_of}
 use Rattle.cr_drill.specs.Dice.{after_roll, roll_of}
-use Rattle.cr_drill.specs.Drill.{Drilled, call_at, drilled_for, is_accepted, members_named, moved_to, named, phase_at, registered_first}
+use Rattle.cr_drill.specs.Drill.{Drilled, call_at, drill_call, drilled_for, is_accepted, members_named, moved_to, named, phase_at, registered_first}
 use Rattle.cr_drill.specs.Drill.{stepped, stepped_in}
 use Rattle.cr_drill.specs.Drilling.{GoesOn, HasCast}
 
@@ -77,10 +76,10 @@ next : (n : ℕ) → n + 1 ≡ suc n
 next n = omega arith
 
 pub registered-next : (digest : ℕ → List ℕ) (n user : ℕ) (H H' : History) → H ≡ registered_first digest n → user ≡ n + 1
-    → H' ≡ step H (call_of None (Register (cast_name user) (digest user))) → H' ≡ registered_first digest (n + 1)
+    → H' ≡ step H (drill_call None (Register (cast_name user) (digest user))) → H' ≡ registered_first digest (n + 1)
 registered-next digest n user H H' before number stepped =
     stepped
-    ∙ (λ i. step (before i) (call_of None (Register (cast_name ((number ∙ next n) i)) (digest ((number ∙ next n) i)))))
+    ∙ (λ i. step (before i) (drill_call None (Register (cast_name ((number ∙ next n) i)) (digest ((number ∙ next n) i)))))
     ∙ ap (registered_first digest) (sym (next n))
 
 pub members-next : (n : ℕ) (H G G' : History) → G ≡ members_named n H → G' ≡ named Member (3 + n) G → G' ≡ members_named (n + 1) H
@@ -100,7 +99,7 @@ stepped-in steps s phase d is = ap (λ (p : Phase). stepped_in p s d) is
 pub step-taken : (phase : Phase) (s : ℕ) (d : Drilled) (G G' : History) (papers seed actor : ℕ) (roll : Roll) (operation : Operation) (command : Command) (accepted : Bool)
     → G ≡ moved_to phase d.history → papers ≡ length (papers_of G) → roll ≡ roll_of papers d.seed → seed ≡ after_roll d.seed
     → operation ≡ operation_in phase roll.operation → command ≡ command_of operation s roll → actor ≡ actor_of operation roll.user
-    → G' ≡ step G (call_of (Some actor) command) → accepted ≡ is_accepted G (call_of (Some actor) command)
+    → G' ≡ step G (drill_call (Some actor) command) → accepted ≡ is_accepted G (drill_call (Some actor) command)
     → ◌≡◌ {A = Drilled} (record {
       seed = seed;
       history = G';
@@ -114,7 +113,7 @@ step-taken phase s d G G' papers seed actor roll operation command accepted move
     let operation_is : operation ≡ operation_in phase R.operation = acts ∙ ap (λ (r : Roll). operation_in phase r.operation) roll_is in
     let actor_is : actor ≡ actor_of (operation_in phase R.operation) R.user = by ∙ (λ i. actor_of (operation_is i) (roll_is i).user) in
     let command_is : command ≡ command_of (operation_in phase R.operation) s R = made ∙ (λ i. command_of (operation_is i) s (roll_is i)) in
-    let call_is : call_of (Some actor) command ≡ call_at phase s M d.seed = (λ i. call_of (Some (actor_is i)) (command_is i)) in
+    let call_is : drill_call (Some actor) command ≡ call_at phase s M d.seed = (λ i. drill_call (Some (actor_is i)) (command_is i)) in
     let history_is : G' ≡ step M (call_at phase s M d.seed) = stepped ∙ (λ i. step (moved i) (call_is i)) in
     let accepted_is : accepted ≡ is_accepted M (call_at phase s M d.seed) = answered ∙ (λ i. is_accepted (moved i) (call_is i)) in
     (λ i. record {

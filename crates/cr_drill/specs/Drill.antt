@@ -1,10 +1,11 @@
 -- A drill: the history that Step gives for commands that are made up from a seed, and its summary (docs/API.md, the
 -- appendix).
 use Rattle.std.specs.Prelude.{ℕ, zero, suc, ◌+◌, ◌*◌, ◌/◌, ◌==◌, not, ◌&&◌, Bool}
-use Rattle.std.specs.Prelude.{List, [], ◌∷◌, ◌++◌, Some, None, fold, length}
+use Rattle.std.specs.Prelude.{List, [], ◌∷◌, ◌++◌, Option, Some, None, fold, length}
 use Rattle.std.specs.Prelude.{codes, decimal, is_ok, if◌then◌else◌}
 use Rattle.std.specs.List.{flat_map}
 use Rattle.cr_base.specs.declared.command.Call.{Call}
+use Rattle.cr_base.specs.declared.command.Command.{Command}
 use Rattle.cr_base.specs.declared.command.Command.TheVariants.{Register, Name, SetPhase}
 use Rattle.cr_base.specs.declared.entry.EntryKind.{EntryKind}
 use Rattle.cr_base.specs.declared.entry.EntryKind.TheVariants as kinds
@@ -28,6 +29,10 @@ use Rattle.cr_drill.specs.Dice.{roll_of, after_roll}
 
 -- ---- calls
 
+-- the command of this caller in a drill, where all requests come at the first moment
+abbrev pub drill_call : Option ℕ → Command → Call
+drill_call caller command = call_of caller 0 command
+
 -- Judge accepts the call
 abbrev pub is_accepted : History → Call → Bool
 is_accepted H call = is_ok (judge (view call.caller H) call)
@@ -43,7 +48,8 @@ abbrev pub is_on_way : Phase → History → Phase → Bool
 is_on_way wanted H phase = not (is_from phase (phase_of H)) && is_from phase wanted
 
 abbrev pub moved_on : Phase → History → Phase → History
-moved_on wanted H phase = if is_on_way wanted H phase then step H (call_of (Some first_chair) (SetPhase phase)) else H
+moved_on wanted H phase =
+    if is_on_way wanted H phase then step H (drill_call (Some first_chair) (SetPhase phase)) else H
 
 -- the first chair moves the conference on to the phase that is wanted
 abbrev pub moved_through : Phase → History → List Phase → History
@@ -58,11 +64,11 @@ moved_to wanted H = moved_through wanted H later_phases
 abbrev pub registered_first : (ℕ → List ℕ) → ℕ → History
 registered_first digest zero = []
 registered_first digest (suc n) =
-    step (registered_first digest n) (call_of None (Register (cast_name (suc n)) (digest (suc n))))
+    step (registered_first digest n) (drill_call None (Register (cast_name (suc n)) (digest (suc n))))
 
 -- the first chair names a user
 abbrev pub named : Role → ℕ → History → History
-named role user H = step H (call_of (Some first_chair) (Name (Some (cast_name user)) role))
+named role user H = step H (drill_call (Some first_chair) (Name (Some (cast_name user)) role))
 
 -- she names the first n members
 abbrev pub members_named : ℕ → History → History
@@ -97,7 +103,7 @@ abbrev pub call_at : Phase → ℕ → History → ℕ → Call
 call_at phase s H seed =
     let roll = roll_of (length (papers_of H)) seed in
     let operation = operation_in phase roll.operation in
-    call_of (Some (actor_of operation roll.user)) (command_of operation s roll)
+    drill_call (Some (actor_of operation roll.user)) (command_of operation s roll)
 
 abbrev pub asked : Drilled → Call → Drilled
 asked d call = record {

@@ -1,7 +1,6 @@
 //! A drill: commands that are made up from a seed, given to a book in memory.
 ghost use Rattle.std.specs.Prelude.{◌≡◌, ◌≤◌, ◌<◌, ◌+◌, [], Some, IfOk, IsTrue, OnOk, length, if◌then◌else◌};
 ghost use Rattle.cr_base.specs.Bounds.{IsBoundedCommand};
-ghost use Rattle.cr_base.specs.Calls.{call_of};
 ghost use Rattle.cr_base.specs.declared.command.Command.TheVariants.{SetPhase};
 ghost use Rattle.cr_base.specs.Logins.{command_wants_login};
 ghost use Rattle.cr_base.specs.HistoryFacts.{papers_of, phase_of};
@@ -9,7 +8,7 @@ ghost use Rattle.cr_base.specs.declared.words.Role.TheVariants.{Chair};
 ghost use Rattle.cr_base.specs.Words.{is_member};
 ghost use Rattle.cr_policy.specs.Legal.{Legal, IsAllowed, step};
 ghost use Rattle.cr_drill.specs.Cast.{first_chair, second_chair, member_count};
-ghost use Rattle.cr_drill.specs.Drill.{all_registered, drilled, drilled_for, is_accepted, is_on_way};
+ghost use Rattle.cr_drill.specs.Drill.{all_registered, drill_call, drilled, drilled_for, is_accepted, is_on_way};
 ghost use Rattle.cr_drill.specs.Drill.{members_named, moved_on, moved_through, moved_to, named, opened};
 ghost use Rattle.cr_drill.specs.Drill.{phase_at, phase_in_quarter, stepped_in, summary};
 ghost use Rattle.cr_drill.specs.Drilling.{GoesOn, HasCast, drilled_of};
@@ -19,7 +18,7 @@ use crate::drill_commands::{
     actor_of, cast_digest, cast_name, command_of, first_chair, operation_in,
 };
 use crate::drill_summary::summary;
-use cr_base::{Command, Conference, Phase, Query, Reply, Role, UserNo};
+use cr_base::{Command, Conference, Moment, Phase, Query, Reply, Role, UserNo};
 use cr_book::{Book, BookError, empty_book};
 use cr_ports::PlainKeeper;
 use std::alloc::{AllocError, Global};
@@ -53,20 +52,20 @@ pub(crate) struct Progress {
     pub(crate) refused: u64,
 }
 
-/// Gives a command, and tells whether it was accepted; an error only for lack of memory.
+/// Gives a command at the first moment, and tells whether it was accepted; an error only for lack of memory.
 fn ask(
     book: &mut Book<PlainKeeper>,
     caller: Option<UserNo>,
     command: Command,
 ) -> Result<bool, AllocError>
-    requires { IsAllowed book.old.log (call_of caller command) }
+    requires { IsAllowed book.old.log (drill_call caller command) }
     ensures stepped { IfOk result (λ yes. book.new.log
-        ≡ step book.old.log (call_of caller command)) }
+        ≡ step book.old.log (drill_call caller command)) }
     ensures accepted { IfOk result (λ yes. yes
-        ≡ is_accepted book.old.log (call_of caller command)) }
+        ≡ is_accepted book.old.log (drill_call caller command)) }
     ensures goes_on { GoesOn book.old.log book.new.log }
 {
-    match book.command(&caller, command) {
+    match book.command(&caller, command, Moment::epoch()) {
         Ok(_) => Ok(true),
         Err(BookError::Broken(_)) => Ok(false),
         Err(BookError::OutOfMemory) => Err(AllocError),
@@ -81,8 +80,8 @@ fn ask_as(book: &mut Book<PlainKeeper>, user: UserNo, command: Command) -> Resul
     requires user { user ≤ 8 }
     requires login { IsTrue (command_wants_login command) }
     requires bounded { IsBoundedCommand command }
-    ensures stepped { IfOk result (λ yes. book.new.log ≡ step book.old.log (call_of (Some user) command)) }
-    ensures accepted { IfOk result (λ yes. yes ≡ is_accepted book.old.log (call_of (Some user) command)) }
+    ensures stepped { IfOk result (λ yes. book.new.log ≡ step book.old.log (drill_call (Some user) command)) }
+    ensures accepted { IfOk result (λ yes. yes ≡ is_accepted book.old.log (drill_call (Some user) command)) }
     ensures cast { HasCast book.new.log }
 {
     ask(book, Some(user), command)
@@ -112,7 +111,7 @@ fn is_on_way(book: &Book<PlainKeeper>, wanted: Phase, phase: Phase) -> bool
 /// Sets a phase; an error only for lack of memory.
 fn set_phase(book: &mut Book<PlainKeeper>, phase: Phase) -> Result<(), AllocError>
     requires { HasCast book.old.log }
-    ensures set { OnOk result (book.new.log ≡ step book.old.log (call_of (Some first_chair) (SetPhase phase))) }
+    ensures set { OnOk result (book.new.log ≡ step book.old.log (drill_call (Some first_chair) (SetPhase phase))) }
     ensures cast { HasCast book.new.log }
 {
     ask_as(book, first_chair(), Command::SetPhase { phase })?;

@@ -29,6 +29,7 @@ use Rattle.cr_base.specs.Drawn.{stamped, grouped, submission}
 use Rattle.cr_base.specs.HistoryFacts.{role_of, accounts_of, ordinal_of}
 use Rattle.cr_base.specs.History.{History, Registration, all_told, registration_told}
 use Rattle.cr_base.specs.Lists.{numbers_from}
+use Rattle.cr_base.specs.Moments.{IsMoment}
 use Rattle.cr_base.specs.Papers.{IsPaper}
 use Rattle.cr_base.specs.Reviews.{forms_in, written_told}
 use Rattle.cr_base.specs.Rows.{label_number, IsBoundedEntry}
@@ -188,48 +189,48 @@ module _ (H : History) (fits : FitInTurn no_tables H) where
   label_drawn user paper ordinal is = seat-drawn H fits user paper ordinal (sym (ordinal_of-tables (Some user) paper H fits) ∙ is)
 
   -- the stamp of a user's entry
-  stamp_bounded : (stamp : Stamp) → IsRegistered H stamp.maker → FitsStamp stamp
-  stamp_bounded stamp registered = record { maker = numbered stamp.maker registered }
+  stamp_bounded : (stamp : Stamp) → IsMoment stamp.at → IsRegistered H stamp.maker → FitsStamp stamp
+  stamp_bounded stamp moment registered = record { maker = numbered stamp.maker registered; at = moment }
 
-  bounded-coauthor : (stamp : Stamp) (more : Bool) (paper user : ℕ) → IsRegistered H stamp.maker → Fits (tables_of H) (stamped stamp more (Coauthor paper user))
+  bounded-coauthor : (stamp : Stamp) (more : Bool) (paper user : ℕ) → IsMoment stamp.at → IsRegistered H stamp.maker → Fits (tables_of H) (stamped stamp more (Coauthor paper user))
       → IsBoundedEntry (stamped stamp more (Coauthor paper user))
-  bounded-coauthor stamp more paper user registered fit =
+  bounded-coauthor stamp more paper user moment registered fit =
       let last = fit.papers.1 in
-      record { stamp = stamp_bounded stamp registered; more = bit_few more; n1 = paper_numbered paper (fit.papers.0, omega (arith, last)); n2 = account_numbered user fit.accounts; n3 = zero_in; n4 = zero_in; n5 = zero_in; b1 = refl; b2 = refl }
+      record { stamp = stamp_bounded stamp moment registered; more = bit_few more; n1 = paper_numbered paper (fit.papers.0, omega (arith, last)); n2 = account_numbered user fit.accounts; n3 = zero_in; n4 = zero_in; n5 = zero_in; b1 = refl; b2 = refl }
 
-  bounded-entry : (stamp : Stamp) (more : Bool) (e : Entry) → IsMadeByUser H stamp.maker e → IsRuled H stamp.maker e → Fits (tables_of H) (stamped stamp more e)
+  bounded-entry : (stamp : Stamp) (more : Bool) (e : Entry) → IsMoment stamp.at → IsMadeByUser H stamp.maker e → IsRuled H stamp.maker e → Fits (tables_of H) (stamped stamp more e)
       → IsBoundedEntry (stamped stamp more e)
-  bounded-entry stamp more (Registered user name digest) made ruled fit =
+  bounded-entry stamp more (Registered user name digest) moment made ruled fit =
       let next = fit.accounts.0 in
       let few = fit.accounts.1 in
-      record { stamp = record { maker = (omega (arith, made, next), omega (arith, made, few)) }; more = bit_few more; n1 = (omega (arith, next), few); n2 = zero_in; n3 = zero_in; n4 = zero_in; n5 = zero_in; b1 = ruled.texts.0; b2 = ruled.texts.1 }
-  bounded-entry stamp more (Named user to) made ruled fit =
-      record { stamp = stamp_bounded stamp made; more = bit_few more; n1 = account_numbered user fit.accounts; n2 = raised_number _ to ruled.role; n3 = zero_in; n4 = zero_in; n5 = zero_in; b1 = refl; b2 = refl }
-  bounded-entry stamp more (PhaseSet phase) made ruled fit = record { stamp = stamp_bounded stamp made; more = bit_few more; n1 = (omega arith, phase_number-few phase); n2 = zero_in; n3 = zero_in; n4 = zero_in; n5 = zero_in; b1 = refl; b2 = refl }
-  bounded-entry stamp more (ModeSet mode) made ruled fit = record { stamp = stamp_bounded stamp made; more = bit_few more; n1 = (omega arith, mode_number-few mode); n2 = zero_in; n3 = zero_in; n4 = zero_in; n5 = zero_in; b1 = refl; b2 = refl }
-  bounded-entry stamp more (Submitted paper title abstract) made ruled fit =
+      record { stamp = record { maker = (omega (arith, made, next), omega (arith, made, few)); at = moment }; more = bit_few more; n1 = (omega (arith, next), few); n2 = zero_in; n3 = zero_in; n4 = zero_in; n5 = zero_in; b1 = ruled.texts.0; b2 = ruled.texts.1 }
+  bounded-entry stamp more (Named user to) moment made ruled fit =
+      record { stamp = stamp_bounded stamp moment made; more = bit_few more; n1 = account_numbered user fit.accounts; n2 = raised_number _ to ruled.role; n3 = zero_in; n4 = zero_in; n5 = zero_in; b1 = refl; b2 = refl }
+  bounded-entry stamp more (PhaseSet phase) moment made ruled fit = record { stamp = stamp_bounded stamp moment made; more = bit_few more; n1 = (omega arith, phase_number-few phase); n2 = zero_in; n3 = zero_in; n4 = zero_in; n5 = zero_in; b1 = refl; b2 = refl }
+  bounded-entry stamp more (ModeSet mode) moment made ruled fit = record { stamp = stamp_bounded stamp moment made; more = bit_few more; n1 = (omega arith, mode_number-few mode); n2 = zero_in; n3 = zero_in; n4 = zero_in; n5 = zero_in; b1 = refl; b2 = refl }
+  bounded-entry stamp more (Submitted paper title abstract) moment made ruled fit =
       let next = fit.papers.0 in
-      record { stamp = stamp_bounded stamp made; more = bit_few more; n1 = (omega (arith, next), fit.papers.1); n2 = zero_in; n3 = zero_in; n4 = zero_in; n5 = zero_in; b1 = ruled.texts.0; b2 = ruled.texts.1 }
-  bounded-entry stamp more (Coauthor paper user) made ruled fit = bounded-coauthor stamp more paper user made fit
-  bounded-entry stamp more (Revised paper title abstract) made ruled fit = record { stamp = stamp_bounded stamp made; more = bit_few more; n1 = paper_numbered paper fit.papers; n2 = zero_in; n3 = zero_in; n4 = zero_in; n5 = zero_in; b1 = ruled.texts.0; b2 = ruled.texts.1 }
-  bounded-entry stamp more (Uploaded paper version content) made ruled fit =
+      record { stamp = stamp_bounded stamp moment made; more = bit_few more; n1 = (omega (arith, next), fit.papers.1); n2 = zero_in; n3 = zero_in; n4 = zero_in; n5 = zero_in; b1 = ruled.texts.0; b2 = ruled.texts.1 }
+  bounded-entry stamp more (Coauthor paper user) moment made ruled fit = bounded-coauthor stamp more paper user moment made fit
+  bounded-entry stamp more (Revised paper title abstract) moment made ruled fit = record { stamp = stamp_bounded stamp moment made; more = bit_few more; n1 = paper_numbered paper fit.papers; n2 = zero_in; n3 = zero_in; n4 = zero_in; n5 = zero_in; b1 = ruled.texts.0; b2 = ruled.texts.1 }
+  bounded-entry stamp more (Uploaded paper version content) moment made ruled fit =
       let next = fit.papers.1 in
-      record { stamp = stamp_bounded stamp made; more = bit_few more; n1 = paper_numbered paper fit.papers.0; n2 = (omega (arith, next), tt); n3 = zero_in; n4 = zero_in; n5 = zero_in; b1 = ruled.texts; b2 = refl }
-  bounded-entry stamp more (Withdrawn paper) made ruled fit = record { stamp = stamp_bounded stamp made; more = bit_few more; n1 = paper_numbered paper fit.papers; n2 = zero_in; n3 = zero_in; n4 = zero_in; n5 = zero_in; b1 = refl; b2 = refl }
-  bounded-entry stamp more (Conflict paper user on) made ruled fit =
-      record { stamp = stamp_bounded stamp made; more = bit_few more; n1 = paper_numbered paper fit.papers; n2 = account_numbered user fit.accounts; n3 = (omega arith, bit_few on); n4 = zero_in; n5 = zero_in; b1 = refl; b2 = refl }
-  bounded-entry stamp more (Bid paper value) made ruled fit =
-      record { stamp = stamp_bounded stamp made; more = bit_few more; n1 = paper_numbered paper fit.papers; n2 = (omega arith, ruled.texts); n3 = zero_in; n4 = zero_in; n5 = zero_in; b1 = refl; b2 = refl }
-  bounded-entry stamp more (Assigned paper user kind' ordinal) made ruled fit =
+      record { stamp = stamp_bounded stamp moment made; more = bit_few more; n1 = paper_numbered paper fit.papers.0; n2 = (omega (arith, next), tt); n3 = zero_in; n4 = zero_in; n5 = zero_in; b1 = ruled.texts; b2 = refl }
+  bounded-entry stamp more (Withdrawn paper) moment made ruled fit = record { stamp = stamp_bounded stamp moment made; more = bit_few more; n1 = paper_numbered paper fit.papers; n2 = zero_in; n3 = zero_in; n4 = zero_in; n5 = zero_in; b1 = refl; b2 = refl }
+  bounded-entry stamp more (Conflict paper user on) moment made ruled fit =
+      record { stamp = stamp_bounded stamp moment made; more = bit_few more; n1 = paper_numbered paper fit.papers; n2 = account_numbered user fit.accounts; n3 = (omega arith, bit_few on); n4 = zero_in; n5 = zero_in; b1 = refl; b2 = refl }
+  bounded-entry stamp more (Bid paper value) moment made ruled fit =
+      record { stamp = stamp_bounded stamp moment made; more = bit_few more; n1 = paper_numbered paper fit.papers; n2 = (omega arith, ruled.texts); n3 = zero_in; n4 = zero_in; n5 = zero_in; b1 = refl; b2 = refl }
+  bounded-entry stamp more (Assigned paper user kind' ordinal) moment made ruled fit =
       let next = fit.seats.0 in
-      record { stamp = stamp_bounded stamp made; more = bit_few more; n1 = paper_numbered paper fit.papers; n2 = account_numbered user fit.accounts; n3 = review_kind_number-few kind'; n4 = (omega (arith, next), fit.seats.1); n5 = zero_in; b1 = refl; b2 = refl }
-  bounded-entry stamp more (Unassigned paper user ordinal) made ruled fit =
+      record { stamp = stamp_bounded stamp moment made; more = bit_few more; n1 = paper_numbered paper fit.papers; n2 = account_numbered user fit.accounts; n3 = review_kind_number-few kind'; n4 = (omega (arith, next), fit.seats.1); n5 = zero_in; b1 = refl; b2 = refl }
+  bounded-entry stamp more (Unassigned paper user ordinal) moment made ruled fit =
       let drawn = seat-drawn H fits user paper ordinal fit.seats in
-      record { stamp = stamp_bounded stamp made; more = bit_few more; n1 = paper_numbered paper fit.papers; n2 = account_numbered user fit.accounts; n3 = drawn; n4 = zero_in; n5 = zero_in; b1 = refl; b2 = refl }
-  bounded-entry stamp more (Reviewed paper ordinal version form) made ruled fit =
+      record { stamp = stamp_bounded stamp moment made; more = bit_few more; n1 = paper_numbered paper fit.papers; n2 = account_numbered user fit.accounts; n3 = drawn; n4 = zero_in; n5 = zero_in; b1 = refl; b2 = refl }
+  bounded-entry stamp more (Reviewed paper ordinal version form) moment made ruled fit =
       let next = fit.reviews in
       record {
-        stamp = stamp_bounded stamp made;
+        stamp = stamp_bounded stamp moment made;
         more = bit_few more;
         n1 = paper_numbered paper fit.papers;
         n2 = label_drawn stamp.maker paper ordinal ruled.seat;
@@ -239,10 +240,10 @@ module _ (H : History) (fits : FitInTurn no_tables H) where
         b1 = ruled.texts.to_authors;
         b2 = ruled.texts.to_pc;
       }
-  bounded-entry stamp more (Commented paper n ordinal text) made ruled fit =
+  bounded-entry stamp more (Commented paper n ordinal text) moment made ruled fit =
       let next = fit.talk.0 in
       record {
-        stamp = stamp_bounded stamp made;
+        stamp = stamp_bounded stamp moment made;
         more = bit_few more;
         n1 = paper_numbered paper fit.papers;
         n2 = (omega (arith, next), tt);
@@ -252,9 +253,9 @@ module _ (H : History) (fits : FitInTurn no_tables H) where
         b1 = ruled.texts;
         b2 = refl;
       }
-  bounded-entry stamp more (Tagged paper tag on) made ruled fit =
+  bounded-entry stamp more (Tagged paper tag on) moment made ruled fit =
       record {
-        stamp = stamp_bounded stamp made;
+        stamp = stamp_bounded stamp moment made;
         more = bit_few more;
         n1 = paper_numbered paper fit.papers;
         n2 = (omega arith, bit_few on);
@@ -264,9 +265,9 @@ module _ (H : History) (fits : FitInTurn no_tables H) where
         b1 = ruled.texts;
         b2 = refl;
       }
-  bounded-entry stamp more (Decided paper decision) made ruled fit =
+  bounded-entry stamp more (Decided paper decision) moment made ruled fit =
       record {
-        stamp = stamp_bounded stamp made;
+        stamp = stamp_bounded stamp moment made;
         more = bit_few more;
         n1 = paper_numbered paper fit.papers;
         n2 = decision_number-few decision;
@@ -277,8 +278,8 @@ module _ (H : History) (fits : FitInTurn no_tables H) where
         b2 = refl;
       }
 
-  bounded_chair : (stamp : Stamp) → stamp.maker ≡ 1 → IsBoundedEntry (stamped stamp false (Named stamp.maker role.Chair))
-  bounded_chair stamp is = record { stamp = record { maker = (omega (arith, is), omega (arith, is)) }; more = omega arith; n1 = (omega (arith, is), omega (arith, is)); n2 = (omega arith, omega arith); n3 = zero_in; n4 = zero_in; n5 = zero_in; b1 = refl; b2 = refl }
+  bounded_chair : (stamp : Stamp) → IsMoment stamp.at → stamp.maker ≡ 1 → IsBoundedEntry (stamped stamp false (Named stamp.maker role.Chair))
+  bounded_chair stamp moment is = record { stamp = record { maker = (omega (arith, is), omega (arith, is)); at = moment }; more = omega arith; n1 = (omega (arith, is), omega (arith, is)); n2 = (omega arith, omega arith); n3 = zero_in; n4 = zero_in; n5 = zero_in; b1 = refl; b2 = refl }
 
 -- ---- groups
 
@@ -287,19 +288,19 @@ in_turn-all Q before [] all = tt
 in_turn-all Q before (e ∷ g) all = (all.0, in_turn-all Q (before ++ e ∷ []) g all.1)
 
 added-bounded : (H : History) → FitInTurn no_tables H → (g : History) → Adds H g → FitInTurn (tables_of H) g → All IsBoundedEntry g
-added-bounded H fits g (single stamp e made alone ruled) fit = All-from_recursion IsBoundedEntry (grouped stamp (e ∷ [])) (bounded-entry H fits stamp false e made ruled fit.0, tt)
-added-bounded H fits g (submitted stamp paper title abstract users made ruled registered) fit =
+added-bounded H fits g (single stamp e moment made alone ruled) fit = All-from_recursion IsBoundedEntry (grouped stamp (e ∷ [])) (bounded-entry H fits stamp false e moment made ruled fit.0, tt)
+added-bounded H fits g (submitted stamp paper title abstract users moment made ruled registered) fit =
     All-from_recursion IsBoundedEntry (grouped stamp (submission stamp.maker paper title abstract users))
     (in_turn-all IsBoundedEntry H _
-    (submission-in_turn stamp paper (λ _ e. IsBoundedEntry e) (λ G more user before fit. bounded-coauthor G before.fits stamp more paper user before.registered fit)
-    H title abstract users fits made ruled.phase (λ more fit. bounded-entry H fits stamp more (Submitted paper title abstract) made ruled fit) fit))
-added-bounded H fits g (first_user stamp name digest is texts) fit =
+    (submission-in_turn stamp paper (λ _ e. IsBoundedEntry e) (λ G more user before fit. bounded-coauthor G before.fits stamp more paper user moment before.registered fit)
+    H title abstract users fits made ruled.phase (λ more fit. bounded-entry H fits stamp more (Submitted paper title abstract) moment made ruled fit) fit))
+added-bounded H fits g (first_user stamp name digest moment is texts) fit =
     let user : ℕ = stamp.maker in
     let ruled : IsRuled H user (Registered user name digest) = record { phase = tt; chair = tt; role = tt; member = tt; right = tt; seat = tt; texts = texts } in
     All-from_recursion IsBoundedEntry (grouped stamp (Registered user name digest ∷ Named user role.Chair ∷ []))
-    (bounded-entry H fits stamp true (Registered user name digest) refl ruled fit.0, (bounded_chair H fits stamp is, tt))
+    (bounded-entry H fits stamp true (Registered user name digest) moment refl ruled fit.0, (bounded_chair H fits stamp moment is, tt))
 
 pub grown-bounded : (H : History) → FitInTurn no_tables H → (g : History) → Grows H g → FitInTurn (tables_of H) g → All IsBoundedEntry g
 grown-bounded H fits g (adds same added) fit = added-bounded H fits g added fit
-grown-bounded H fits g (goes_on stamp e made goes ruled) fit =
-    All-from_recursion IsBoundedEntry (stamped stamp true e ∷ []) (bounded-entry H fits stamp true e made ruled fit.0, tt)
+grown-bounded H fits g (goes_on stamp e moment made goes ruled) fit =
+    All-from_recursion IsBoundedEntry (stamped stamp true e ∷ []) (bounded-entry H fits stamp true e moment made ruled fit.0, tt)

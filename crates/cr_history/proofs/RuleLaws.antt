@@ -24,6 +24,7 @@ use Rattle.cr_base.specs.declared.words.Phase.TheVariants.{Setup, Submission, Bi
 use Rattle.cr_base.specs.declared.words.Role.{Role}
 use Rattle.cr_base.specs.declared.words.Role.TheVariants.{Account, Chair}
 use Rattle.cr_base.specs.Lists.{at_some, is_number, listed}
+use Rattle.cr_base.specs.Moments.{IsMoment}
 use Rattle.cr_base.specs.History.{History, Registration, all_told, registration_told}
 use Rattle.cr_base.specs.HistoryFacts.{phase_of, role_of, accounts_of, papers_of, own_papers_of, own_bytes_of}
 use Rattle.cr_base.specs.HistoryFacts.{is_author, is_conflicted, bid_of, ordinal_of, seats_of, is_written, own_forms_of, own_comments_of, is_accepted, standing_of}
@@ -217,18 +218,18 @@ pub record TellsSeats (H : History) (maker : ℕ) (shown : Shown) : Type 0 where
 -- ---- all commands
 
 pub registration-adds : (H : History) (stamp : Stamp) (facts : Facts) (shown : Shown) (name digest : List ℕ) (drawn : Drawn)
-    → IsName name × (length digest ≡ 32) → judge_by facts shown stamp (Register name digest) ≡ Ok drawn → Adds H drawn.group
-registration-adds H stamp facts shown name digest drawn bounded accepted =
+    → IsMoment stamp.at → IsName name × (length digest ≡ 32) → judge_by facts shown stamp (Register name digest) ≡ Ok drawn → Adds H drawn.group
+registration-adds H stamp facts shown name digest drawn moment bounded accepted =
     let n : ℕ = length facts.accounts in
     let k = judged-Ok (register_checks (is_some (number_in facts.accounts name)) n) (registration_drawn stamp (n + 1) name digest) drawn accepted in
     subst (λ (d : Drawn). Adds H d.group) k.1 (by (n + 1) (eqb (n + 1) 1) refl)
   where
     by : (user : ℕ) (b : Bool) → eqb user 1 ≡ b
         → Adds H (grouped (record stamp { maker = user }) (cond b (Registered user name digest ∷ Named user Chair ∷ []) (Registered user name digest ∷ [])))
-    by user true is = first_user (record stamp { maker = user }) name digest (eqb-true user 1 is) bounded
-    by user false is = single (record stamp { maker = user }) (Registered user name digest) refl is (record { phase = tt; chair = tt; role = tt; member = tt; right = tt; seat = tt; texts = bounded })
+    by user true is = first_user (record stamp { maker = user }) name digest moment (eqb-true user 1 is) bounded
+    by user false is = single (record stamp { maker = user }) (Registered user name digest) moment refl is (record { phase = tt; chair = tt; role = tt; member = tt; right = tt; seat = tt; texts = bounded })
 
-module _ (H : History) (stamp : Stamp) (shown : Shown) (registered : IsRegistered H stamp.maker) (tells : TellsSeats H stamp.maker shown) where
+module _ (H : History) (stamp : Stamp) (shown : Shown) (moment : IsMoment stamp.at) (registered : IsRegistered H stamp.maker) (tells : TellsSeats H stamp.maker shown) where
   abbrev maker : ℕ
   maker = stamp.maker
 
@@ -433,31 +434,31 @@ module _ (H : History) (stamp : Stamp) (shown : Shown) (registered : IsRegistere
       }
 
   pub command-adds : (command : Command) (drawn : Drawn) → IsBoundedCommand command → judge_by facts shown stamp command ≡ Ok drawn → Adds H drawn.group
-  command-adds (Register name digest) drawn bounded accepted = registration-adds H stamp facts shown name digest drawn bounded accepted
+  command-adds (Register name digest) drawn bounded accepted = registration-adds H stamp facts shown name digest drawn moment bounded accepted
   command-adds (SetPhase to) drawn bounded accepted =
       let k = judged-Ok (phase_checks standing (phase_of H) to) (phase_drawn stamp to) drawn accepted in
       subst (λ (d : Drawn). Adds H d.group) k.1
-      (single stamp (PhaseSet to) registered tt (record { phase = not-false (is_next (phase_of H) to) k.0.1.0; chair = not-false (is_chair standing.role) k.0.0; role = tt; member = tt; right = tt; seat = tt; texts = tt }))
+      (single stamp (PhaseSet to) moment registered tt (record { phase = not-false (is_next (phase_of H) to) k.0.1.0; chair = not-false (is_chair standing.role) k.0.0; role = tt; member = tt; right = tt; seat = tt; texts = tt }))
   command-adds (Submit title abstract names) drawn bounded accepted =
       let n : ℕ = length facts.papers in
       let users : List (Option ℕ) = users_among facts.accounts names in
       let others : List ℕ = flat_map listed users in
       let k = judged-Ok (submit_checks (list_any is_none users) standing n facts.own_papers) (submission_drawn stamp (n + 1) title abstract others) drawn accepted in
       subst (λ (d : Drawn). Adds H d.group) k.1
-      (submitted stamp (n + 1) title abstract others registered (record { phase = submitting H maker k.0.1.0; chair = tt; role = tt; member = tt; right = tt; seat = tt; texts = (bounded.0, bounded.1) }) (users-registered H names))
+      (submitted stamp (n + 1) title abstract others moment registered (record { phase = submitting H maker k.0.1.0; chair = tt; role = tt; member = tt; right = tt; seat = tt; texts = (bounded.0, bounded.1) }) (users-registered H names))
   command-adds (Revise paper title abstract) drawn bounded accepted =
       let k = judged-Ok (revise_checks (standing_of (Some maker) paper H) (paper_named facts shown paper)) (revision_drawn stamp (unwrap_or paper 0) title abstract) drawn accepted in
       subst (λ (d : Drawn). Adds H d.group) k.1
-      (single stamp (Revised (unwrap_or paper 0) title abstract) registered tt (record { phase = submitting H maker k.0.1.1.0; chair = tt; role = tt; member = tt; right = author-named H maker paper k.0.1.0; seat = tt; texts = bounded }))
+      (single stamp (Revised (unwrap_or paper 0) title abstract) moment registered tt (record { phase = submitting H maker k.0.1.1.0; chair = tt; role = tt; member = tt; right = author-named H maker paper k.0.1.0; seat = tt; texts = bounded }))
   command-adds (Upload paper content) drawn bounded accepted =
       let version : ℕ = length (shown.uploads (unwrap_or paper 0)) + 1 in
       let k = judged-Ok (upload_checks (standing_of (Some maker) paper H) (paper_named facts shown paper) facts.own_bytes (length content)) (upload_drawn stamp (unwrap_or paper 0) version content) drawn accepted in
       subst (λ (d : Drawn). Adds H d.group) k.1
-      (single stamp (Uploaded (unwrap_or paper 0) version content) registered tt (record { phase = submitting H maker k.0.1.1.0; chair = tt; role = tt; member = tt; right = author-named H maker paper k.0.1.0; seat = tt; texts = bounded }))
+      (single stamp (Uploaded (unwrap_or paper 0) version content) moment registered tt (record { phase = submitting H maker k.0.1.1.0; chair = tt; role = tt; member = tt; right = author-named H maker paper k.0.1.0; seat = tt; texts = bounded }))
   command-adds (Withdraw paper) drawn bounded accepted =
       let k = judged-Ok (revise_checks (standing_of (Some maker) paper H) (paper_named facts shown paper)) (withdrawal_drawn stamp (unwrap_or paper 0)) drawn accepted in
       subst (λ (d : Drawn). Adds H d.group) k.1
-      (single stamp (Withdrawn (unwrap_or paper 0)) registered tt (record { phase = submitting H maker k.0.1.1.0; chair = tt; role = tt; member = tt; right = author-named H maker paper k.0.1.0; seat = tt; texts = tt }))
+      (single stamp (Withdrawn (unwrap_or paper 0)) moment registered tt (record { phase = submitting H maker k.0.1.1.0; chair = tt; role = tt; member = tt; right = author-named H maker paper k.0.1.0; seat = tt; texts = tt }))
   command-adds (Name name role) drawn bounded accepted =
       let target : Option ℕ = user_among facts.accounts name in
       let before : Option Role = role_among facts.accounts target in
@@ -466,7 +467,7 @@ module _ (H : History) (stamp : Stamp) (shown : Shown) (registered : IsRegistere
       let rises : role_number (target_role asked) < role_number role = leb-false (role_number role) (role_number (target_role asked)) k.0.1.1.1.0 in
       let there : is_none before ≡ false = sym (is_none-asked of_role before) ∙ k.0.0 in
       subst (λ (d : Drawn). Adds H d.group) k.1
-      (single stamp (Named (unwrap_or target 0) role) registered tt (record {
+      (single stamp (Named (unwrap_or target 0) role) moment registered tt (record {
         phase = k.0.1.1.0;
         chair = or_left (is_chair standing.role) (eqb (length H) 1) (not-false (is_chair standing.role) k.0.1.0);
         role = subst (λ (r : Role). role_number r < role_number role) (target_role-of before ∙ (role-among H target there).0) rises;
@@ -478,22 +479,22 @@ module _ (H : History) (stamp : Stamp) (shown : Shown) (registered : IsRegistere
   command-adds (SetMode to) drawn bounded accepted =
       let k = judged-Ok (mode_checks standing (phase_of H)) (mode_drawn stamp to) drawn accepted in
       subst (λ (d : Drawn). Adds H d.group) k.1
-      (single stamp (ModeSet to) registered tt (record { phase = not-false (mode_may_be_set (phase_of H)) k.0.1.0; chair = not-false (is_chair standing.role) k.0.0; role = tt; member = tt; right = tt; seat = tt; texts = tt }))
+      (single stamp (ModeSet to) moment registered tt (record { phase = not-false (mode_may_be_set (phase_of H)) k.0.1.0; chair = not-false (is_chair standing.role) k.0.0; role = tt; member = tt; right = tt; seat = tt; texts = tt }))
   command-adds (SetConflict paper name on) drawn bounded accepted =
       let target : Option ℕ = user_among facts.accounts name in
       let k = judged-Ok (checks paper target on) (conflict_drawn stamp (unwrap_or paper 0) (unwrap_or target 0) on) drawn accepted in
-      subst (λ (d : Drawn). Adds H d.group) k.1 (single stamp (Conflict (unwrap_or paper 0) (unwrap_or target 0) on) registered tt (conflict-ruled_for paper target on k.0))
+      subst (λ (d : Drawn). Adds H d.group) k.1 (single stamp (Conflict (unwrap_or paper 0) (unwrap_or target 0) on) moment registered tt (conflict-ruled_for paper target on k.0))
   command-adds (Bid paper value) drawn bounded accepted =
       let k = judged-Ok (bid_checks (standing_of (Some maker) paper H) (paper_named facts shown paper))
       (bid_drawn stamp (unwrap_or paper 0) value) drawn accepted in
-      subst (λ (d : Drawn). Adds H d.group) k.1 (single stamp (entries.Bid (unwrap_or paper 0) value) registered tt (bid-ruled paper value bounded k.0))
+      subst (λ (d : Drawn). Adds H d.group) k.1 (single stamp (entries.Bid (unwrap_or paper 0) value) moment registered tt (bid-ruled paper value bounded k.0))
   command-adds (Assign paper name kind) drawn bounded accepted =
       let target : Option ℕ = user_among facts.accounts name in
       let labels : ℕ = shown.labels (unwrap_or paper 0) in
       let k = judged-Ok (assign_checks (standing_of (Some maker) paper H) (paper_named facts shown paper) (asked paper target) labels)
       (assignment_drawn stamp (unwrap_or paper 0) (unwrap_or target 0) kind (labels + 1)) drawn accepted in
       subst (λ (d : Drawn). Adds H d.group) k.1
-      (single stamp (Assigned (unwrap_or paper 0) (unwrap_or target 0) kind (labels + 1)) registered tt (assigned-ruled paper target kind (labels + 1) k.0))
+      (single stamp (Assigned (unwrap_or paper 0) (unwrap_or target 0) kind (labels + 1)) moment registered tt (assigned-ruled paper target kind (labels + 1) k.0))
   command-adds (Unassign paper name) drawn bounded accepted =
       let target : Option ℕ = user_among facts.accounts name in
       let p : ℕ = unwrap_or paper 0 in
@@ -501,7 +502,7 @@ module _ (H : History) (stamp : Stamp) (shown : Shown) (registered : IsRegistere
       let k = judged-Ok (unassign_checks (standing_of (Some maker) paper H) (paper_named facts shown paper) (asked paper target) (under_label paper target))
       (unassignment_drawn stamp p (unwrap_or target 0) ordinal) drawn accepted in
       subst (λ (d : Drawn). Adds H d.group) k.1
-      (single stamp (Unassigned p (unwrap_or target 0) ordinal) registered tt (unassigned-ruled paper target k.0))
+      (single stamp (Unassigned p (unwrap_or target 0) ordinal) moment registered tt (unassigned-ruled paper target k.0))
   command-adds (Review paper form) drawn bounded accepted =
       let p : ℕ = unwrap_or paper 0 in
       let ordinal : ℕ = unwrap_or (facts.own_ordinal p) 0 in
@@ -509,21 +510,21 @@ module _ (H : History) (stamp : Stamp) (shown : Shown) (registered : IsRegistere
       let k = judged-Ok (review_checks (standing_of (Some maker) paper H) (paper_named facts shown paper))
       (review_drawn stamp p ordinal version form) drawn accepted in
       subst (λ (d : Drawn). Adds H d.group) k.1
-      (single stamp (Reviewed p ordinal version form) registered tt (reviewed-ruled paper version form bounded k.0))
+      (single stamp (Reviewed p ordinal version form) moment registered tt (reviewed-ruled paper version form bounded k.0))
   command-adds (Comment paper text) drawn bounded accepted =
       let p : ℕ = unwrap_or paper 0 in
       let n : ℕ = length (shown.comments p) + 1 in
       let k = judged-Ok (comment_checks (standing_of (Some maker) paper H) (paper_named facts shown paper) facts.own_comments)
       (comment_drawn stamp p n (facts.own_ordinal p) text) drawn accepted in
       subst (λ (d : Drawn). Adds H d.group) k.1
-      (single stamp (Commented p n (facts.own_ordinal p) text) registered tt (commented-ruled paper n facts.own_comments text bounded k.0))
+      (single stamp (Commented p n (facts.own_ordinal p) text) moment registered tt (commented-ruled paper n facts.own_comments text bounded k.0))
   command-adds (Tag paper tag on) drawn bounded accepted =
       let k = judged-Ok (tag_checks (standing_of (Some maker) paper H) (paper_named facts shown paper) (is_for_chairs tag))
       (tag_drawn stamp (unwrap_or paper 0) tag on) drawn accepted in
       subst (λ (d : Drawn). Adds H d.group) k.1
-      (single stamp (Tagged (unwrap_or paper 0) tag on) registered tt (tagged-ruled paper tag on bounded k.0))
+      (single stamp (Tagged (unwrap_or paper 0) tag on) moment registered tt (tagged-ruled paper tag on bounded k.0))
   command-adds (Decide paper decision) drawn bounded accepted =
       let k = judged-Ok (decide_checks (standing_of (Some maker) paper H) (paper_named facts shown paper))
       (decision_drawn stamp (unwrap_or paper 0) decision) drawn accepted in
       subst (λ (d : Drawn). Adds H d.group) k.1
-      (single stamp (Decided (unwrap_or paper 0) decision) registered tt (decided-ruled paper decision k.0))
+      (single stamp (Decided (unwrap_or paper 0) decision) moment registered tt (decided-ruled paper decision k.0))

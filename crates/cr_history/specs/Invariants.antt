@@ -219,11 +219,12 @@ InTurn P before (e ∷ after) = P before e × InTurn P (before ++ e ∷ []) afte
 
 -- ---- a history as a whole
 
--- no command's entries are cut off: behind an entry with the mark `more` stands another by the same maker
+-- no command's entries are cut off: behind an entry with the mark `more` stands another under the same stamp, so by the
+-- same maker and of the same moment
 abbrev pub IsWhole : History → Type 0
 IsWhole [] = Unit {0}
 IsWhole (e ∷ []) = IsFalse e.more
-IsWhole (e ∷ next ∷ after) = (IsTrue e.more → next.stamp.maker ≡ e.stamp.maker) × IsWhole (next ∷ after)
+IsWhole (e ∷ next ∷ after) = (IsTrue e.more → next.stamp ≡ e.stamp) × IsWhole (next ∷ after)
 
 -- whether the entry opens the bidding
 abbrev pub is_opening : Stamped → Bool

@@ -29,25 +29,25 @@ use Rattle.cr_judge.specs.Effects.{behind, drawn_by}
 use Rattle.cr_judge.specs.Named.{registration_at}
 
 -- a registration; the first user is made a chair
-module _ (t : Tables) (name digest : List ℕ) (seen : List Account) (same : seen ≡ t.accounts) where
+module _ (t : Tables) (at : ℕ) (name digest : List ℕ) (seen : List Account) (same : seen ≡ t.accounts) where
   registration-made : (r : Result ℕ Rule) → r ≡ judged (register_checks (is_some (number_at seen name)) (length seen)) (length seen + 1)
-      → made_of (λ (user : ℕ). registration_drawn (stamp_by user) user name digest) r ≡ registration_at t name digest
+      → made_of (λ (user : ℕ). registration_drawn (stamp_by user at) user name digest) r ≡ registration_at t at name digest
   registration-made r judges =
-      judged-made (register_checks (is_some (number_at seen name)) (length seen)) (λ (user : ℕ). registration_drawn (stamp_by user) user name digest) (length seen + 1) r judges
-      ∙ ap (λ (x : List Account). judged (register_checks (is_some (number_at x name)) (length x)) (registration_drawn (stamp_by (length x + 1)) (length x + 1) name digest)) same
+      judged-made (register_checks (is_some (number_at seen name)) (length seen)) (λ (user : ℕ). registration_drawn (stamp_by user at) user name digest) (length seen + 1) r judges
+      ∙ ap (λ (x : List Account). judged (register_checks (is_some (number_at x name)) (length x)) (registration_drawn (stamp_by (length x + 1) at) (length x + 1) name digest)) same
 
   pub registration-refused : (rule : Rule)
       → ◌≡◌ {A = Result ℕ Rule} (Err rule) (judged (register_checks (is_some (number_at seen name)) (length seen)) (length seen + 1))
-      → ◌≡◌ {A = Result Drawn Rule} (Err rule) (registration_at t name digest)
+      → ◌≡◌ {A = Result Drawn Rule} (Err rule) (registration_at t at name digest)
   registration-refused rule judges = registration-made (Err rule) judges
 
   pub registration-drawn : (user : ℕ)
       → ◌≡◌ {A = Result ℕ Rule} (Ok user) (judged (register_checks (is_some (number_at seen name)) (length seen)) (length seen + 1))
       → (rest : Rest) → rest ≡ cond (user == 1) (rests.FirstChair user) rests.Nothing
       → ◌≡◌ {A = Result Drawn Rule}
-      (Ok (drawn_by t.accounts (record { stamp = stamp_by user; first = Registered user name digest; rest = rest }))) (registration_at t name digest)
+      (Ok (drawn_by t.accounts (record { stamp = stamp_by user at; first = Registered user name digest; rest = rest }))) (registration_at t at name digest)
   registration-drawn user judges rest is =
-      ap (λ (es : List Entry). Ok (record { group = grouped (stamp_by user) es; receipt = receipts.User user })) (ap (λ (r : Rest). first ∷ behind r) is ∙ by (user == 1))
+      ap (λ (es : List Entry). Ok (record { group = grouped (stamp_by user at) es; receipt = receipts.User user })) (ap (λ (r : Rest). first ∷ behind r) is ∙ by (user == 1))
       ∙ registration-made (Ok user) judges
     where
       first : Entry

@@ -9,7 +9,7 @@ use Rattle.cr_base.specs.declared.entry.Account.{Account}
 use Rattle.cr_base.specs.declared.entry.Entry.{Entry}
 use Rattle.cr_base.specs.declared.entry.Stamp.{Stamp}
 use Rattle.cr_base.specs.declared.reply.Rule.{Rule}
-use Rattle.cr_base.specs.Calls.{call_by, call_of, stamp_by}
+use Rattle.cr_base.specs.Calls.{call_by, stamp_of}
 use Rattle.cr_base.specs.Drawn.{Drawn}
 use Rattle.cr_base.specs.Judging.{judge_by_role}
 use Rattle.cr_base.specs.Papers.{paper_count}
@@ -47,10 +47,15 @@ of-entry accounts stamp judged r due is told = ap (drawn_or_rule accounts) is �
     by (Ok entry) = refl
     by (Err rule) = refl
 
--- the same command of the user whose stamp this is
-pub along : (t : Tables) (call : Call) (stamp : Stamp) (command : Command) (r : Result Drawn Rule) → call.caller ≡ Some stamp.maker → call.command ≡ command
-    → r ≡ judge_by_role t (call_by stamp command) → r ≡ judge_by_role t call
-along t call stamp command r who is h = h ∙ sym (λ i. judge_by_role t (call_of (who i) (is i)))
+-- what a user's command comes to, where it is this one
+pub command-told : (t : Tables) (stamp : Stamp) (command this : Command) (r : Result Drawn Rule) → command ≡ this
+    → r ≡ judge_by_role t (call_by stamp this) → r ≡ judge_by_role t (call_by stamp command)
+command-told t stamp command this r is h = h ∙ sym (ap (λ (c : Command). judge_by_role t (call_by stamp c)) is)
+
+-- and what a call does, where it is this user's
+pub call-told : (t : Tables) (call : Call) (maker : ℕ) (r : Result Drawn Rule) → call.caller ≡ Some maker
+    → r ≡ judge_by_role t (record call { caller = Some maker }) → r ≡ judge_by_role t call
+call-told t call maker r who h = h ∙ sym (λ i. judge_by_role t (record call { caller = who i }))
 
 -- its entries fit, where the papers that have ties are there; a registration's are the same for all callers
 pub effect-fits : (t : Tables) → AreWithin (paper_count t.papers) t.ties → (call : Call) → HasCaller call → (r : Result Effect Rule)
@@ -58,10 +63,10 @@ pub effect-fits : (t : Tables) → AreWithin (paper_count t.papers) t.ties → (
 effect-fits t within call has (Err rule) is = tt
 effect-fits t within call has (Ok effect) is = by call.caller call.command has (sym is)
   where
-    by : (caller : Option ℕ) (command : Command) → HasCaller (call_of caller command) → judge_by_role t (call_of caller command) ≡ Ok (drawn_by t.accounts effect)
-        → FitInTurn t (group_of effect)
-    by (Some user) command has accepted = judged-fits t within (stamp_by user) command (drawn_by t.accounts effect) accepted
-    by None (Register name digest) has accepted = judged-fits t within (stamp_by 0) (Register name digest) (drawn_by t.accounts effect) accepted
+    by : (caller : Option ℕ) (command : Command) → HasCaller (record call { caller = caller; command = command })
+        → judge_by_role t (record call { caller = caller; command = command }) ≡ Ok (drawn_by t.accounts effect) → FitInTurn t (group_of effect)
+    by (Some user) command has accepted = judged-fits t within (record (stamp_of call) { maker = user }) command (drawn_by t.accounts effect) accepted
+    by None (Register name digest) has accepted = judged-fits t within (record (stamp_of call) { maker = 0 }) (Register name digest) (drawn_by t.accounts effect) accepted
     by None (Tag paper tag true) has accepted = absurd (true≢false (sym has))
     by None (Tag paper tag false) has accepted = absurd (true≢false (sym has))
     by None _ has accepted = absurd (true≢false (sym has))

@@ -61,10 +61,11 @@ user_named t name = user_among (lines_of t.accounts) name
 
 -- ---- what is judged
 
-abbrev pub registration_at : Tables → List ℕ → List ℕ → Result Drawn Rule
-registration_at t name digest =
+-- a registration at this moment
+abbrev pub registration_at : Tables → ℕ → List ℕ → List ℕ → Result Drawn Rule
+registration_at t at name digest =
     let count = length t.accounts in
-    let drawn = registration_drawn (stamp_by (count + 1)) (count + 1) name digest in
+    let drawn = registration_drawn (stamp_by (count + 1) at) (count + 1) name digest in
     judged (register_checks (is_some (number_at t.accounts name)) count) drawn
 
 -- submitting a paper with the users of these names

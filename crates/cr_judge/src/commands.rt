@@ -1,7 +1,8 @@
 //! What is judged by the tables.
-ghost use Rattle.std.specs.Prelude.{◌≡◌, ◌≤◌, ◌==◌, IfOk, IsSome, Some, length, if◌then◌else◌};
+ghost use Rattle.std.specs.Prelude.{◌≡◌, ◌≤◌, ◌==◌, IfOk, IsTrue, length, if◌then◌else◌};
 ghost use Rattle.cr_base.specs.Calls.{call_by};
 ghost use Rattle.cr_base.specs.Judging.{judge_by_role};
+ghost use Rattle.cr_base.specs.Logins.{command_wants_login};
 ghost use Rattle.cr_base.specs.Tables.{FitInTurn};
 ghost use Rattle.cr_base.specs.declared.command.Command.TheVariants as commands;
 ghost use Rattle.cr_judge.specs.Callers.{HasCaller, HasFewAuthors};
@@ -15,8 +16,8 @@ use crate::effect::{Effect, Rest, alone, alone_or_rule};
 use crate::named::{held, user_of};
 use crate::writing::{comment, decision, review, tag};
 use cr_base::{
-    Blob, Call, Command, Digest, Entry, Mode, PaperNo, Phase, Role, Rule, Short, Stamp, Text,
-    ToldNames, UserNo,
+    Blob, Call, Command, Digest, Entry, Mode, Moment, PaperNo, Phase, Role, Rule, Short, Stamp,
+    Text, ToldNames, UserNo,
 };
 use cr_view::Live;
 
@@ -46,77 +47,84 @@ pub fn judge(live: &Live, call: Call) -> Result<Effect, Rule>
     effect_of(live, call)
 }
 
-/// The same by the function of its kind.
+/// The same: nobody's, or a user's.
 fn effect_of(live: &Live, call: Call) -> Result<Effect, Rule>
     requires caller { HasCaller call }
     requires few { HasFewAuthors call.command }
     ensures { drawn_or_rule live.now.tables.accounts result ≡ judge_by_role live.now.tables call }
 {
-    let Call { caller, command } = call;
+    let Call {
+        caller,
+        at,
+        command,
+    } = call;
     match command {
-        Command::Register { name, digest } => registration(live, name, digest),
-        Command::SetPhase { phase: to } => phase(live, &stamp_of(&caller), to),
+        Command::Register { name, digest } => registration(live, at, name, digest),
+        command => {
+            let stamp = Stamp {
+                maker: held(&caller),
+                at,
+            };
+            user_effect_of(live, &stamp, command)
+        }
+    }
+}
+
+/// What the command of the user whose stamp this is comes to, by the function of its kind.
+fn user_effect_of(live: &Live, stamp: &Stamp, command: Command) -> Result<Effect, Rule>
+    requires login { IsTrue (command_wants_login command) }
+    requires few { HasFewAuthors command }
+    ensures { drawn_or_rule live.now.tables.accounts result
+        ≡ judge_by_role live.now.tables (call_by stamp.now command) }
+{
+    match command {
+        Command::Register { .. } => unreachable!(),
+        Command::SetPhase { phase: to } => phase(live, stamp, to),
         Command::Submit {
             title,
             abstract_,
             authors,
-        } => submission(live, &stamp_of(&caller), title, abstract_, &authors),
+        } => submission(live, stamp, title, abstract_, &authors),
         Command::Revise {
             paper,
             title,
             abstract_,
-        } => revision(live, &stamp_of(&caller), &paper, title, abstract_),
-        Command::Upload { paper, content } => upload(live, &stamp_of(&caller), &paper, content),
-        Command::Withdraw { paper } => withdrawal(live, &stamp_of(&caller), &paper),
-        Command::Name { user, role } => naming(live, &stamp_of(&caller), &user, role),
-        Command::SetMode { mode: to } => mode(live, &stamp_of(&caller), to),
+        } => revision(live, stamp, &paper, title, abstract_),
+        Command::Upload { paper, content } => upload(live, stamp, &paper, content),
+        Command::Withdraw { paper } => withdrawal(live, stamp, &paper),
+        Command::Name { user, role } => naming(live, stamp, &user, role),
+        Command::SetMode { mode: to } => mode(live, stamp, to),
         Command::SetConflict { paper, user, on } => {
-            let stamp = stamp_of(&caller);
             let user = user_of(live, &user);
-            alone_or_rule(&stamp, conflict(live, &stamp, &paper, &user, on, &[]))
+            alone_or_rule(stamp, conflict(live, stamp, &paper, &user, on, &[]))
         }
-        Command::Bid { paper, value } => bid(live, &stamp_of(&caller), &paper, value),
+        Command::Bid { paper, value } => bid(live, stamp, &paper, value),
         Command::Assign { paper, user, kind } => {
-            let stamp = stamp_of(&caller);
-            alone_or_rule(&stamp, assignment(live, &stamp, &paper, &user, kind, &[]))
+            alone_or_rule(stamp, assignment(live, stamp, &paper, &user, kind, &[]))
         }
         Command::Unassign { paper, user } => {
-            let stamp = stamp_of(&caller);
-            alone_or_rule(&stamp, unassignment(live, &stamp, &paper, &user, &[]))
+            alone_or_rule(stamp, unassignment(live, stamp, &paper, &user, &[]))
         }
-        Command::Review { paper, form } => review(live, &stamp_of(&caller), &paper, form),
-        Command::Comment { paper, text } => comment(live, &stamp_of(&caller), &paper, text),
+        Command::Review { paper, form } => review(live, stamp, &paper, form),
+        Command::Comment { paper, text } => comment(live, stamp, &paper, text),
         Command::Tag {
             paper,
             tag: text,
             on,
-        } => {
-            let stamp = stamp_of(&caller);
-            alone_or_rule(&stamp, tag(live, &stamp, &paper, text, on, &[]))
-        }
+        } => alone_or_rule(stamp, tag(live, stamp, &paper, text, on, &[])),
         Command::Decide {
             paper,
             decision: made,
-        } => { decision(live, &stamp_of(&caller), &paper, made) }
+        } => decision(live, stamp, &paper, made),
     }
 }
 
-/// The stamp of a user's command.
-fn stamp_of(caller: &Option<UserNo>) -> Stamp
-    requires { IsSome caller.now }
-    ensures { caller.now ≡ Some result.maker }
-{
-    Stamp {
-        maker: held(caller),
-    }
-}
-
-fn registration(live: &Live, name: Short, digest: Digest) -> Result<Effect, Rule>
-    ensures { drawn_or_rule live.now.tables.accounts result ≡ registration_at live.now.tables name digest }
+fn registration(live: &Live, at: Moment, name: Short, digest: Digest) -> Result<Effect, Rule>
+    ensures { drawn_or_rule live.now.tables.accounts result ≡ registration_at live.now.tables at name digest }
 {
     let user = live.account_table().register_check(&name)?;
     Ok(Effect {
-        stamp: Stamp { maker: user },
+        stamp: Stamp { maker: user, at },
         first: Entry::Registered { user, name, digest },
         rest: behind_registration(user),
     })

@@ -82,8 +82,9 @@ fn is_withdrawn(live: &Live, paper: &Option<PaperNo>) -> bool
     }
 }
 
-/// What a user is to the conference and to the paper. Takes no memory; a few reads by number, two walks over the paper's
-/// authors, one over its seats, a binary search among its conflicts, and three walks over the earlier entries.
+/// What a user is to the conference and to the paper. Takes no memory; a few reads by number, two walks over the
+/// paper's authors, one over its seats, a binary search among its conflicts, and three walks over the earlier
+/// entries.
 fn standing_behind(
     live: &Live,
     user: &Option<UserNo>,

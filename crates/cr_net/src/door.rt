@@ -5,7 +5,7 @@ ghost use Rattle.cr_net.specs.Doors.{new_door};
 use crate::reason::Reason;
 use crate::stream::{TcpSink, TcpSource, ends_of};
 use crate::time::{AGAIN, is_broken_off};
-use cr_ports::{Door, NextConnection};
+use cr_ports::{Door, NextConnection, SystemClock};
 use std::alloc::Global;
 use std::io::{self, ErrorKind};
 use std::marker::Model;
@@ -117,6 +117,8 @@ impl Door for TcpDoor {
 
     type Out = TcpSink;
 
+    type Clock = SystemClock<HostRuntime>;
+
     ghost left = { λ d. d.left };
 
     ghost is_out = { λ d. d.is_out };
@@ -125,8 +127,9 @@ impl Door for TcpDoor {
 
     ghost log = { λ _. None };
 
-    /// Where a connection can't be taken, as when no descriptor is left, it is tried again for a minute.
-    fn next(&mut self) -> NextConnection<TcpSource, TcpSink> {
+    /// Where a connection can't be taken, as when no descriptor is left, it is tried again for a minute. Its clock is
+    /// the system's, with no fault counted.
+    fn next(&mut self) -> NextConnection<TcpSource, TcpSink, SystemClock<HostRuntime>> {
         if self.left == 0 {
             return NextConnection::Done;
         }
@@ -134,7 +137,7 @@ impl Door for TcpDoor {
             Ok((source, sink)) => {
                 self.left -= 1;
                 self.is_out = true;
-                NextConnection::Conn(source, sink)
+                NextConnection::Conn(source, sink, SystemClock::new(self.rt))
             }
             Err(kind) => {
                 self.faults = self.faults.saturating_add(1);
@@ -145,7 +148,7 @@ impl Door for TcpDoor {
     }
 
     /// The client still sees the last answer, for which this takes a second at most.
-    fn give_back(&mut self, source: TcpSource, _sink: TcpSink) {
+    fn give_back(&mut self, source: TcpSource, _sink: TcpSink, _clock: SystemClock<HostRuntime>) {
         source.end();
         self.is_out = false;
     }

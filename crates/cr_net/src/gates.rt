@@ -1,5 +1,5 @@
 //! What listens.
-ghost use Rattle.std.specs.Prelude.{◌≡◌, ◌<◌, None, IfOk, map, All, IsFalse, ⊤, sum_by};
+ghost use Rattle.std.specs.Prelude.{◌≡◌, ◌<◌, ℕ, List, Option, None, IfOk, map, All, IsFalse, ⊤, sum_by};
 ghost use Rattle.cr_ports.specs.Count.{Gains};
 ghost use Rattle.cr_ports.specs.Doors.{shares};
 ghost use Rattle.cr_ports.specs.Opening.{FaultsAfterOpen};
@@ -121,6 +121,8 @@ impl Gates for TcpGates {
 
     ghost logs = { λ _. None };
 
+    ghost asked = { λ _. None };
+
     /// Port 0 asks for any. Where it listens is told in a line on standard error. An address that isn't
     /// loopback, or that can't be listened at, is a fault.
     fn open(
@@ -146,6 +148,7 @@ impl Gates for TcpGates {
 
     fn shut(&mut self, doors: Vec<TcpDoor>)
         requires { All (λ door. IsFalse door.is_out) doors.items }
+        ensures same { ◌≡◌ {A = Option (List (List ℕ))} None None }
         ensures told { ⊤ }
         ensures count { Gains self.old (sum_by (λ door. door.faults) doors.items) self.new }
     {

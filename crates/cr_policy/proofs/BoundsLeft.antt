@@ -213,6 +213,10 @@ LeftAt u H s None = Unit {0}
 LeftAt u H s (Some paper) = is_author u paper H ≡ false → is_eligible u paper H ≡ false → IsLeft u (outsider u paper H) s.kind s
 
 module _ (u : Option ℕ) (H : History) where
+  -- the moment is left to who made the entry
+  moment-left : (stamp : Stamp) → where_known (is_number u stamp.maker) stamp.at ≡ cond (is_number u stamp.maker) (where_known (is_number u stamp.maker) stamp.at) None
+  moment-left stamp = known-alone (is_number u stamp.maker) (is_number u stamp.maker) stamp.at (λ other. other)
+
   left-one : (before later : History) (stamp : Stamp) (e : Entry) → IsWriters u H stamp.maker e → is_told u H before later stamp.maker e ≡ true
       → LeftAt u H (shown_to u H before later stamp e) (paper_for u H before later stamp e)
   left-one before later stamp (Submitted paper title abstract) writes told = λ wrote handled. λ i. record (blank kinds.Submitted) {
@@ -221,6 +225,7 @@ module _ (u : Option ℕ) (H : History) where
     by = maker-left u H paper wrote handled stamp.maker i;
     title = title-left u H paper wrote handled (is_replaced paper later) title i;
     abstract = text-left u H paper wrote handled false (is_replaced paper later) abstract i;
+    at = known-not _ stamp.at (other wrote) i;
   }
     where
       other : is_author u paper H ≡ false → is_number u stamp.maker ≡ false
@@ -232,24 +237,25 @@ module _ (u : Option ℕ) (H : History) where
   left-one before later stamp (Coauthor paper user) writes told = λ wrote handled. (
     coauthor-left (is_number u stamp.maker) (is_author u paper H) (is_eligible u paper H) (chairs_committee (role_of u H)) (hides_authors (mode_of H))
         (is_in_programme paper H) wrote handled told,
-    refl,
+    λ i. record (shown_to u H before later stamp (Coauthor paper user)) { at = moment-left stamp i },
   )
   left-one before later stamp (Revised paper title abstract) writes told = λ wrote handled. (
     revision-left (is_number u stamp.maker) (is_author u paper H) (not (is_replaced paper later)) (serves u H) (is_in_programme paper H) wrote told,
     λ i. record (shown_to u H before later stamp (Revised paper title abstract)) {
+      at = moment-left stamp i;
       abstract = text-left u H paper wrote handled (is_number u stamp.maker) (is_replaced paper later) abstract i;
     },
   )
   left-one before later stamp (Uploaded paper version content) writes told = λ wrote handled. (
     upload-left (is_number u stamp.maker) (is_author u paper H) (not (is_superseded paper later)) (is_eligible u paper H) (appears paper H) wrote handled told,
-    refl,
+    λ i. record (shown_to u H before later stamp (Uploaded paper version content)) { at = moment-left stamp i },
   )
   left-one before later stamp (Withdrawn paper) writes told = λ wrote handled.
-      (withdrawal-left (is_number u stamp.maker) (is_author u paper H) (serves u H) wrote told, refl)
+      (withdrawal-left (is_number u stamp.maker) (is_author u paper H) (serves u H) wrote told, λ i. record (shown_to u H before later stamp (Withdrawn paper)) { at = moment-left stamp i })
   left-one before later stamp (Conflict paper user on) writes told = λ wrote handled. (
     hers (is_number u user) (is_number u stamp.maker) (is_author u paper H) (is_author (Some stamp.maker) paper H) (oversees u paper H) wrote
         (ap (λ b. b && chairs_committee (role_of u H)) handled) told,
-    refl,
+    λ i. record (shown_to u H before later stamp (Conflict paper user on)) { at = moment-left stamp i },
   )
     where
       hers : (named own a w o : Bool) → a ≡ false → o ≡ false → (named || own || (a && w) || o) ≡ true → (own || named) ≡ true
@@ -257,14 +263,16 @@ module _ (u : Option ℕ) (H : History) where
   left-one before later stamp (Bid paper value) writes told = λ wrote handled. (
     bid-own (is_number u stamp.maker) (is_eligible u paper H) (chairs_committee (role_of u H)) handled told,
     λ i. record (shown_to u H before later stamp (Bid paper value)) {
+      at = moment-left stamp i;
       by = known-not _ stamp.maker (ap (λ b. b && chairs_committee (role_of u H)) handled) i;
     },
   )
-  left-one before later stamp (Assigned paper user review_kind ordinal) writes told = λ wrote handled. (party u H paper wrote handled user stamp.maker told, refl)
-  left-one before later stamp (Unassigned paper user ordinal) writes told = λ wrote handled. (party u H paper wrote handled user stamp.maker told, refl)
+  left-one before later stamp (Assigned paper user review_kind ordinal) writes told = λ wrote handled. (party u H paper wrote handled user stamp.maker told, λ i. record (shown_to u H before later stamp (Assigned paper user review_kind ordinal)) { at = moment-left stamp i })
+  left-one before later stamp (Unassigned paper user ordinal) writes told = λ wrote handled. (party u H paper wrote handled user stamp.maker told, λ i. record (shown_to u H before later stamp (Unassigned paper user ordinal)) { at = moment-left stamp i })
   left-one before later stamp (Reviewed paper ordinal version form) writes told = λ wrote handled. (
     left-form u H paper wrote handled before later ordinal (is_number u stamp.maker) told,
     λ i. record (shown_to u H before later stamp (Reviewed paper ordinal version form)) {
+      at = moment-left stamp i;
       version = form-own u H paper wrote handled before later ordinal (is_number u stamp.maker) version i;
       score = review-own u H paper wrote handled before later ordinal (is_number u stamp.maker) form.score i;
       confidence = review-own u H paper wrote handled before later ordinal (is_number u stamp.maker) form.confidence i;
@@ -276,17 +284,19 @@ module _ (u : Option ℕ) (H : History) where
   left-one before later stamp (Commented paper n ordinal text) writes told = λ wrote handled. (
     comment-own (is_number u stamp.maker) (is_eligible u paper H) (is_past_reviewing (phase_of H)) handled told,
     λ i. record (shown_to u H before later stamp (Commented paper n ordinal text)) {
+      at = moment-left stamp i;
       by = known-not _ stamp.maker (form-unread (is_eligible u paper H) (is_past_reviewing (phase_of H)) (knows_writers u H) handled) i;
     },
   )
   left-one before later stamp (Tagged paper tag on) writes told = λ wrote handled. (
     tag-own (is_number u stamp.maker) (is_committees tag) (is_chairs tag) (is_eligible u paper H) (chairs_committee (role_of u H)) handled told,
-    refl,
+    λ i. record (shown_to u H before later stamp (Tagged paper tag on)) { at = moment-left stamp i },
   )
   left-one before later stamp (Decided paper decision) writes told = λ wrote handled. (
     own-or-in (is_number u stamp.maker) (is_announced H later paper) (decision-told u H paper wrote handled later (is_number u stamp.maker) told)
         (announced-in u H paper wrote handled later),
     λ i. record (shown_to u H before later stamp (Decided paper decision)) {
+      at = moment-left stamp i;
       decision = known-alone _ (is_number u stamp.maker) decision (verdict-unknown u H paper wrote handled later (is_number u stamp.maker)) i;
       outcome = known-not _ true (outcome-unknown u H paper wrote handled later) i;
       accepted = accepted-left u H paper wrote handled later i;
@@ -363,6 +373,7 @@ module _ (u : Option ℕ) (H : History) (stranger : IsStranger u H) where
     user = Some user;
     name = Some name;
     digest = where_known (other i) digest;
+    at = where_known (other i) stamp.at;
   }
   public-one before later stamp (Submitted paper title abstract) unnamed told other = λ i. record (blank kinds.Submitted) {
     mine = other i;
@@ -370,12 +381,13 @@ module _ (u : Option ℕ) (H : History) (stranger : IsStranger u H) where
     by = maker-left u H paper (stranger.author paper) (unhandled paper) stamp.maker i;
     title = title-public paper (is_replaced paper later) title i;
     abstract = text-public paper false (is_replaced paper later) abstract refl i;
+    at = where_known (other i) stamp.at;
   }
   public-one before later stamp (Coauthor paper user) unnamed told other = (
     public (is_number u stamp.maker) (is_in_programme paper H) other
         (coauthor-left (is_number u stamp.maker) (is_author u paper H) (is_eligible u paper H) (chairs_committee (role_of u H)) (hides_authors (mode_of H))
         (is_in_programme paper H) (stranger.author paper) (unhandled paper) told),
-    λ i. record (shown_to u H before later stamp (Coauthor paper user)) { mine = other i },
+    λ i. record (shown_to u H before later stamp (Coauthor paper user)) { mine = other i; at = where_known (other i) stamp.at },
   )
   public-one before later stamp (Revised paper title abstract) unnamed told other = (
     public (is_number u stamp.maker || serves u H) (is_in_programme paper H) (or_from (is_number u stamp.maker) (serves u H) other stranger.serving)
@@ -383,6 +395,7 @@ module _ (u : Option ℕ) (H : History) (stranger : IsStranger u H) where
         (stranger.author paper) told),
     λ i. record (shown_to u H before later stamp (Revised paper title abstract)) {
       mine = other i;
+      at = where_known (other i) stamp.at;
       abstract = text-public paper (is_number u stamp.maker) (is_replaced paper later) abstract other i;
     },
   )
@@ -390,7 +403,7 @@ module _ (u : Option ℕ) (H : History) (stranger : IsStranger u H) where
     public (is_number u stamp.maker) (appears paper H) other
         (upload-left (is_number u stamp.maker) (is_author u paper H) (not (is_superseded paper later)) (is_eligible u paper H) (appears paper H)
         (stranger.author paper) (unhandled paper) told),
-    λ i. record (shown_to u H before later stamp (Uploaded paper version content)) { mine = other i },
+    λ i. record (shown_to u H before later stamp (Uploaded paper version content)) { mine = other i; at = where_known (other i) stamp.at },
   )
   public-one before later stamp (Bid paper value) unnamed told other =
       hers other (bid-own (is_number u stamp.maker) (is_eligible u paper H) (chairs_committee (role_of u H)) (unhandled paper) told)
@@ -418,6 +431,7 @@ module _ (u : Option ℕ) (H : History) (stranger : IsStranger u H) where
     announced-in u H paper (stranger.author paper) (unhandled paper) later announced,
     λ i. record (shown_to u H before later stamp (Decided paper decision)) {
       mine = other i;
+      at = where_known (other i) stamp.at;
       decision = known-not _ decision (verdict-unknown u H paper (stranger.author paper) (unhandled paper) later (is_number u stamp.maker) other) i;
       outcome = known-not _ true (outcome-unknown u H paper (stranger.author paper) (unhandled paper) later) i;
       accepted = where_known (announced i) true;
@@ -428,7 +442,7 @@ module _ (u : Option ℕ) (H : History) (stranger : IsStranger u H) where
       announced =
           public (is_number u stamp.maker) (is_announced H later paper) other
           (decision-told u H paper (stranger.author paper) (unhandled paper) later (is_number u stamp.maker) told)
-  public-one before later stamp e unnamed told other = λ i. record (shown_to u H before later stamp e) { mine = other i }
+  public-one before later stamp e unnamed told other = λ i. record (shown_to u H before later stamp e) { mine = other i; at = where_known (other i) stamp.at }
 
   unnamed-all : (G : History) → list_any (λ (e : Stamped). names_her u e.entry) G ≡ false
       → (chairs_committee (role_of u H) && list_any (λ (e : Stamped). is_reviewing e.entry) G) ≡ false

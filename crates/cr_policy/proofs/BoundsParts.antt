@@ -28,7 +28,7 @@ use Rattle.cr_base.specs.TagTexts.{is_for_all, is_for_chairs}
 use Rattle.cr_base.specs.Words.{is_anonymous, is_overt, is_member, is_chair, is_accept}
 use Rattle.cr_policy.specs.Sighting.{Sighting, where_shown}
 use Rattle.cr_policy.specs.Part as part
-use Rattle.cr_policy.specs.Part.{whole}
+use Rattle.cr_policy.specs.Part.{own_parts}
 use Rattle.cr_policy.specs.Triggers.{Reader, reader, Around, none_in, TriggerRow, ◌see◌, position_of, user_named, seat_rows, rows, applies_any, shows}
 use Rattle.cr_policy.specs.View.{is_seen, joined}
 use Rattle.cr_policy.specs.ShownTo.{is_on_committee, chairs_committee, is_past_submission, is_past_reviewing, is_past_discussion, is_over}
@@ -37,7 +37,7 @@ use Rattle.cr_policy.specs.ShownTo.{hides_authors, hides_reviewers, names_review
 use Rattle.cr_policy.specs.ShownTo.{is_notified, knows_writers, is_discussion, begins_discussion, gives_form, is_reviewed, is_discussed}
 use Rattle.cr_policy.specs.ShownTo.{reads_form, learns_form, counts_form, reads_review, is_committees, is_chairs}
 use Rattle.cr_policy.specs.ShownTo.{gives_texts, is_replaced, gives_content, is_superseded, owns, is_party, is_told, where_known}
-use Rattle.cr_policy.specs.ShownTo.{kind_for, mark_for, paper_for, reviewer_for, user_for, name_for, digest_for, role_for, phase_for, mode_for, maker_for}
+use Rattle.cr_policy.specs.ShownTo.{kind_for, mark_for, moment_for, paper_for, reviewer_for, user_for, name_for, digest_for, role_for, phase_for, mode_for, maker_for}
 use Rattle.cr_policy.specs.ShownTo.{title_for, abstract_for, version_for, content_for, switch_for, value_for, review_kind_for, ordinal_for}
 use Rattle.cr_policy.specs.ShownTo.{score_for, confidence_for, to_authors_for, to_pc_for, done_for, n_for, text_for, tag_for, decision_for, outcome_for, accepted_for}
 
@@ -320,7 +320,7 @@ module _ (u : Option ℕ) (H : History) (at : Around) (stamp : Stamp) (more : Bo
   -- ---- who is told of an assignment and of its end, and what of it
 
   abbrev seat_rows_to : ℕ → ℕ → List TriggerRow
-  seat_rows_to paper user = seat_rows r paper user ++ user_named r stamp.maker see whole ∷ []
+  seat_rows_to paper user = seat_rows r paper user ++ user_named r stamp.maker see own_parts ∷ []
 
   module _ (paper user : ℕ) where
     -- the tests of the rows: the entry names her, she is a chair in no conflict, a member in none, it is the discussion, members who
@@ -368,7 +368,7 @@ module _ (u : Option ℕ) (H : History) (at : Around) (stamp : Stamp) (more : Bo
   -- ---- who is told of a form, and what of it
 
   abbrev rows_to : Entry → List TriggerRow
-  rows_to e = rows r (position_of at e) stamp.maker e ++ user_named r stamp.maker see whole ∷ []
+  rows_to e = rows r (position_of at e) stamp.maker e ++ user_named r stamp.maker see own_parts ∷ []
 
   notified-same : (p : ℕ) → (is_author u p H && is_from Notification (phase_of H)) ≡ is_notified u p H
   notified-same p = ap (λ b. is_author u p H && b) (phase-words (phase_of H)).notification
@@ -522,6 +522,11 @@ module _ (u : Option ℕ) (H : History) (at : Around) (stamp : Stamp) (more : Bo
 
   pub mark-one : (e : Entry) → (seen e).mine ≡ mark_for u H at.before at.after stamp e
   mark-one e = refl
+
+  -- no row of the table shows the moment
+  pub moment-one : (e : Entry) → (seen e).at ≡ moment_for u H at.before at.after stamp e
+  moment-one (Registered user name digest) = known-same _ (is_number u stamp.maker) stamp.at (or-false (is_number u stamp.maker))
+  moment-one e = known-same _ (is_number u stamp.maker) stamp.at (or-false (is_number u stamp.maker))
 
   pub user-one : (e : Entry) → is_told u H at.before at.after stamp.maker e ≡ true → (seen e).user ≡ user_for u H at.before at.after stamp e
   user-one (Coauthor paper user) told = ap (λ b. where_known b user) (seen-told (Coauthor paper user) ∙ told)

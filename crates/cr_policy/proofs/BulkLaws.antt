@@ -25,6 +25,7 @@ use Rattle.cr_base.specs.Parse.{parse_paper}
 use Rattle.cr_base.specs.Sources.{Facts, Shown, user_among, paper_named, target_named, facts_of_tables, shown_in_tables}
 use Rattle.cr_base.specs.Tables.{Tables, tables_of, tables_from, Fits, FitInTurn}
 use Rattle.cr_base.specs.TagTexts.{is_tag, is_for_chairs}
+use Rattle.cr_base.specs.Moments.{IsMoment}
 use Rattle.cr_base.proofs.CheckLaws.{judged-Ok}
 use Rattle.cr_history.specs.Groups.{IsRuled, StandsAlone, Adds, single, submitted, first_user, Grows, adds, goes_on}
 use Rattle.cr_history.specs.Invariants.{IsRegistered, IsMadeByUser, Invariants}
@@ -133,13 +134,13 @@ IsRuledFirst H [] = Unit {0}
 IsRuledFirst H (e ∷ g) = IsMadeByUser H e.stamp.maker e.entry × IsRuled H e.stamp.maker e.entry
 
 added-ruled : (H g : History) → Adds H g → IsRuledFirst H g
-added-ruled H g (single stamp e made alone ruled) = (made, ruled)
-added-ruled H g (submitted stamp paper title abstract users made ruled registered) = by _
+added-ruled H g (single stamp e moment made alone ruled) = (made, ruled)
+added-ruled H g (submitted stamp paper title abstract users moment made ruled registered) = by _
   where
     by : (es : List Entry) → IsRuledFirst H (grouped stamp (entries.Submitted paper title abstract ∷ es))
     by [] = (made, ruled)
     by (e ∷ es) = (made, ruled)
-added-ruled H g (first_user stamp name digest is texts) =
+added-ruled H g (first_user stamp name digest moment is texts) =
     (refl, record { phase = tt; chair = tt; role = tt; member = tt; right = tt; seat = tt; texts = texts })
 
 row-alone : (user : ℕ) (e : Entry) → IsOfRow user e → StandsAlone e
@@ -177,10 +178,11 @@ module _ (stamp : Stamp) where
   abbrev tabled : History → ℕ → List BulkRow → Result (List Entry) Broken
   tabled H n rows = rows_judged (tables_basis user) stamp (tables_of H) n rows
 
-  -- the caller has registered, and the history keeps the invariants
+  -- the caller has registered, there is such a moment, and the history keeps the invariants
   pub record IsReady (H : History) : Type 0 where
     pub kept : Invariants H
     pub registered : IsRegistered H user
+    pub moment : IsMoment stamp.at
 
   -- an accepted row tells a command that is allowed and accepted there, and turns no conflict of the caller's own
   pub record RowCalls (H : History) (row : BulkRow) (drawn : Drawn) : Type 0 where
@@ -232,7 +234,7 @@ module _ (stamp : Stamp) where
       let calls : RowCalls H row drawn = row-calls H row drawn ready seen in
       let draws : RowDraws stamp drawn = row-draws (facts_in_view (Some user) V) (shown_in_view (Some user) V) stamp calls.command drawn calls.told.of_row
       calls.other calls.accepted in
-      let added : Adds H drawn.group = accepted-adds H (call_by stamp calls.command) drawn calls.told.bounded calls.caller calls.accepted in
+      let added : Adds H drawn.group = accepted-adds H (call_by stamp calls.command) drawn (record { caller = calls.caller; bounded = calls.told.bounded; moment = ready.moment }) calls.accepted in
       let ruled = subst (IsRuledFirst H) draws.group (added-ruled H drawn.group added) in
       let fits = subst (FitInTurn (tables_of H)) draws.group
       (accepted-fits H (call_by stamp calls.command) drawn ready.kept (Kept-told H ready.kept) (forms_tell H ready.kept) calls.caller calls.accepted) in
@@ -245,8 +247,8 @@ module _ (stamp : Stamp) where
       }
     where
       grown : (e : Entry) → IsOfRow user e → IsMadeByUser H user e → IsRuled H user e → (more : Bool) → Grows H (stamped stamp more e ∷ [])
-      grown e row made ruled true = goes_on stamp e made (row-goes user e row) ruled
-      grown e row made ruled false = adds _ (single stamp e made (row-alone user e row) ruled)
+      grown e row made ruled true = goes_on stamp e ready.moment made (row-goes user e row) ruled
+      grown e row made ruled false = adds _ (single stamp e ready.moment made (row-alone user e row) ruled)
 
   -- ---- behind it
 
@@ -258,6 +260,7 @@ module _ (stamp : Stamp) where
     next-ready = record {
       kept = growth_keeps.more H (stamped stamp more row.entry ∷ []) ready.kept (row.grows more) (fits-marked (tables_of H) stamp more row.entry row.fit, tt);
       registered = registered-behind stamp more row.entry row.of_row H user ready.registered;
+      moment = ready.moment;
     }
 
     pub next-seen : view (Some user) H ++ own_sightings drawn.group ≡ view (Some user) next

@@ -21,7 +21,7 @@ use Rattle.cr_base.proofs.ListLaws.{turned}
 use Rattle.cr_base.specs.Bulk.{IsRowEntry}
 use Rattle.cr_history.specs.Invariants.{IsRegistered}
 use Rattle.cr_history.proofs.ListCuts.{until-none, until-append, until-before}
-use Rattle.cr_policy.specs.Part.{Part, whole}
+use Rattle.cr_policy.specs.Part.{Part, own_parts}
 use Rattle.cr_policy.specs.Sighting.{Sighting, entire, masked, sighting}
 use Rattle.cr_policy.specs.Triggers.{Reader, Around, Position, position_of, reader, none_alike, TriggerRow, ◌see◌, rows, user_named, applies_any, shows}
 use Rattle.cr_policy.specs.View.{sight, sights, view}
@@ -107,25 +107,25 @@ behind-silent told H s none =
 -- ---- a row of one's own
 
 -- whatever the rows before it, the last one applies, and shows all that belongs to the whole
-last-seen : (rs : List TriggerRow) → applies_any (rs ++ true see whole ∷ []) ≡ true
+last-seen : (rs : List TriggerRow) → applies_any (rs ++ true see own_parts ∷ []) ≡ true
 last-seen [] = refl
-last-seen (r ∷ rs) = or_right r.applies (applies_any (rs ++ true see whole ∷ [])) (last-seen rs)
+last-seen (r ∷ rs) = or_right r.applies (applies_any (rs ++ true see own_parts ∷ [])) (last-seen rs)
 
-last-shows : (rs : List TriggerRow) (p : Part) → whole p ≡ true → shows (rs ++ true see whole ∷ []) p ≡ true
+last-shows : (rs : List TriggerRow) (p : Part) → own_parts p ≡ true → shows (rs ++ true see own_parts ∷ []) p ≡ true
 last-shows [] p is = ap (λ b. (b && true) || false) is
-last-shows (r ∷ rs) p is = or_right (r.parts p && r.applies) (shows (rs ++ true see whole ∷ []) p) (last-shows rs p is)
+last-shows (r ∷ rs) p is = or_right (r.parts p && r.applies) (shows (rs ++ true see own_parts ∷ []) p) (last-shows rs p is)
 
 -- the parts that belong to the whole of an entry, where all of those are shown
-module _ (stamp : Stamp) (f : Part → Bool) (all : (p : Part) → whole p ≡ true → f p ≡ true) where
-  only-whole : (λ (p : Part). whole p && f p) ≡ whole
-  only-whole = λ i p. by p (whole p) refl i
+module _ (stamp : Stamp) (f : Part → Bool) (all : (p : Part) → own_parts p ≡ true → f p ≡ true) where
+  only-whole : (λ (p : Part). own_parts p && f p) ≡ own_parts
+  only-whole = λ i p. by p (own_parts p) refl i
     where
-      by : (p : Part) (b : Bool) → whole p ≡ b → (b && f p) ≡ b
+      by : (p : Part) (b : Bool) → own_parts p ≡ b → (b && f p) ≡ b
       by p true is = all p is
       by p false is = refl
 
   -- an entry of a row has no others
-  own-masked : (e : Entry) → IsOfRow stamp.maker e → masked f true (entire stamp e) ≡ masked whole true (entire stamp e)
+  own-masked : (e : Entry) → IsOfRow stamp.maker e → masked f true (entire stamp e) ≡ masked own_parts true (entire stamp e)
   own-masked (Conflict paper other on) row = ap (λ (g : Part → Bool). masked g true (entire stamp (Conflict paper other on))) only-whole
   own-masked (Assigned paper other kind ordinal) row = ap (λ (g : Part → Bool). masked g true (entire stamp (Assigned paper other kind ordinal))) only-whole
   own-masked (Unassigned paper other ordinal) row = ap (λ (g : Part → Bool). masked g true (entire stamp (Unassigned paper other ordinal))) only-whole
@@ -205,29 +205,29 @@ module _ (stamp : Stamp) (more : Bool) (e : Entry) (row : IsOfRow stamp.maker e)
   -- so all before it shows what it showed
   abbrev sight_at : Reader → Stamped → Position → List Sighting
   sight_at r x position =
-      let rs = rows r position x.stamp.maker x.entry ++ user_named r x.stamp.maker see whole ∷ [] in
+      let rs = rows r position x.stamp.maker x.entry ++ user_named r x.stamp.maker see own_parts ∷ [] in
       given (applies_any rs) (sighting (shows rs) (user_named r x.stamp.maker) x)
 
-  sights-behind : (r : Reader) → ((at : Around) → sight r at s ≡ sighting whole true s ∷ []) → (before H : History)
-      → sights r before (H ++ s ∷ []) ≡ sights r before H ++ sighting whole true s ∷ []
+  sights-behind : (r : Reader) → ((at : Around) → sight r at s ≡ sighting own_parts true s ∷ []) → (before H : History)
+      → sights r before (H ++ s ∷ []) ≡ sights r before H ++ sighting own_parts true s ∷ []
   sights-behind r own before [] = ap (λ (xs : List Sighting). xs ++ []) (own (record { before = before; after = [] }))
   sights-behind r own before (x ∷ after) =
       let shown : List Sighting = sight r (record { before = before; after = after }) x in
       ap (λ (position : Position). sight_at r x position ++ sights r (before ++ x ∷ []) (after ++ s ∷ [])) (position-behind before after x.entry)
       ∙ ap (λ (xs : List Sighting). shown ++ xs) (sights-behind r own (before ++ x ∷ []) after)
-      ∙ sym (append_assoc shown (sights r (before ++ x ∷ []) after) (sighting whole true s ∷ []))
+      ∙ sym (append_assoc shown (sights r (before ++ x ∷ []) after) (sighting own_parts true s ∷ []))
 
   -- and it shows her all of itself
-  own-sight : (r : Reader) → user_named r user ≡ true → (at : Around) → sight r at s ≡ sighting whole true s ∷ []
+  own-sight : (r : Reader) → user_named r user ≡ true → (at : Around) → sight r at s ≡ sighting own_parts true s ∷ []
   own-sight r mine at =
       let rs : List TriggerRow = rows r (position_of at e) user e in
-      let all : List TriggerRow = rs ++ true see whole ∷ [] in
-      ap (λ (b : Bool). given (applies_any (rs ++ b see whole ∷ [])) (sighting (shows (rs ++ b see whole ∷ [])) b s)) mine
+      let all : List TriggerRow = rs ++ true see own_parts ∷ [] in
+      ap (λ (b : Bool). given (applies_any (rs ++ b see own_parts ∷ [])) (sighting (shows (rs ++ b see own_parts ∷ [])) b s)) mine
       ∙ ap (λ (b : Bool). given b (sighting (shows all) true s)) (last-seen rs)
       ∙ ap (λ (shown : Sighting). shown ∷ []) (own-masked stamp (shows all) (last-shows rs) e row)
 
   -- her view goes on with it
-  pub view-behind : (H : History) → view (Some user) (H ++ s ∷ []) ≡ view (Some user) H ++ sighting whole true s ∷ []
+  pub view-behind : (H : History) → view (Some user) (H ++ s ∷ []) ≡ view (Some user) H ++ sighting own_parts true s ∷ []
   view-behind H =
       ap (λ (r : Reader). sights r [] (H ++ s ∷ [])) (reader-behind H)
       ∙ sights-behind (reader (Some user) H) (own-sight (reader (Some user) H) (eq-eqb user user refl)) [] H

@@ -21,6 +21,7 @@ use Rattle.cr_base.specs.Calls.{call_of}
 use Rattle.cr_base.specs.History.{History, Registration, all_told, registration_told}
 use Rattle.cr_base.specs.Logins.{command_wants_login}
 use Rattle.cr_base.specs.Texts.{IsName, IsTitle, IsAbstract, IsReviewText, IsCommentText, is_name_byte, is_name, is_title_byte}
+use Rattle.cr_base.specs.Moments.{IsMoment}
 use Rattle.cr_policy.specs.Conference.{alice, bob, carol, dave, fay, gus, hal, Digests, AreDigests, Asides, AreAsides, other_than}
 use Rattle.cr_policy.specs.Conference.{proofs, we_prove, types, we_type, drafts, we_draft, fewer_proofs, we_prove_less, more_proofs, we_prove_more}
 use Rattle.cr_policy.specs.Conference.{first_version, second_version, only_version, hot, own_tag, chairs_tag}
@@ -29,15 +30,17 @@ use Rattle.cr_policy.specs.Conference.{registered, opened, submitted, before_bid
 use Rattle.cr_policy.specs.Conference.{Verdicts, verdicts, in_discussion, at_notification, at_close}
 use Rattle.cr_policy.specs.ConferenceLaws.{IsReviewed, IsDecided, ConferenceLegal}
 use Rattle.cr_policy.specs.Legal.{CallsAs, step, Move, calls, LeadsTo, Legal}
+use Rattle.cr_policy.specs.Witness.{morning}
 use Rattle.cr_policy.proofs.LegalLaws.{LeadsTo-append}
 use Rattle.cr_policy.proofs.WitnessLaws.{register, ascii-utf8}
 
 -- ---- calls
 
--- a call that is within its bounds
+-- a call that is within its bounds, at some moment
 pub record Turn : Type 0 where
   pub call : Call
   pub bounded : IsBoundedCommand call.command
+  pub moment : IsMoment call.at
 
 abbrev pub calls_of : List Turn → List Move
 calls_of turns = map (λ (turn : Turn). calls turn.call) turns
@@ -71,16 +74,19 @@ reached-leads from to (turn ∷ turns) h =
         → (if may then reached (step from turn.call) turns else None) ≡ Some to → LeadsTo from (calls turn.call ∷ calls_of turns) to
     called false is rest h = absurd (none-some to h)
     called true is rest h =
-        (record { caller = calls_as-so from (command_wants_login turn.call.command) turn.call.caller is; bounded = turn.bounded }, rest h)
+        (record { caller = calls_as-so from (command_wants_login turn.call.command) turn.call.caller is; bounded = turn.bounded; moment = turn.moment }, rest h)
 
 -- a legal history goes on by turns
 pub goes_on : (from to : History) (turns : List Turn) → reached from turns ≡ Some to → Legal from → Legal to
 goes_on from to turns leads legal =
     (legal.0 ++ calls_of turns, LeadsTo-append [] from to legal.0 (calls_of turns) legal.1 (reached-leads from to turns leads))
 
--- a user's command
+-- a user's command, at that moment, and at the one of all examples
+abbrev pub by_then : (user : ℕ) (at : ℕ) (command : Command) → IsBoundedCommand command → IsMoment at → Turn
+by_then user at command bounded moment = record { call = call_of (Some user) at command; bounded = bounded; moment = moment }
+
 abbrev pub by : (user : ℕ) (command : Command) → IsBoundedCommand command → Turn
-by user command bounded = record { call = call_of (Some user) command; bounded = bounded }
+by user command bounded = by_then user morning command bounded (omega arith)
 
 -- ---- bounds, by computing
 
@@ -134,7 +140,7 @@ bounded-form form score confidence to_authors to_pc = record {
 
 -- anybody may register
 abbrev pub joins : (name digest : List ℕ) → is_name name ≡ true → length digest ≡ 32 → Turn
-joins name digest named digested = record { call = register name digest; bounded = (is_name-bounded name named, digested) }
+joins name digest named digested = record { call = register name digest; bounded = (is_name-bounded name named, digested); moment = omega arith }
 
 pub registered-legal : (d : Digests) → AreDigests d → Legal (registered d)
 registered-legal d are =

@@ -25,7 +25,7 @@ use Rattle.cr_base.specs.History.{opens_discussion, title_told, upload_told, for
 use Rattle.cr_base.specs.HistoryFacts.{phase_of, mode_of, role_of, authors_of, is_author, is_conflict_on, is_accepted}
 use Rattle.cr_base.specs.Phases.{is_phase}
 use Rattle.cr_policy.specs.Part as part
-use Rattle.cr_policy.specs.Part.{Part, whole}
+use Rattle.cr_policy.specs.Part.{Part, whole, own_parts}
 use Rattle.cr_policy.specs.Sighting.{Sighting, where_shown, masked, entire}
 use Rattle.cr_policy.specs.Triggers.{Reader, reader, Around, Position, position_of, TriggerRow, rows, ◌see◌, applies_any, shows, none_in, none_alike, user_named}
 use Rattle.cr_policy.specs.View.{rows_at, sight, sights}
@@ -440,7 +440,7 @@ seen_by shown mine e = given (applies_any shown) (masked (shows shown) mine (all
 
 -- the rows for an entry, of the table alone and with its maker's line
 abbrev with_makers : Reader → ℕ → List TriggerRow → List TriggerRow
-with_makers r maker table = table ++ user_named r maker see whole ∷ []
+with_makers r maker table = table ++ user_named r maker see own_parts ∷ []
 
 -- of an entry under this stamp, the rows for one that `by` made and the line of hers mask nothing of this part
 abbrev IsShown : {A : Type 0} → Part → (Sighting → Option A) → Reader → Position → ℕ → Stamp → Entry → Type 0
@@ -513,9 +513,19 @@ module _ (r : Reader) (at : Around) (e other : Stamped) (alike : outline e ≡ o
 
       all_rows : rows_at r at e ≡ rows_at r' at' other
       all_rows =
-          (λ i. wrote-rows r r'.wrote (position_of at e.entry) e.stamp.maker other.stamp.maker e.entry made i ++ mine i see whole ∷ [])
-          ∙ (λ i. same_rows (where_wrote r r'.wrote) (position-same r.number at at' e other around alike i) other.stamp.maker e other alike hidden.user i ++ user_named r' other.stamp.maker see whole ∷ [])
-          ∙ (λ i. rows (is i) (position_of at' other.entry) other.stamp.maker other.entry ++ user_named r' other.stamp.maker see whole ∷ [])
+          (λ i. wrote-rows r r'.wrote (position_of at e.entry) e.stamp.maker other.stamp.maker e.entry made i ++ mine i see own_parts ∷ [])
+          ∙ (λ i. same_rows (where_wrote r r'.wrote) (position-same r.number at at' e other around alike i) other.stamp.maker e other alike hidden.user i ++ user_named r' other.stamp.maker see own_parts ∷ [])
+          ∙ (λ i. rows (is i) (position_of at' other.entry) other.stamp.maker other.entry ++ user_named r' other.stamp.maker see own_parts ∷ [])
+
+-- ---- place by place
+
+module _ (P Q : Around → Stamped → Stamped → Type 0) (so : (at : Around) (e other : Stamped) → P at e other → Q at e other) where
+  -- what holds then of each place
+  pub places-so : (before H H' : History) → PlaceByPlace P before H H' → PlaceByPlace Q before H H'
+  places-so before [] [] h = tt
+  places-so before [] (other ∷ H') h = absurd h
+  places-so before (e ∷ H) [] h = absurd h
+  places-so before (e ∷ H) (other ∷ H') h = (so (record { before = before; after = H }) e other h.0, places-so (before ++ e ∷ []) H H' h.1)
 
 -- ---- all that is shown
 

@@ -16,7 +16,7 @@ use Rattle.cr_policy.specs.Triggers.{reader, Around}
 use Rattle.cr_policy.specs.View.{View, view}
 use Rattle.cr_policy.specs.ViewFacts.{is_user}
 use Rattle.cr_policy.proofs.ConferenceProofs.{Turn, goes_on, reached}
-use Rattle.cr_policy.proofs.HiddenLaws.{hidden_payload}
+use Rattle.cr_policy.proofs.HiddenLaws.{hidden_payload, places-so}
 
 -- ---- place by place
 
@@ -34,14 +34,6 @@ module _ (Holds : Around → Stamped → Stamped → Type 0) (itself : (at : Aro
       let behind : PlaceByPlace Holds ((before ++ e ∷ []) ++ front) rest other =
       subst (λ (b : History). PlaceByPlace Holds b rest other) (sym (append_assoc before (e ∷ []) front)) h in
       (itself (record { before = before; after = front ++ rest }) e, places-behind (before ++ e ∷ []) front rest other behind)
-
-module _ (P Q : Around → Stamped → Stamped → Type 0) (so : (at : Around) (e other : Stamped) → P at e other → Q at e other) where
-  -- what holds then of each place
-  pub places-so : (before H H' : History) → PlaceByPlace P before H H' → PlaceByPlace Q before H H'
-  places-so before [] [] h = tt
-  places-so before [] (other ∷ H') h = absurd h
-  places-so before (e ∷ H) [] h = absurd h
-  places-so before (e ∷ H) (other ∷ H') h = (so (record { before = before; after = H }) e other h.0, places-so (before ++ e ∷ []) H H' h.1)
 
 -- where the user's papers have the same authors, a conflict that the same user declares is made alike
 abbrev pub AuthorsAlike : Option ℕ → History → History → Type 0

@@ -1,6 +1,6 @@
 -- The pairs of histories, each a legal one beside its twin: of each pair the turns that lead to the two, and a test that tells them apart.
 -- All else is computed.
-use Rattle.std.proofs.Common.{◌≡◌, ℕ, Bool, true, false, List, [], ◌∷◌, ◌++◌, refl, sym, ap, ◌∙◌, ◌&&◌, Option, Some, map, arith}
+use Rattle.std.proofs.Common.{◌≡◌, ℕ, Bool, true, false, List, [], ◌∷◌, ◌++◌, refl, sym, ap, ◌∙◌, ◌&&◌, ◌+◌, Option, Some, map, arith}
 use Rattle.std.specs.Prelude.{codes, not, ◌==◌}
 use Rattle.std.specs.List.{flat_map, list_any}
 use Rattle.std.proofs.Math.Bool.{and-false}
@@ -35,7 +35,8 @@ use Rattle.cr_policy.specs.Legal.{Legal}
 use Rattle.cr_policy.specs.Sighting.{Sighting}
 use Rattle.cr_policy.specs.View.{View}
 use Rattle.cr_policy.specs.ViewFacts.{is_kind, is_user, is_text}
-use Rattle.cr_policy.proofs.ConferenceProofs.{Turn, by, goes_on, reached, registered-legal, opened-legal, submitted-legal}
+use Rattle.cr_policy.specs.Witness.{morning}
+use Rattle.cr_policy.proofs.ConferenceProofs.{Turn, by, by_then, goes_on, reached, registered-legal, opened-legal, submitted-legal}
 use Rattle.cr_policy.proofs.ConferenceProofs.{is_plain_title, is_plain, ascii-title, ascii-abstract, ascii-review, few-ascii, agreed-bounded, bounded-form}
 use Rattle.cr_policy.proofs.HiddenPairLaws.{apart, pair, several, once}
 
@@ -190,6 +191,11 @@ mode_setter-hidden d are =
 
 pub phase_setter-hidden : pairs.PhaseSetterHidden
 phase_setter-hidden d are = once (papers-so d are) (opens Bidding alice) (opens Bidding fay) [] last_mine refl refl refl refl refl
+
+pub moment-hidden : pairs.MomentHidden
+moment-hidden d are =
+    once (papers-so d are) (opens Bidding alice) (by_then alice (morning + 60) (SetPhase Bidding) tt (omega arith)) []
+    (list_any (λ (s : Sighting). is_number s.at (morning + 60))) refl refl refl refl refl
 
 -- ---- papers
 

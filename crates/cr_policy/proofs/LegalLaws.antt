@@ -14,6 +14,7 @@ use Rattle.cr_base.specs.Bulk.{bulk_by_role}
 use Rattle.cr_base.specs.Judging.{judge_by_role}
 use Rattle.cr_base.specs.Sources.{Facts, facts_of_tables}
 use Rattle.cr_base.specs.Tables.{no_tables, tables_of, FitInTurn}
+use Rattle.cr_base.specs.Moments.{IsMoment}
 use Rattle.cr_history.specs.Groups.{Adds, adds}
 use Rattle.cr_history.specs.Invariants.{IsRegistered, Invariants, IsWhole, DeclaresInTime}
 use Rattle.cr_history.specs.Laws.{AreTold}
@@ -75,7 +76,7 @@ call-keeps : (H : History) (call : Call) → IsKept H → IsAllowed H call → (
 call-keeps H call kept allowed (Err rule) is = kept
 call-keeps H call kept allowed (Ok drawn) is =
     let invariants : Invariants H = kept.invariants in
-    let added : Adds H drawn.group = accepted-adds H call drawn allowed.bounded allowed.caller is in
+    let added : Adds H drawn.group = accepted-adds H call drawn allowed is in
     let fits = accepted-fits H call drawn invariants (Kept-told H invariants) (forms_tell H invariants) allowed.caller is in
     record {
       invariants = growth_keeps.more H drawn.group invariants (adds drawn.group added) fits;
@@ -83,20 +84,20 @@ call-keeps H call kept allowed (Ok drawn) is =
     }
 
 -- and so does one that a bulk follows
-bulk-drawn_keeps : (H : History) (bulk : BulkCall) (drawn : Drawn) → IsKept H → IsRegistered H bulk.stamp.maker
+bulk-drawn_keeps : (H : History) (bulk : BulkCall) (drawn : Drawn) → IsKept H → IsRegistered H bulk.stamp.maker → IsMoment bulk.stamp.at
     → judge_bulk (view (Some bulk.stamp.maker) H) bulk ≡ Ok drawn → IsKept (H ++ drawn.group)
-bulk-drawn_keeps H bulk drawn kept registered accepted =
+bulk-drawn_keeps H bulk drawn kept registered moment accepted =
     let draws = bulk-draws bulk.stamp H bulk.rows drawn accepted in
     let group : History = grouped bulk.stamp draws.entries in
     subst (λ (d : Drawn). IsKept (H ++ d.group)) draws.drawn_is (record {
-      invariants = rows-keep bulk.stamp bulk.rows 1 H draws.entries (record { kept = kept.invariants; registered = registered }) draws.accepted;
+      invariants = rows-keep bulk.stamp bulk.rows 1 H draws.entries (record { kept = kept.invariants; registered = registered; moment = moment }) draws.accepted;
       whole = whole-append H group kept.whole (grouped-whole bulk.stamp draws.entries);
     })
 
 bulk-keeps : (H : History) (bulk : BulkCall) → IsKept H → IsBulkAllowed H bulk → (r : Result Drawn Broken)
     → judge_bulk (view (Some bulk.stamp.maker) H) bulk ≡ r → IsKept (followed_by H r)
 bulk-keeps H bulk kept allowed (Err refusal) is = kept
-bulk-keeps H bulk kept allowed (Ok drawn) is = bulk-drawn_keeps H bulk drawn kept allowed.caller is
+bulk-keeps H bulk kept allowed (Ok drawn) is = bulk-drawn_keeps H bulk drawn kept allowed.caller allowed.moment is
 
 move-keeps : (H : History) (move : Move) → IsKept H → IsMoveAllowed H move → IsKept (moved H move)
 move-keeps H (calls call) kept allowed = call-keeps H call kept allowed (judge (view call.caller H) call) refl
@@ -154,15 +155,16 @@ pub Legal-answer : (u : Option ℕ) (H : History) (query : Query) → Legal H �
 Legal-answer u H query legal = let kept = legal_invariants H legal in answer-tables u H kept (Kept-told H kept) (forms_tell H kept) query
 
 -- so it is of bulks
-pub Legal-judge_bulk : (H : History) (bulk : BulkCall) → Legal H → IsRegistered H bulk.stamp.maker
+pub Legal-judge_bulk : (H : History) (bulk : BulkCall) → Legal H → IsRegistered H bulk.stamp.maker → IsMoment bulk.stamp.at
     → judge_bulk (view (Some bulk.stamp.maker) H) bulk ≡ bulk_by_role (tables_of H) bulk
-Legal-judge_bulk H bulk legal registered = bulk-same bulk.stamp H bulk.rows (record { kept = legal_invariants H legal; registered = registered })
+Legal-judge_bulk H bulk legal registered moment =
+    bulk-same bulk.stamp H bulk.rows (record { kept = legal_invariants H legal; registered = registered; moment = moment })
 
 -- and what an accepted bulk adds, the tables take
-pub Legal-bulk_fits : (H : History) (bulk : BulkCall) (drawn : Drawn) → Legal H → IsRegistered H bulk.stamp.maker
+pub Legal-bulk_fits : (H : History) (bulk : BulkCall) (drawn : Drawn) → Legal H → IsRegistered H bulk.stamp.maker → IsMoment bulk.stamp.at
     → judge_bulk (view (Some bulk.stamp.maker) H) bulk ≡ Ok drawn → FitInTurn (tables_of H) drawn.group
-Legal-bulk_fits H bulk drawn legal registered accepted =
-    FitInTurn-behind no_tables H drawn.group (bulk-drawn_keeps H bulk drawn (Legal-kept H legal) registered accepted).invariants.fits
+Legal-bulk_fits H bulk drawn legal registered moment accepted =
+    FitInTurn-behind no_tables H drawn.group (bulk-drawn_keeps H bulk drawn (Legal-kept H legal) registered moment accepted).invariants.fits
 
 -- so is whether a query wants a login
 pub Legal-needs_login : (H : History) (query : Query) → Legal H → needs_login (view None H) query ≡ login_wanted (facts_of_tables (tables_of H) None) query
@@ -177,6 +179,6 @@ Legal-declared u p H legal author = declared-seen_by_author u p H (Legal-in_time
 pub view_suffices : ViewSuffices
 view_suffices = record {
   commands = λ H call legal may. Legal-judge H call legal;
-  bulks = λ H bulk legal registered. Legal-judge_bulk H bulk legal registered;
+  bulks = λ H bulk legal registered moment. Legal-judge_bulk H bulk legal registered moment;
   queries = λ u H query legal may. Legal-answer u H query legal;
 }

@@ -29,6 +29,8 @@ pub mod LegalLaws
 pub mod MayBulkLaws
 pub mod MayDoLaws
 pub mod MayReadLaws
+pub mod MigrationLaws
+pub mod MomentLaws
 pub mod PageTells
 pub mod PageAgreement
 pub mod RemovedLaws

@@ -159,7 +159,7 @@ module _ (stamp : Stamp) where
           legal_after : Legal after
           legal_after =
               subst (λ (g : History). Legal (H ++ g)) first.group
-              (Legal-accepted H (call_by stamp calls.command) drawn legal (record { caller = calls.caller; bounded = calls.told.bounded }) calls.accepted)
+              (Legal-accepted H (call_by stamp calls.command) drawn legal (record { caller = calls.caller; bounded = calls.told.bounded; moment = ready.moment }) calls.accepted)
 
           -- the one entry is what the command adds
           one : added u H calls.command ≡ first.entry ∷ []
@@ -202,4 +202,4 @@ module _ (stamp : Stamp) where
 
 pub bulks_as_said : BulksAsSaid
 bulks_as_said H bulk legal allowed =
-    bulk-ok bulk.stamp H bulk.rows legal (record { kept = legal_invariants H legal; registered = allowed.caller })
+    bulk-ok bulk.stamp H bulk.rows legal (record { kept = legal_invariants H legal; registered = allowed.caller; moment = allowed.moment })

@@ -96,39 +96,39 @@ for_chairs-same (b ∷ []) = off (eqb b 126)
     off false = refl
 for_chairs-same (b ∷ c ∷ rest) = refl
 
--- ---- registrations, whoever calls
+-- ---- registrations, whoever calls, and whenever
 
-module _ (u : Option ℕ) (H : History) (legal : Legal H) where
-  registrations : (name digest : List ℕ) → is_ok (judge (view u H) (call_of u (commands.Register name digest))) ≡ may_register H name
+module _ (u : Option ℕ) (H : History) (legal : Legal H) (m : ℕ) where
+  registrations : (name digest : List ℕ) → is_ok (judge (view u H) (call_of u m (commands.Register name digest))) ≡ may_register H name
   registrations name digest =
-      accepted-checks u H legal (commands.Register name digest) (register_checks (is_some (number_in (accounts_of H) name)) (length (accounts_of H))) _ refl
+      accepted-checks u H legal m (commands.Register name digest) (register_checks (is_some (number_in (accounts_of H) name)) (length (accounts_of H))) _ refl
       ∙ said (is_some (number_in (accounts_of H) name)) (is_none (number_of name H)) (nat_le 9999 (length (accounts_of H))) (nat_lt (length (accounts_of H)) 9999)
       (none-same (number_in (accounts_of H) name) ∙ ap (λ (o : Option ℕ). is_none o) (number-same u H legal name)) (fewer 9999 (length (accounts_of H)))
     where
       said : (x x' q q' : Bool) → not x ≡ x' → not q ≡ q' → (not x && (not q && true)) ≡ (x' && q')
       said x x' q q' hx hq = grind arith
 
--- the commands of a user
-module _ (w : ℕ) (H : History) (legal : Legal H) where
+-- the commands of a user, at this moment
+module _ (w : ℕ) (H : History) (legal : Legal H) (m : ℕ) where
   abbrev u : Option ℕ
   u = Some w
 
   abbrev stamp : Stamp
-  stamp = stamp_by w
+  stamp = stamp_by w m
 
-  phases : (to : Phase) → is_ok (judge (view u H) (call_of u (commands.SetPhase to))) ≡ may_open w H to
+  phases : (to : Phase) → is_ok (judge (view u H) (call_of u m (commands.SetPhase to))) ≡ may_open w H to
   phases to =
-      accepted-checks u H legal (commands.SetPhase to) (phase_checks (standing_of u None H) (phase_of H) to) _ refl
+      accepted-checks u H legal m (commands.SetPhase to) (phase_checks (standing_of u None H) (phase_of H) to) _ refl
       ∙ said (is_chair (role_of u H)) (is_next (phase_of H) to) (is_chairs (role_of u H)) (comes_behind (phase_of H) to)
       (chair-same (role_of u H)) (next-same (phase_of H) to)
     where
       said : (c n c' n' : Bool) → c ≡ c' → n ≡ n' → (not (not c) && (not (not n) && true)) ≡ (c' && n')
       said c n c' n' hc hn = grind arith
 
-  bids : (paper : Option ℕ) (value : ℕ) → is_ok (judge (view u H) (call_of u (commands.Bid paper value))) ≡ of_some paper (may_bid w H)
-  bids None value = accepted-as u H legal (commands.Bid None value)
+  bids : (paper : Option ℕ) (value : ℕ) → is_ok (judge (view u H) (call_of u m (commands.Bid paper value))) ≡ of_some paper (may_bid w H)
+  bids None value = accepted-as u H legal m (commands.Bid None value)
   bids (Some p) value =
-      accepted-checks u H legal (commands.Bid (Some p) value) (bid_checks (standing_of u (Some p) H) (paper_named (facts_of u H) (shown_of H) (Some p))) _ refl
+      accepted-checks u H legal m (commands.Bid (Some p) value) (bid_checks (standing_of u (Some p) H) (paper_named (facts_of u H) (shown_of H) (Some p))) _ refl
       ∙ said (is_paper p H) (is_member (role_of u H)) (is_conflicted u p H) (bids_are_taken (phase_of H)) (is_withdrawn p H)
       (is_members (role_of u H)) (now Bidding H) (member-same (role_of u H)) (phase-same Bidding (phase_of H))
     where
@@ -136,9 +136,9 @@ module _ (w : ℕ) (H : History) (legal : Legal H) where
           → (not (not t) && (not (not m) && (not c && (not (not n) && (not w && true))))) ≡ ((t && not w) && (m' && not c) && n')
       said t m c n w m' n' hm hn = grind arith
 
-  modes : (to : Mode) → is_ok (judge (view u H) (call_of u (commands.SetMode to))) ≡ may_set_mode w H
+  modes : (to : Mode) → is_ok (judge (view u H) (call_of u m (commands.SetMode to))) ≡ may_set_mode w H
   modes to =
-      accepted-checks u H legal (commands.SetMode to) (mode_checks (standing_of u None H) (phase_of H)) _ refl
+      accepted-checks u H legal m (commands.SetMode to) (mode_checks (standing_of u None H) (phase_of H)) _ refl
       ∙ said (is_chair (role_of u H)) (mode_may_be_set (phase_of H)) (is_chairs (role_of u H)) (now Setup H)
       (chair-same (role_of u H)) (phase-same Setup (phase_of H))
     where
@@ -155,22 +155,22 @@ module _ (w : ℕ) (H : History) (legal : Legal H) where
       said : (t a n w n' : Bool) → n ≡ n' → (not (not t) && (not (not a) && (not (not n) && (not w && true)))) ≡ ((t && not w) && a && n')
       said t a n w n' hn = grind arith
 
-  revisions : (paper : Option ℕ) (title abstract : List ℕ) → is_ok (judge (view u H) (call_of u (commands.Revise paper title abstract))) ≡ of_some paper (may_change w H)
-  revisions None title abstract = accepted-as u H legal (commands.Revise None title abstract)
+  revisions : (paper : Option ℕ) (title abstract : List ℕ) → is_ok (judge (view u H) (call_of u m (commands.Revise paper title abstract))) ≡ of_some paper (may_change w H)
+  revisions None title abstract = accepted-as u H legal m (commands.Revise None title abstract)
   revisions (Some p) title abstract =
-      accepted-checks u H legal (commands.Revise (Some p) title abstract) (revise_checks (standing_of u (Some p) H) (paper_named (facts_of u H) (shown_of H) (Some p))) _ refl
+      accepted-checks u H legal m (commands.Revise (Some p) title abstract) (revise_checks (standing_of u (Some p) H) (paper_named (facts_of u H) (shown_of H) (Some p))) _ refl
       ∙ by_author p
 
-  withdrawals : (paper : Option ℕ) → is_ok (judge (view u H) (call_of u (commands.Withdraw paper))) ≡ of_some paper (may_change w H)
-  withdrawals None = accepted-as u H legal (commands.Withdraw None)
+  withdrawals : (paper : Option ℕ) → is_ok (judge (view u H) (call_of u m (commands.Withdraw paper))) ≡ of_some paper (may_change w H)
+  withdrawals None = accepted-as u H legal m (commands.Withdraw None)
   withdrawals (Some p) =
-      accepted-checks u H legal (commands.Withdraw (Some p)) (revise_checks (standing_of u (Some p) H) (paper_named (facts_of u H) (shown_of H) (Some p))) _ refl
+      accepted-checks u H legal m (commands.Withdraw (Some p)) (revise_checks (standing_of u (Some p) H) (paper_named (facts_of u H) (shown_of H) (Some p))) _ refl
       ∙ by_author p
 
-  uploads : (paper : Option ℕ) (content : List ℕ) → is_ok (judge (view u H) (call_of u (commands.Upload paper content))) ≡ of_some paper (may_upload w H (length content))
-  uploads None content = accepted-as u H legal (commands.Upload None content)
+  uploads : (paper : Option ℕ) (content : List ℕ) → is_ok (judge (view u H) (call_of u m (commands.Upload paper content))) ≡ of_some paper (may_upload w H (length content))
+  uploads None content = accepted-as u H legal m (commands.Upload None content)
   uploads (Some p) content =
-      accepted-checks u H legal (commands.Upload (Some p) content)
+      accepted-checks u H legal m (commands.Upload (Some p) content)
       (upload_checks (standing_of u (Some p) H) (paper_named (facts_of u H) (shown_of H) (Some p)) (own_bytes_of u H) (length content)) _ refl
       ∙ said (is_paper p H) (is_author u p H) (papers_may_change (phase_of H)) (is_withdrawn p H) (now Submission H)
       (nat_lt 67108864 (own_bytes_of u H + length content)) (nat_le (own_bytes_of u H + length content) 67108864)
@@ -180,10 +180,10 @@ module _ (w : ℕ) (H : History) (legal : Legal H) where
           → (not (not t) && (not (not a) && (not (not n) && (not w && (not q && true))))) ≡ (((t && not w) && a && n') && q')
       said t a n w n' q q' hn hq = grind arith
 
-  reviewing : (paper : Option ℕ) (form : Form) → is_ok (judge (view u H) (call_of u (commands.Review paper form))) ≡ of_some paper (may_review w H)
-  reviewing None form = accepted-as u H legal (commands.Review None form)
+  reviewing : (paper : Option ℕ) (form : Form) → is_ok (judge (view u H) (call_of u m (commands.Review paper form))) ≡ of_some paper (may_review w H)
+  reviewing None form = accepted-as u H legal m (commands.Review None form)
   reviewing (Some p) form =
-      accepted-checks u H legal (commands.Review (Some p) form) (review_checks (standing_of u (Some p) H) (paper_named (facts_of u H) (shown_of H) (Some p))) _ refl
+      accepted-checks u H legal m (commands.Review (Some p) form) (review_checks (standing_of u (Some p) H) (paper_named (facts_of u H) (shown_of H) (Some p))) _ refl
       ∙ said (is_paper p H) (is_member (role_of u H)) (is_conflicted u p H) (is_reviewer u p H) (is_phase (phase_of H) Reviewing)
       (is_phase (phase_of H) Discussion) (is_withdrawn p H)
       (is_members (role_of u H)) (now Reviewing H) (now Discussion H)
@@ -194,10 +194,10 @@ module _ (w : ℕ) (H : History) (legal : Legal H) where
           ≡ ((t && not w) && (m' && not c) && r && (x' || y'))
       said t m c r x y w m' x' y' hm hx hy = grind arith
 
-  comments : (paper : Option ℕ) (text : List ℕ) → is_ok (judge (view u H) (call_of u (commands.Comment paper text))) ≡ of_some paper (may_comment w H)
-  comments None text = accepted-as u H legal (commands.Comment None text)
+  comments : (paper : Option ℕ) (text : List ℕ) → is_ok (judge (view u H) (call_of u m (commands.Comment paper text))) ≡ of_some paper (may_comment w H)
+  comments None text = accepted-as u H legal m (commands.Comment None text)
   comments (Some p) text =
-      accepted-checks u H legal (commands.Comment (Some p) text)
+      accepted-checks u H legal m (commands.Comment (Some p) text)
       (comment_checks (standing_of u (Some p) H) (paper_named (facts_of u H) (shown_of H) (Some p)) (own_comments_of u H)) _ refl
       ∙ said (is_paper p H) (is_member (role_of u H)) (is_conflicted u p H) (comments_are_written (phase_of H)) (is_withdrawn p H)
       (nat_le 1000 (own_comments_of u H)) (is_members (role_of u H)) (now Discussion H) (nat_lt (own_comments_of u H) 1000)
@@ -207,10 +207,10 @@ module _ (w : ℕ) (H : History) (legal : Legal H) where
           → (not (not t) && (not (not m) && (not c && (not (not n) && (not w && (not q && true)))))) ≡ ((t && not w) && (m' && not c) && n' && q')
       said t m c n w q m' n' q' hm hn hq = grind arith
 
-  tags : (paper : Option ℕ) (tag : List ℕ) (on : Bool) → is_ok (judge (view u H) (call_of u (commands.Tag paper tag on))) ≡ of_some paper (may_tag w H tag)
-  tags None tag on = accepted-as u H legal (commands.Tag None tag on)
+  tags : (paper : Option ℕ) (tag : List ℕ) (on : Bool) → is_ok (judge (view u H) (call_of u m (commands.Tag paper tag on))) ≡ of_some paper (may_tag w H tag)
+  tags None tag on = accepted-as u H legal m (commands.Tag None tag on)
   tags (Some p) tag on =
-      accepted-checks u H legal (commands.Tag (Some p) tag on)
+      accepted-checks u H legal m (commands.Tag (Some p) tag on)
       (tag_checks (standing_of u (Some p) H) (paper_named (facts_of u H) (shown_of H) (Some p)) (is_for_chairs tag)) _ refl
       ∙ said (is_paper p H) (is_for_chairs tag) (is_for_chairs_alone tag) (is_chair (role_of u H)) (is_member (role_of u H)) (is_conflicted u p H)
       (committee_works (phase_of H)) (is_withdrawn p H) (is_chairs (role_of u H)) (is_members (role_of u H)) (committee_at_work H)
@@ -221,10 +221,10 @@ module _ (w : ℕ) (H : History) (legal : Legal H) where
           ≡ ((t && not w) && (m' && not c) && n' && (k' || not f'))
       said t f f' k m c n w k' m' n' hk hm hn hf = grind arith
 
-  decisions : (paper : Option ℕ) (decision : Decision) → is_ok (judge (view u H) (call_of u (commands.Decide paper decision))) ≡ of_some paper (may_decide w H)
-  decisions None decision = accepted-as u H legal (commands.Decide None decision)
+  decisions : (paper : Option ℕ) (decision : Decision) → is_ok (judge (view u H) (call_of u m (commands.Decide paper decision))) ≡ of_some paper (may_decide w H)
+  decisions None decision = accepted-as u H legal m (commands.Decide None decision)
   decisions (Some p) decision =
-      accepted-checks u H legal (commands.Decide (Some p) decision) (decide_checks (standing_of u (Some p) H) (paper_named (facts_of u H) (shown_of H) (Some p))) _ refl
+      accepted-checks u H legal m (commands.Decide (Some p) decision) (decide_checks (standing_of u (Some p) H) (paper_named (facts_of u H) (shown_of H) (Some p))) _ refl
       ∙ said (is_paper p H) (is_chair (role_of u H)) (is_conflicted u p H) (decisions_are_made (phase_of H)) (is_withdrawn p H)
       (is_chairs (role_of u H)) (now Discussion H) (chair-same (role_of u H)) (phase-same Discussion (phase_of H))
     where
@@ -232,9 +232,9 @@ module _ (w : ℕ) (H : History) (legal : Legal H) where
           → (not (not t) && (not (not m) && (not c && (not (not n) && (not w && true))))) ≡ ((t && not w) && (m' && not c) && n')
       said t m c n w m' n' hm hn = grind arith
 
-  submissions : (title abstract : List ℕ) (names : List (Option (List ℕ))) → is_ok (judge (view u H) (call_of u (commands.Submit title abstract names))) ≡ may_submit w H names
+  submissions : (title abstract : List ℕ) (names : List (Option (List ℕ))) → is_ok (judge (view u H) (call_of u m (commands.Submit title abstract names))) ≡ may_submit w H names
   submissions title abstract names =
-      accepted-checks u H legal (commands.Submit title abstract names)
+      accepted-checks u H legal m (commands.Submit title abstract names)
       (submit_checks (list_any is_none (users_among (accounts_of H) names)) (standing_of u None H) (length (papers_of H)) (own_papers_of u H)) _ refl
       ∙ said (list_any is_none (users_among (accounts_of H) names)) (list_all (λ name. is_somebody name H) names)
       (accepts_submissions (phase_of H)) (now Submission H) (nat_le 9999 (length (papers_of H))) (nat_lt (length (papers_of H)) 9999)
@@ -245,9 +245,9 @@ module _ (w : ℕ) (H : History) (legal : Legal H) where
           → (not x && (not (not n) && (not q && (not o && true)))) ≡ (n' && x' && q' && o')
       said x x' n n' q q' o o' hx hn hq ho = grind arith
 
-  namings : (name : Option (List ℕ)) (role : Role) → is_ok (judge (view u H) (call_of u (commands.Name name role))) ≡ of_some (user_named name H) (may_name w H role)
+  namings : (name : Option (List ℕ)) (role : Role) → is_ok (judge (view u H) (call_of u m (commands.Name name role))) ≡ of_some (user_named name H) (may_name w H role)
   namings name role =
-      accepted-as u H legal (commands.Name name role)
+      accepted-as u H legal m (commands.Name name role)
       ∙ by_name u H legal (λ (target : Option ℕ). is_ok (name_judged (facts_of u H) stamp target (unwrap_or name []) role)) (may_name w H role) name refl each
     where
       said : (c c' o o' b b' : Bool) → c ≡ c' → o ≡ o' → not b ≡ b' → (not (not c) && (not o && (not b && true))) ≡ (c' && not o' && b')
@@ -300,10 +300,10 @@ module _ (w : ℕ) (H : History) (legal : Legal H) where
   same_user v h = ap (λ (n : ℕ). role_of (Some n) H) (sym (eqb-true v w h))
 
   declarations : (paper : Option ℕ) (name : Option (List ℕ))
-      → is_ok (judge (view (Some w) H) (call_of (Some w) (commands.SetConflict paper name true))) ≡ of_some paper (λ p. of_some (user_named name H) (may_declare w H p))
-  declarations None name = accepted-as (Some w) H legal (commands.SetConflict None name true)
+      → is_ok (judge (view (Some w) H) (call_of (Some w) m (commands.SetConflict paper name true))) ≡ of_some paper (λ p. of_some (user_named name H) (may_declare w H p))
+  declarations None name = accepted-as (Some w) H legal m (commands.SetConflict None name true)
   declarations (Some p) name =
-      accepted-as (Some w) H legal (commands.SetConflict (Some p) name true)
+      accepted-as (Some w) H legal m (commands.SetConflict (Some p) name true)
       ∙ by_name (Some w) H legal (λ (target : Option ℕ). is_ok (conflict_judged (facts_of (Some w) H) (shown_of H) stamp (Some p) target true))
       (may_declare w H p) name (nobody p [] (conflict_drawn stamp p 0 true)) each
     where
@@ -331,10 +331,10 @@ module _ (w : ℕ) (H : History) (legal : Legal H) where
       (is_chairs (role_of (Some w) H)) (committee_at_work H) rest (chair-same (role_of (Some w) H)) (in_committee-same (phase_of H))
 
   taken_back : (paper : Option ℕ) (name : Option (List ℕ))
-      → is_ok (judge (view (Some w) H) (call_of (Some w) (commands.SetConflict paper name false))) ≡ of_some paper (λ p. of_some (user_named name H) (may_take_back w H p))
-  taken_back None name = accepted-as (Some w) H legal (commands.SetConflict None name false)
+      → is_ok (judge (view (Some w) H) (call_of (Some w) m (commands.SetConflict paper name false))) ≡ of_some paper (λ p. of_some (user_named name H) (may_take_back w H p))
+  taken_back None name = accepted-as (Some w) H legal m (commands.SetConflict None name false)
   taken_back (Some p) name =
-      accepted-as (Some w) H legal (commands.SetConflict (Some p) name false)
+      accepted-as (Some w) H legal m (commands.SetConflict (Some p) name false)
       ∙ by_name (Some w) H legal (λ (target : Option ℕ). is_ok (conflict_judged (facts_of (Some w) H) (shown_of H) stamp (Some p) target false))
       (may_take_back w H p) name (nobody p [] (conflict_drawn stamp p 0 false)) each
     where
@@ -351,10 +351,10 @@ module _ (w : ℕ) (H : History) (legal : Legal H) where
           (is_author (Some v) p H) (member-same (role_of (Some v) H))
 
   assignments : (paper : Option ℕ) (name : Option (List ℕ)) (kind : Kind)
-      → is_ok (judge (view (Some w) H) (call_of (Some w) (commands.Assign paper name kind))) ≡ of_some paper (λ p. of_some (user_named name H) (may_assign w H p))
-  assignments None name kind = accepted-as (Some w) H legal (commands.Assign None name kind)
+      → is_ok (judge (view (Some w) H) (call_of (Some w) m (commands.Assign paper name kind))) ≡ of_some paper (λ p. of_some (user_named name H) (may_assign w H p))
+  assignments None name kind = accepted-as (Some w) H legal m (commands.Assign None name kind)
   assignments (Some p) name kind =
-      accepted-as (Some w) H legal (commands.Assign (Some p) name kind)
+      accepted-as (Some w) H legal m (commands.Assign (Some p) name kind)
       ∙ by_name (Some w) H legal (λ (target : Option ℕ). is_ok (assignment_judged (facts_of (Some w) H) (shown_of H) stamp (Some p) target kind))
       (may_assign w H p) name (nobody p [] (assignment_drawn stamp p 0 kind 0)) each
     where
@@ -375,10 +375,10 @@ module _ (w : ℕ) (H : History) (legal : Legal H) where
           (member-same (role_of (Some v) H)) (clash-same p v) (fewer 26 (length (seats_of p H)))
 
   unassignments : (paper : Option ℕ) (name : Option (List ℕ))
-      → is_ok (judge (view (Some w) H) (call_of (Some w) (commands.Unassign paper name))) ≡ of_some paper (λ p. of_some (user_named name H) (may_unassign w H p))
-  unassignments None name = accepted-as (Some w) H legal (commands.Unassign None name)
+      → is_ok (judge (view (Some w) H) (call_of (Some w) m (commands.Unassign paper name))) ≡ of_some paper (λ p. of_some (user_named name H) (may_unassign w H p))
+  unassignments None name = accepted-as (Some w) H legal m (commands.Unassign None name)
   unassignments (Some p) name =
-      accepted-as (Some w) H legal (commands.Unassign (Some p) name)
+      accepted-as (Some w) H legal m (commands.Unassign (Some p) name)
       ∙ by_name (Some w) H legal (λ (target : Option ℕ). is_ok (unassignment_judged (facts_of (Some w) H) (shown_of H) stamp (Some p) target))
       (may_unassign w H p) name (nobody p [] (unassignment_drawn stamp p 0 0)) each
     where
@@ -401,27 +401,27 @@ module _ (w : ℕ) (H : History) (legal : Legal H) where
 pub permissions_as_said : PermissionsAsSaid
 permissions_as_said H call legal = by call.caller call.command
   where
-    by : (caller : Option ℕ) (command : Command) → is_accepted_from H (call_of caller command) ≡ may_do caller H command
-    by None (commands.Register name digest) = registrations None H legal name digest
+    by : (caller : Option ℕ) (command : Command) → is_accepted_from H (call_of caller call.at command) ≡ may_do caller H command
+    by None (commands.Register name digest) = registrations None H legal call.at name digest
     by None (commands.SetConflict paper name true) = refl
     by None (commands.SetConflict paper name false) = refl
     by None (commands.Tag paper tag true) = refl
     by None (commands.Tag paper tag false) = refl
     by None _ = refl
-    by (Some w) (commands.Register name digest) = registrations (Some w) H legal name digest
-    by (Some w) (commands.SetPhase to) = phases w H legal to
-    by (Some w) (commands.Submit title abstract names) = submissions w H legal title abstract names
-    by (Some w) (commands.Revise paper title abstract) = revisions w H legal paper title abstract
-    by (Some w) (commands.Upload paper content) = uploads w H legal paper content
-    by (Some w) (commands.Withdraw paper) = withdrawals w H legal paper
-    by (Some w) (commands.Name name role) = namings w H legal name role
-    by (Some w) (commands.SetMode to) = modes w H legal to
-    by (Some w) (commands.SetConflict paper name true) = declarations w H legal paper name
-    by (Some w) (commands.SetConflict paper name false) = taken_back w H legal paper name
-    by (Some w) (commands.Bid paper value) = bids w H legal paper value
-    by (Some w) (commands.Assign paper name kind) = assignments w H legal paper name kind
-    by (Some w) (commands.Unassign paper name) = unassignments w H legal paper name
-    by (Some w) (commands.Review paper form) = reviewing w H legal paper form
-    by (Some w) (commands.Comment paper text) = comments w H legal paper text
-    by (Some w) (commands.Tag paper tag on) = tags w H legal paper tag on
-    by (Some w) (commands.Decide paper decision) = decisions w H legal paper decision
+    by (Some w) (commands.Register name digest) = registrations (Some w) H legal call.at name digest
+    by (Some w) (commands.SetPhase to) = phases w H legal call.at to
+    by (Some w) (commands.Submit title abstract names) = submissions w H legal call.at title abstract names
+    by (Some w) (commands.Revise paper title abstract) = revisions w H legal call.at paper title abstract
+    by (Some w) (commands.Upload paper content) = uploads w H legal call.at paper content
+    by (Some w) (commands.Withdraw paper) = withdrawals w H legal call.at paper
+    by (Some w) (commands.Name name role) = namings w H legal call.at name role
+    by (Some w) (commands.SetMode to) = modes w H legal call.at to
+    by (Some w) (commands.SetConflict paper name true) = declarations w H legal call.at paper name
+    by (Some w) (commands.SetConflict paper name false) = taken_back w H legal call.at paper name
+    by (Some w) (commands.Bid paper value) = bids w H legal call.at paper value
+    by (Some w) (commands.Assign paper name kind) = assignments w H legal call.at paper name kind
+    by (Some w) (commands.Unassign paper name) = unassignments w H legal call.at paper name
+    by (Some w) (commands.Review paper form) = reviewing w H legal call.at paper form
+    by (Some w) (commands.Comment paper text) = comments w H legal call.at paper text
+    by (Some w) (commands.Tag paper tag on) = tags w H legal call.at paper tag on
+    by (Some w) (commands.Decide paper decision) = decisions w H legal call.at paper decision

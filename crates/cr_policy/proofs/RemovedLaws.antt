@@ -13,7 +13,7 @@ use Rattle.cr_base.specs.declared.words.Role.TheVariants.{Account}
 use Rattle.cr_base.specs.Lists.{given, is_number, last_or}
 use Rattle.cr_base.specs.History.{History, phase_told, mode_told, role_told, author_told, conflict_told}
 use Rattle.cr_base.specs.HistoryFacts.{phase_of, mode_of, role_of, authors_of, is_author, is_conflict_on}
-use Rattle.cr_policy.specs.Part.{whole}
+use Rattle.cr_policy.specs.Part.{own_parts}
 use Rattle.cr_policy.specs.Sighting.{Sighting}
 use Rattle.cr_policy.specs.Triggers.{Reader, reader, Around, position_of, rows, ◌see◌, user_named}
 use Rattle.cr_policy.specs.View.{rows_at, is_seen, joined, sight, sights, view}
@@ -137,8 +137,8 @@ module _ (r r' : Reader) (is : where_wrote r r'.wrote ≡ r') (number : r.number
     where
       all_rows : rows_at r at e ≡ rows_at r' at' e
       all_rows =
-          (λ i. (moved ∙ wrote-rows r r'.wrote (position_of at' e.entry) e.stamp.maker e.stamp.maker e.entry (made e.entry e.stamp.maker)) i ++ is_number (number i) e.stamp.maker see whole ∷ [])
-          ∙ (λ i. rows (is i) (position_of at' e.entry) e.stamp.maker e.entry ++ user_named r' e.stamp.maker see whole ∷ [])
+          (λ i. (moved ∙ wrote-rows r r'.wrote (position_of at' e.entry) e.stamp.maker e.stamp.maker e.entry (made e.entry e.stamp.maker)) i ++ is_number (number i) e.stamp.maker see own_parts ∷ [])
+          ∙ (λ i. rows (is i) (position_of at' e.entry) e.stamp.maker e.entry ++ user_named r' e.stamp.maker see own_parts ∷ [])
 
   -- those behind the entry that is taken out
   sights-behind : (front between post : History) (gone : Stamped) → is_seen r (record { before = front; after = between ++ post }) gone ≡ false

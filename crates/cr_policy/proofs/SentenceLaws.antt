@@ -262,23 +262,24 @@ module _ (u : Option ℕ) (H : History) (legal : Legal H) where
     written = λ p o. is_written-tables p o H i;
   }
 
-  -- judgement by the view is that by the facts of the history
-  abbrev pub judged_on : Command → Result Drawn Rule
-  judged_on command = judge_by (facts_of u H) (shown_of H) (stamp_of (call_of u command)) command
+  -- judgement by the view is that by the facts of the history, at whatever moment the command comes
+  module _ (m : ℕ) where
+    abbrev pub judged_on : Command → Result Drawn Rule
+    judged_on command = judge_by (facts_of u H) (shown_of H) (stamp_of (call_of u m command)) command
 
-  pub judge-history : (command : Command) → judge (view u H) (call_of u command) ≡ judged_on command
-  judge-history command =
-      let stamp : Stamp = stamp_of (call_of u command) in
-      Legal-judge H (call_of u command) legal ∙ sym (λ i. judge_by (facts-same i) (shown-same i) stamp command)
+    pub judge-history : (command : Command) → judge (view u H) (call_of u m command) ≡ judged_on command
+    judge-history command =
+        let stamp : Stamp = stamp_of (call_of u m command) in
+        Legal-judge H (call_of u m command) legal ∙ sym (λ i. judge_by (facts-same i) (shown-same i) stamp command)
 
-  pub accepted-as : (command : Command) → is_ok (judge (view u H) (call_of u command)) ≡ is_ok (judged_on command)
-  accepted-as command = ap (λ (r : Result Drawn Rule). is_ok r) (judge-history command)
+    pub accepted-as : (command : Command) → is_ok (judge (view u H) (call_of u m command)) ≡ is_ok (judged_on command)
+    accepted-as command = ap (λ (r : Result Drawn Rule). is_ok r) (judge-history command)
 
-  -- and accepts what breaks none of these checks
-  pub accepted-checks : (command : Command) (checks : List Check) (drawn : Drawn)
-      → judged_on command ≡ judged checks drawn → is_ok (judge (view u H) (call_of u command)) ≡ none_broken checks
-  accepted-checks command checks drawn is =
-      accepted-as command ∙ ap (λ (r : Result Drawn Rule). is_ok r) is ∙ judged-none_broken checks drawn
+    -- and accepts what breaks none of these checks
+    pub accepted-checks : (command : Command) (checks : List Check) (drawn : Drawn)
+        → judged_on command ≡ judged checks drawn → is_ok (judge (view u H) (call_of u m command)) ≡ none_broken checks
+    accepted-checks command checks drawn is =
+        accepted-as command ∙ ap (λ (r : Result Drawn Rule). is_ok r) is ∙ judged-none_broken checks drawn
 
   -- ---- those named
 

@@ -73,7 +73,7 @@ module _ (stamp : Stamp) where
       call = call_by stamp calls.command
 
       call_accepted : IsAccepted H call
-      call_accepted = record { allowed = record { caller = calls.caller; bounded = calls.told.bounded }; drawn = drawn; accepted = calls.accepted }
+      call_accepted = record { allowed = record { caller = calls.caller; bounded = calls.told.bounded; moment = ready.moment }; drawn = drawn; accepted = calls.accepted }
 
       behind : AcceptedInTurn (step H call) (row_calls stamp rows) to
       behind = subst (λ (G : History). AcceptedInTurn G (row_calls stamp rows) to)
@@ -189,12 +189,12 @@ bulk_is_its_rows = record {
       let draws = bulk-draws bulk.stamp H bulk.rows drawn accepted in
       record {
         singly = H ++ alone bulk.stamp draws.entries;
-        leads = rows-lead bulk.stamp bulk.rows 1 H draws.entries (record { kept = legal_invariants H legal; registered = allowed.caller }) draws.accepted;
+        leads = rows-lead bulk.stamp bulk.rows 1 H draws.entries (record { kept = legal_invariants H legal; registered = allowed.caller; moment = allowed.moment }) draws.accepted;
         same = ap (λ (d : Drawn). unmarked (H ++ d.group)) (sym draws.drawn_is) ∙ same-unmarked bulk.stamp H draws.entries;
         receipt = ap (λ (d : Drawn). d.receipt) (sym draws.drawn_is);
       };
   refused = λ H bulk n rule legal allowed refused.
-      let first = first-broken bulk.stamp bulk.rows 1 H (broken.Row n rule) (record { kept = legal_invariants H legal; registered = allowed.caller })
+      let first = first-broken bulk.stamp bulk.rows 1 H (broken.Row n rule) (record { kept = legal_invariants H legal; registered = allowed.caller; moment = allowed.moment })
       (refused-by_rows bulk.stamp H bulk.rows n rule refused) in
       record {
         before = first.before;

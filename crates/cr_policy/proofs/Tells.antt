@@ -15,7 +15,7 @@ use Rattle.cr_base.specs.Drawn.{stamped}
 use Rattle.cr_base.specs.History.{phase_told, mode_told, paper_told, own_paper_told, own_bytes_told, own_comment_told, author_told, conflict_told}
 use Rattle.cr_base.specs.History.{title_told, abstract_told, upload_told, withdrawal_told, registration_told, role_told, number_told}
 use Rattle.cr_policy.specs.Part as part
-use Rattle.cr_policy.specs.Part.{Part, whole}
+use Rattle.cr_policy.specs.Part.{Part, own_parts}
 use Rattle.cr_policy.specs.Sighting.{Sighting, where_shown}
 use Rattle.cr_policy.specs.Triggers.{Reader, Around, TriggerRow, position_of, rows, ◌see◌, applies_any, shows}
 use Rattle.cr_policy.specs.View.{sight, is_seen, joined, rows_at}
@@ -113,7 +113,7 @@ own_seen : (r : Reader) (at : Around) (stamp : Stamp) (more : Bool) (e : Entry) 
     → is_seen r at (stamped stamp more e) ≡ true
 own_seen r at stamp more e own =
     let others : List TriggerRow = rows r (position_of at e) stamp.maker e in
-    list_any-append (λ (row : TriggerRow). row.applies) others (is_number r.number stamp.maker see whole ∷ [])
+    list_any-append (λ (row : TriggerRow). row.applies) others (is_number r.number stamp.maker see own_parts ∷ [])
     ∙ or_right (applies_any others) _ (or_left (is_number r.number stamp.maker) false own)
 
 module _ (r : Reader) (at : Around) (stamp : Stamp) (more : Bool) where

@@ -20,6 +20,7 @@ use Rattle.cr_base.specs.declared.words.Role.TheVariants.{Member, Chair}
 use Rattle.cr_base.specs.Calls.{stamp_by}
 use Rattle.cr_base.specs.Drawn.{stamped}
 use Rattle.cr_base.specs.History.{History}
+use Rattle.cr_policy.specs.Witness.{morning}
 use Rattle.cr_base.specs.TagTexts.{is_tag}
 use Rattle.cr_base.specs.Texts.{IsReviewText, IsCommentText}
 
@@ -169,12 +170,12 @@ pub record AreAsides (a : Asides) : Type 0 where
 -- an entry that is all of its command
 infix 90 ◌adds◌
 abbrev pub ◌adds◌ : ℕ → Entry → Stamped
-user adds entry = stamped (stamp_by user) false entry
+user adds entry = stamped (stamp_by user morning) false entry
 
 -- all register; alice, the first, is a chair by that
 abbrev pub registered : Digests → History
 registered d =
-    stamped (stamp_by alice) true (Registered alice (codes "alice") d.alice)
+    stamped (stamp_by alice morning) true (Registered alice (codes "alice") d.alice)
     ∷ alice adds Named alice Chair
     ∷ bob adds Registered bob (codes "bob") d.bob
     ∷ carol adds Registered carol (codes "carol") d.carol
@@ -201,7 +202,7 @@ opened d mode =
 abbrev pub submitted : Digests → Mode → History
 submitted d mode =
     opened d mode
-    ++ stamped (stamp_by bob) true (Submitted 1 proofs we_prove)
+    ++ stamped (stamp_by bob morning) true (Submitted 1 proofs we_prove)
     ∷ bob adds Coauthor 1 gus
     ∷ gus adds Submitted 2 types we_type
     ∷ gus adds Submitted 3 drafts we_draft

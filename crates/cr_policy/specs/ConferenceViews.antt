@@ -19,6 +19,7 @@ use Rattle.cr_policy.specs.Conference.{first_version, second_version, only_versi
 use Rattle.cr_policy.specs.Conference.{first_form, second_form, alices_form}
 use Rattle.cr_policy.specs.Sighting.{Sighting, blank}
 use Rattle.cr_policy.specs.View.{View}
+use Rattle.cr_policy.specs.Witness.{morning}
 
 -- ---- what a line may show
 
@@ -28,7 +29,7 @@ account user name = record (blank kinds.Registered) { user = Some user; name = S
 
 -- the reader's own, with it
 abbrev pub own_account : ℕ → List ℕ → List ℕ → Sighting
-own_account user name digest = record (account user name) { mine = true; digest = Some digest }
+own_account user name digest = record (account user name) { mine = true; digest = Some digest; at = Some morning }
 
 abbrev pub role_given : ℕ → Role → Sighting
 role_given user role = record (blank kinds.Named) { user = Some user; role = Some role }
@@ -148,7 +149,11 @@ comment_to_members mode user ordinal paper n text = comment_by user paper n text
 
 abbrev pub own_comment : Mode → ℕ → ℕ → ℕ → ℕ → List ℕ → Sighting
 own_comment mode user ordinal paper n text =
-    record (comment_to_members mode user ordinal paper n text) { mine = true; ordinal = Some ordinal }
+    record (comment_to_members mode user ordinal paper n text) {
+      mine = true;
+      ordinal = Some ordinal;
+      at = Some morning;
+    }
 
 -- that a tag is turned on or off at the paper
 abbrev pub tagging : ℕ → List ℕ → Bool → Sighting
@@ -170,7 +175,7 @@ acceptance paper = as_accepted (record (blank kinds.Decided) { paper = Some pape
 
 -- the line of an entry that the reader made
 abbrev pub mine : Sighting → Sighting
-mine line = record line { mine = true }
+mine line = record line { mine = true; at = Some morning }
 
 -- ---- a view for each kind of reader
 

@@ -29,6 +29,7 @@ use Rattle.cr_policy.specs.Judge.{judge, judge_bulk, answer}
 use Rattle.cr_policy.specs.Legal.{Legal}
 use Rattle.cr_policy.specs.MayBulk.{a_row}
 use Rattle.cr_policy.specs.View.{view}
+use Rattle.cr_policy.specs.Witness.{morning}
 
 -- ---- the conference, phase by phase
 
@@ -71,13 +72,13 @@ pub record AreStagesLegal (d : Digests) (a : Asides) : Type 0 where
 -- ---- who asks, where, for what, and what she is told
 
 abbrev pub Refused : ℕ → History → Command → Rule → Type 0
-Refused u H command rule = judge (view (Some u) H) (call_of (Some u) command) ≡ Err rule
+Refused u H command rule = judge (view (Some u) H) (call_of (Some u) morning command) ≡ Err rule
 
 abbrev pub Unanswered : ℕ → History → Query → Rule → Type 0
 Unanswered u H query rule = answer (Some u) (view (Some u) H) query ≡ replies.Refused rule
 
 abbrev pub BulkRefused : ℕ → History → List BulkRow → Broken → Type 0
-BulkRefused u H rows refusal = judge_bulk (view (Some u) H) (bulk_by u rows) ≡ Err refusal
+BulkRefused u H rows refusal = judge_bulk (view (Some u) H) (bulk_by u morning rows) ≡ Err refusal
 
 abbrev pub zoe : Option (List ℕ)
 zoe = Some (codes "zoe")

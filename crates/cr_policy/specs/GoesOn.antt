@@ -13,11 +13,11 @@ use Rattle.cr_policy.specs.Legal.{Legal}
 use Rattle.cr_policy.specs.Sentences.{now, comes_behind, chairs}
 use Rattle.cr_policy.specs.View.{view}
 
--- there is a next phase, and this user's request for it is accepted
+-- there is a next phase, and this user's request for it is accepted, whenever it comes
 pub record CanGoOn (H : History) (u : ℕ) : Type 0 where
   pub next : Phase
   pub comes : IsTrue (comes_behind (phase_of H) next)
-  pub accepted : IsTrue (is_ok (judge (view (Some u) H) (call_of (Some u) (SetPhase next))))
+  pub accepted : (at : ℕ) → IsTrue (is_ok (judge (view (Some u) H) (call_of (Some u) at (SetPhase next))))
 
 -- the first user has registered and is a chair; and before the end she can go on
 pub record HasChair (H : History) : Type 0 where

@@ -1,6 +1,6 @@
 -- Pairs of legal histories that differ in what one kind of entry hides: one user sees the same of both, and another
 -- doesn't. Each goes on from the small conference's users and papers.
-use Rattle.std.specs.Prelude.{ℕ, ◌≡◌, true, false, List, [], ◌∷◌, ◌++◌, length, take, Some, None, codes}
+use Rattle.std.specs.Prelude.{ℕ, ◌≡◌, ◌+◌, true, false, List, [], ◌∷◌, ◌++◌, length, take, Some, None, codes}
 use Rattle.cr_base.specs.declared.entry.Entry.TheVariants.{Registered, Named, PhaseSet, ModeSet, Submitted}
 use Rattle.cr_base.specs.declared.entry.Entry.TheVariants.{Coauthor, Revised, Uploaded, Withdrawn, Conflict}
 use Rattle.cr_base.specs.declared.entry.Entry.TheVariants.{Bid, Assigned, Unassigned, Reviewed}
@@ -26,6 +26,7 @@ use Rattle.cr_policy.specs.HiddenPayload.{DiffersHidden, AcceptedAlike}
 use Rattle.cr_policy.specs.Legal.{Legal}
 use Rattle.cr_policy.specs.Triggers.{reader}
 use Rattle.cr_policy.specs.View.{sight, view}
+use Rattle.cr_policy.specs.Witness.{morning}
 
 -- ---- pairs
 
@@ -98,6 +99,12 @@ ModeSetterHidden = AlikeTo bob alice having_chairs (alice adds ModeSet Anonymous
 abbrev pub PhaseSetterHidden : Type 0
 PhaseSetterHidden = AlikeTo bob alice in_papers (alice adds PhaseSet Bidding) (fay adds PhaseSet Bidding) []
 
+-- when she opens it
+abbrev pub MomentHidden : Type 0
+MomentHidden =
+    AlikeTo bob alice in_papers (alice adds PhaseSet Bidding)
+    (stamped (stamp_by alice (morning + 60)) false (PhaseSet Bidding)) []
+
 -- ---- papers
 
 -- a title, before the bidding, to a member; and an abstract, in the bidding, to a member in conflict with the paper
@@ -118,7 +125,7 @@ SubmitterHidden = AlikeTo dave alice (in_submission Anonymous)
 
 abbrev pub submitted_with : ℕ → History
 submitted_with coauthor =
-    stamped (stamp_by bob) true (Submitted 1 proofs we_prove) ∷ bob adds Coauthor 1 coauthor ∷ []
+    stamped (stamp_by bob morning) true (Submitted 1 proofs we_prove) ∷ bob adds Coauthor 1 coauthor ∷ []
 
 abbrev pub CoauthorHidden : Type 0
 CoauthorHidden = AllAlikeTo dave alice (in_submission Anonymous) (submitted_with gus) (submitted_with erin) bids_open

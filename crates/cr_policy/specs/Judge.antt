@@ -14,7 +14,7 @@ use Rattle.cr_base.specs.Calls.{BulkCall, stamp_of}
 use Rattle.cr_base.specs.Drawn.{Drawn}
 use Rattle.cr_base.specs.History.{History}
 use Rattle.cr_base.specs.Judging.{judge_by}
-use Rattle.cr_policy.specs.Part.{whole}
+use Rattle.cr_policy.specs.Part.{own_parts}
 use Rattle.cr_policy.specs.Sighting.{sighting}
 use Rattle.cr_policy.specs.View.{View}
 use Rattle.cr_policy.specs.ViewFacts.{facts_in_view, shown_in_view}
@@ -34,9 +34,9 @@ needs_login V query = login_wanted (facts_in_view None V) query
 
 -- ---- bulks
 
--- what entries of her own show their maker: they are whole, and hers
+-- what entries of her own show their maker: they are whole with their moments, and hers
 abbrev pub own_sightings : History → View
-own_sightings group = map (λ (e : Stamped). sighting whole true e) group
+own_sightings group = map (λ (e : Stamped). sighting own_parts true e) group
 
 -- what the rows of a bulk are judged on: its caller's view, and behind it the bulk's own earlier entries
 abbrev pub view_basis : ℕ → Basis View

@@ -14,6 +14,7 @@ use Rattle.cr_base.specs.Bulk.{bulk_by_role}
 use Rattle.cr_base.specs.Calls.{BulkCall}
 use Rattle.cr_base.specs.Judging.{judge_by_role}
 use Rattle.cr_base.specs.Logins.{command_wants_login}
+use Rattle.cr_base.specs.Moments.{IsMoment}
 use Rattle.cr_history.specs.Invariants.{IsRegistered, Invariants, IsWhole}
 use Rattle.cr_policy.specs.Sighting.{Sighting}
 use Rattle.cr_policy.specs.View.{view}
@@ -44,7 +45,7 @@ pub record PublicFactsFromView (u : Option ℕ) (H : History) : Type 0 where
 pub record ViewSuffices : Type 0 where
   pub commands : (H : History) (call : Call) → Legal H → MayAsk H (command_wants_login call.command) call.caller
       → judge (view call.caller H) call ≡ judge_by_role (tables_of H) call
-  pub bulks : (H : History) (bulk : BulkCall) → Legal H → IsRegistered H bulk.stamp.maker
+  pub bulks : (H : History) (bulk : BulkCall) → Legal H → IsRegistered H bulk.stamp.maker → IsMoment bulk.stamp.at
       → judge_bulk (view (Some bulk.stamp.maker) H) bulk ≡ bulk_by_role (tables_of H) bulk
   pub queries : (u : Option ℕ) (H : History) (query : Query) → Legal H
       → MayAsk H (needs_login (view None H) query) u → answer u (view u H) query ≡ answer_by_role (tables_of H) u query

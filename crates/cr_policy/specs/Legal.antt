@@ -9,6 +9,7 @@ use Rattle.cr_base.specs.Drawn.{Drawn}
 use Rattle.cr_base.specs.Logins.{command_wants_login}
 use Rattle.cr_base.specs.Bounds.{IsBoundedCommand}
 use Rattle.cr_base.specs.Bulk.{IsBoundedBulk}
+use Rattle.cr_base.specs.Moments.{IsMoment}
 use Rattle.cr_history.specs.Invariants.{IsRegistered}
 use Rattle.cr_policy.specs.View.{view}
 use Rattle.cr_policy.specs.Judge.{judge, judge_bulk}
@@ -36,10 +37,11 @@ IsCaller H caller command = CallsAs H (command_wants_login command) caller
 
 -- ---- one call
 
--- the caller may give it, and its parts are within the bounds
+-- the caller may give it, and its parts and its moment are within the bounds
 pub record IsAllowed (H : History) (call : Call) : Type 0 where
   pub caller : IsCaller H call.caller call.command
   pub bounded : IsBoundedCommand call.command
+  pub moment : IsMoment call.at
 
 -- a history, and behind it the group that is drawn; as it is where a rule is broken
 abbrev pub followed_by : {E : Type 0} → History → Result Drawn E → History
@@ -52,10 +54,11 @@ step H call = followed_by H (judge (view call.caller H) call)
 
 -- ---- one bulk
 
--- she is a user who has registered, and there are no more rows than a bulk may have
+-- she is a user who has registered, there are no more rows than a bulk may have, and there is such a moment
 pub record IsBulkAllowed (H : History) (bulk : BulkCall) : Type 0 where
   pub caller : IsRegistered H bulk.stamp.maker
   pub bounded : IsBoundedBulk bulk.rows
+  pub moment : IsMoment bulk.stamp.at
 
 -- Step of a bulk: the history behind it, by what Judge gives on the caller's view
 abbrev pub bulk_step : History → BulkCall → History

@@ -20,6 +20,7 @@ pub mod Laws
 pub mod SingleRows
 pub mod GoesOn
 pub mod HiddenPayload
+pub mod Migration
 -- ---- examples: the witness, the small conference with its twins, and what is tried on it
 pub mod Witness
 pub mod WitnessLaws

@@ -1,10 +1,10 @@
 -- The parts of an entry that a reader may be shown.
-use Rattle.std.specs.Prelude.{ℕ, Bool, true, false, List, ◌==◌, ◌||◌}
+use Rattle.std.specs.Prelude.{ℕ, Bool, true, false, List, [], ◌∷◌, ◌==◌, ◌||◌}
 use Rattle.std.specs.List.{list_any}
 
 -- the parts that an entry may have beside its kind and its paper, which are never hidden; `by` is who made it,
--- `value` that of a bid, `review_kind` what a reviewer is to the paper, `n` a comment's number; the others are
--- marks: `done` that under the label is a form, `outcome` that the decision is what became of the reader's paper,
+-- `at` when, `value` that of a bid, `review_kind` what a reviewer is to the paper, `n` a comment's number; the others
+-- are marks: `done` that under the label is a form, `outcome` that the decision is what became of the reader's paper,
 -- `accepted` that the paper is accepted
 pub data Part : Type 0 where
   user : Part
@@ -33,6 +33,7 @@ pub data Part : Type 0 where
   decision : Part
   outcome : Part
   accepted : Part
+  at : Part
 
 -- a number of its own for each part
 abbrev pub part_number : Part → ℕ
@@ -62,13 +63,14 @@ part_number tag = 22
 part_number decision = 23
 part_number outcome = 24
 part_number accepted = 25
+part_number at = 26
 
 -- the part is one of these
 abbrev pub these : List Part → Part → Bool
 these parts part = list_any (λ p. part_number p == part_number part) parts
 
 -- the part belongs to the whole of an entry, whatever its kind: to its numbers and bytes, so it
--- isn't who made it, and no mark
+-- isn't who made it or when, and no mark
 abbrev pub whole : Part → Bool
 whole user = true
 whole name = true
@@ -96,7 +98,12 @@ whole tag = true
 whole decision = true
 whole outcome = false
 whole accepted = false
+whole at = false
 
 -- it does, or is one of these besides
 abbrev pub whole_and : List Part → Part → Bool
 whole_and parts part = whole part || these parts part
+
+-- what is for its maker: the whole of it, and when it was made
+abbrev pub own_parts : Part → Bool
+own_parts = whole_and (at ∷ [])

@@ -297,6 +297,10 @@ kind_for u H before later stamp e = kind_of e
 abbrev pub mark_for : PartFor Bool
 mark_for u H before later stamp e = is_number u stamp.maker
 
+-- when: to whoever made it
+abbrev pub moment_for : PartFor (Option ℕ)
+moment_for u H before later stamp e = where_known (is_number u stamp.maker) stamp.at
+
 -- the paper's number: always
 abbrev pub paper_for : PartFor (Option ℕ)
 paper_for u H before later stamp (Submitted paper title abstract) = Some paper

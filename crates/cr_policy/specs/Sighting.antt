@@ -49,6 +49,7 @@ pub record Sighting : Type 0 where
   pub decision : Option Decision
   pub outcome : Option Bool
   pub accepted : Option Bool
+  pub at : Option ℕ
 
 -- ---- an entry with all its parts
 
@@ -84,44 +85,49 @@ blank kind = record {
   decision = None;
   outcome = None;
   accepted = None;
+  at = None;
 }
 
--- The parts that each kind of entry has; `by` is who made it, and the ordinal of a comment without a label is 0.
+-- one of this kind with the moment of its request, which every entry has
+abbrev pub dated : Stamp → EntryKind → Sighting
+dated stamp kind = record (blank kind) { at = Some stamp.at }
+
+-- The other parts that each kind of entry has; `by` is who made it, and the ordinal of a comment without a label is 0.
 -- Every form has its mark (`done`), and every decision both of its own (`outcome`, `accepted`), whatever it
 -- decides: a mark tells by being shown, and when that is, the rows of the trigger table say. Of a decision to
 -- reject, or of one that isn't the last on its paper, none of them shows `accepted`.
 abbrev pub entire : Stamp → Entry → Sighting
 entire stamp (Registered user name digest) =
-    record (blank kinds.Registered) { user = Some user; name = Some name; digest = Some digest }
-entire stamp (Named user role) = record (blank kinds.Named) { user = Some user; role = Some role }
-entire stamp (PhaseSet phase) = record (blank kinds.PhaseSet) { phase = Some phase }
-entire stamp (ModeSet mode) = record (blank kinds.ModeSet) { mode = Some mode }
+    record (dated stamp kinds.Registered) { user = Some user; name = Some name; digest = Some digest }
+entire stamp (Named user role) = record (dated stamp kinds.Named) { user = Some user; role = Some role }
+entire stamp (PhaseSet phase) = record (dated stamp kinds.PhaseSet) { phase = Some phase }
+entire stamp (ModeSet mode) = record (dated stamp kinds.ModeSet) { mode = Some mode }
 entire stamp (Submitted paper title abstract) =
-    record (blank kinds.Submitted) {
+    record (dated stamp kinds.Submitted) {
       paper = Some paper;
       by = Some stamp.maker;
       title = Some title;
       abstract = Some abstract;
     }
-entire stamp (Coauthor paper user) = record (blank kinds.Coauthor) { paper = Some paper; user = Some user }
+entire stamp (Coauthor paper user) = record (dated stamp kinds.Coauthor) { paper = Some paper; user = Some user }
 entire stamp (Revised paper title abstract) =
-    record (blank kinds.Revised) { paper = Some paper; title = Some title; abstract = Some abstract }
+    record (dated stamp kinds.Revised) { paper = Some paper; title = Some title; abstract = Some abstract }
 entire stamp (Uploaded paper version content) =
-    record (blank kinds.Uploaded) { paper = Some paper; version = Some version; content = Some content }
-entire stamp (Withdrawn paper) = record (blank kinds.Withdrawn) { paper = Some paper }
+    record (dated stamp kinds.Uploaded) { paper = Some paper; version = Some version; content = Some content }
+entire stamp (Withdrawn paper) = record (dated stamp kinds.Withdrawn) { paper = Some paper }
 entire stamp (Conflict paper user on) =
-    record (blank kinds.Conflict) { paper = Some paper; user = Some user; on = Some on }
+    record (dated stamp kinds.Conflict) { paper = Some paper; user = Some user; on = Some on }
 entire stamp (Bid paper value) =
-    record (blank kinds.Bid) { paper = Some paper; by = Some stamp.maker; value = Some value }
-entire stamp (Assigned paper user review_kind ordinal) = record (blank kinds.Assigned) {
+    record (dated stamp kinds.Bid) { paper = Some paper; by = Some stamp.maker; value = Some value }
+entire stamp (Assigned paper user review_kind ordinal) = record (dated stamp kinds.Assigned) {
   paper = Some paper;
   user = Some user;
   review_kind = Some review_kind;
   ordinal = Some ordinal;
 }
 entire stamp (Unassigned paper user ordinal) =
-    record (blank kinds.Unassigned) { paper = Some paper; user = Some user; ordinal = Some ordinal }
-entire stamp (Reviewed paper ordinal version form) = record (blank kinds.Reviewed) {
+    record (dated stamp kinds.Unassigned) { paper = Some paper; user = Some user; ordinal = Some ordinal }
+entire stamp (Reviewed paper ordinal version form) = record (dated stamp kinds.Reviewed) {
   paper = Some paper;
   version = Some version;
   ordinal = Some ordinal;
@@ -132,16 +138,17 @@ entire stamp (Reviewed paper ordinal version form) = record (blank kinds.Reviewe
   done = Some true;
 }
 entire stamp (Commented paper n ordinal text) =
-    record (blank kinds.Commented) {
+    record (dated stamp kinds.Commented) {
       paper = Some paper;
       by = Some stamp.maker;
       n = Some n;
       ordinal = Some (unwrap_or ordinal 0);
       text = Some text;
     }
-entire stamp (Tagged paper tag on) = record (blank kinds.Tagged) { paper = Some paper; tag = Some tag; on = Some on }
+entire stamp (Tagged paper tag on) =
+    record (dated stamp kinds.Tagged) { paper = Some paper; tag = Some tag; on = Some on }
 entire stamp (Decided paper decision) =
-    record (blank kinds.Decided) {
+    record (dated stamp kinds.Decided) {
       paper = Some paper;
       decision = Some decision;
       outcome = Some true;
@@ -187,6 +194,7 @@ masked shows mine s = record {
   decision = where_shown (shows part.decision) s.decision;
   outcome = where_shown (shows part.outcome) s.outcome;
   accepted = where_shown (shows part.accepted) s.accepted;
+  at = where_shown (shows part.at) s.at;
 }
 
 -- the entry with those parts alone

@@ -3,14 +3,14 @@ use Rattle.std.specs.Prelude.{Bool, ℕ, List, [], ◌∷◌, ◌++◌, Option}
 use Rattle.cr_base.specs.declared.entry.Stamped.{Stamped}
 use Rattle.cr_base.specs.Lists.{given}
 use Rattle.cr_base.specs.History.{History}
-use Rattle.cr_policy.specs.Part.{whole}
+use Rattle.cr_policy.specs.Part.{own_parts}
 use Rattle.cr_policy.specs.Sighting.{Sighting, sighting}
 use Rattle.cr_policy.specs.Triggers.{Reader, reader, Around, position_of, TriggerRow}
 use Rattle.cr_policy.specs.Triggers.{rows, user_named, ◌see◌, applies_any, shows}
 
--- the rows of the table, and last the entry's own maker's, who sees it whole
+-- the rows of the table, and last the entry's own maker's, who sees it whole, and when she made it
 abbrev pub rows_at : Reader → Around → Stamped → List TriggerRow
-rows_at r at e = rows r (position_of at e.entry) e.stamp.maker e.entry ++ user_named r e.stamp.maker see whole ∷ []
+rows_at r at e = rows r (position_of at e.entry) e.stamp.maker e.entry ++ user_named r e.stamp.maker see own_parts ∷ []
 
 -- whether a row applies, and the parts of those that do, joined; the maker's own has the mark `mine`
 abbrev pub is_seen : Reader → Around → Stamped → Bool

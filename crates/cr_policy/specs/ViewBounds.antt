@@ -18,7 +18,8 @@ use Rattle.cr_policy.specs.ViewFacts.{only, is_user, is_kind}
 use Rattle.cr_policy.specs.ShownTo.{PartFor, each_told, chairs_committee, is_past_reviewing}
 use Rattle.cr_policy.specs.ShownTo.{is_past_discussion, hides_reviewers, names_reviewers}
 use Rattle.cr_policy.specs.ShownTo.{serves, is_eligible, oversees, administers, discusses, is_in_programme, appears}
-use Rattle.cr_policy.specs.ShownTo.{is_chairs, is_setters, kind_for, mark_for, paper_for, user_for, name_for}
+use Rattle.cr_policy.specs.ShownTo.{is_chairs, is_setters, kind_for, mark_for, moment_for, paper_for}
+use Rattle.cr_policy.specs.ShownTo.{user_for, name_for}
 use Rattle.cr_policy.specs.ShownTo.{digest_for, role_for, phase_for, mode_for, maker_for}
 use Rattle.cr_policy.specs.ShownTo.{title_for, abstract_for, version_for, content_for}
 use Rattle.cr_policy.specs.ShownTo.{switch_for, value_for, review_kind_for, ordinal_for}
@@ -38,6 +39,10 @@ EntriesShown = Shows (λ (s : Sighting). s.kind) kind_for
 -- her own entries are marked
 abbrev pub MarksShown : Type 0
 MarksShown = Shows (λ (s : Sighting). s.mine) mark_for
+
+-- and of these alone she is shown the moment of the request
+abbrev pub MomentsShown : Type 0
+MomentsShown = Shows (λ (s : Sighting). s.at) moment_for
 
 abbrev pub PapersShown : Type 0
 PapersShown = Shows (λ (s : Sighting). s.paper) paper_for
@@ -265,6 +270,10 @@ pub record Outsider : Type 0 where
   pub announced : Bool
   pub appearing : Bool
 
+-- a sighting of this kind with its paper alone, and where it is hers that and its moment
+abbrev pub as_hers : EntryKind → Sighting → Sighting
+as_hers kind s = record (blank kind) { mine = s.mine; paper = s.paper; at = if s.mine then s.at else None }
+
 -- all that a sighting on a paper has for her: the number; the title where she serves, and that it is withdrawn; the
 -- whole of a conflict or an assignment that names her; the whole of what she made; where she administers the paper
 -- before the bidding the whole of each assignment, and under which labels there is a form; of a paper in the programme
@@ -282,43 +291,35 @@ IsLeft u is kinds.Submitted s =
       abstract = if is.appearing then s.abstract else None;
     }
 IsLeft u is kinds.Coauthor s =
-    IsTrue (s.mine || is.announced)
-    × (s ≡ record (blank kinds.Coauthor) { mine = s.mine; paper = s.paper; user = s.user })
+    IsTrue (s.mine || is.announced) × (s ≡ record (as_hers kinds.Coauthor s) { user = s.user })
 IsLeft u is kinds.Revised s =
     IsTrue (s.mine || is.serving || is.announced)
-    × (s ≡ record (blank kinds.Revised) {
-      mine = s.mine;
-      paper = s.paper;
+    × (s ≡ record (as_hers kinds.Revised s) {
       title = s.title;
       abstract = if s.mine || is.appearing then s.abstract else None;
     })
 IsLeft u is kinds.Uploaded s =
     IsTrue (s.mine || is.appearing)
-    × (s ≡ record (blank kinds.Uploaded) { mine = s.mine; paper = s.paper; version = s.version; content = s.content })
+    × (s ≡ record (as_hers kinds.Uploaded s) { version = s.version; content = s.content })
 IsLeft u is kinds.Withdrawn s =
-    IsTrue (s.mine || is.serving) × (s ≡ record (blank kinds.Withdrawn) { mine = s.mine; paper = s.paper })
+    IsTrue (s.mine || is.serving) × (s ≡ as_hers kinds.Withdrawn s)
 IsLeft u is kinds.Conflict s =
-    IsTrue (s.mine || is_user u s.user)
-    × (s ≡ record (blank kinds.Conflict) { mine = s.mine; paper = s.paper; user = s.user; on = s.on })
+    IsTrue (s.mine || is_user u s.user) × (s ≡ record (as_hers kinds.Conflict s) { user = s.user; on = s.on })
 IsLeft u is kinds.Bid s =
-    IsTrue s.mine × (s ≡ record (blank kinds.Bid) { mine = s.mine; paper = s.paper; value = s.value })
+    IsTrue s.mine × (s ≡ record (as_hers kinds.Bid s) { value = s.value })
 IsLeft u is kinds.Assigned s =
     IsTrue (s.mine || is_user u s.user || is.administering)
-    × (s ≡ record (blank kinds.Assigned) {
-      mine = s.mine;
-      paper = s.paper;
+    × (s ≡ record (as_hers kinds.Assigned s) {
       user = s.user;
       review_kind = s.review_kind;
       ordinal = s.ordinal;
     })
 IsLeft u is kinds.Unassigned s =
     IsTrue (s.mine || is_user u s.user || is.administering)
-    × (s ≡ record (blank kinds.Unassigned) { mine = s.mine; paper = s.paper; user = s.user; ordinal = s.ordinal })
+    × (s ≡ record (as_hers kinds.Unassigned s) { user = s.user; ordinal = s.ordinal })
 IsLeft u is kinds.Reviewed s =
     IsTrue (s.mine || is.administering)
-    × (s ≡ record (blank kinds.Reviewed) {
-      mine = s.mine;
-      paper = s.paper;
+    × (s ≡ record (as_hers kinds.Reviewed s) {
       ordinal = s.ordinal;
       version = if s.mine then s.version else None;
       score = if s.mine then s.score else None;
@@ -328,15 +329,12 @@ IsLeft u is kinds.Reviewed s =
       done = if is.administering then s.done else None;
     })
 IsLeft u is kinds.Commented s =
-    IsTrue s.mine × (s
-    ≡ record (blank kinds.Commented) { mine = s.mine; paper = s.paper; n = s.n; ordinal = s.ordinal; text = s.text })
+    IsTrue s.mine × (s ≡ record (as_hers kinds.Commented s) { n = s.n; ordinal = s.ordinal; text = s.text })
 IsLeft u is kinds.Tagged s =
-    IsTrue s.mine × (s ≡ record (blank kinds.Tagged) { mine = s.mine; paper = s.paper; tag = s.tag; on = s.on })
+    IsTrue s.mine × (s ≡ record (as_hers kinds.Tagged s) { tag = s.tag; on = s.on })
 IsLeft u is kinds.Decided s =
     IsTrue (s.mine || is.announced)
-    × (s ≡ record (blank kinds.Decided) {
-      mine = s.mine;
-      paper = s.paper;
+    × (s ≡ record (as_hers kinds.Decided s) {
       decision = if s.mine then s.decision else None;
       accepted = if is.announced then s.accepted else None;
     })

@@ -1,6 +1,6 @@
 -- Two registrations, a submission, a declared conflict and a bulk after them, so that no law on legal histories is
 -- empty; and what is seen of them.
-use Rattle.std.specs.Prelude.{ℕ, Bool, true, false, List, [], ◌∷◌, ◌++◌, Option, Some, None, codes}
+use Rattle.std.specs.Prelude.{ℕ, Bool, true, false, List, [], ◌∷◌, ◌++◌, Option, Some, None, codes, if◌then◌else◌}
 use Rattle.cr_base.specs.declared.bulk.BulkRow.{BulkRow}
 use Rattle.cr_base.specs.declared.entry.Entry.TheVariants.{Registered, Named, PhaseSet, ModeSet, Submitted}
 use Rattle.cr_base.specs.declared.entry.Entry.TheVariants.{Conflict, Assigned, Unassigned, Tagged}
@@ -17,21 +17,36 @@ use Rattle.cr_policy.specs.View.{View}
 
 -- ---- two registrations
 
+-- the moment of every request here: 2026-03-02T09:00:00Z
+abbrev pub morning : ℕ
+morning = 1772442000
+
+-- which is shown where the entry is the reader's own
+abbrev pub morning_of_own : Bool → Option ℕ
+morning_of_own mine = if mine then Some morning else None
+
 -- alice registers and so is a chair, then bob registers; these are the digests of their secrets
 abbrev pub two_registrations : List ℕ → List ℕ → History
 two_registrations alice bob =
-    stamped (stamp_by 1) true (Registered 1 (codes "alice") alice)
-    ∷ stamped (stamp_by 1) false (Named 1 Chair)
-    ∷ stamped (stamp_by 2) false (Registered 2 (codes "bob") bob)
+    stamped (stamp_by 1 morning) true (Registered 1 (codes "alice") alice)
+    ∷ stamped (stamp_by 1 morning) false (Named 1 Chair)
+    ∷ stamped (stamp_by 2 morning) false (Registered 2 (codes "bob") bob)
     ∷ []
 
 -- what a registration shows: the digest to its maker alone
 abbrev pub account_shown : ℕ → List ℕ → Option (List ℕ) → Bool → Sighting
 account_shown user name digest mine =
-    record (blank kinds.Registered) { mine = mine; user = Some user; name = Some name; digest = digest }
+    record (blank kinds.Registered) {
+      mine = mine;
+      user = Some user;
+      name = Some name;
+      digest = digest;
+      at = morning_of_own mine;
+    }
 
 abbrev pub named_chair : ℕ → Bool → Sighting
-named_chair user mine = record (blank kinds.Named) { mine = mine; user = Some user; role = Some Chair }
+named_chair user mine =
+    record (blank kinds.Named) { mine = mine; user = Some user; role = Some Chair; at = morning_of_own mine }
 
 -- what nobody sees of the two registrations: no digest
 abbrev pub seen_by_nobody : View
@@ -49,25 +64,25 @@ seen_by_alice digest =
 -- then alice sets the mode
 abbrev pub made_anonymous : List ℕ → List ℕ → History
 made_anonymous alice bob =
-    two_registrations alice bob ++ stamped (stamp_by 1) false (ModeSet Anonymous) ∷ []
+    two_registrations alice bob ++ stamped (stamp_by 1 morning) false (ModeSet Anonymous) ∷ []
 
 -- and the phase
 abbrev pub submission_opened : List ℕ → List ℕ → History
 submission_opened alice bob =
-    made_anonymous alice bob ++ stamped (stamp_by 1) false (PhaseSet Submission) ∷ []
+    made_anonymous alice bob ++ stamped (stamp_by 1 morning) false (PhaseSet Submission) ∷ []
 
 -- and bob submits a paper
 abbrev pub one_submission : List ℕ → List ℕ → History
 one_submission alice bob =
     submission_opened alice bob
-    ++ stamped (stamp_by 2) false (Submitted 1 (codes "Proofs") (codes "We prove.")) ∷ []
+    ++ stamped (stamp_by 2 morning) false (Submitted 1 (codes "Proofs") (codes "We prove.")) ∷ []
 
 -- the mode and the phase that alice set, as she sees them
 abbrev pub mode_shown : Sighting
-mode_shown = record (blank kinds.ModeSet) { mine = true; mode = Some Anonymous }
+mode_shown = record (blank kinds.ModeSet) { mine = true; mode = Some Anonymous; at = Some morning }
 
 abbrev pub submission_set : Sighting
-submission_set = record (blank kinds.PhaseSet) { mine = true; phase = Some Submission }
+submission_set = record (blank kinds.PhaseSet) { mine = true; phase = Some Submission; at = Some morning }
 
 -- a submission of which its kind and its paper are shown, and nothing else
 abbrev pub paper_seen_alone : Sighting
@@ -82,6 +97,7 @@ paper_seen_by_author =
       by = Some 2;
       title = Some (codes "Proofs");
       abstract = Some (codes "We prove.");
+      at = Some morning;
     }
 
 -- what alice sees, a chair, before the bidding
@@ -94,8 +110,8 @@ submission_seen_by_bob digest =
     account_shown 1 (codes "alice") None false
     ∷ named_chair 1 false
     ∷ account_shown 2 (codes "bob") (Some digest) true
-    ∷ record mode_shown { mine = false }
-    ∷ record submission_set { mine = false }
+    ∷ record mode_shown { mine = false; at = None }
+    ∷ record submission_set { mine = false; at = None }
     ∷ paper_seen_by_author
     ∷ []
 
@@ -105,27 +121,27 @@ submission_seen_by_bob digest =
 abbrev pub four_registrations : List ℕ → List ℕ → List ℕ → List ℕ → History
 four_registrations alice bob carol dave =
     one_submission alice bob
-    ++ stamped (stamp_by 3) false (Registered 3 (codes "carol") carol)
-    ∷ stamped (stamp_by 4) false (Registered 4 (codes "dave") dave)
+    ++ stamped (stamp_by 3 morning) false (Registered 3 (codes "carol") carol)
+    ∷ stamped (stamp_by 4 morning) false (Registered 4 (codes "dave") dave)
     ∷ []
 
 -- alice names both members
 abbrev pub two_members : List ℕ → List ℕ → List ℕ → List ℕ → History
 two_members alice bob carol dave =
     four_registrations alice bob carol dave
-    ++ stamped (stamp_by 1) false (Named 3 Member)
-    ∷ stamped (stamp_by 1) false (Named 4 Member)
+    ++ stamped (stamp_by 1 morning) false (Named 3 Member)
+    ∷ stamped (stamp_by 1 morning) false (Named 4 Member)
     ∷ []
 
 -- bob, the author, declares carol in conflict with his paper
 abbrev pub one_conflict : List ℕ → List ℕ → List ℕ → List ℕ → History
 one_conflict alice bob carol dave =
-    two_members alice bob carol dave ++ stamped (stamp_by 2) false (Conflict 1 3 true) ∷ []
+    two_members alice bob carol dave ++ stamped (stamp_by 2 morning) false (Conflict 1 3 true) ∷ []
 
 -- and alice opens the bidding
 abbrev pub bidding_opened : List ℕ → List ℕ → List ℕ → List ℕ → History
 bidding_opened alice bob carol dave =
-    one_conflict alice bob carol dave ++ stamped (stamp_by 1) false (PhaseSet Bidding) ∷ []
+    one_conflict alice bob carol dave ++ stamped (stamp_by 1 morning) false (PhaseSet Bidding) ∷ []
 
 -- ---- a bulk
 
@@ -144,10 +160,10 @@ four_rows =
 -- the entries of the bulk: dave's second label is another
 abbrev pub rows_added : History
 rows_added =
-    stamped (stamp_by 1) true (Assigned 1 4 Primary 1)
-    ∷ stamped (stamp_by 1) true (Unassigned 1 4 1)
-    ∷ stamped (stamp_by 1) true (Assigned 1 4 Pc 2)
-    ∷ stamped (stamp_by 1) false (Tagged 1 (codes "odd") true)
+    stamped (stamp_by 1 morning) true (Assigned 1 4 Primary 1)
+    ∷ stamped (stamp_by 1 morning) true (Unassigned 1 4 1)
+    ∷ stamped (stamp_by 1 morning) true (Assigned 1 4 Pc 2)
+    ∷ stamped (stamp_by 1 morning) false (Tagged 1 (codes "odd") true)
     ∷ []
 
 -- rows of which the third breaks a rule: dave is assigned already

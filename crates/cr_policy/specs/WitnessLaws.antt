@@ -15,7 +15,7 @@ use Rattle.cr_policy.specs.Judge.{judge_bulk}
 use Rattle.cr_policy.specs.Legal.{Legal}
 use Rattle.cr_policy.specs.Witness.{two_registrations, seen_by_nobody, seen_by_alice, one_submission}
 use Rattle.cr_policy.specs.Witness.{submission_seen_by_alice, submission_seen_by_bob, bidding_opened}
-use Rattle.cr_policy.specs.Witness.{four_rows, rows_added, twice_assigned, bulk_given}
+use Rattle.cr_policy.specs.Witness.{morning, four_rows, rows_added, twice_assigned, bulk_given}
 
 -- a history of two users is legal
 pub record IsLegalWitness (H : History) : Type 0 where
@@ -69,10 +69,11 @@ OneConflict =
 -- with a bulk of the chair's after that the history is legal; another bulk is refused for its third row, which
 -- breaks a rule only behind the second
 pub record IsBulkWitness (before after : History) : Type 0 where
-  pub accepted : judge_bulk (view (Some 1) before) (bulk_by 1 four_rows)
+  pub accepted : judge_bulk (view (Some 1) before) (bulk_by 1 morning four_rows)
       ≡ Ok (record { group = rows_added; receipt = receipts.Rows 4 })
   pub legal : Legal after
-  pub refused : judge_bulk (view (Some 1) before) (bulk_by 1 twice_assigned) ≡ Err (broken.Row 3 rules.AlreadyAssigned)
+  pub refused : judge_bulk (view (Some 1) before) (bulk_by 1 morning twice_assigned)
+      ≡ Err (broken.Row 3 rules.AlreadyAssigned)
 
 -- whatever the digests are
 abbrev pub OneBulk : Type 0

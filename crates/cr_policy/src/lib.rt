@@ -13,10 +13,11 @@ ghost use Rattle.cr_policy.specs.ConferenceLaws.{ViewsInBidding, ViewsInReviewin
 ghost use Rattle.cr_policy.specs.ConferenceLaws.{ViewsInDiscussion, ViewsAtNotification, ViewsAtClose};
 ghost use Rattle.cr_policy.specs.ConferenceLaws.{ViewsReversed, TwinsAlike, AsidesHidden};
 ghost use Rattle.cr_policy.specs.ConferenceLaws.{VerdictsHidden};
-ghost use Rattle.cr_policy.specs.HiddenPayload.{HiddenPayload, Removal};
+ghost use Rattle.cr_policy.specs.HiddenPayload.{HiddenPayload, MomentsUnseen, Removal};
+ghost use Rattle.cr_policy.specs.Migration.{Migrates};
 ghost use Rattle.cr_policy.specs.HiddenPairs.{CommentRemovable, VersionRemovable};
 ghost use Rattle.cr_policy.specs.HiddenPairs.{DigestHidden, NamerHidden, ModeSetterHidden};
-ghost use Rattle.cr_policy.specs.HiddenPairs.{PhaseSetterHidden, TitleHidden, AbstractHidden};
+ghost use Rattle.cr_policy.specs.HiddenPairs.{PhaseSetterHidden, MomentHidden, TitleHidden, AbstractHidden};
 ghost use Rattle.cr_policy.specs.HiddenPairs.{SubmitterHidden, CoauthorHidden, RevisionHidden};
 ghost use Rattle.cr_policy.specs.HiddenPairs.{ReviserHidden, ContentHidden, UploaderHidden};
 ghost use Rattle.cr_policy.specs.HiddenPairs.{WithdrawerHidden, DeclaredHidden, SwitchHidden};
@@ -37,7 +38,7 @@ ghost use Rattle.cr_policy.specs.MayDo.{PermissionsAsSaid};
 ghost use Rattle.cr_policy.specs.MayRead.{ReadingAsSaid};
 ghost use Rattle.cr_policy.specs.Laws.{DigestsAreOwn};
 ghost use Rattle.cr_policy.specs.WitnessLaws.{TwoRegistrations, DigestsHidden, OneSubmission, OneConflict, OneBulk};
-ghost use Rattle.cr_policy.specs.ViewBounds.{EntriesShown, MarksShown, PapersShown};
+ghost use Rattle.cr_policy.specs.ViewBounds.{EntriesShown, MarksShown, MomentsShown, PapersShown};
 ghost use Rattle.cr_policy.specs.ViewBounds.{UsersShown, NamesShown, DigestsShown};
 ghost use Rattle.cr_policy.specs.ViewBounds.{RolesShown, PhasesShown, ModesShown};
 ghost use Rattle.cr_policy.specs.ViewBounds.{MakersShown, TitlesShown, AbstractsShown};
@@ -90,10 +91,10 @@ pub fn law_bulk()
 /// each query and each bulk, over the facts of a history. On every legal history, whoever calls: a command is
 /// accepted, and a query answered, exactly where its sentence holds; and a bulk exactly where its caller is a chair,
 /// the committee works, and she may do what each row asks for when its turn comes, of which none is a conflict of her
-/// own. An accepted command adds the entries that its line says, by its maker, all but the last with the mark that
-/// another follows, and is answered what its line says. Each of the eight actions of a row asks for the command that
-/// its line says. No list of checks is read there, nor what these lists read of phases, roles and accepted papers;
-/// which of the rules is told, where a sentence doesn't hold, is left open.
+/// own. An accepted command adds the entries that its line says, by its maker and at its moment, all but the last
+/// with the mark that another follows, and is answered what its line says. Each of the eight actions of a row asks
+/// for the command that its line says. No list of checks is read there, nor what these lists read of phases, roles
+/// and accepted papers; which of the rules is told, where a sentence doesn't hold, is left open.
 pub fn law_permissions()
     ensures commands { PermissionsAsSaid }
     ensures reading { ReadingAsSaid }
@@ -124,13 +125,12 @@ pub fn law_declared()
     ensures { DeclaredFromView }
 {}
 
-/// What every legal history keeps. Each entry is within its bounds, so that its row spells it; each
-/// fits the tables of what stands before it; each is in order there: who registers makes the entry
-/// herself and every other maker has registered before, users and papers are numbered as they come,
-/// names are new, phases go on by one, and what is set, submitted, named or declared is so in its
-/// phase, by whom may. No command's entries are cut off, nor a bulk's, and authors declare conflicts before the
-/// bidding. A history is legal that commands and bulks lead to. So a digest is its user's alone: no
-/// view shows it to anybody else.
+/// What every legal history keeps. Each entry is within its bounds, so that its row spells it; each fits the tables
+/// of what stands before it; each is in order there: who registers makes the entry herself and every other maker has
+/// registered before, users and papers are numbered as they come, names are new, phases go on by one, and what is
+/// set, submitted, named or declared is so in its phase, by whom may. No command's entries are cut off, nor a bulk's,
+/// and all of them are of one maker and one moment; and authors declare conflicts before the bidding. A history is
+/// legal that commands and bulks lead to. So a digest is its user's alone: no view shows it to anybody else.
 pub fn law_legal()
     ensures invariants { LegalKeeps }
     ensures own_digests { DigestsAreOwn }
@@ -181,23 +181,23 @@ pub fn law_views()
     ensures verdicts { VerdictsHidden }
 {}
 
-/// What a view shows, neither more nor less, of every history, legal or not, for every user and for
-/// nobody. The first clauses go part by part: a view has one sighting of each entry that the user is
-/// told of, and of each part exactly what she may know, by who wrote the paper, who is on the
-/// committee, who is declared in conflict, phase and mode. The last say what that leaves: of bids and of who
-/// reviews a paper little, for all but the chairs in no conflict with it; nothing that stands in another's review
-/// before the discussion, and for authors none before the notification and never what is for the committee; no
-/// comments and tags of others for authors; who comments, in the anonymous mode, for such chairs alone; private tags
-/// for whoever sets them, and tags for chairs for such chairs; no decision before the notification for all but
-/// those who discuss the paper, and for all but them and its authors never more than that it is accepted; of a
-/// paper's titles, abstracts and contents the last one, for all but its authors, and of decisions for all but
-/// those who discuss it; little of a paper for outsiders, who neither wrote it nor are eligible for it, so in
-/// conflict, or on no committee, or before the bidding; for strangers what is public and their own entries;
-/// and for nobody what is public, an accepted paper's title and authors among it, and once the conference is
-/// closed its abstract and its content.
+/// What a view shows, neither more nor less, of every history, legal or not, for every user and for nobody. The first
+/// clauses go part by part: a view has one sighting of each entry that the user is told of, and of each part exactly
+/// what she may know, by who wrote the paper, who is on the committee, who is declared in conflict, phase and mode;
+/// when an entry was made, its maker alone. The last say what that leaves: of bids and of who reviews a paper little,
+/// for all but the chairs in no conflict with it; nothing that stands in another's review before the discussion, and
+/// for authors none before the notification and never what is for the committee; no comments and tags of others for
+/// authors; who comments, in the anonymous mode, for such chairs alone; private tags for whoever sets them, and tags
+/// for chairs for such chairs; no decision before the notification for all but those who discuss the paper, and for
+/// all but them and its authors never more than that it is accepted; of a paper's titles, abstracts and contents the
+/// last one, for all but its authors, and of decisions for all but those who discuss it; little of a paper for
+/// outsiders, who neither wrote it nor are eligible for it, so in conflict, or on no committee, or before the
+/// bidding; for strangers what is public and their own entries; and for nobody what is public, an accepted paper's
+/// title and authors among it, and once the conference is closed its abstract and its content.
 pub fn law_bounds()
     ensures entries { EntriesShown }
     ensures marks { MarksShown }
+    ensures moments { MomentsShown }
     ensures papers { PapersShown }
     ensures users { UsersShown }
     ensures names { NamesShown }
@@ -250,9 +250,11 @@ pub fn law_bounds()
 /// unauthenticated caller, of what she isn't shown. Their entries are alike one by one: of the same kind and on the
 /// same paper, with the same label, version, number and tag. What differs is a part that the table doesn't show her,
 /// or who made an entry or is named by it, where she is neither. The same papers are accepted, and of each conflict
-/// with a paper of hers it is the same whether an author of that declared it. They need not be legal.
+/// with a paper of hers it is the same whether an author of that declared it. They need not be legal. The second clause
+/// says it of moments: whenever others made their entries, she sees the same.
 pub fn law_hidden_payload()
-    ensures { HiddenPayload }
+    ensures payload { HiddenPayload }
+    ensures moments { MomentsUnseen }
 {}
 
 /// An entry that shows a user nothing can be taken out of a history, where the same papers stay accepted: she sees the
@@ -263,9 +265,17 @@ pub fn law_removed()
     ensures { Removal }
 {}
 
+/// A store that kept no moments of requests is migrated to one that does: a legal history of the kinds that it has is
+/// legal as well where each request came at the first moment of all, and its rows are those of the history with that
+/// moment in each. So what such a store has is opened as it was.
+pub fn law_migrated()
+    ensures { Migrates }
+{}
+
 /// For each kind of entry, and each part of it that is hidden from some, two legal histories that differ there and
 /// meet the conditions of [`law_hidden_payload`] for one user, who sees the same of both, while another user doesn't:
-/// the digest of a registration; who named a member, and who set a mode or a phase; a paper's title and abstract, and
+/// the digest of a registration; who named a member, and who set a mode or a phase, and when; a paper's title and
+/// abstract, and
 /// in the anonymous mode its authors; a revision's texts and an upload's content, where others follow, and who made
 /// them; who withdrew; whom an author declares in conflict, whether a chair turns that off, and which author declared;
 /// a bid and whose it is; whether a private tag is on and whose it is; who is assigned, as what and by whom, and who
@@ -277,6 +287,7 @@ pub fn law_hidden_pairs()
     ensures namers { NamerHidden }
     ensures mode_setters { ModeSetterHidden }
     ensures phase_setters { PhaseSetterHidden }
+    ensures moments { MomentHidden }
     ensures titles { TitleHidden }
     ensures abstracts { AbstractHidden }
     ensures submitters { SubmitterHidden }

@@ -26,58 +26,59 @@ shares workers connections = shares_below workers workers connections
 -- ---- one answer of a door
 
 -- a connection was given
-abbrev pub gives : {I O : Type 0} → NextConnection I O → Bool
-gives (next.Conn source sink) = true
+abbrev pub gives : {I O C : Type 0} → NextConnection I O C → Bool
+gives (next.Conn source sink clock) = true
 gives next.Done = false
 gives next.Failed = false
 
 -- How many connections are left, before and behind an answer: a connection is one of them, and `Done`
 -- comes exactly where none is left.
-abbrev pub LeftAfter : {I O : Type 0} → NextConnection I O → ℕ → ℕ → Type 0
-LeftAfter (next.Conn source sink) before now = before ≡ now + 1
+abbrev pub LeftAfter : {I O C : Type 0} → NextConnection I O C → ℕ → ℕ → Type 0
+LeftAfter (next.Conn source sink clock) before now = before ≡ now + 1
 LeftAfter next.Done before now = (before ≡ 0) × (now ≡ 0)
 LeftAfter next.Failed before now = (0 < before) × (now ≡ before)
 
 -- The count of faults, before and behind an answer: it rose where the door failed, and nowhere else.
-abbrev pub FaultsAfterNext : {I O : Type 0} → NextConnection I O → ℕ → ℕ → Type 0
-FaultsAfterNext (next.Conn source sink) before now = now ≡ before
+abbrev pub FaultsAfterNext : {I O C : Type 0} → NextConnection I O C → ℕ → ℕ → Type 0
+FaultsAfterNext (next.Conn source sink clock) before now = now ≡ before
 FaultsAfterNext next.Done before now = now ≡ before
 FaultsAfterNext next.Failed before now = (before ≤ now) × Rises before now
 
 -- ---- what a door tells of itself
 
 -- a door's last answer, if it was asked; the connection that is out, as it was given; and those given back, in order
-pub record DoorLog (I O : Type 0) : Type 0 where
+pub record DoorLog (I O C : Type 0) : Type 0 where
   pub last : Option DoorAnswer
-  pub out : Option (I × O)
-  pub served : List (Served I O)
+  pub out : Option (I × O × C)
+  pub served : List (Served I O C)
 
 -- the log of a door that wasn't asked yet
-abbrev pub unasked : {I O : Type 0} → DoorLog I O
+abbrev pub unasked : {I O C : Type 0} → DoorLog I O C
 unasked = record { last = None; out = None; served = [] }
 
 -- the log once this was answered
-abbrev pub answered : {I O : Type 0} → DoorLog I O → NextConnection I O → DoorLog I O
-answered log (next.Conn source sink) =
-    record { last = Some answers.Conn; out = Some (source, sink); served = log.served }
+abbrev pub answered : {I O C : Type 0} → DoorLog I O C → NextConnection I O C → DoorLog I O C
+answered log (next.Conn source sink clock) =
+    record { last = Some answers.Conn; out = Some (source, sink, clock); served = log.served }
 answered log next.Done = record { last = Some answers.Done; out = log.out; served = log.served }
 answered log next.Failed = record { last = Some answers.Failed; out = log.out; served = log.served }
 
 -- the connection that was out, given back in this state
-abbrev pub back_as : {I O : Type 0} → Option (I × O) → I → O → List (Served I O)
-back_as None source sink = []
-back_as (Some given) source sink = record { given = given; back = (source, sink) } ∷ []
+abbrev pub back_as : {I O C : Type 0} → Option (I × O × C) → I → O → C → List (Served I O C)
+back_as None source sink clock = []
+back_as (Some given) source sink clock = record { given = given; back = (source, sink, clock) } ∷ []
 
 -- the log once the connection that was out was given back
-abbrev pub given_back : {I O : Type 0} → DoorLog I O → I → O → DoorLog I O
-given_back log source sink = record { last = log.last; out = None; served = log.served ++ back_as log.out source sink }
+abbrev pub given_back : {I O C : Type 0} → DoorLog I O C → I → O → C → DoorLog I O C
+given_back log source sink clock =
+    record { last = log.last; out = None; served = log.served ++ back_as log.out source sink clock }
 
 -- the log, where it is told, once this was answered
-abbrev pub and_answer : {I O : Type 0} → Option (DoorLog I O) → NextConnection I O → Option (DoorLog I O)
+abbrev pub and_answer : {I O C : Type 0} → Option (DoorLog I O C) → NextConnection I O C → Option (DoorLog I O C)
 and_answer None answer = None
 and_answer (Some log) answer = Some (answered log answer)
 
 -- the log, where it is told, once the connection that was out was given back
-abbrev pub and_back : {I O : Type 0} → Option (DoorLog I O) → I → O → Option (DoorLog I O)
-and_back None source sink = None
-and_back (Some log) source sink = Some (given_back log source sink)
+abbrev pub and_back : {I O C : Type 0} → Option (DoorLog I O C) → I → O → C → Option (DoorLog I O C)
+and_back None source sink clock = None
+and_back (Some log) source sink clock = Some (given_back log source sink clock)

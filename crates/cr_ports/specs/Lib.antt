@@ -1,6 +1,7 @@
 pub mod Count
 pub mod Calls
 pub mod Stream
+pub mod Clocks
 pub mod Script
 pub mod Memory
 pub mod Keeping

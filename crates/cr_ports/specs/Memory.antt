@@ -3,6 +3,7 @@ use Rattle.std.specs.Prelude.{◌≡◌, ℕ, List, length, ◌++◌, ◌||◌, 
 use Rattle.cr_ports.specs.Count.{counted}
 use Rattle.cr_ports.specs.Calls.{fails}
 use Rattle.cr_ports.specs.Script.{FollowsScript, Scripted, moved}
+use Rattle.cr_ports.specs.Stream.{Taken}
 use Rattle.cr_ports.specs.declared.source.ReadStep.{ReadStep}
 use Rattle.cr_ports.specs.declared.source.ReadStep.TheVariants as reads
 use Rattle.cr_ports.specs.declared.sink.WriteStep.{WriteStep}
@@ -20,9 +21,9 @@ read_step s room =
     else if length s.left == 0 then reads.End
     else reads.Got (moved s.script (min (length s.left) room))
 
--- a sink: the bytes that it took, how many more it has room for, and how its calls behave
+-- a sink: what it took, how many more bytes it has room for, and how its calls behave
 pub record Output : Type 0 where
-  pub taken : List ℕ
+  pub taken : Taken
   pub room : ℕ
   pub script : Scripted
 

@@ -1,5 +1,5 @@
 -- What opening gates answers.
-use Rattle.std.specs.Prelude.{◌≡◌, ℕ, ◌≤◌, List, Bool, true, false, ⊤}
+use Rattle.std.specs.Prelude.{◌≡◌, ℕ, ◌≤◌, ◌⊎◌, List, [], ◌∷◌, ◌++◌, Bool, true, false, Option, Some, None, ⊤}
 use Rattle.cr_ports.specs.Count.{Rises}
 use Rattle.cr_ports.specs.declared.gates.Opened.{Opened}
 use Rattle.cr_ports.specs.declared.gates.Opened.TheVariants.{Doors, Failed, OutOfMemory}
@@ -15,6 +15,22 @@ abbrev pub FaultsAfterOpen : {D : Type 0} → Opened D → ℕ → ℕ → Type 
 FaultsAfterOpen (Doors doors) before now = now ≡ before
 FaultsAfterOpen Failed before now = (before ≤ now) × Rises before now
 FaultsAfterOpen OutOfMemory before now = now ≡ before
+
+-- the addresses that were asked for, where they are told, and then this one
+abbrev pub and_asked : Option (List (List ℕ)) → List ℕ → Option (List (List ℕ))
+and_asked None addr = None
+and_asked (Some asked) addr = Some (asked ++ addr ∷ [])
+
+-- No address but this one was asked for any more, and it at most once.
+abbrev pub AsksAtMost : List ℕ → Option (List (List ℕ)) → Option (List (List ℕ)) → Type 0
+AsksAtMost addr before now = (now ≡ and_asked before addr) ⊎ (now ≡ before)
+
+-- The addresses asked for, before and behind an opening at this one: it stands behind them where doors were opened,
+-- and where none were no other does.
+abbrev pub AskedAfterOpen : {D : Type 0} → Opened D → List ℕ → Option (List (List ℕ)) → Option (List (List ℕ)) → Type 0
+AskedAfterOpen (Doors doors) addr before now = now ≡ and_asked before addr
+AskedAfterOpen Failed addr before now = AsksAtMost addr before now
+AskedAfterOpen OutOfMemory addr before now = AsksAtMost addr before now
 
 -- the opening failed
 abbrev pub has_failed : {D : Type 0} → Opened D → Bool

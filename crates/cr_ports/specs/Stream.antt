@@ -1,5 +1,6 @@
 -- What a read and a write do to the bytes that are left, and to those that were taken, where these are told.
-use Rattle.std.specs.Prelude.{ℕ, ◌<◌, ◌≤◌, List, [], ◌++◌, take, Option, Some, None, ⊤}
+use Rattle.std.specs.Prelude.{ℕ, ◌<◌, ◌≤◌, List, [], ◌++◌, length, take, Option, Some, None, ⊤}
+use Rattle.cr_ports.specs.Count.{counted}
 use Rattle.cr_ports.specs.declared.source.ReadStep.{ReadStep}
 use Rattle.cr_ports.specs.declared.source.ReadStep.TheVariants as reads
 use Rattle.cr_ports.specs.declared.sink.WriteStep.{WriteStep}
@@ -10,10 +11,26 @@ abbrev pub and_left : List ℕ → Option (List ℕ) → Option (List ℕ)
 and_left piece None = None
 and_left piece (Some rest) = Some (piece ++ rest)
 
+-- what a sink took: the bytes, in order; how many answers were begun, as far as 64 bits count; and how many of the
+-- bytes stood there when the last of these was
+pub record Taken : Type 0 where
+  pub bytes : List ℕ
+  pub begun : ℕ
+  pub begun_at : ℕ
+
+-- nothing was taken yet, and no answer was begun
+abbrev pub untaken : Taken
+untaken = record { bytes = []; begun = 0; begun_at = 0 }
+
 -- what was taken, where that is told, and then these bytes
-abbrev pub taken_and : Option (List ℕ) → List ℕ → Option (List ℕ)
+abbrev pub taken_and : Option Taken → List ℕ → Option Taken
 taken_and None piece = None
-taken_and (Some taken) piece = Some (taken ++ piece)
+taken_and (Some t) piece = Some (record { bytes = t.bytes ++ piece; begun = t.begun; begun_at = t.begun_at })
+
+-- what was taken, where that is told, and then an answer was begun
+abbrev pub and_begun : Option Taken → Option Taken
+and_begun None = None
+and_begun (Some t) = Some (record { bytes = t.bytes; begun = counted t.begun; begun_at = length t.bytes })
 
 -- the bytes that a read gave
 abbrev pub gave : ReadStep → List ℕ → List ℕ

@@ -1,13 +1,13 @@
 //! Where connections come from.
 ghost use Rattle.std.specs.Prelude.{◌≡◌, ◌≤◌, ◌+◌, ℕ, Bool, Option, IsTrue, IsFalse};
 
-use crate::{Sink, Source};
+use crate::{Clock, Sink, Source};
 
 /// What a door answers when it is asked for its next connection.
 #[derive(Drop)]
-pub enum NextConnection<I, O> {
-    /// A connection: what it reads from, and what it writes to.
-    Conn(I, O),
+pub enum NextConnection<I, O, C> {
+    /// A connection: what it reads from, what it writes to, and what tells it the time.
+    Conn(I, O, C),
     /// The door gave all connections of its share.
     Done,
     /// No connection could be given: a fault, which was counted.
@@ -25,14 +25,14 @@ pub enum DoorAnswer {
     Failed,
 }
 
-/// A connection that was given back: its source and its sink as they were given, and as they came
-/// back.
+/// A connection that was given back: its source, its sink and its clock as they were given, and as they
+/// came back.
 #[derive(Drop)]
-pub struct Served<I, O> {
+pub struct Served<I, O, C> {
     /// As it was given.
-    pub given: (I, O),
+    pub given: (I, O, C),
     /// As it came back.
-    pub back: (I, O),
+    pub back: (I, O, C),
 }
 
 /// Gives the connections of its share, one at a time: each is given back before the next is asked
@@ -43,6 +43,9 @@ pub trait Door {
 
     /// What a connection writes to. It may go to another thread.
     type Out: Sink + Send;
+
+    /// What tells a connection the time. It may go to another thread.
+    type Clock: Clock + Send;
 
     ghost use Rattle.cr_ports.specs.Doors.{DoorLog, FaultsAfterNext, LeftAfter, and_answer, and_back, gives};
 
@@ -56,14 +59,14 @@ pub trait Door {
     ghost faults: { Self → ℕ };
 
     /// Its last answer, and the connections that were given back, where it tells them.
-    ghost log: { Self → Option (DoorLog Self.In Self.Out) };
+    ghost log: { Self → Option (DoorLog Self.In Self.Out Self.Clock) };
 
     /// The next connection, which is out until it is given back.
     ///
     /// `Done` comes exactly where none is left to give, and changes nothing else. After `Failed` as
     /// many are left as before, and it comes only where the count of faults rose, or stands at its
     /// last value. In memory it costs a move of the connection; an adapter's may wait for one to come.
-    fn next(&mut self) -> NextConnection<Self::In, Self::Out>
+    fn next(&mut self) -> NextConnection<Self::In, Self::Out, Self::Clock>
         requires { IsFalse (is_out self.old) }
         ensures left { LeftAfter result (left self.old) (left self.new) }
         ensures out { is_out self.new ≡ gives result }
@@ -72,10 +75,10 @@ pub trait Door {
 
     /// Takes the connection that is out back. Takes no memory; an adapter's may wait for the
     /// connection's end.
-    fn give_back(&mut self, source: Self::In, sink: Self::Out)
+    fn give_back(&mut self, source: Self::In, sink: Self::Out, clock: Self::Clock)
         requires { IsTrue (is_out self.old) }
         ensures left { left self.new ≡ left self.old }
         ensures out { IsFalse (is_out self.new) }
         ensures faults { faults self.new ≡ faults self.old }
-        ensures log { log self.new ≡ and_back (log self.old) source sink };
+        ensures log { log self.new ≡ and_back (log self.old) source sink clock };
 }

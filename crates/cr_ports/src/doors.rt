@@ -7,25 +7,29 @@ ghost use Rattle.cr_ports.specs.Doors.{and_back, answered, given_back, gives, un
 ghost use Rattle.cr_ports.specs.MemoryDoors.{CallsAfter, and_coming, answer_of, next_answer, next_faults};
 
 use crate::calls::Calls;
-use crate::{Door, DoorAnswer, MemSink, MemSource, NextConnection, Served};
+use crate::{Door, DoorAnswer, MemClock, MemSink, MemSource, NextConnection, Served};
 use std::alloc::{AllocError, Global};
 use std::collections::VecDeque;
 use std::marker::Model;
+
+/// What a connection reads from, what it writes to, and what tells it the time.
+type Parts = (MemSource, MemSink, MemClock);
 
 /// A connection that is still to be given, and a copy of it, which stays with the door.
 ///
 /// Contracts see the connection.
 #[derive(Drop)]
 pub(crate) struct Planned {
-    live: (MemSource, MemSink),
-    kept: (MemSource, MemSink),
+    live: Parts,
+    kept: Parts,
 }
 
 impl Model for Planned {
     ghost use Rattle.std.specs.Prelude.{◌≡◌};
+    ghost use Rattle.cr_ports.specs.Clocks.{Timed};
     ghost use Rattle.cr_ports.specs.Memory.{Input, Output};
 
-    ghost Value = { Input × Output };
+    ghost Value = { Input × Output × Timed };
 
     ghost view = { λ p. p.live };
 
@@ -34,18 +38,23 @@ impl Model for Planned {
 
 impl Planned {
     /// This connection, and a copy of it.
-    pub(crate) fn new(alloc: Global, source: MemSource, sink: MemSink) -> Result<Self, AllocError>
-        ensures { IfOk result (λ planned. planned ≡ (source, sink)) }
+    pub(crate) fn new(
+        alloc: Global,
+        source: MemSource,
+        sink: MemSink,
+        clock: MemClock,
+    ) -> Result<Self, AllocError>
+        ensures { IfOk result (λ planned. planned ≡ (source, sink, clock)) }
     {
-        let kept = (source.copy()?, sink.copy(alloc)?);
+        let kept = (source.copy()?, sink.copy(alloc)?, clock.copy()?);
         Ok(Planned {
-            live: (source, sink),
+            live: (source, sink, clock),
             kept,
         })
     }
 
     /// The connection, and the copy of it.
-    fn into_parts(self) -> ((MemSource, MemSink), (MemSource, MemSink))
+    fn into_parts(self) -> (Parts, Parts)
         ensures live { result.0 ≡ self }
         ensures kept { result.1 ≡ self }
     {
@@ -59,8 +68,8 @@ impl Planned {
 /// faults.
 pub struct MemDoor {
     coming: VecDeque<Planned>,
-    out: Option<(MemSource, MemSink)>,
-    served: Vec<Served<MemSource, MemSink>>,
+    out: Option<Parts>,
+    served: Vec<Served<MemSource, MemSink, MemClock>>,
     last: Option<DoorAnswer>,
     calls: Calls,
     faults: u64,
@@ -131,7 +140,7 @@ impl MemDoor {
     }
 
     /// The connections that were given back, in order.
-    pub fn served(&self) -> &[Served<MemSource, MemSink>]
+    pub fn served(&self) -> &[Served<MemSource, MemSink, MemClock>]
         ensures { result.now ≡ self.now.log.served }
     {
         &self.served
@@ -150,6 +159,8 @@ impl Door for MemDoor {
 
     type Out = MemSink;
 
+    type Clock = MemClock;
+
     ghost left = { λ d. length d.coming };
 
     ghost is_out = { λ d. is_some d.log.out };
@@ -158,7 +169,7 @@ impl Door for MemDoor {
 
     ghost log = { λ d. Some d.log };
 
-    fn next(&mut self) -> NextConnection<MemSource, MemSink>
+    fn next(&mut self) -> NextConnection<MemSource, MemSink, MemClock>
         requires { IsFalse (is_some self.old.log.out) }
         ensures left { LeftAfter result (length self.old.coming) (length self.new.coming) }
         ensures out { is_some self.new.log.out ≡ gives result }
@@ -183,18 +194,18 @@ impl Door for MemDoor {
         let Some(planned) = self.coming.pop_front() else {
             unreachable!()
         };
-        let ((source, sink), kept) = planned.into_parts();
+        let ((source, sink, clock), kept) = planned.into_parts();
         self.out = Some(kept);
         self.last = Some(DoorAnswer::Conn);
-        NextConnection::Conn(source, sink)
+        NextConnection::Conn(source, sink, clock)
     }
 
-    fn give_back(&mut self, source: MemSource, sink: MemSink)
+    fn give_back(&mut self, source: MemSource, sink: MemSink, clock: MemClock)
         requires { IsTrue (is_some self.old.log.out) }
         ensures left { length self.new.coming ≡ length self.old.coming }
         ensures out { IsFalse (is_some self.new.log.out) }
         ensures faults { self.new.faults ≡ self.old.faults }
-        ensures log { Some self.new.log ≡ and_back (Some self.old.log) source sink }
+        ensures log { Some self.new.log ≡ and_back (Some self.old.log) source sink clock }
 
         ensures coming { self.new.coming ≡ self.old.coming }
         ensures calls { self.new.calls ≡ self.old.calls }
@@ -202,7 +213,7 @@ impl Door for MemDoor {
         if let Some(given) = self.out.take() {
             self.served.push_reserved(Served {
                 given,
-                back: (source, sink),
+                back: (source, sink, clock),
             });
         }
     }

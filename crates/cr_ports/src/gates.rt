@@ -22,13 +22,16 @@ pub trait Gates {
     type Door: Door + Drop + Send;
 
     ghost use Rattle.cr_ports.specs.Doors.{DoorLog, shares, unasked};
-    ghost use Rattle.cr_ports.specs.Opening.{FaultsAfterOpen, OnDoors};
+    ghost use Rattle.cr_ports.specs.Opening.{AskedAfterOpen, FaultsAfterOpen, OnDoors};
 
     /// How often a call of the gates, or of a door that was shut, has failed.
     ghost faults: { Self → ℕ };
 
     /// What each of the doors that were shut last did, in their order, where the gates tell it.
-    ghost logs: { Self → Option (List (DoorLog Self.Door.In Self.Door.Out)) };
+    ghost logs: { Self → Option (List (DoorLog Self.Door.In Self.Door.Out Self.Door.Clock)) };
+
+    /// At which addresses doors were asked for, in order, where the gates tell it.
+    ghost asked: { Self → Option (List (List ℕ)) };
 
     /// Doors at the address, one a worker, which give so many connections together.
     ///
@@ -36,8 +39,9 @@ pub trait Gates {
     /// as the remainder tells, one more. Each door is new: nothing is out, and no fault was counted.
     ///
     /// `Failed` comes only where the count of faults rose, or stands at its last value, and
-    /// `OutOfMemory` only where it is as it was. In memory it costs a look at each connection; an
-    /// adapter's may wait for its system.
+    /// `OutOfMemory` only where it is as it was. In memory it costs a look at each connection and a copy of the
+    /// address; an adapter's may wait for its system. Where no doors were opened, the gates needn't tell that they
+    /// were asked for at this address.
     fn open(
         &mut self,
         alloc: Global,
@@ -52,6 +56,7 @@ pub trait Gates {
         ensures unasked { OnDoors result
             (λ doors. All (λ door. IfSome (Self.Door.log door) (λ log. log ≡ unasked)) doors) }
         ensures same { logs self.new ≡ logs self.old }
+        ensures asked { AskedAfterOpen result addr.now (asked self.old) (asked self.new) }
         ensures faults { FaultsAfterOpen result (faults self.old) (faults self.new) };
 
     /// Takes the doors back, none of which has a connection out. Where the gates tell what doors
@@ -59,6 +64,7 @@ pub trait Gates {
     /// together. Takes no memory.
     fn shut(&mut self, doors: Vec<Self::Door>)
         requires { All (λ door. IsFalse (Self.Door.is_out door)) doors.items }
+        ensures same { asked self.new ≡ asked self.old }
         ensures told { IfSome (logs self.new) (λ logs. map Self.Door.log doors.items ≡ map Some logs) }
         ensures count { Gains (faults self.old) (sum_by Self.Door.faults doors.items) (faults self.new) };
 }

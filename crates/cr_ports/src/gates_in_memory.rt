@@ -2,19 +2,19 @@
 ghost use Rattle.std.specs.Prelude.{◌≡◌, ◌<◌, ◌≤◌, ◌+◌, ◌-◌, ◌^◌, ◌++◌, ◌∷◌, ◌↔◌, min};
 ghost use Rattle.std.specs.Prelude.{ℕ, List, [], length, map, take, drop, flat_map};
 ghost use Rattle.std.specs.Prelude.{sum_by, replicate, All, Some, slice_get, option_map};
-ghost use Rattle.std.specs.Prelude.{IfOk, IfSome, OnOk, OnErr, IsTrue, IsFalse, is_some};
+ghost use Rattle.std.specs.Prelude.{IfOk, IfSome, OnOk, OnErr, IsTrue, IsFalse, is_some, string_bytes};
 ghost use Rattle.std.specs.VecDeque.{deque_len};
 ghost use Rattle.cr_ports.specs.Calls.{Advances, fails};
 ghost use Rattle.cr_ports.specs.Count.{Gains};
 ghost use Rattle.cr_ports.specs.Doors.{share_of, shares, unasked};
 ghost use Rattle.cr_ports.specs.Keeping.{faults_after};
 ghost use Rattle.cr_ports.specs.MemoryDoors.{calls_below, filled, listed_at, silent};
-ghost use Rattle.cr_ports.specs.Opening.{FaultsAfterOpen, has_failed, OnDoors};
+ghost use Rattle.cr_ports.specs.Opening.{AskedAfterOpen, FaultsAfterOpen, has_failed, OnDoors};
 
 use crate::calls::Calls;
 use crate::doors::Planned;
 use crate::shares::share;
-use crate::{Gates, MemDoor, MemSink, MemSource, Opened};
+use crate::{Gates, MemClock, MemDoor, MemSink, MemSource, Opened};
 use std::alloc::{AllocError, Global};
 use std::collections::VecDeque;
 use std::marker::Model;
@@ -23,11 +23,12 @@ use std::mem;
 /// Gives connections in memory to its doors. An opening, and a door's call, fails exactly where it is
 /// listed.
 ///
-/// Contracts see the connections that no door took yet, the lists, what the doors that were shut last
-/// did, and the count of faults.
+/// Contracts see the connections that no door took yet, the lists, the addresses that doors were asked for at, what
+/// the doors that were shut last did, and the count of faults.
 pub struct MemGates {
     coming: VecDeque<Planned>,
     opens: Calls,
+    asked: Vec<String>,
     failing: Vec<Vec<u64>>,
     shut: Vec<MemDoor>,
     faults: u64,
@@ -39,6 +40,7 @@ impl Drop for MemGates {
         let MemGates {
             coming: _,
             opens: _,
+            asked: _,
             failing: _,
             shut: _,
             faults: _,
@@ -47,7 +49,7 @@ impl Drop for MemGates {
 }
 
 impl Model for MemGates {
-    ghost use Rattle.std.specs.Prelude.{map};
+    ghost use Rattle.std.specs.Prelude.{map, string_bytes};
     ghost use Rattle.cr_ports.specs.MemoryDoors.{Gated};
 
     ghost Value = { Gated };
@@ -55,6 +57,7 @@ impl Model for MemGates {
     ghost view = { λ g. record {
       coming = g.coming.items;
       opens = g.opens;
+      asked = map string_bytes g.asked.items;
       failing = map (λ l. l.items) g.failing.items;
       shut = g.shut.items;
       faults = g.faults;
@@ -70,6 +73,7 @@ impl MemGates {
     pub fn new(alloc: Global, failing_opens: Vec<u64>, failing: Vec<Vec<u64>>) -> Self
         ensures coming { result.coming ≡ [] }
         ensures opens { (result.opens.failing ≡ failing_opens.items) × (result.opens.made ≡ 0) }
+        ensures asked { result.asked ≡ [] }
         ensures failing { result.failing ≡ map (λ l. l.items) failing.items }
         ensures shut { result.shut ≡ [] }
         ensures faults { result.faults ≡ 0 }
@@ -77,6 +81,7 @@ impl MemGates {
         MemGates {
             coming: VecDeque::new(alloc),
             opens: Calls::new(failing_opens),
+            asked: Vec::new(alloc),
             failing,
             shut: Vec::new(alloc),
             faults: 0,
@@ -85,17 +90,31 @@ impl MemGates {
 
     /// Puts a connection behind those that no door took yet, with a copy of it, which stays with its
     /// door. After an error, which is want of memory, all is as before.
-    pub fn add(&mut self, alloc: Global, source: MemSource, sink: MemSink) -> Result<(), AllocError>
-        ensures added { OnOk result (self.new.coming ≡ self.old.coming ++ (source, sink) ∷ []) }
+    pub fn add(
+        &mut self,
+        alloc: Global,
+        source: MemSource,
+        sink: MemSink,
+        clock: MemClock,
+    ) -> Result<(), AllocError>
+        ensures added { OnOk result (self.new.coming ≡ self.old.coming ++ (source, sink, clock) ∷ []) }
         ensures refused { OnErr result (self.new.coming ≡ self.old.coming) }
         ensures opens { self.new.opens ≡ self.old.opens }
+        ensures asked { self.new.asked ≡ self.old.asked }
         ensures failing { self.new.failing ≡ self.old.failing }
         ensures shut { self.new.shut ≡ self.old.shut }
         ensures faults { self.new.faults ≡ self.old.faults }
     {
-        let planned = Planned::new(alloc, source, sink)?;
+        let planned = Planned::new(alloc, source, sink, clock)?;
         self.coming.push_back(planned)?;
         Ok(())
+    }
+
+    /// The addresses that doors were asked for at, in order.
+    pub fn asked(&self) -> &[String]
+        ensures { map string_bytes result.now ≡ self.now.asked }
+    {
+        &self.asked
     }
 
     /// The doors that were shut last, in their order.
@@ -106,13 +125,24 @@ impl MemGates {
     }
 }
 
-/// A connection that sends nothing and takes nothing.
+/// Puts an address behind those that were asked for. After want of memory they are as before.
+fn note(alloc: Global, asked: &mut Vec<String>, addr: &str) -> Result<(), AllocError>
+    ensures noted { OnOk result (map string_bytes asked.new.items ≡ map string_bytes asked.old.items ++ addr.now ∷ []) }
+    ensures refused { OnErr result (asked.new.items ≡ asked.old.items) }
+{
+    let addr = String::from_str(alloc, addr)?;
+    asked.push(addr)?;
+    Ok(())
+}
+
+/// A connection that sends nothing and takes nothing, and is told no moment.
 fn silent_connection(alloc: Global) -> Result<Planned, AllocError>
     ensures { IfOk result (λ planned. planned ≡ silent) }
 {
     let source = MemSource::new(Vec::new(alloc), Vec::new(alloc), Vec::new(alloc));
     let sink = MemSink::new(alloc, 0, Vec::new(alloc), Vec::new(alloc))?;
-    Planned::new(alloc, source, sink)
+    let clock = MemClock::new(Vec::new(alloc), Vec::new(alloc));
+    Planned::new(alloc, source, sink, clock)
 }
 
 /// Puts silent connections behind those that come, up to so many.
@@ -191,9 +221,12 @@ impl Gates for MemGates {
 
     ghost logs = { λ g. Some (map (λ door. door.log) g.shut) };
 
+    ghost asked = { λ g. Some g.asked };
+
     /// Gives the connections out in their order, each door's share behind that of the doors before it,
     /// and silent ones, which send and take nothing, where there are fewer than asked for. After want
-    /// of memory it may have fewer left. The address isn't looked at.
+    /// of memory it may have fewer left, and an opening that is listed fails though there be none to note the address.
+    /// That isn't looked at.
     fn open(&mut self, alloc: Global, addr: &str, workers: u32, connections: u32) -> Opened<MemDoor>
         requires { 0 < workers }
         ensures shares { OnDoors result (λ doors. map (λ door. length door.coming) doors
@@ -203,6 +236,7 @@ impl Gates for MemGates {
         ensures unasked { OnDoors result (λ doors. All (λ door. IfSome (Some door.log) (λ log. log ≡ unasked)) doors) }
         ensures same { Some (map (λ door. door.log) self.new.shut) ≡ Some (map (λ door. door.log) self.old.shut) }
         ensures faults { FaultsAfterOpen result self.old.faults self.new.faults }
+        ensures asked { AskedAfterOpen result addr.now (Some self.old.asked) (Some self.new.asked) }
 
         // It fails where this opening is listed, and nowhere else.
         ensures failed { has_failed result ≡ fails self.old.opens }
@@ -217,9 +251,13 @@ impl Gates for MemGates {
         ensures failing { self.new.failing ≡ self.old.failing }
         ensures shut { self.new.shut ≡ self.old.shut }
     {
+        let noted = note(alloc, &mut self.asked, addr);
         if self.opens.begin() {
             self.faults = self.faults.saturating_add(1);
             return Opened::Failed;
+        }
+        if noted.is_err() {
+            return Opened::OutOfMemory;
         }
         if fill(alloc, &mut self.coming, connections as usize).is_err() {
             return Opened::OutOfMemory;
@@ -232,6 +270,7 @@ impl Gates for MemGates {
 
     fn shut(&mut self, doors: Vec<MemDoor>)
         requires { All (λ door. IsFalse (is_some door.log.out)) doors.items }
+        ensures same { Some self.new.asked ≡ Some self.old.asked }
         ensures told { IfSome (Some (map (λ door. door.log) self.new.shut))
             (λ logs. map (λ door. Some door.log) doors.items ≡ map Some logs) }
         ensures count { Gains self.old.faults (sum_by (λ door. door.faults) doors.items) self.new.faults }

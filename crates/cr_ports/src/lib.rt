@@ -1,5 +1,5 @@
 //! The outside as traits: what is read from, what is written to, what keeps rows, what opens such
-//! keepers by their paths, and what gives connections; each with a meaning and a count of faults.
+//! keepers by their paths, what tells the time, and what gives connections; each with a meaning and a count of faults.
 //!
 //! A meaning is optional: what stands in memory tells its content, an adapter over a real stream
 //! doesn't. A count of faults never falls, and a call answers that it failed only where the count
@@ -7,6 +7,8 @@
 #![tactic(auto)]
 
 mod calls;
+mod clock;
+mod clocks;
 mod door;
 mod doors;
 mod gates;
@@ -22,10 +24,13 @@ mod sinks;
 mod source;
 mod sources;
 mod streams;
+mod system_clock;
 mod unread;
 mod writing;
 
 pub use calls::Calls;
+pub use clock::{Clock, ClockStep};
+pub use clocks::{MemClock, PlainClock};
 pub use door::{Door, DoorAnswer, NextConnection, Served};
 pub use doors::MemDoor;
 pub use gates::{Gates, Opened};
@@ -41,4 +46,5 @@ pub use sinks::MemSink;
 pub use source::{ReadStep, Source};
 pub use sources::{MemSource, PlainSource};
 pub use streams::{ReadSource, WriteSink};
-pub use writing::{WriteFault, write_all};
+pub use system_clock::SystemClock;
+pub use writing::{WriteFault, write_all, write_answer};

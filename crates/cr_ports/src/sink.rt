@@ -1,7 +1,7 @@
 //! Takes bytes in pieces.
-ghost use Rattle.std.specs.Prelude.{◌≡◌, ◌≢◌, ◌≤◌, ℕ, List, Option, length};
+ghost use Rattle.std.specs.Prelude.{◌≡◌, ◌≢◌, ◌≤◌, ℕ, Option, length};
 ghost use Rattle.cr_ports.specs.Count.{Rises};
-ghost use Rattle.cr_ports.specs.Stream.{taken_and, took, TakesWithin};
+ghost use Rattle.cr_ports.specs.Stream.{Taken, and_begun, taken_and, took, TakesWithin};
 
 /// What one write did.
 #[derive(Clone, Copy, PartialEq, Eq)]
@@ -14,8 +14,9 @@ pub enum WriteStep {
 
 /// Takes bytes in pieces.
 pub trait Sink {
-    /// The bytes that were taken, where the sink tells them.
-    ghost taken: { Self → Option (List ℕ) };
+    /// The bytes that were taken, how many answers were begun, and behind how many of the bytes the last was, where
+    /// the sink tells them.
+    ghost taken: { Self → Option Taken };
 
     /// How often a write has failed.
     ghost faults: { Self → ℕ };
@@ -35,9 +36,9 @@ pub trait Sink {
         ensures steady { result ≢ WriteStep.Failed → faults self.new ≡ faults self.old };
 
     /// Tells that an answer begins: what is written from here on, up to the next such call, is one answer. A sink that
-    /// gives each answer a time measures it from the first write behind this call on; any other needn't know. Nothing
-    /// is written, and nothing fails.
+    /// gives each answer a time measures it from the first write behind this call on. Nothing is written, and nothing
+    /// fails: one answer more is begun, behind the bytes that were taken so far. Takes no memory.
     fn begin_answer(&mut self)
-        ensures { self.new ≡ self.old }
-    {}
+        ensures begun { taken self.new ≡ and_begun (taken self.old) }
+        ensures steady { faults self.new ≡ faults self.old };
 }

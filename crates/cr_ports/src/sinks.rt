@@ -1,9 +1,9 @@
-//! A sink in memory, which tells all that it took.
-ghost use Rattle.std.specs.Prelude.{◌≡◌, ◌≢◌, ◌≤◌, ◌+◌, ◌++◌, [], Some, length, IfOk, vec_len, vec_capacity};
+//! A sink in memory, which tells all that it took, and the answers that were begun.
+ghost use Rattle.std.specs.Prelude.{◌≡◌, ◌≢◌, ◌≤◌, ◌+◌, ◌++◌, Some, length, IfOk, vec_len, vec_capacity};
 ghost use Rattle.cr_ports.specs.Count.{Rises};
 ghost use Rattle.cr_ports.specs.Memory.{Output, write_step, write_faults};
 ghost use Rattle.cr_ports.specs.Script.{FollowsScript};
-ghost use Rattle.cr_ports.specs.Stream.{taken_and, took, TakesWithin};
+ghost use Rattle.cr_ports.specs.Stream.{and_begun, taken_and, took, untaken, TakesWithin};
 
 use crate::script::Script;
 use crate::{Sink, WriteStep};
@@ -13,9 +13,13 @@ use std::marker::Model;
 /// Takes bytes up to its room, at most as many a call as are listed, and fails exactly at the
 /// calls that are listed and where its room is used up.
 ///
-/// Contracts see the bytes that were taken, the room that is left and the lists.
+/// Contracts see the bytes that were taken, how many answers were begun, as far as 64 bits count, and behind how many
+/// bytes the last was; the room that is left, and the lists.
 pub struct MemSink {
     bytes: Vec<u8>,
+    begun: u64,
+    // How many bytes there were when the last answer was begun.
+    begun_at: usize,
     room: usize,
     script: Script,
 }
@@ -25,6 +29,8 @@ impl Drop for MemSink {
     fn drop(self) {
         let MemSink {
             bytes: _,
+            begun: _,
+            begun_at: _,
             room: _,
             script: _,
         } = self;
@@ -34,13 +40,17 @@ impl Drop for MemSink {
 impl Model for MemSink {
     ghost Value = { Output };
 
-    ghost view = { λ s. record { taken = s.bytes.items; room = s.room; script = s.script } };
+    ghost view = { λ s. record {
+      taken = record { bytes = s.bytes.items; begun = s.begun; begun_at = s.begun_at };
+      room = s.room;
+      script = s.script;
+    } };
 
     ghost invariant = { λ s. vec_len s.bytes + s.room ≤ vec_capacity s.bytes };
 }
 
 impl MemSink {
-    /// A sink with room for `room` bytes, which is taken here, with no call made and no fault
+    /// A sink with room for `room` bytes, which is taken here, with no call made, no answer begun and no fault
     /// counted.
     ///
     /// Call number i, from 0, takes at most `pieces[i]` bytes (1, where 0 is listed), and past the
@@ -54,7 +64,7 @@ impl MemSink {
         pieces: Vec<usize>,
         failing: Vec<u64>,
     ) -> Result<Self, AllocError>
-        ensures taken { IfOk result (λ sink. sink.taken ≡ []) }
+        ensures taken { IfOk result (λ sink. sink.taken ≡ untaken) }
         ensures room { IfOk result (λ sink. sink.room ≡ room) }
         ensures pieces { IfOk result (λ sink. sink.script.pieces ≡ pieces.items) }
         ensures failing { IfOk result (λ sink. sink.script.calls.failing ≡ failing.items) }
@@ -64,6 +74,8 @@ impl MemSink {
         let bytes = Vec::with_capacity(alloc, room)?;
         Ok(MemSink {
             bytes,
+            begun: 0,
+            begun_at: 0,
             room,
             script: Script::new(pieces, failing),
         })
@@ -78,6 +90,8 @@ impl MemSink {
         let script = self.script.copy()?;
         Ok(MemSink {
             bytes,
+            begun: self.begun,
+            begun_at: self.begun_at,
             room: self.room,
             script,
         })
@@ -85,9 +99,16 @@ impl MemSink {
 
     /// The bytes that were taken, in order.
     pub fn taken(&self) -> &[u8]
-        ensures { result.now ≡ self.now.taken }
+        ensures { result.now ≡ self.now.taken.bytes }
     {
         &self.bytes
+    }
+
+    /// How many answers were begun; from 2^64 - 1 on it stays there.
+    pub fn begun(&self) -> u64
+        ensures { result ≡ self.now.taken.begun }
+    {
+        self.begun
     }
 }
 
@@ -117,6 +138,18 @@ impl Sink for MemSink {
         append_within(&mut self.bytes, &piece[..n]);
         self.room -= n;
         WriteStep::Took(n)
+    }
+
+    fn begin_answer(&mut self)
+        ensures begun { Some self.new.taken ≡ and_begun (Some self.old.taken) }
+        ensures steady { self.new.script.faults ≡ self.old.script.faults }
+
+        // The room and the script are as they were.
+        ensures room { self.new.room ≡ self.old.room }
+        ensures script { self.new.script ≡ self.old.script }
+    {
+        self.begun = self.begun.saturating_add(1);
+        self.begun_at = self.bytes.len();
     }
 }
 

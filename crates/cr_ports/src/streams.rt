@@ -6,7 +6,7 @@ ghost use Rattle.std.specs.Prelude.{◌≡◌, ◌≢◌, ◌<◌, ◌≤◌, �
 ghost use Rattle.std.specs.Io.KnownBytes.{Consumes, IsAtEnd};
 ghost use Rattle.cr_ports.specs.Adapter.{Adapter, HasWritten};
 ghost use Rattle.cr_ports.specs.Count.{Rises};
-ghost use Rattle.cr_ports.specs.Stream.{and_left, gave, FillsWithin, taken_and, took, TakesWithin};
+ghost use Rattle.cr_ports.specs.Stream.{and_left, gave, FillsWithin, Taken, and_begun, taken_and, took, TakesWithin};
 
 use crate::{ReadStep, Sink, Source, WriteStep};
 use std::io::{Read, Write};
@@ -115,7 +115,7 @@ impl<W: Write> Sink for WriteSink<W> {
     /// of either is a fault, though the writer may have taken bytes whose flush fails, and so is a
     /// write that takes nothing of a piece that isn't empty.
     fn write(&mut self, piece: &[u8]) -> WriteStep
-        ensures bytes { ◌≡◌ {A = Option (List ℕ)} None (taken_and None (took result piece.now)) }
+        ensures bytes { ◌≡◌ {A = Option Taken} None (taken_and None (took result piece.now)) }
         ensures size { TakesWithin result (length piece.now) }
         ensures count { self.old.faults ≤ self.new.faults }
         ensures failed { result ≡ WriteStep.Failed → Rises self.old.faults self.new.faults }
@@ -136,4 +136,11 @@ impl<W: Write> Sink for WriteSink<W> {
             Err(_) => self.failed(),
         }
     }
+
+    /// A writer has no time for each answer: nothing is done.
+    fn begin_answer(&mut self)
+        ensures begun { ◌≡◌ {A = Option Taken} None (and_begun None) }
+        ensures steady { self.new.faults ≡ self.old.faults }
+        ensures same { self.new ≡ self.old }
+    {}
 }

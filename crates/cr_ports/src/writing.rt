@@ -1,6 +1,6 @@
 //! Writes all bytes of a text, piece by piece.
-ghost use Rattle.std.specs.Prelude.{[], OnOk, OnErr};
-ghost use Rattle.cr_ports.specs.Writing.{BreaksOff, Writes, outlet_of};
+ghost use Rattle.std.specs.Prelude.{[], ◌∷◌, OnOk, OnErr};
+ghost use Rattle.cr_ports.specs.Writing.{AnswerBreaksOff, BreaksOff, Writes, WritesAnswers, outlet_of};
 
 use crate::sink::{Sink, WriteStep};
 
@@ -10,12 +10,12 @@ pub struct WriteFault;
 
 /// Writes all the bytes, or a part of them up to a fault. `WriteFault` comes only where the sink's count
 /// of faults rose, or stands at its last value, and bytes are missing then; else the count is as it was.
-/// Behind a fault nothing more is written. Takes no memory.
+/// Behind a fault nothing more is written. No answer is begun. Takes no memory.
 pub fn write_all<O: Sink>(sink: &mut O, bytes: &[u8]) -> Result<(), WriteFault>
     ensures whole { OnOk result
         (Writes bytes.now (outlet_of O.taken O.faults sink.old) (outlet_of O.taken O.faults sink.new)) }
     ensures failed { OnErr result
-        (BreaksOff [] bytes.now (outlet_of O.taken O.faults sink.old) (outlet_of O.taken O.faults sink.new)) }
+        (BreaksOff bytes.now (outlet_of O.taken O.faults sink.old) (outlet_of O.taken O.faults sink.new)) }
 {
     let mut at = 0;
     'writing: while at < bytes.len() {
@@ -25,4 +25,16 @@ pub fn write_all<O: Sink>(sink: &mut O, bytes: &[u8]) -> Result<(), WriteFault>
         }
     }
     Ok(())
+}
+
+/// Begins an answer, once and before its first byte, and writes all its bytes, or a part of them up to a fault. More
+/// bytes that are then written by `write_all` belong to the same answer. `WriteFault` is as there. Takes no memory.
+pub fn write_answer<O: Sink>(sink: &mut O, text: &[u8]) -> Result<(), WriteFault>
+    ensures whole { OnOk result
+        (WritesAnswers (text.now ∷ []) (outlet_of O.taken O.faults sink.old) (outlet_of O.taken O.faults sink.new)) }
+    ensures failed { OnErr result
+        (AnswerBreaksOff [] text.now (outlet_of O.taken O.faults sink.old) (outlet_of O.taken O.faults sink.new)) }
+{
+    sink.begin_answer();
+    write_all(sink, text)
 }

@@ -41,7 +41,7 @@ unless_head is_head content = if is_head then [] else content
 -- the head tells the content's length whether the content follows or not
 abbrev pub answer_text : AnswerHead → List ℕ → Sending → List ℕ
 answer_text head content sending =
-    head_text head (length content) sending.closes ++ unless_head sending.is_head content
+    head_text head (length content) sending ++ unless_head sending.is_head content
 
 -- the head of an answer whose content is JSON
 abbrev pub json_head : Status → Extra → AnswerHead
@@ -56,9 +56,13 @@ unfoldable pub refusal_text : Refused → Sending → List ℕ
 refusal_text refused sending =
     answer_text (json_head (refused_status refused) (extra_of refused)) (refusal_content refused) sending
 
--- what ends the connection before a whole request was read
-abbrev pub closing_text : Refusal → Bool → List ℕ
-closing_text refusal is_head = refusal_text (Closing refusal) (record { is_head = is_head; closes = true })
+-- how an answer of this moment is sent behind which the connection closes
+abbrev pub closing : Bool → ℕ → Sending
+closing is_head at = record { is_head = is_head; closes = true; date = at }
+
+-- what ends the connection before a whole request was read, at this moment
+abbrev pub closing_text : Refusal → Bool → ℕ → List ℕ
+closing_text refusal is_head at = refusal_text (Closing refusal) (closing is_head at)
 
 -- an accepted command
 unfoldable pub receipt_text : Receipt → Sending → List ℕ
@@ -107,7 +111,7 @@ bytes_head = record { status = Okay; media_type = OctetStream; extra = Nothing }
 
 -- what stands in front of a content of so many bytes that is served as it is
 unfoldable pub content_front : ℕ → Sending → List ℕ
-content_front n sending = head_text bytes_head n sending.closes
+content_front n sending = head_text bytes_head n sending
 
 -- the head of an answer whose content is text
 abbrev pub text_head : AnswerHead
@@ -115,7 +119,7 @@ text_head = record { status = Okay; media_type = PlainText; extra = Nothing }
 
 -- what stands in front of a report of so many bytes
 unfoldable pub report_front : ℕ → Sending → List ℕ
-report_front n sending = head_text text_head n sending.closes
+report_front n sending = head_text text_head n sending
 
 -- what is printed of a reply: of a content and of a report its head, and else the whole answer
 abbrev pub front_text : Sending → Reply → List ℕ
@@ -144,9 +148,9 @@ block_text sending _ = []
 abbrev pub reply_text : Reply → Sending → List ℕ
 reply_text reply sending = front_text sending reply ++ block_text sending reply
 
--- out of memory, which ends the connection
-abbrev pub no_memory_text : Bool → List ℕ
-no_memory_text is_head = refusal_text NoMemory (record { is_head = is_head; closes = true })
+-- out of memory at this moment, which ends the connection
+abbrev pub no_memory_text : Bool → ℕ → List ℕ
+no_memory_text is_head at = refusal_text NoMemory (closing is_head at)
 
 -- a reply of which so little is printed that any answer room takes it
 abbrev pub IsBrief : Reply → Type 0

@@ -7,7 +7,9 @@ use Rattle.cr_print.specs.declared.head.Extra.TheVariants.{Nothing, Challenge, A
 use Rattle.cr_print.specs.declared.head.AnswerHead.{AnswerHead}
 use Rattle.cr_print.specs.declared.head.MediaType.{MediaType}
 use Rattle.cr_print.specs.declared.head.MediaType.TheVariants.{Json, PlainText, OctetStream}
+use Rattle.cr_print.specs.declared.sending.Sending.{Sending}
 use Rattle.cr_print.specs.declared.status.Status.{Status}
+use Rattle.cr_print.specs.Dates.{date_line}
 use Rattle.cr_print.specs.Status.{code_of, phrase_of}
 
 unfoldable pub status_line : Status → List ℕ
@@ -36,7 +38,7 @@ unfoldable pub close_line : Bool → List ℕ
 close_line closes = if closes then codes "Connection: close\r\n" else []
 
 -- the head of an answer whose content has n bytes, with the empty line
-abbrev pub head_text : AnswerHead → ℕ → Bool → List ℕ
-head_text head n closes =
-    status_line head.status ++ extra_line head.extra ++ type_line head.media_type ++ length_line n ++ close_line closes
-    ++ codes "\r\n"
+abbrev pub head_text : AnswerHead → ℕ → Sending → List ℕ
+head_text head n sending =
+    status_line head.status ++ date_line sending.date ++ extra_line head.extra ++ type_line head.media_type
+    ++ length_line n ++ close_line sending.closes ++ codes "\r\n"

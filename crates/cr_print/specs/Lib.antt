@@ -1,5 +1,6 @@
 pub mod Prints
 pub mod Status
+pub mod Dates
 pub mod Head
 pub mod Refused
 pub mod Receipt

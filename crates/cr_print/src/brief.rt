@@ -40,6 +40,7 @@ pub(crate) fn print_brief(into: &mut Vec<u8>, start: usize, head: AnswerHead, se
     let mut content: ArrayVec<u8, CONTENT_ROOM> = ArrayVec::new();
     content.try_extend_from_slice(&into[start..]).unwrap();
     into.truncate(start);
-    print_head(into, head, content.len(), sending.closes);
-    put_content(into, content.as_slice(), sending.is_head);
+    let is_head = sending.is_head;
+    print_head(into, head, content.len(), sending);
+    put_content(into, content.as_slice(), is_head);
 }

@@ -2,16 +2,22 @@
 ghost use Rattle.std.specs.Prelude.{◌≡◌, ◌≤◌, length};
 ghost use Rattle.cr_json.specs.Put.{HasRoom, Puts};
 ghost use Rattle.cr_print.specs.Answers.{json_head};
+ghost use Rattle.cr_print.specs.Dates.{date_line};
 ghost use Rattle.cr_print.specs.Head.{media_type_name, status_line, extra_line};
 ghost use Rattle.cr_print.specs.Head.{type_line, length_line, close_line, head_text};
 
+use crate::date::Date;
 use crate::put::put;
+use crate::sending::Sending;
 use crate::status::Status;
 use cr_routes::Resource;
 use itoa::Buffer;
 
 /// Bytes that suffice for any status line.
 const STATUS_LINE: usize = 46;
+
+/// The bytes of `Date` (RFC 9110, section 5.6.7).
+const DATE_LINE: usize = 37;
 
 /// Bytes that suffice for the field that only some answers have: `Allow` with 32 bytes of methods.
 const EXTRA_LINE: usize = 41;
@@ -22,9 +28,6 @@ const TYPE_LINE: usize = 41;
 /// Bytes that suffice for `Content-Length`, whose number has at most 20 digits.
 const LENGTH_LINE: usize = 38;
 
-/// The bytes of `Date` (RFC 9110, section 5.6.7), which no answer has yet.
-const DATE_LINE: usize = 37;
-
 /// The bytes of `Connection: close`.
 const CLOSE_LINE: usize = 19;
 
@@ -33,10 +36,10 @@ const EMPTY_LINE: usize = 2;
 
 /// Bytes that suffice for any head: 224.
 pub(crate) const HEAD_ROOM: usize = STATUS_LINE
+    + DATE_LINE
     + EXTRA_LINE
     + TYPE_LINE
     + LENGTH_LINE
-    + DATE_LINE
     + CLOSE_LINE
     + EMPTY_LINE;
 
@@ -66,7 +69,7 @@ impl MediaType {
     }
 }
 
-/// The field that only some answers have, right behind the status line.
+/// The field that only some answers have, right behind the date.
 #[derive(Clone, Copy, PartialEq, Eq)]
 pub(crate) enum Extra {
     /// None.
@@ -107,6 +110,15 @@ fn put_status(into: &mut Vec<u8>, status: Status)
     put(into, status.code().as_str().as_bytes());
     put(into, b" ");
     put(into, status.phrase().as_bytes());
+    put(into, b"\r\n");
+}
+
+fn put_date(into: &mut Vec<u8>, date: Date)
+    requires { HasRoom into.old 37 }
+    ensures { Puts into.old into.new (date_line date) 37 }
+{
+    put(into, b"Date: ");
+    put(into, date.as_bytes());
     put(into, b"\r\n");
 }
 
@@ -164,14 +176,15 @@ fn put_close(into: &mut Vec<u8>, closes: bool)
 }
 
 /// Appends the head of an answer whose content has so many bytes. It can't fail.
-pub(crate) fn print_head(into: &mut Vec<u8>, head: AnswerHead, length: usize, closes: bool)
+pub(crate) fn print_head(into: &mut Vec<u8>, head: AnswerHead, length: usize, sending: Sending)
     requires { HasRoom into.old 224 }
-    ensures { Puts into.old into.new (head_text head length closes) 224 }
+    ensures { Puts into.old into.new (head_text head length sending) 224 }
 {
     put_status(into, head.status);
+    put_date(into, sending.date);
     put_extra(into, head.extra);
     put_type(into, head.media_type);
     put_length(into, length);
-    put_close(into, closes);
+    put_close(into, sending.closes);
     put(into, b"\r\n");
 }

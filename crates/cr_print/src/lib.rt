@@ -10,8 +10,10 @@
 
 mod brief;
 mod conference;
+mod date;
 mod found;
 mod head;
+mod laws;
 mod me;
 mod no_memory;
 mod page;
@@ -23,7 +25,9 @@ mod sending;
 mod status;
 
 pub use brief::ANSWER_ROOM;
-pub use no_memory::no_memory_text;
+pub use date::Date;
+pub use laws::law_dates_written_out;
+pub use no_memory::{NoMemoryText, no_memory_text};
 pub use receipt::print_receipt;
 pub use refused::{Refused, print_refusal};
 pub use reply::{block, print_reply};

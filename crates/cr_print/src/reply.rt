@@ -34,7 +34,7 @@ fn print_content(into: &mut Vec<u8>, content: &[u8], sending: Sending) -> Result
         into,
         json(Status::Okay, Extra::Nothing),
         content.len(),
-        sending.closes,
+        sending,
     );
     put(into, sent);
     Ok(())
@@ -109,7 +109,7 @@ fn print_front(into: &mut Vec<u8>, length: usize, sending: Sending)
     requires { HasRoom into.old 224 }
     ensures { Puts into.old into.new (content_front length sending) 224 }
 {
-    print_head(into, head_of_bytes(), length, sending.closes);
+    print_head(into, head_of_bytes(), length, sending);
 }
 
 /// The head of an answer whose content is text.
@@ -129,7 +129,7 @@ fn print_report_front(into: &mut Vec<u8>, length: usize, sending: Sending)
     requires { HasRoom into.old 224 }
     ensures { Puts into.old into.new (report_front length sending) 224 }
 {
-    print_head(into, head_of_text(), length, sending.closes);
+    print_head(into, head_of_text(), length, sending);
 }
 
 /// Appends the answer of a reply, all but what `block` lends: so neither a paper's content nor a report is ever copied
@@ -196,8 +196,8 @@ pub fn print_reply(into: &mut Vec<u8>, reply: &Reply, sending: Sending) -> Resul
 
 /// What is to be written behind what `print_reply` appended: a paper's content as it is kept, or the text of a report,
 /// unless the answer is to HEAD, and nothing of any other reply. It is lent, so this takes no memory and no time.
-pub fn block(reply: &Reply, sending: Sending) -> &[u8]
-    ensures { result.now ≡ block_text sending reply.now }
+pub fn block<'a>(reply: &'a Reply, sending: &Sending) -> &'a [u8]
+    ensures { result.now ≡ block_text sending.now reply.now }
 {
     match reply {
         Reply::Content(content) if !sending.is_head => content.as_slice(),

@@ -1,5 +1,5 @@
 //! The process: the top call over the words of the command line, standard input and standard output, files as
-//! stores, and sockets.
+//! stores, sockets, and the system's clock.
 //!
 //! A program's `main` hands its runtime to `run`, once as what it is and once as what may wait and start
 //! threads, and has nothing else in it.
@@ -10,7 +10,7 @@ ghost use Rattle.std.specs.Process as ended;
 ghost use Rattle.cr_top.specs.Exits.{exit_status};
 
 use cr_net::TcpGates;
-use cr_ports::{ReadSource, WriteSink};
+use cr_ports::{ReadSource, SystemClock, WriteSink};
 use cr_sqlite::SqliteShelf;
 use cr_top::{Exit, run_top};
 use cr_words::{Job, read_words};
@@ -76,6 +76,7 @@ fn tell(
         },
         Exit::NoUser => eprintln!(rt; "confd: {store}: nobody has registered that name"),
         Exit::OutOfMemory => eprintln!(rt; "confd: out of memory"),
+        Exit::ClockFault => eprintln!(rt; "confd: the clock could not be read"),
     }
 }
 
@@ -93,6 +94,7 @@ pub fn run<R: Threads + Wait + Sync>(rt: &HostRuntime, handle: &R) -> ExitCode {
     let mut out = WriteSink::new(rt.stdout());
     let mut shelf = SqliteShelf::new(rt);
     let mut gates = TcpGates::new(rt);
+    let mut clock = SystemClock::new(*rt);
     let Ok(words) = words(rt) else {
         let _ = tell(rt, &[], Exit::OutOfMemory, &shelf, &gates);
         return status_of(Exit::OutOfMemory);
@@ -105,6 +107,7 @@ pub fn run<R: Threads + Wait + Sync>(rt: &HostRuntime, handle: &R) -> ExitCode {
         &mut out,
         &mut shelf,
         &mut gates,
+        &mut clock,
     );
     // The status says the same, so a line that can't be written is left out.
     let _ = tell(rt, words.as_slice(), exit, &shelf, &gates);

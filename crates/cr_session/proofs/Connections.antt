@@ -5,79 +5,92 @@ use Rattle.cr_base.specs.Lists.{listed}
 use Rattle.cr_ports.specs.Stream.{and_left}
 use Rattle.cr_http.specs.Requests.{ended_clean, ended_cut, asked, closed}
 use Rattle.cr_http.proofs.Moving.{and_left-nil, and_left-append}
-use Rattle.cr_print.specs.Answers.{closing_text, no_memory_text}
 use Rattle.cr_session.specs.declared.serve.Ending.{Ending}
 use Rattle.cr_session.specs.declared.serve.Ending.TheVariants as endings
 use Rattle.cr_session.specs.declared.serve.Why.TheVariants as whys
-use Rattle.cr_session.specs.Replay.{JudgedWish, answers, answer_to, wishes_of}
+use Rattle.cr_session.specs.Answering.{Answer, Desk, GivesAnswers, AnswerFails, ClockFails}
+use Rattle.cr_session.specs.Replay.{JudgedWish, answers, answer_of, wishes_of}
 use Rattle.cr_session.specs.Passing.{KnownPass, TakesTurns}
 use Rattle.cr_session.specs.Turning.{TurnsInVain}
-use Rattle.cr_session.specs.Serving.{World, EndsAs, CountsReads, ConnectionInHistory, GoesOnInHistory, TellsWantOfMemory, ReadsNoFurther}
+use Rattle.cr_session.specs.Serving.{World, EndsAs, CountsReads, ConnectionInHistory, GoesOnInHistory, GivesNote, TellsWantOfMemory, ReadsNoFurther}
+use Rattle.cr_session.specs.Serving.{note_at, refusal_at}
 use Rattle.cr_session.specs.Wishes.{Spells, Begins, Reaches}
-use Rattle.cr_ports.specs.Writing.{Outlet, Writes, BreaksOff}
 use Rattle.cr_session.proofs.NoFurther.{no_further-append, no_further-still}
 use Rattle.cr_session.proofs.Turns.{answers-append}
 use Rattle.cr_session.proofs.Passes.{takes-append}
 use Rattle.cr_session.proofs.WishRuns.{spells_on, begins_on, reaches_on, Reaches-more}
-use Rattle.cr_ports.proofs.WritingLaws.{writes-nil, writes-append, breaks_behind}
+use Rattle.cr_session.proofs.Answering.{moments-nil, gives-none, gives-append, fails_behind, clock_fails_behind}
 
--- ---- what the sink took
+-- ---- what was answered
 
 -- the answers, and more behind them
-answers_on : (n : ℕ) (js ks : List JudgedWish) (more : List ℕ) → answers n js ++ (answers (n + length js) ks ++ more) ≡ answers n (js ++ ks) ++ more
+answers_on : (n : ℕ) (js ks : List JudgedWish) (more : List Answer) → answers n js ++ (answers (n + length js) ks ++ more) ≡ answers n (js ++ ks) ++ more
 answers_on n js ks more = sym (append_assoc (answers n js) (answers (n + length js) ks) more) ∙ ap (λ a. a ++ more) (sym (answers-append n js ks))
 
-wrote_on : (n : ℕ) (js ks : List JudgedWish) (more : List ℕ) (s t u : Outlet) → Writes (answers n js) s t → Writes (answers (n + length js) ks ++ more) t u
-    → Writes (answers n (js ++ ks) ++ more) s u
-wrote_on n js ks more s t u x y =
-    subst (λ (b : List ℕ). Writes b s u) (answers_on n js ks more) (writes-append (answers n js) (answers (n + length js) ks ++ more) s t u x y)
+gave_on : (n : ℕ) (js ks : List JudgedWish) (more : List Answer) (d e f : Desk) → GivesAnswers (answers n js) d e → GivesAnswers (answers (n + length js) ks ++ more) e f
+    → GivesAnswers (answers n (js ++ ks) ++ more) d f
+gave_on n js ks more d e f x y =
+    subst (λ (b : List Answer). GivesAnswers b d f) (answers_on n js ks more) (gives-append (answers n js) (answers (n + length js) ks ++ more) d e f x y)
 
-wrote_all : (n : ℕ) (js ks : List JudgedWish) (s t u : Outlet) → Writes (answers n js) s t → Writes (answers (n + length js) ks) t u
-    → Writes (answers n (js ++ ks)) s u
-wrote_all n js ks s t u x y =
-    subst (λ (b : List ℕ). Writes b s u) (sym (answers-append n js ks)) (writes-append (answers n js) (answers (n + length js) ks) s t u x y)
+gave_all : (n : ℕ) (js ks : List JudgedWish) (d e f : Desk) → GivesAnswers (answers n js) d e → GivesAnswers (answers (n + length js) ks) e f
+    → GivesAnswers (answers n (js ++ ks)) d f
+gave_all n js ks d e f x y =
+    subst (λ (b : List Answer). GivesAnswers b d f) (sym (answers-append n js ks)) (gives-append (answers n js) (answers (n + length js) ks) d e f x y)
 
-broke_off : (n : ℕ) (js ks : List JudgedWish) (bytes : List ℕ) (s t u : Outlet) → Writes (answers n js) s t → BreaksOff (answers (n + length js) ks) bytes t u
-    → BreaksOff (answers n (js ++ ks)) bytes s u
-broke_off n js ks bytes s t u x y =
-    subst (λ (b : List ℕ). BreaksOff b bytes s u) (sym (answers-append n js ks)) (breaks_behind (answers n js) (answers (n + length js) ks) bytes s t u x y)
+broke_off : (n : ℕ) (js ks : List JudgedWish) (a : Answer) (d e f : Desk) → GivesAnswers (answers n js) d e → AnswerFails (answers (n + length js) ks) a e f
+    → AnswerFails (answers n (js ++ ks)) a d f
+broke_off n js ks a d e f x y =
+    subst (λ (b : List Answer). AnswerFails b a d f) (sym (answers-append n js ks)) (fails_behind (answers n js) (answers (n + length js) ks) a d e f x y)
 
-noted : (n : ℕ) (js ks : List JudgedWish) (head : Bool) (s t u : Outlet) → Writes (answers n js) s t → TellsWantOfMemory (answers (n + length js) ks) head t u
-    → TellsWantOfMemory (answers n (js ++ ks)) head s u
-noted n js ks head s t u x (inl is) = inl (wrote_on n js ks (no_memory_text head) s t u x is)
-noted n js ks head s t u x (inr is) = inr (broke_off n js ks (no_memory_text head) s t u x is)
+stopped : (n : ℕ) (js ks : List JudgedWish) (d e f : Desk) → GivesAnswers (answers n js) d e → ClockFails (answers (n + length js) ks) e f
+    → ClockFails (answers n (js ++ ks)) d f
+stopped n js ks d e f x y =
+    subst (λ (b : List Answer). ClockFails b d f) (sym (answers-append n js ks)) (clock_fails_behind (answers n js) (answers (n + length js) ks) d e f x y)
+
+noted-at : (n : ℕ) (js ks : List JudgedWish) (head : Bool) (at : ℕ) (d e f : Desk) → GivesAnswers (answers n js) d e
+    → GivesNote (answers (n + length js) ks) head at e f → GivesNote (answers n (js ++ ks)) head at d f
+noted-at n js ks head at d e f x (inl is) = inl (gave_on n js ks (note_at head at ∷ []) d e f x is)
+noted-at n js ks head at d e f x (inr is) = inr (broke_off n js ks (note_at head at) d e f x is)
+
+noted : (n : ℕ) (js ks : List JudgedWish) (read : Option ℕ) (head : Bool) (d e f : Desk) → GivesAnswers (answers n js) d e
+    → TellsWantOfMemory (answers (n + length js) ks) read head e f → TellsWantOfMemory (answers n (js ++ ks)) read head d f
+noted n js ks (Some at) head d e f x is = noted-at n js ks head at d e f x is
+noted n js ks None head d e f x (inl is) = inl (is.0, noted-at n js ks head is.0 d e f x is.1)
+noted n js ks None head d e f x (inr is) = inr (stopped n js ks d e f x is)
 
 -- ---- by the ending
 
-ends_on : (ending : Ending) (n : ℕ) (text rest : List ℕ) (js ks : List JudgedWish) (failed : Option JudgedWish) (p p' : KnownPass) (s t u : Outlet)
-    → Reaches n text (wishes_of js) rest → Writes (answers n js) s t
-    → EndsAs TakesTurns TurnsInVain ending (n + length js) rest rest ks failed p p' t u
-    → EndsAs TakesTurns TurnsInVain ending n text text (js ++ ks) failed p p' s u
-ends_on ending n text rest js ks (Some j) p p' s t u reach first e =
+ends_on : (ending : Ending) (n : ℕ) (text rest : List ℕ) (js ks : List JudgedWish) (failed : Option JudgedWish) (p p' : KnownPass) (d e f : Desk)
+    → Reaches n text (wishes_of js) rest → GivesAnswers (answers n js) d e
+    → EndsAs TakesTurns TurnsInVain ending (n + length js) rest rest ks failed p p' e f
+    → EndsAs TakesTurns TurnsInVain ending n text text (js ++ ks) failed p p' d f
+ends_on ending n text rest js ks (Some j) p p' d e f reach first x =
     let number : n + length js + length ks ≡ n + length (js ++ ks) = let l = length-append js ks in omega (arith, l) in (
-      e.0,
-      subst (λ (all : List JudgedWish). Begins n text (wishes_of all)) (sym (append_assoc js ks (j ∷ []))) (begins_on n text rest js (ks ++ j ∷ []) reach e.1),
-      broke_off n js ks (answer_to (n + length (js ++ ks)) j) s t u first
-          (subst (λ (k : ℕ). BreaksOff (answers (n + length js) ks) (answer_to k j) t u) number e.2),
+      x.0,
+      subst (λ (all : List JudgedWish). Begins n text (wishes_of all)) (sym (append_assoc js ks (j ∷ []))) (begins_on n text rest js (ks ++ j ∷ []) reach x.1),
+      broke_off n js ks (answer_of (n + length (js ++ ks)) j) d e f first
+          (subst (λ (k : ℕ). AnswerFails (answers (n + length js) ks) (answer_of k j) e f) number x.2),
     )
-ends_on endings.Clean n text rest js ks None p p' s t u reach first e =
-    (spells_on n text rest js ks ended_clean reach e.0, wrote_all n js ks s t u first e.1)
-ends_on endings.Cut n text rest js ks None p p' s t u reach first e =
-    (spells_on n text rest js ks ended_cut reach e.0, wrote_all n js ks s t u first e.1)
-ends_on (endings.Closed whys.Asked) n text rest js ks None p p' s t u reach first e =
-    (spells_on n text rest js ks asked reach e.0, wrote_all n js ks s t u first e.1)
-ends_on (endings.Closed (whys.Refused why)) n text rest js ks None p p' s t u reach first e =
-    (e.0, spells_on n text rest js ks (closed why e.0) reach e.1, wrote_on n js ks (closing_text why e.0) s t u first e.2)
-ends_on endings.ReadFault n text rest js ks None p p' s t u reach first e = (which e.0, wrote_all n js ks s t u first e.1)
+ends_on endings.Clean n text rest js ks None p p' d e f reach first x =
+    (spells_on n text rest js ks ended_clean reach x.0, gave_all n js ks d e f first x.1)
+ends_on endings.Cut n text rest js ks None p p' d e f reach first x =
+    (spells_on n text rest js ks ended_cut reach x.0, gave_all n js ks d e f first x.1)
+ends_on (endings.Closed whys.Asked) n text rest js ks None p p' d e f reach first x =
+    (spells_on n text rest js ks asked reach x.0, gave_all n js ks d e f first x.1)
+ends_on (endings.Closed (whys.Refused why)) n text rest js ks None p p' d e f reach first x =
+    (x.0, x.1, spells_on n text rest js ks (closed why x.0) reach x.2, gave_on n js ks (refusal_at why x.0 x.1 ∷ []) d e f first x.3)
+ends_on endings.ReadFault n text rest js ks None p p' d e f reach first x = (which x.0, gave_all n js ks d e f first x.1)
   where
     which : Spells (n + length js) rest (wishes_of ks) ended_clean ⊎ Spells (n + length js) rest (wishes_of ks) ended_cut
         → Spells n text (wishes_of (js ++ ks)) ended_clean ⊎ Spells n text (wishes_of (js ++ ks)) ended_cut
     which (inl is) = inl (spells_on n text rest js ks ended_clean reach is)
     which (inr is) = inr (spells_on n text rest js ks ended_cut reach is)
-ends_on endings.WriteFault n text rest js ks None p p' s t u reach first e =
-    (e.0, e.1, spells_on n text rest js ks (closed e.0 e.1) reach e.2, broke_off n js ks (closing_text e.0 e.1) s t u first e.3)
-ends_on endings.OutOfMemory n text rest js ks None p p' s t u reach first e =
-    (e.0, reaches_on n text rest e.0 js ks reach e.1, e.2, e.3, e.4, noted n js ks e.3 s t u first e.5)
+ends_on endings.WriteFault n text rest js ks None p p' d e f reach first x =
+    (x.0, x.1, x.2, spells_on n text rest js ks (closed x.0 x.1) reach x.3, broke_off n js ks (refusal_at x.0 x.1 x.2) d e f first x.4)
+ends_on endings.ClockFault n text rest js ks None p p' d e f reach first x =
+    (x.0, reaches_on n text rest x.0 js ks reach x.1, x.2, stopped n js ks d e f first x.3)
+ends_on endings.OutOfMemory n text rest js ks None p p' d e f reach first x =
+    (x.0, reaches_on n text rest x.0 js ks reach x.1, x.2, x.3, x.4, x.5, noted n js ks x.2 x.4 d e f first x.6)
 
 counts_on : (ending : Ending) (f g h : ℕ) → g ≡ f → CountsReads ending g h → CountsReads ending f h
 counts_on ending f g h same c = subst (λ (x : ℕ). CountsReads ending x h) same c
@@ -111,9 +124,9 @@ module _ {S : Type 0} (left : S → Option (List ℕ)) (gives : S → S → List
         turns = subst (λ (all : List JudgedWish). TakesTurns all w.state y.judged) (sym (append_assoc x.answered y.answered (listed y.failed)))
             (takes-append x.answered (y.answered ++ listed y.failed) w.state v.state y.judged x.turns y.turns);
         settled = y.settled;
-        ends = ends_on ending 0 (a ++ (x.got ++ y.got)) (b ++ y.got) x.answered y.answered y.failed y.judged u.state w.sink v.sink u.sink
-            (reach_now 0 a x.got y.got x.answered b x.reaches) x.writes
-            (subst (λ (k : ℕ). EndsAs TakesTurns TurnsInVain ending k (b ++ y.got) (b ++ y.got) y.answered y.failed y.judged u.state v.sink u.sink) number
+        ends = ends_on ending 0 (a ++ (x.got ++ y.got)) (b ++ y.got) x.answered y.answered y.failed y.judged u.state w.desk v.desk u.desk
+            (reach_now 0 a x.got y.got x.answered b x.reaches) x.answering
+            (subst (λ (k : ℕ). EndsAs TakesTurns TurnsInVain ending k (b ++ y.got) (b ++ y.got) y.answered y.failed y.judged u.state v.desk u.desk) number
             y.ends);
         ended = y.ended;
         counts = counts_on ending w.read_faults v.read_faults u.read_faults x.counts y.counts;
@@ -134,8 +147,8 @@ module _ {S : Type 0} (left : S → Option (List ℕ)) (gives : S → S → List
         turns = takes-append x.answered y.answered w.state v.state u.state x.turns y.turns;
         reaches = reaches_on 0 (a ++ (x.got ++ y.got)) (b ++ y.got) e x.answered y.answered (reach_now 0 a x.got y.got x.answered b x.reaches)
             (subst (λ (k : ℕ). Reaches k (b ++ y.got) (wishes_of y.answered) e) number y.reaches);
-        writes = wrote_all 0 x.answered y.answered w.sink v.sink u.sink x.writes
-            (subst (λ (k : ℕ). Writes (answers k y.answered) v.sink u.sink) number y.writes);
+        answering = gave_all 0 x.answered y.answered w.desk v.desk u.desk x.answering
+            (subst (λ (k : ℕ). GivesAnswers (answers k y.answered) v.desk u.desk) number y.answering);
         counts = y.counts ∙ x.counts;
         needed = no_further-append left gives 0 x.answered y.answered w.source v.source u.source a b x.got y.got x.given x.reaches x.needed
             (from_number c (0 + length x.answered) y.answered v.source u.source b (b ++ y.got) number y.needed);
@@ -149,8 +162,8 @@ module _ {S : Type 0} (left : S → Option (List ℕ)) (gives : S → S → List
     answered = [];
     counted = refl;
     turns = refl;
-    reaches = record { requests = []; wish = refl; reaches = refl };
-    writes = writes-nil w.sink;
+    reaches = record { requests = []; wish = tt; reaches = refl };
+    answering = gives-none w.desk w.desk refl (moments-nil w.desk.clock);
     counts = refl;
     needed = no_further-still left gives 0 [] w.source [];
   }

@@ -4,7 +4,7 @@ use Rattle.cr_base.specs.declared.entry.Stamped.{Stamped}
 use Rattle.cr_base.specs.Lists.{listed}
 use Rattle.cr_base.specs.History.{History}
 use Rattle.cr_lock.specs.Closing.{Closes}
-use Rattle.cr_ports.specs.Writing.{Outlet}
+use Rattle.cr_session.specs.Answering.{Desk}
 use Rattle.cr_session.specs.declared.serve.Ending.{Ending}
 use Rattle.cr_session.specs.declared.serve.Ending.TheVariants as endings
 use Rattle.cr_session.specs.declared.serve.Why.TheVariants as whys
@@ -22,85 +22,89 @@ no_turns endings.Cut b b' same = same
 no_turns (endings.Closed why) b b' same = same
 no_turns endings.ReadFault b b' same = same
 no_turns endings.WriteFault b b' same = same
+no_turns endings.ClockFault b b' same = same
 no_turns endings.OutOfMemory b b' same = tt
 
 -- no turn was taken behind those for wishes, or the one for which memory ran out
 pub behind_judged : {B : Type 0} (Judges : List JudgedWish → B → B → Type 0) (Lacks : Wish → B → B → Type 0)
-    (ending : Ending) (n : ℕ) (came text : List ℕ) (answered : List JudgedWish) (failed : Option JudgedWish) (b b' : B) (s s' : Outlet)
-    → EndsTurns ending b b' → EndsAs Judges Lacks ending n came text answered failed b b' s s' → (b' ≡ b) ⊎ ((w : Wish) × Lacks w b b')
-behind_judged Judges Lacks endings.Clean n came text answered failed b b' s s' same e = inl same
-behind_judged Judges Lacks endings.Cut n came text answered failed b b' s s' same e = inl same
-behind_judged Judges Lacks (endings.Closed why) n came text answered failed b b' s s' same e = inl same
-behind_judged Judges Lacks endings.ReadFault n came text answered failed b b' s s' same e = inl same
-behind_judged Judges Lacks endings.WriteFault n came text answered failed b b' s s' same e = inl same
-behind_judged Judges Lacks endings.OutOfMemory n came text answered (Some failed) b b' s s' same e = absurd (cc (e.0))
-behind_judged Judges Lacks endings.OutOfMemory n came text answered None b b' s s' same e = by e.2
+    (ending : Ending) (n : ℕ) (came text : List ℕ) (answered : List JudgedWish) (failed : Option JudgedWish) (b b' : B) (d d' : Desk)
+    → EndsTurns ending b b' → EndsAs Judges Lacks ending n came text answered failed b b' d d' → (b' ≡ b) ⊎ ((w : Wish) × Lacks w b b')
+behind_judged Judges Lacks endings.Clean n came text answered failed b b' d d' same e = inl same
+behind_judged Judges Lacks endings.Cut n came text answered failed b b' d d' same e = inl same
+behind_judged Judges Lacks (endings.Closed why) n came text answered failed b b' d d' same e = inl same
+behind_judged Judges Lacks endings.ReadFault n came text answered failed b b' d d' same e = inl same
+behind_judged Judges Lacks endings.WriteFault n came text answered failed b b' d d' same e = inl same
+behind_judged Judges Lacks endings.ClockFault n came text answered failed b b' d d' same e = inl same
+behind_judged Judges Lacks endings.OutOfMemory n came text answered (Some failed) b b' d d' same e = absurd (cc (e.0))
+behind_judged Judges Lacks endings.OutOfMemory n came text answered None b b' d d' same e = by e.3
   where
-    by : MayLackMemory Judges Lacks b b' e.0 → (b' ≡ b) ⊎ ((w : Wish) × Lacks w b b')
+    by : MayLackMemory Judges Lacks e.2 b b' e.0 → (b' ≡ b) ⊎ ((w : Wish) × Lacks w b b')
     by (inl lacks) = inl lacks.1
-    by (inr lacks) = inr (lacks.0, lacks.3)
+    by (inr lacks) = inr (lacks.0, lacks.4)
 
-stays_behind : (ending : Ending) (n : ℕ) (came text : List ℕ) (answered : List JudgedWish) (failed : Option JudgedWish) (q p : KnownPass) (s s' : Outlet)
-    → EndsTurns ending q p → EndsAs TakesTurns TurnsInVain ending n came text answered failed q p s s' → StaysBehind q p
-stays_behind ending n came text answered failed q p s s' settled ends =
+stays_behind : (ending : Ending) (n : ℕ) (came text : List ℕ) (answered : List JudgedWish) (failed : Option JudgedWish) (q p : KnownPass) (d d' : Desk)
+    → EndsTurns ending q p → EndsAs TakesTurns TurnsInVain ending n came text answered failed q p d d' → StaysBehind q p
+stays_behind ending n came text answered failed q p d d' settled ends =
     ⊎_elim (λ same. behind-none q p same) (λ turn. behind-vain turn.0 q p turn.1)
-    (behind_judged TakesTurns TurnsInVain ending n came text answered failed q p s s' settled ends)
+    (behind_judged TakesTurns TurnsInVain ending n came text answered failed q p d d' settled ends)
 
 -- what is wanted of a pass is wanted of the ledger
-lacks_alike : (q p : KnownPass) (b : Ledger) (rest : List ℕ) → ((w : Wish) → TurnsInVain w q p → MayWantMemory b.history w)
-    → MayLackMemory TakesTurns TurnsInVain q p rest → MayLackMemory Replays StaysInVain b b rest
-lacks_alike q p b rest vain (inl lacks) = inl (lacks.0, refl)
-lacks_alike q p b rest vain (inr lacks) = inr (lacks.0, lacks.1, lacks.2, (refl, vain lacks.0 lacks.3))
+lacks_alike : (read : Option ℕ) (q p : KnownPass) (b : Ledger) (rest : List ℕ) → ((w : Wish) → TurnsInVain w q p → MayWantMemory b.history w)
+    → MayLackMemory TakesTurns TurnsInVain read q p rest → MayLackMemory Replays StaysInVain read b b rest
+lacks_alike read q p b rest vain (inl lacks) = inl (lacks.0, refl)
+lacks_alike read q p b rest vain (inr lacks) = inr (lacks.0, lacks.1, lacks.2, lacks.3, (refl, vain lacks.0 lacks.4))
 
 ends_alike : (ending : Ending) (n : ℕ) (came text : List ℕ) (answered : List JudgedWish) (failed : Option JudgedWish) (q p : KnownPass) (b : Ledger)
-    (s s' : Outlet)
+    (d d' : Desk)
     → ((w : Wish) → TurnsInVain w q p → MayWantMemory b.history w)
-    → EndsAs TakesTurns TurnsInVain ending n came text answered failed q p s s' → EndsAs Replays StaysInVain ending n came text answered failed b b s s'
-ends_alike ending n came text answered (Some failed) q p b s s' vain e = e
-ends_alike endings.Clean n came text answered None q p b s s' vain e = e
-ends_alike endings.Cut n came text answered None q p b s s' vain e = e
-ends_alike (endings.Closed whys.Asked) n came text answered None q p b s s' vain e = e
-ends_alike (endings.Closed (whys.Refused why)) n came text answered None q p b s s' vain e = e
-ends_alike endings.ReadFault n came text answered None q p b s s' vain e = e
-ends_alike endings.WriteFault n came text answered None q p b s s' vain e = e
-ends_alike endings.OutOfMemory n came text answered None q p b s s' vain e = (e.0, e.1, lacks_alike q p b e.0 vain e.2, e.3, e.4, e.5)
+    → EndsAs TakesTurns TurnsInVain ending n came text answered failed q p d d' → EndsAs Replays StaysInVain ending n came text answered failed b b d d'
+ends_alike ending n came text answered (Some failed) q p b d d' vain e = e
+ends_alike endings.Clean n came text answered None q p b d d' vain e = e
+ends_alike endings.Cut n came text answered None q p b d d' vain e = e
+ends_alike (endings.Closed whys.Asked) n came text answered None q p b d d' vain e = e
+ends_alike (endings.Closed (whys.Refused why)) n came text answered None q p b d d' vain e = e
+ends_alike endings.ReadFault n came text answered None q p b d d' vain e = e
+ends_alike endings.WriteFault n came text answered None q p b d d' vain e = e
+ends_alike endings.ClockFault n came text answered None q p b d d' vain e = e
+ends_alike endings.OutOfMemory n came text answered None q p b d d' vain e =
+    (e.0, e.1, e.2, lacks_alike e.2 q p b e.0 vain e.3, e.4, e.5, e.6)
 
 -- a ledger stays behind the turns of the wishes
-pub ledger_stays : (ending : Ending) (n : ℕ) (came text : List ℕ) (answered : List JudgedWish) (failed : Option JudgedWish) (b b' : Ledger) (s s' : Outlet)
-    → EndsTurns ending b b' → EndsAs Replays StaysInVain ending n came text answered failed b b' s s' → b' ≡ b
-ledger_stays ending n came text answered failed b b' s s' settled ends =
-    ⊎_elim (λ same. same) (λ turn. turn.1.0) (behind_judged Replays StaysInVain ending n came text answered failed b b' s s' settled ends)
+pub ledger_stays : (ending : Ending) (n : ℕ) (came text : List ℕ) (answered : List JudgedWish) (failed : Option JudgedWish) (b b' : Ledger) (d d' : Desk)
+    → EndsTurns ending b b' → EndsAs Replays StaysInVain ending n came text answered failed b b' d d' → b' ≡ b
+ledger_stays ending n came text answered failed b b' d d' settled ends =
+    ⊎_elim (λ same. same) (λ turn. turn.1.0) (behind_judged Replays StaysInVain ending n came text answered failed b b' d d' settled ends)
 
 -- so Replay leads to the ledger at the end
 pub replayed : {S : Type 0} (left : S → Option (List ℕ)) (gives : S → S → List ℕ → Type 0) (ending : Ending) (n : ℕ) (i : List ℕ) (w w' : World Ledger S)
     → (c : ConnectionBytes left gives ending n i w w') → Replays (c.answered ++ listed c.failed) w.state w'.state
 replayed left gives ending n i w w' c =
     subst (λ (b : Ledger). Replays (c.answered ++ listed c.failed) w.state b)
-    (sym (ledger_stays ending n (i ++ c.got) (i ++ c.got) c.answered c.failed c.judged w'.state w.sink w'.sink c.settled c.ends)) c.turns
+    (sym (ledger_stays ending n (i ++ c.got) (i ++ c.got) c.answered c.failed c.judged w'.state w.desk w'.desk c.settled c.ends)) c.turns
 
 pub replayed_whole : {S : Type 0} (left : S → Option (List ℕ)) (ending : Ending) (b : List ℕ) (w w' : World Ledger S)
     → (c : WholeBytes left ending b w w') → Replays (c.answered ++ listed c.failed) w.state w'.state
 replayed_whole left ending b w w' c =
     subst (λ (x : Ledger). Replays (c.answered ++ listed c.failed) w.state x)
-    (sym (ledger_stays ending 0 c.came b c.answered c.failed c.judged w'.state w.sink w'.sink c.settled c.ends)) c.turns
+    (sym (ledger_stays ending 0 c.came b c.answered c.failed c.judged w'.state w.desk w'.desk c.settled c.ends)) c.turns
 
 -- On the one pass of a lock that is closed, ConnectionInHistory is ConnectionBytes, from the first ledger to the last.
 module _ {T S : Type 0} (list : T → List Stamped) (faults : T → ℕ) (first x : T) (left : S → Option (List ℕ)) (gives : S → S → List ℕ → Type 0)
     (ending : Ending)
-    (p p' : KnownPass) (source source' : S) (f f' : ℕ) (s s' : Outlet) where
+    (p p' : KnownPass) (source source' : S) (f f' : ℕ) (d d' : Desk) where
   -- the world about the pass, and about the ledger
-  abbrev in_history : KnownPass → S → ℕ → Outlet → World KnownPass S
-  in_history state source f s = record { state = state; source = source; read_faults = f; sink = s }
+  abbrev in_history : KnownPass → S → ℕ → Desk → World KnownPass S
+  in_history state source f d = record { state = state; source = source; read_faults = f; desk = d }
 
-  abbrev on_ledger : T → S → ℕ → Outlet → World Ledger S
-  on_ledger x source f s = record { state = record { history = list x; faults = faults x }; source = source; read_faults = f; sink = s }
+  abbrev on_ledger : T → S → ℕ → Desk → World Ledger S
+  on_ledger x source f d = record { state = record { history = list x; faults = faults x }; source = source; read_faults = f; desk = d }
 
   pub bytes-closed : p.seen ≡ list first → p.mine ≡ [] → Closes list faults first p' x
-      → ConnectionInHistory left gives ending 0 [] (in_history p source f s) (in_history p' source' f' s')
-      → ConnectionBytes left gives ending 0 [] (on_ledger first source f s) (on_ledger x source' f' s')
+      → ConnectionInHistory left gives ending 0 [] (in_history p source f d) (in_history p' source' f' d')
+      → ConnectionBytes left gives ending 0 [] (on_ledger first source f d) (on_ledger x source' f' d')
   bytes-closed opens bare closes c =
       let b : Ledger = record { history = list x; faults = faults x } in
-      let behind = stays_behind ending 0 ([] ++ c.got) ([] ++ c.got) c.answered c.failed c.judged p' s s' c.settled c.ends in
+      let behind = stays_behind ending 0 ([] ++ c.got) ([] ++ c.got) c.answered c.failed c.judged p' d d' c.settled c.ends in
       let vain : (w : Wish) → TurnsInVain w c.judged p' → MayWantMemory (list x) w = λ w v.
       subst (λ (H : History). MayWantMemory H w) (sym (ap (λ (y : KnownPass). y.seen) v.turn) ∙ sym closes.stands) v.wants in
       record {
@@ -111,7 +115,7 @@ module _ {T S : Type 0} (list : T → List Stamped) (faults : T → ℕ) (first 
         judged = b;
         turns = replays-closed list faults first x p c.judged p' opens bare closes behind (c.answered ++ listed c.failed) c.turns;
         settled = no_turns ending b b refl;
-        ends = ends_alike ending 0 ([] ++ c.got) ([] ++ c.got) c.answered c.failed c.judged p' b s s' vain c.ends;
+        ends = ends_alike ending 0 ([] ++ c.got) ([] ++ c.got) c.answered c.failed c.judged p' b d d' vain c.ends;
         ended = c.ended;
         counts = c.counts;
         needed = c.needed;

@@ -6,28 +6,28 @@ use Rattle.cr_base.specs.Lists.{given}
 use Rattle.cr_policy.specs.View.{view}
 use Rattle.cr_policy.proofs.RemovedLaws.{looks-same}
 use Rattle.cr_session.specs.Told.{after_wish}
-use Rattle.cr_session.specs.TwoRuns.{WishInTurn, Moment, is_hers, meets}
+use Rattle.cr_session.specs.TwoRuns.{WishInTurn, Encounter, is_hers, meets}
 use Rattle.cr_session.specs.HiddenBytes.{Asked, asks, AllAskedAlike, HiddenBytes}
 use Rattle.cr_session.proofs.TwoRunsLaws.{two_runs}
 
 -- what she meets at a wish
-abbrev moment_at : Option ℕ → Asked → Moment
-moment_at u a = record { seen = view u a.before; wish = a.wish; closes = a.closes }
+abbrev encounter_at : Option ℕ → Asked → Encounter
+encounter_at u a = record { seen = view u a.before; wish = a.wish; closes = a.closes }
 
-meets-by_asks : (u : Option ℕ) (H : History) (ws : List WishInTurn) → meets u H ws ≡ map (moment_at u) (asks u H ws)
+meets-by_asks : (u : Option ℕ) (H : History) (ws : List WishInTurn) → meets u H ws ≡ map (encounter_at u) (asks u H ws)
 meets-by_asks u H [] = refl
 meets-by_asks u H (w ∷ ws) =
     (λ i. one (is_hers u H w.wish) i ++ meets-by_asks u (after_wish H w.wish) ws i)
-    ∙ sym (map-append (moment_at u) (given (is_hers u H w.wish) asked) (asks u (after_wish H w.wish) ws))
+    ∙ sym (map-append (encounter_at u) (given (is_hers u H w.wish) asked) (asks u (after_wish H w.wish) ws))
   where
     asked : Asked
     asked = record { before = H; wish = w.wish; closes = w.closes }
 
-    one : (hers : Bool) → given hers (record { seen = view u H; wish = w.wish; closes = w.closes }) ≡ map (moment_at u) (given hers asked)
+    one : (hers : Bool) → given hers (record { seen = view u H; wish = w.wish; closes = w.closes }) ≡ map (encounter_at u) (given hers asked)
     one true = refl
     one false = refl
 
-meets-alike : (u : Option ℕ) (ones others : List Asked) → AllAskedAlike u ones others → map (moment_at u) ones ≡ map (moment_at u) others
+meets-alike : (u : Option ℕ) (ones others : List Asked) → AllAskedAlike u ones others → map (encounter_at u) ones ≡ map (encounter_at u) others
 meets-alike u [] [] alike = refl
 meets-alike u [] (other ∷ others) alike = absurd alike
 meets-alike u (one ∷ ones) [] alike = absurd alike

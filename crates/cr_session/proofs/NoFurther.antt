@@ -18,7 +18,7 @@ wants-first n ws text unsettled = record {
   others = ws;
   parts = refl;
   rest = text;
-  reaches = record { requests = []; wish = refl; reaches = refl };
+  reaches = record { requests = []; wish = tt; reaches = refl };
   unsettled = unsettled;
 }
 

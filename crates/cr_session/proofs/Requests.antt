@@ -1,5 +1,5 @@
 -- From what one turn did to what one request did.
-use Rattle.std.proofs.Common.{◌≡◌, ◌∙◌, ℕ, List, [], Bool, true, false, refl, sym, ap, subst}
+use Rattle.std.proofs.Common.{◌≡◌, ◌∙◌, ℕ, List, [], Bool, true, false, refl, sym, ap, subst, ◌∷◌}
 use mathlib.Core.List.{IsPrefix}
 use Rattle.cr_base.specs.History.{History}
 use Rattle.cr_lock.specs.Passes.{after_turn}
@@ -12,7 +12,7 @@ use Rattle.cr_session.specs.Told.{sending_of, told, unkept, after_wish}
 use Rattle.cr_session.specs.Replay.{JudgedWish, Ledger, Turned, answer_to, history_after}
 use Rattle.cr_session.specs.Passing.{KnownPass}
 use Rattle.cr_wire.specs.Wishes.{closes}
-use Rattle.cr_ports.specs.Writing.{Outlet, Writes, BreaksOff}
+use Rattle.cr_ports.specs.Writing.{Outlet, WritesAnswers, AnswerBreaksOff}
 use Rattle.cr_session.specs.Turning.{Turns, AnswersWish, turn_text, MayWantToPrint, MayWantMemory, Sends, JudgesInTurn, TurnsInVain, ServesRequest}
 
 -- ---- what was judged
@@ -93,9 +93,9 @@ module _ (w : Wish) (b b' : Ledger) (p p' : KnownPass) (saw : IsPrefix p.seen b.
       text = text_is ∙ ap (λ (c : Bool). turn_text turn (sending_of w c)) closing ∙ j.text
 
       by : (x : RequestOutcome) → Sends x close reply s s' → ServesRequest x n w p p' s s'
-      by served.Goes x = (j.judges, sym closing ∙ x.0, subst (λ (r : List ℕ). Writes r s s') text x.1)
-      by served.Closes x = (j.judges, sym closing ∙ x.0, subst (λ (r : List ℕ). Writes r s s') text x.1)
-      by served.WriteFault x = (j.judges, subst (λ (r : List ℕ). BreaksOff [] r s s') text x)
+      by served.Goes x = (j.judges, sym closing ∙ x.0, subst (λ (r : List ℕ). WritesAnswers (r ∷ []) s s') text x.1)
+      by served.Closes x = (j.judges, sym closing ∙ x.0, subst (λ (r : List ℕ). WritesAnswers (r ∷ []) s s') text x.1)
+      by served.WriteFault x = (j.judges, subst (λ (r : List ℕ). AnswerBreaksOff [] r s s') text x)
       by served.OutOfMemory x = absurd x
 
   -- memory ran out in the turn

@@ -14,6 +14,7 @@ use Rattle.cr_base.specs.declared.command.Query.{Query}
 use Rattle.cr_base.specs.declared.reply.Rule.{Rule}
 use Rattle.cr_base.specs.History.{History}
 use Rattle.cr_base.specs.Calls.{call_of, bulk_by, maker_of}
+use Rattle.cr_base.specs.Moments.{IsMoment}
 use Rattle.cr_base.specs.Drawn.{Drawn}
 use Rattle.cr_base.specs.Logins.{command_wants_login}
 use Rattle.cr_base.specs.Bulk.{IsBoundedBulk}
@@ -52,25 +53,25 @@ may-wish H w u what test is by tested passed =
 
 -- what a wish is told, by what it is and who gives it
 told-by : (H : History) (w : Wish) (u : Option ℕ) (what : What) (close : Bool) → MayWish H w u what
-    → told H w close ≡ served_to u (view u H) (sending_of w close) what
+    → told H w close ≡ served_to u (view u H) w.at (sending_of w close) what
 unfolding told
 told-by H w u what close wishes =
-    ap (told_to (caller H w) (view (caller H w) H) (sending_of w close)) wishes.is
-    ∙ ap (λ v. told_to v (view v H) (sending_of w close) what) (sym wishes.by)
-    ∙ ap (λ b. cond b (refusal_text refused.Unauthorized (sending_of w close)) (served_to u (view u H) (sending_of w close) what)) wishes.may
+    ap (told_to (caller H w) (view (caller H w) H) w.at (sending_of w close)) wishes.is
+    ∙ ap (λ v. told_to v (view v H) w.at (sending_of w close) what) (sym wishes.by)
+    ∙ ap (λ b. cond b (refusal_text refused.Unauthorized (sending_of w close)) (served_to u (view u H) w.at (sending_of w close) what)) wishes.may
 
-drawn-by : (H : History) (w : Wish) (u : Option ℕ) (what : What) → MayWish H w u what → drawn H w ≡ drawn_of u (view u H) what
+drawn-by : (H : History) (w : Wish) (u : Option ℕ) (what : What) → MayWish H w u what → drawn H w ≡ drawn_of u (view u H) w.at what
 unfolding drawn
 drawn-by H w u what wishes =
-    ap (drawn_for (caller H w) (view (caller H w) H)) wishes.is
-    ∙ ap (λ v. drawn_for v (view v H) what) (sym wishes.by)
-    ∙ ap (λ b. cond b None (drawn_of u (view u H) what)) wishes.may
+    ap (drawn_for (caller H w) (view (caller H w) H) w.at) wishes.is
+    ∙ ap (λ v. drawn_for v (view v H) w.at what) (sym wishes.by)
+    ∙ ap (λ b. cond b None (drawn_of u (view u H) w.at what)) wishes.may
 
 -- who wishes it may, and it wants room
-may-want : (H : History) (w : Wish) (u : Option ℕ) (what : What) → MayWish H w u what → WantsRoom u (view u H) what → MayWantMemory H w
+may-want : (H : History) (w : Wish) (u : Option ℕ) (what : What) → MayWish H w u what → WantsRoom u (view u H) w.at what → MayWantMemory H w
 may-want H w u what wishes wants =
-    subst (λ (v : Option ℕ). MayWantFor v (view v H) w.what) wishes.by
-    (subst (λ (x : What). MayWantFor u (view u H) x) (sym wishes.is) (wishes.may, wants))
+    subst (λ (v : Option ℕ). MayWantFor v (view v H) w.at w.what) wishes.by
+    (subst (λ (x : What). MayWantFor u (view u H) w.at x) (sym wishes.is) (wishes.may, wants))
 
 -- ---- nobody, where a login is wanted
 
@@ -82,8 +83,8 @@ unauthorized w b u by is =
     let now : is_unauthorized (caller old w) (view (caller old w) old) w.what ≡ true = ap (λ v. is_unauthorized v (view v old) w.what) (sym by) ∙ is in
     record {
       told_is = λ close. sym (ap (λ t. cond t (refusal_text refused.Unauthorized (sending_of w close))
-          (served_to (caller old w) (view (caller old w) old) (sending_of w close) w.what)) now);
-      stepped = sym (ap (λ t. and_drawn old (cond t None (drawn_of (caller old w) (view (caller old w) old) w.what))) now);
+          (served_to (caller old w) (view (caller old w) old) w.at (sending_of w close) w.what)) now);
+      stepped = sym (ap (λ t. and_drawn old (cond t None (drawn_of (caller old w) (view (caller old w) old) w.at w.what))) now);
       steady = refl;
     }
 
@@ -91,7 +92,7 @@ unauthorized w b u by is =
 
 -- a wish that is told a refusal, and adds nothing
 refused-turn : (r : Refused) (w : Wish) (u : Option ℕ) (what : What) (b : Ledger) → MayWish b.history w u what
-    → ((close : Bool) → refusal_text r (sending_of w close) ≡ served_to u (view u b.history) (sending_of w close) what) → drawn_of u (view u b.history) what ≡ None
+    → ((close : Bool) → refusal_text r (sending_of w close) ≡ served_to u (view u b.history) w.at (sending_of w close) what) → drawn_of u (view u b.history) w.at what ≡ None
     → AnswersWish (turns.Refused r) w b b
 refused-turn r w u what b wishes text none = record {
   told_is = λ close. text close ∙ sym (told-by b.history w u what close wishes);
@@ -128,9 +129,9 @@ refusal-told (broken.Row row rule) sending = sym (append-nil (refusal_text (refu
 -- a wish of which Judge gives this, where that is what she who wishes it is served, and what it draws
 pub change-turn : (turn : TurnResult) (w : Wish) (u : Option ℕ) (what : What) (judged : Result Drawn Broken) (b b' : Ledger)
     → MayWish b.history w u what
-    → ((sending : Sending) → served_to u (view u b.history) sending what ≡ reply_text (reply_of judged) sending)
-    → drawn_of u (view u b.history) what ≡ accepted judged
-    → (IsOk judged → WantsRoom u (view u b.history) what)
+    → ((sending : Sending) → served_to u (view u b.history) w.at sending what ≡ reply_text (reply_of judged) sending)
+    → drawn_of u (view u b.history) w.at what ≡ accepted judged
+    → (IsOk judged → WantsRoom u (view u b.history) w.at what)
     → JudgesChange turn judged b b' → Turns turn w b b'
 change-turn (turns.Refused r) w u what judged b b' wishes served draws wants j = record {
   told_is = λ close.
@@ -158,14 +159,14 @@ change-turn turns.Lost w u what judged b b' wishes served draws wants j = (
 change-turn turns.OutOfMemory w u what judged b b' wishes served draws wants j = (j.0, may-want b.history w u what wishes (wants j.1))
 
 pub command-turn : (turn : TurnResult) (w : Wish) (u : Option ℕ) (command : Command) (b b' : Ledger) → MayWish b.history w u (whats.Command command)
-    → JudgesChange turn (as_bulk (judge (view u b.history) (call_of u command))) b b' → Turns turn w b b'
+    → JudgesChange turn (as_bulk (judge (view u b.history) (call_of u w.at command))) b b' → Turns turn w b b'
 command-turn turn w u command b b' wishes j =
-    change-turn turn w u (whats.Command command) (as_bulk (judge (view u b.history) (call_of u command))) b b' wishes (λ sending. refl) refl (λ ok. ok) j
+    change-turn turn w u (whats.Command command) (as_bulk (judge (view u b.history) (call_of u w.at command))) b b' wishes (λ sending. refl) refl (λ ok. ok) j
 
 pub bulk-turn : (turn : TurnResult) (w : Wish) (u : Option ℕ) (rows : List BulkRow) (b b' : Ledger) → MayWish b.history w u (whats.Bulk rows)
-    → JudgesChange turn (judge_bulk (view u b.history) (bulk_by (maker_of u) rows)) b b' → Turns turn w b b'
+    → JudgesChange turn (judge_bulk (view u b.history) (bulk_by (maker_of u) w.at rows)) b b' → Turns turn w b b'
 bulk-turn turn w u rows b b' wishes j =
-    change-turn turn w u (whats.Bulk rows) (judge_bulk (view u b.history) (bulk_by (maker_of u) rows)) b b' wishes (λ sending. refl) refl (λ ok. ok) j
+    change-turn turn w u (whats.Bulk rows) (judge_bulk (view u b.history) (bulk_by (maker_of u) w.at rows)) b b' wishes (λ sending. refl) refl (λ ok. ok) j
 
 -- ---- queries
 
@@ -225,9 +226,10 @@ caller-command H w u command wishes = is-user H w u command refl wishes
 
 -- a bulk is a registered user's
 pub caller-bulk : (H : History) (w : Wish) (u : Option ℕ) (rows : List BulkRow) → MayWish H w u (whats.Bulk rows)
-    → IsBoundedBulk rows → IsBulkCaller H u rows
-caller-bulk H w None rows wishes few = absurd (true≢false wishes.may)
-caller-bulk H w (Some user) rows wishes few = record { caller = caller-registered H w user (sym wishes.by); bounded = few }
+    → IsBoundedBulk rows → IsMoment w.at → IsBulkCaller H u w.at rows
+caller-bulk H w None rows wishes few moment = absurd (true≢false wishes.may)
+caller-bulk H w (Some user) rows wishes few moment =
+    record { caller = caller-registered H w user (sym wishes.by); moment = moment; bounded = few }
 
 -- ---- what a turn leaves
 

@@ -1,15 +1,14 @@
 -- Wishes that are judged one after another.
-use Rattle.std.proofs.Common.{◌≡◌, ◌∙◌, ◌≤◌, ◌<◌, ◌^◌, ◌-◌, ℕ, ◌+◌, List, [], ◌∷◌, ◌++◌, length, Bool, true, false, cond, refl, sym, ap, subst, append_assoc}
+use Rattle.std.proofs.Common.{◌≡◌, ◌∙◌, ◌≤◌, ◌<◌, ◌^◌, ◌-◌, ℕ, ◌+◌, List, [], ◌∷◌, ◌++◌, length, Bool, true, false, cond, refl, ap, subst}
 use Rattle.std.proofs.Common.{arith, zero, suc}
-use Rattle.cr_session.specs.Replay.{JudgedWish, Ledger, Turned, CountsLoss, answer_to, answers, lost_count, Replays}
+use Rattle.cr_session.specs.Answering.{Answer}
+use Rattle.cr_session.specs.Replay.{JudgedWish, Ledger, Turned, CountsLoss, answer_of, answers, lost_count, Replays}
 
 pub answers-append : (n : ℕ) (js ks : List JudgedWish) → answers n (js ++ ks) ≡ answers n js ++ answers (n + length js) ks
 answers-append n [] ks = let e : n ≡ n + zero = omega arith in ap (λ k. answers k ks) e
 answers-append n (j ∷ js) ks =
     let e : n + 1 + length js ≡ n + suc (length js) = omega arith in
-    ap (λ a. answer_to n j ++ a) (answers-append (n + 1) js ks)
-    ∙ sym (append_assoc (answer_to n j) (answers (n + 1) js) (answers (n + 1 + length js) ks))
-    ∙ ap (λ k. answer_to n j ++ answers (n + 1) js ++ answers k ks) e
+    ap (λ (a : List Answer). answer_of n j ∷ a) (answers-append (n + 1) js ks ∙ ap (λ k. answers (n + 1) js ++ answers k ks) e)
 
 -- what was judged then, behind what was judged before
 pub replays-append : (js ks : List JudgedWish) (a b c : Ledger) → Replays js a b → Replays ks b c → Replays (js ++ ks) a c

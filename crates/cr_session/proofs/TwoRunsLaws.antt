@@ -9,11 +9,11 @@ use Rattle.cr_policy.specs.View.{view}
 use Rattle.cr_wire.specs.declared.what.Wish.{Wish}
 use Rattle.cr_wire.specs.Caller.{caller}
 use Rattle.cr_session.specs.Told.{sending_of, told, told_to, after_wish}
-use Rattle.cr_session.specs.TwoRuns.{WishInTurn, Run, Moment, is_same, is_hers, meets, hears, MeetsAlike, HearsAlike}
+use Rattle.cr_session.specs.TwoRuns.{WishInTurn, Run, Encounter, is_same, is_hers, meets, hears, MeetsAlike, HearsAlike}
 
--- what she is answered at such a moment
-answer_at : Option ℕ → Moment → List ℕ
-answer_at u m = told_to u m.seen (sending_of m.wish m.closes) m.wish.what
+-- what she is answered there
+answer_at : Option ℕ → Encounter → List ℕ
+answer_at u m = told_to u m.seen m.wish.at (sending_of m.wish m.closes) m.wish.what
 
 equal_numbers : (m n : ℕ) → m == n ≡ true → m ≡ n
 equal_numbers m n e = grind (arith, nat_tests)
@@ -25,9 +25,9 @@ same_user (Some m) None e = cc
 same_user (Some m) (Some n) e = ap Some (sym (equal_numbers m n e))
 
 told-at : (u v : Option ℕ) (H : History) (w : Wish) (closes : Bool) → v ≡ u
-    → told_to v (view v H) (sending_of w closes) w.what ≡ answer_at u (record { seen = view u H; wish = w; closes = closes })
+    → told_to v (view v H) w.at (sending_of w closes) w.what ≡ answer_at u (record { seen = view u H; wish = w; closes = closes })
 unfolding answer_at
-told-at u v H w closes e = ap (λ x. told_to x (view x H) (sending_of w closes) w.what) e
+told-at u v H w closes e = ap (λ x. told_to x (view x H) w.at (sending_of w closes) w.what) e
 
 -- one wish, where it is hers
 answered : (u : Option ℕ) (H : History) (w : Wish) (closes : Bool) (b : Bool) → is_hers u H w ≡ b
@@ -41,11 +41,11 @@ hears-by_meets : (u : Option ℕ) (H : History) (ws : List WishInTurn) → hears
 hears-by_meets u H [] = refl
 hears-by_meets u H (w ∷ ws) =
     ap (λ (texts : List (List ℕ)). texts ++ hears u (after_wish H w.wish) ws) (answered u H w.wish w.closes (is_hers u H w.wish) refl)
-    ∙ ap (λ (texts : List (List ℕ)). map (answer_at u) (moment w) ++ texts) (hears-by_meets u (after_wish H w.wish) ws)
-    ∙ sym (map-append (answer_at u) (moment w) (meets u (after_wish H w.wish) ws))
+    ∙ ap (λ (texts : List (List ℕ)). map (answer_at u) (encounter w) ++ texts) (hears-by_meets u (after_wish H w.wish) ws)
+    ∙ sym (map-append (answer_at u) (encounter w) (meets u (after_wish H w.wish) ws))
   where
-    moment : WishInTurn → List Moment
-    moment b = given (is_hers u H b.wish) (record { seen = view u H; wish = b.wish; closes = b.closes })
+    encounter : WishInTurn → List Encounter
+    encounter b = given (is_hers u H b.wish) (record { seen = view u H; wish = b.wish; closes = b.closes })
 
 pub two_runs : (u : Option ℕ) (one other : Run) → MeetsAlike u one other → HearsAlike u one other
 two_runs u one other e =

@@ -9,8 +9,8 @@ use Rattle.cr_session.specs.declared.serve.Ending.{Ending}
 use Rattle.cr_session.specs.declared.serve.Ending.TheVariants as endings
 use Rattle.cr_session.specs.declared.serve.Why.TheVariants as whys
 use Rattle.cr_session.specs.Replay.{JudgedWish, wishes_of}
+use Rattle.cr_session.specs.Answering.{Desk}
 use Rattle.cr_session.specs.Serving.{World, EndsAs, EndsSource, CountsReads, Connection, WholeText}
-use Rattle.cr_ports.specs.Writing.{Outlet}
 use Rattle.cr_wire.specs.declared.what.Wish.{Wish}
 use Rattle.cr_session.specs.Wishes.{Spells, Begins}
 use Rattle.cr_session.proofs.Runs.{IsClosing}
@@ -36,40 +36,42 @@ begins_all came b rest ws is s = subst (λ (t : List ℕ). Begins 0 t ws) (sym i
 
 module _ {B : Type 0} (Judges : List JudgedWish → B → B → Type 0) (Lacks : Wish → B → B → Type 0) where
   ends_whole : (ending : Ending) (came b rest : List ℕ) (left' : Option (List ℕ)) (answered : List JudgedWish) (failed : Option JudgedWish) (p p' : B)
-      (s s' : Outlet)
-      → left' ≡ Some rest → b ≡ came ++ rest → EndsSource ending left' → EndsAs Judges Lacks ending 0 came came answered failed p p' s s'
-      → EndsAs Judges Lacks ending 0 came b answered failed p p' s s'
-  ends_whole ending came b rest left' answered (Some j) p p' s s' told is end e = (e.0, begins_all came b rest (wishes_of (answered ++ j ∷ [])) is e.1, e.2)
-  ends_whole endings.Clean came b rest left' answered None p p' s s' told is end e =
+      (d d' : Desk)
+      → left' ≡ Some rest → b ≡ came ++ rest → EndsSource ending left' → EndsAs Judges Lacks ending 0 came came answered failed p p' d d'
+      → EndsAs Judges Lacks ending 0 came b answered failed p p' d d'
+  ends_whole ending came b rest left' answered (Some j) p p' d d' told is end e = (e.0, begins_all came b rest (wishes_of (answered ++ j ∷ [])) is e.1, e.2)
+  ends_whole endings.Clean came b rest left' answered None p p' d d' told is end e =
       (spells_all came b rest left' (wishes_of answered) ended_clean told is end e.0, e.1)
-  ends_whole endings.Cut came b rest left' answered None p p' s s' told is end e =
+  ends_whole endings.Cut came b rest left' answered None p p' d d' told is end e =
       (spells_all came b rest left' (wishes_of answered) ended_cut told is end e.0, e.1)
-  ends_whole (endings.Closed whys.Asked) came b rest left' answered None p p' s s' told is end e =
+  ends_whole (endings.Closed whys.Asked) came b rest left' answered None p p' d d' told is end e =
       (spells_closed came b rest (wishes_of answered) asked is tt e.0, e.1)
-  ends_whole (endings.Closed (whys.Refused why)) came b rest left' answered None p p' s s' told is end e =
-      (e.0, spells_closed came b rest (wishes_of answered) (closed why e.0) is tt e.1, e.2)
-  ends_whole endings.ReadFault came b rest left' answered None p p' s s' told is end e = e
-  ends_whole endings.WriteFault came b rest left' answered None p p' s s' told is end e =
-      (e.0, e.1, spells_closed came b rest (wishes_of answered) (closed e.0 e.1) is tt e.2, e.3)
-  ends_whole endings.OutOfMemory came b rest left' answered None p p' s s' told is end e = e
+  ends_whole (endings.Closed (whys.Refused why)) came b rest left' answered None p p' d d' told is end e =
+      (e.0, e.1, spells_closed came b rest (wishes_of answered) (closed why e.0) is tt e.2, e.3)
+  ends_whole endings.ReadFault came b rest left' answered None p p' d d' told is end e = e
+  ends_whole endings.WriteFault came b rest left' answered None p p' d d' told is end e =
+      (e.0, e.1, e.2, spells_closed came b rest (wishes_of answered) (closed e.0 e.1) is tt e.3, e.4)
+  ends_whole endings.ClockFault came b rest left' answered None p p' d d' told is end e = e
+  ends_whole endings.OutOfMemory came b rest left' answered None p p' d d' told is end e = e
 
-  begins_judged : (ending : Ending) (came : List ℕ) (answered : List JudgedWish) (failed : Option JudgedWish) (p p' : B) (s s' : Outlet)
-      → EndsAs Judges Lacks ending 0 came came answered failed p p' s s' → Begins 0 came (wishes_of (answered ++ listed failed))
-  begins_judged ending came answered (Some j) p p' s s' e = e.1
-  begins_judged ending came answered None p p' s s' e =
+  begins_judged : (ending : Ending) (came : List ℕ) (answered : List JudgedWish) (failed : Option JudgedWish) (p p' : B) (d d' : Desk)
+      → EndsAs Judges Lacks ending 0 came came answered failed p p' d d' → Begins 0 came (wishes_of (answered ++ listed failed))
+  begins_judged ending came answered (Some j) p p' d d' e = e.1
+  begins_judged ending came answered None p p' d d' e =
       subst (λ (all : List JudgedWish). Begins 0 came (wishes_of all)) (sym (append-nil answered)) (by ending e)
     where
       either : Spells 0 came (wishes_of answered) ended_clean ⊎ Spells 0 came (wishes_of answered) ended_cut → Begins 0 came (wishes_of answered)
       either (inl is) = Spells-begins 0 came (wishes_of answered) ended_clean is
       either (inr is) = Spells-begins 0 came (wishes_of answered) ended_cut is
 
-      by : (x : Ending) → EndsAs Judges Lacks x 0 came came answered None p p' s s' → Begins 0 came (wishes_of answered)
+      by : (x : Ending) → EndsAs Judges Lacks x 0 came came answered None p p' d d' → Begins 0 came (wishes_of answered)
       by endings.Clean x = Spells-begins 0 came (wishes_of answered) ended_clean x.0
       by endings.Cut x = Spells-begins 0 came (wishes_of answered) ended_cut x.0
       by (endings.Closed whys.Asked) x = Spells-begins 0 came (wishes_of answered) asked x.0
-      by (endings.Closed (whys.Refused why)) x = Spells-begins 0 came (wishes_of answered) (closed why x.0) x.1
+      by (endings.Closed (whys.Refused why)) x = Spells-begins 0 came (wishes_of answered) (closed why x.0) x.2
       by endings.ReadFault x = either x.0
-      by endings.WriteFault x = Spells-begins 0 came (wishes_of answered) (closed x.0 x.1) x.2
+      by endings.WriteFault x = Spells-begins 0 came (wishes_of answered) (closed x.0 x.1) x.3
+      by endings.ClockFault x = Reaches-begins 0 came (wishes_of answered) x.0 x.1
       by endings.OutOfMemory x = Reaches-begins 0 came (wishes_of answered) x.0 x.1
 
   module _ {S : Type 0} (left : S → Option (List ℕ)) (gives : S → S → List ℕ → Type 0) where
@@ -88,8 +90,8 @@ module _ {B : Type 0} (Judges : List JudgedWish → B → B → Type 0) (Lacks :
           turns = c.turns;
           settled = c.settled;
           begins = begins_all c.got b rest.0 (wishes_of (c.answered ++ listed c.failed)) rest.2
-              (begins_judged ending c.got c.answered c.failed c.judged w'.state w.sink w'.sink c.ends);
-          ends = ends_whole ending c.got b rest.0 (left w'.source) c.answered c.failed c.judged w'.state w.sink w'.sink rest.1 rest.2 c.ended c.ends;
+              (begins_judged ending c.got c.answered c.failed c.judged w'.state w.desk w'.desk c.ends);
+          ends = ends_whole ending c.got b rest.0 (left w'.source) c.answered c.failed c.judged w'.state w.desk w'.desk rest.1 rest.2 c.ended c.ends;
         }
 
     -- the causes of faults
@@ -98,11 +100,21 @@ module _ {B : Type 0} (Judges : List JudgedWish → B → B → Type 0) (Lacks :
     read_rises ending n i w w' c is = (subst (λ (e : Ending). CountsReads e w.read_faults w'.read_faults) is c.counts).1
 
     pub write_rises : (ending : Ending) (n : ℕ) (i : List ℕ) (w w' : World B S) → Connection Judges Lacks left gives ending n i w w'
-        → ending ≡ endings.WriteFault → Rises w.sink.faults w'.sink.faults
+        → ending ≡ endings.WriteFault → Rises w.desk.sink.faults w'.desk.sink.faults
     write_rises ending n i w w' c is =
-        by c.failed (subst (λ (e : Ending). EndsAs Judges Lacks e n (i ++ c.got) (i ++ c.got) c.answered c.failed c.judged w'.state w.sink w'.sink) is c.ends)
+        by c.failed (subst (λ (e : Ending). EndsAs Judges Lacks e n (i ++ c.got) (i ++ c.got) c.answered c.failed c.judged w'.state w.desk w'.desk) is c.ends)
       where
         by : (failed : Option JudgedWish) → EndsAs Judges Lacks endings.WriteFault n (i ++ c.got)
-            (i ++ c.got) c.answered failed c.judged w'.state w.sink w'.sink → Rises w.sink.faults w'.sink.faults
-        by (Some j) e = e.2.rises
-        by None e = e.3.rises
+            (i ++ c.got) c.answered failed c.judged w'.state w.desk w'.desk → Rises w.desk.sink.faults w'.desk.sink.faults
+        by (Some j) e = e.2.broken.rises
+        by None e = e.4.broken.rises
+
+    pub clock_rises : (ending : Ending) (n : ℕ) (i : List ℕ) (w w' : World B S) → Connection Judges Lacks left gives ending n i w w'
+        → ending ≡ endings.ClockFault → Rises w.desk.clock.faults w'.desk.clock.faults
+    clock_rises ending n i w w' c is =
+        by c.failed (subst (λ (e : Ending). EndsAs Judges Lacks e n (i ++ c.got) (i ++ c.got) c.answered c.failed c.judged w'.state w.desk w'.desk) is c.ends)
+      where
+        by : (failed : Option JudgedWish) → EndsAs Judges Lacks endings.ClockFault n (i ++ c.got)
+            (i ++ c.got) c.answered failed c.judged w'.state w.desk w'.desk → Rises w.desk.clock.faults w'.desk.clock.faults
+        by (Some j) e = absurd (cc (e.0))
+        by None e = e.3.failed.rises

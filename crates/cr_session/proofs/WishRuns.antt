@@ -1,20 +1,17 @@
 -- More wishes behind those that were judged, and more bytes behind the text.
-use Rattle.std.proofs.Common.{◌≡◌, ◌∙◌, ℕ, ◌+◌, List, ◌++◌, length, map, sym, ap, subst}
+use Rattle.std.proofs.Common.{◌≡◌, ℕ, ◌+◌, List, ◌++◌, length, sym, ap, subst}
 use Rattle.std.proofs.lemmas.List.{map-append, length-map}
 use Rattle.cr_http.specs.Requests.{RequestText, End, SpellsFrom, BeginsFrom, ReachesFrom}
 use Rattle.cr_wire.specs.declared.what.Wish.{Wish}
-use Rattle.cr_wire.specs.Wish.{wish_text}
+use Rattle.cr_wire.proofs.WishLaws.{as_many, joined}
 use Rattle.cr_session.specs.Replay.{JudgedWish, wishes_of}
 use Rattle.cr_session.specs.Wishes.{Spells, Begins, Reaches}
-use Rattle.cr_wire.specs.Wishes.{closes_behind}
+use Rattle.cr_wire.specs.Wishes.{AreWishes, closes_behind}
 use Rattle.cr_session.proofs.Runs.{spells_after, begins_after, reaches_after, reaches_more, spells_more, begins_more, spells_begins, reaches_begins, IsClosing}
 
--- there are as many requests as wishes
-as_many : (n : ℕ) (ws : List Wish) (rs : List RequestText) → ws ≡ map wish_text rs → n + length ws ≡ n + length rs
-as_many n ws rs is = ap (λ k. n + k) (ap length is ∙ length-map rs wish_text)
-
-joined : (ws vs : List Wish) (rs qs : List RequestText) → ws ≡ map wish_text rs → vs ≡ map wish_text qs → ws ++ vs ≡ map wish_text (rs ++ qs)
-joined ws vs rs qs a b = ap (λ (xs : List Wish). xs ++ vs) a ∙ ap (λ (ys : List Wish). map wish_text rs ++ ys) b ∙ sym (map-append wish_text rs qs)
+-- there are as many requests as wishes, from any number on
+numbered : (n : ℕ) (rs : List RequestText) (ws : List Wish) → AreWishes rs ws → n + length ws ≡ n + length rs
+numbered n rs ws are = ap (λ k. n + k) (as_many rs ws are)
 
 -- ---- wishes behind wishes
 
@@ -22,27 +19,27 @@ spells_wishes : (n : ℕ) (text : List ℕ) (ws : List Wish) (rest : List ℕ) (
     → Reaches n text ws rest → Spells (n + length ws) rest vs end → Spells n text (ws ++ vs) end
 spells_wishes n text ws rest end vs a b = record {
   requests = a.requests ++ b.requests;
-  wish = joined ws vs a.requests b.requests a.wish b.wish;
+  wish = joined a.requests b.requests ws vs a.wish b.wish;
   spells = spells_after closes_behind n text a.requests rest end b.requests a.reaches
-      (subst (λ (k : ℕ). SpellsFrom closes_behind k rest b.requests end) (as_many n ws a.requests a.wish) b.spells);
+      (subst (λ (k : ℕ). SpellsFrom closes_behind k rest b.requests end) (numbered n a.requests ws a.wish) b.spells);
 }
 
 begins_wishes : (n : ℕ) (text : List ℕ) (ws : List Wish) (rest : List ℕ) (vs : List Wish)
     → Reaches n text ws rest → Begins (n + length ws) rest vs → Begins n text (ws ++ vs)
 begins_wishes n text ws rest vs a b = record {
   requests = a.requests ++ b.requests;
-  wish = joined ws vs a.requests b.requests a.wish b.wish;
+  wish = joined a.requests b.requests ws vs a.wish b.wish;
   begins = begins_after closes_behind n text a.requests rest b.requests a.reaches
-      (subst (λ (k : ℕ). BeginsFrom closes_behind k rest b.requests) (as_many n ws a.requests a.wish) b.begins);
+      (subst (λ (k : ℕ). BeginsFrom closes_behind k rest b.requests) (numbered n a.requests ws a.wish) b.begins);
 }
 
 pub reaches_wishes : (n : ℕ) (text : List ℕ) (ws : List Wish) (rest : List ℕ) (vs : List Wish) (rest' : List ℕ)
     → Reaches n text ws rest → Reaches (n + length ws) rest vs rest' → Reaches n text (ws ++ vs) rest'
 reaches_wishes n text ws rest vs rest' a b = record {
   requests = a.requests ++ b.requests;
-  wish = joined ws vs a.requests b.requests a.wish b.wish;
+  wish = joined a.requests b.requests ws vs a.wish b.wish;
   reaches = reaches_after closes_behind n text a.requests rest b.requests rest' a.reaches
-      (subst (λ (k : ℕ). ReachesFrom closes_behind k rest b.requests rest') (as_many n ws a.requests a.wish) b.reaches);
+      (subst (λ (k : ℕ). ReachesFrom closes_behind k rest b.requests rest') (numbered n a.requests ws a.wish) b.reaches);
 }
 
 -- ---- the same of what was judged

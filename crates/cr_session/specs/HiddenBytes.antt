@@ -1,5 +1,5 @@
--- HiddenBytes: two runs in which a user wishes the same, and which differ at her wishes only in what she isn't shown,
--- agree in every byte that she is answered.
+-- HiddenBytes: two runs in which a user wishes the same at the same moments, and which differ at her wishes only in
+-- what she isn't shown, agree in every byte that she is answered.
 use Rattle.std.specs.Prelude.{◌≡◌, ℕ, List, [], ◌∷◌, ◌++◌, Option, Bool}
 use Rattle.cr_base.specs.History.{History}
 use Rattle.cr_base.specs.Lists.{given}
@@ -21,7 +21,7 @@ asks u H (w ∷ ws) =
     given (is_hers u H w.wish) (record { before = H; wish = w.wish; closes = w.closes })
     ++ asks u (after_wish H w.wish) ws
 
--- she wishes the same, and what stands before looks the same to her
+-- she wishes the same at the same moment, and what stands before looks the same to her
 pub record AskedAlike (u : Option ℕ) (one other : Asked) : Type 0 where
   pub before : LooksSame u one.before other.before
   pub wish : one.wish ≡ other.wish

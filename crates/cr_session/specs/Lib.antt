@@ -1,9 +1,10 @@
 pub mod Told
+pub mod Answering
 pub mod TwoRuns
 pub mod HiddenBytes
 pub mod Replay
 pub mod Passing
 pub mod Wishes
-pub mod Reading
 pub mod Turning
+pub mod Reading
 pub mod Serving

@@ -1,71 +1,100 @@
 -- What one call of `read_wish` says.
-use Rattle.std.specs.Prelude.{◌≡◌, ◌⊎◌, ℕ, List, ◌++◌, Option, IfSome}
+use Rattle.std.specs.Prelude.{◌≡◌, ◌⊎◌, ℕ, List, [], ◌∷◌, ◌++◌, Bool, Option, Some, None, IfSome}
 use Rattle.cr_ports.specs.Stream.{and_left}
+use Rattle.cr_http.specs.declared.refusal.Refusal.{Refusal}
 use Rattle.cr_http.specs.Filling.{IsAtEnd, ReadsWhile}
 use Rattle.cr_http.specs.Found.{whole, refused, clean, cut, StandsAt}
-use Rattle.cr_http.specs.Reading.{IsUnsettled}
+use Rattle.cr_http.specs.Reading.{IsSettled, IsUnsettled}
 use Rattle.cr_http.specs.Requests.{RequestText}
 use Rattle.cr_http.specs.ToHead.{IsToHead}
+use Rattle.cr_base.specs.Lists.{listed}
 use Rattle.cr_wire.specs.declared.what.Wish.{Wish}
 use Rattle.cr_http.specs.Head.{is_head_method}
 use Rattle.cr_wire.specs.Asked.{LooksBehindPath}
-use Rattle.cr_wire.specs.Bounds.{IsBoundedWhat}
 use Rattle.cr_wire.specs.Wish.{wish_text}
 use Rattle.cr_session.specs.declared.reading.WishRead.{WishRead}
 use Rattle.cr_session.specs.declared.reading.WishRead.TheVariants as reads
+use Rattle.cr_session.specs.Answering.{ClockState, GivesMoments, FailsBehind}
+use Rattle.cr_session.specs.Turning.{IsBoundedWish}
 
--- the request whose wish this is stands at the front of the text, and this rest follows it
+-- the request whose wish this is, at the wish's moment, stands at the front of the text, and this rest follows it
 pub record StandsWish (text : List ℕ) (w : Wish) (rest : List ℕ) : Type 0 where
   pub request : RequestText
   pub stands : StandsAt text (whole request.head request.body rest)
-  pub wish : w ≡ wish_text request
+  pub wish : w ≡ wish_text request w.at
 
 -- neither a whole request nor a refusal stands at the front of the text
 abbrev pub IsUnfinished : List ℕ → Type 0
 IsUnfinished text = StandsAt text clean ⊎ StandsAt text cut
 
--- memory may run out in reading on: for more bytes, or for the body or the search of the request at the front
-abbrev pub MayWantToRead : List ℕ → Type 0
-MayWantToRead text =
-    IsUnfinished text ⊎ ((w : Wish) × (rest : List ℕ) × StandsWish text w rest × LooksBehindPath w.what)
+-- memory may run out for the body or the search of the request at the front, whose moment this is
+abbrev pub MayWantToLook : ℕ → List ℕ → Type 0
+MayWantToLook at text =
+    (w : Wish) × (rest : List ℕ) × StandsWish text w rest × LooksBehindPath w.what × (w.at ≡ at)
+
+-- memory may run out in reading on: for more bytes, where no moment was read for the request that comes; or for the
+-- body or the search of the one at the front
+abbrev pub MayWantToRead : Option ℕ → List ℕ → Type 0
+MayWantToRead None text = IsUnfinished text
+MayWantToRead (Some at) text = MayWantToLook at text
 
 -- what the answer says of the text that came so far, and what of it is kept
 abbrev pub Says : WishRead → List ℕ → List ℕ → Type 0
 Says (reads.Wish w) text kept = StandsWish text w kept
-Says (reads.Malformed why head) text kept = StandsAt text (refused why head)
+Says (reads.Malformed why head at) text kept = StandsAt text (refused why head)
 Says reads.Clean text kept = StandsAt text clean
 Says reads.Cut text kept = StandsAt text cut
 Says reads.ReadFault text kept = IsUnfinished text
-Says (reads.OutOfMemory head) text kept = IsToHead text head × MayWantToRead text
+Says reads.ClockFault text kept = IsSettled text
+Says (reads.OutOfMemory head at) text kept = IsToHead text head × MayWantToRead at text
 
 -- the answer is one for a stream that has ended
 abbrev pub AtEndIfEnded : WishRead → Option (List ℕ) → Type 0
 AtEndIfEnded (reads.Wish w) left = Unit {0}
-AtEndIfEnded (reads.Malformed why head) left = Unit {0}
+AtEndIfEnded (reads.Malformed why head at) left = Unit {0}
 AtEndIfEnded reads.Clean left = IsAtEnd left
 AtEndIfEnded reads.Cut left = IsAtEnd left
 AtEndIfEnded reads.ReadFault left = Unit {0}
-AtEndIfEnded (reads.OutOfMemory head) left = Unit {0}
+AtEndIfEnded reads.ClockFault left = Unit {0}
+AtEndIfEnded (reads.OutOfMemory head at) left = Unit {0}
 
--- a command that is wished is within the bounds on commands
+-- a command that is wished is within the bounds on commands, and its moment is one
 abbrev pub IsBoundedRead : WishRead → Type 0
-IsBoundedRead (reads.Wish w) = IsBoundedWhat w.what
-IsBoundedRead (reads.Malformed why head) = Unit {0}
+IsBoundedRead (reads.Wish w) = IsBoundedWish w
+IsBoundedRead (reads.Malformed why head at) = Unit {0}
 IsBoundedRead reads.Clean = Unit {0}
 IsBoundedRead reads.Cut = Unit {0}
 IsBoundedRead reads.ReadFault = Unit {0}
-IsBoundedRead (reads.OutOfMemory head) = Unit {0}
+IsBoundedRead reads.ClockFault = Unit {0}
+IsBoundedRead (reads.OutOfMemory head at) = Unit {0}
 
--- the wish of the request at hand, or memory ran out where its body or its search was looked at, told to HEAD exactly
--- where the request is one to HEAD
-abbrev pub IsAtHand : WishRead → Option RequestText → Type 0
-IsAtHand (reads.Wish w) request = IfSome request (λ r. w ≡ wish_text r)
-IsAtHand (reads.OutOfMemory head) request =
-    IfSome request (λ r. (head ≡ is_head_method r.head) × LooksBehindPath (wish_text r).what)
-IsAtHand (reads.Malformed why head) request = ⊥
-IsAtHand reads.Clean request = ⊥
-IsAtHand reads.Cut request = ⊥
-IsAtHand reads.ReadFault request = ⊥
+-- the wish of the request at hand at this moment, or memory ran out where its body or its search was looked at, told to
+-- HEAD exactly where the request is one to HEAD
+abbrev pub IsWishedAt : WishRead → ℕ → Option RequestText → Type 0
+IsWishedAt (reads.Wish w) at request = IfSome request (λ r. w ≡ wish_text r at)
+IsWishedAt (reads.OutOfMemory head None) at request = ⊥
+IsWishedAt (reads.OutOfMemory head (Some said)) at request =
+    IfSome request (λ r. (head ≡ is_head_method r.head) × LooksBehindPath (wish_text r at).what × (said ≡ at))
+IsWishedAt (reads.Malformed why head said) at request = ⊥
+IsWishedAt reads.Clean at request = ⊥
+IsWishedAt reads.Cut at request = ⊥
+IsWishedAt reads.ReadFault at request = ⊥
+IsWishedAt reads.ClockFault at request = ⊥
+
+-- the same at the moment that the clock gave, or the clock failed
+abbrev pub IsWishedNow : WishRead → Option RequestText → Type 0
+IsWishedNow reads.ClockFault request = Unit {0}
+IsWishedNow answer request = (at : ℕ) × IsWishedAt answer at request
+
+-- this refusal at the moment that the clock gave, or the clock failed
+abbrev pub IsRefusedNow : WishRead → Refusal → Bool → Type 0
+IsRefusedNow (reads.Malformed said to_head at) why head = (said ≡ why) × (to_head ≡ head)
+IsRefusedNow reads.ClockFault why head = Unit {0}
+IsRefusedNow (reads.Wish w) why head = ⊥
+IsRefusedNow reads.Clean why head = ⊥
+IsRefusedNow reads.Cut why head = ⊥
+IsRefusedNow reads.ReadFault why head = ⊥
+IsRefusedNow (reads.OutOfMemory to_head at) why head = ⊥
 
 -- The source gave these bytes; behind those of the inbox they are a text at whose front the answer stands. No read was
 -- made once that was settled.
@@ -76,3 +105,19 @@ pub record ReadsWish {S : Type 0} (left : S → Option (List ℕ)) (gives : S �
   pub says : Says answer (inbox ++ got) inbox'
   pub ended : AtEndIfEnded answer (left source')
   pub needed : ReadsWhile left gives IsUnsettled source source' inbox (inbox ++ got)
+
+-- the moments that the clock gave for what was read: one for a wish and for a refusal, and one for a request for whose
+-- body or search memory ran out
+abbrev pub moments_read : WishRead → List ℕ
+moments_read (reads.Wish w) = w.at ∷ []
+moments_read (reads.Malformed why head at) = at ∷ []
+moments_read reads.Clean = []
+moments_read reads.Cut = []
+moments_read reads.ReadFault = []
+moments_read reads.ClockFault = []
+moments_read (reads.OutOfMemory head at) = listed at
+
+-- what reading did to the clock
+abbrev pub ReadsClock : WishRead → ClockState → ClockState → Type 0
+ReadsClock reads.ClockFault c c' = FailsBehind [] c c'
+ReadsClock answer c c' = GivesMoments (moments_read answer) c c'

@@ -1,11 +1,12 @@
 -- Replay: wishes that were judged one after another, their answers, and the history that they lead to.
-use Rattle.std.specs.Prelude.{ℕ, ◌≡◌, ◌≤◌, ◌+◌, List, [], ◌∷◌, ◌++◌, Bool, true}
+use Rattle.std.specs.Prelude.{ℕ, ◌≡◌, ◌≤◌, ◌+◌, List, [], ◌∷◌, Bool, true}
 use Rattle.std.specs.Prelude.{false, if◌then◌else◌, map, IsSome, MatchBool}
 use Rattle.cr_base.specs.History.{History}
 use Rattle.cr_book.specs.Seen.{SeenBook}
 use Rattle.cr_ports.specs.Count.{Rises}
 use Rattle.cr_wire.specs.Wishes.{closes}
 use Rattle.cr_wire.specs.declared.what.Wish.{Wish}
+use Rattle.cr_session.specs.Answering.{Answer}
 use Rattle.cr_session.specs.Told.{told, unkept, drawn, after_wish}
 
 -- what turns work on: the history, and the count of faults of the keeper of its rows
@@ -52,10 +53,14 @@ pub record Turned (j : JudgedWish) (b b' : Ledger) : Type 0 where
 abbrev pub wishes_of : List JudgedWish → List Wish
 wishes_of judged = map (λ (j : JudgedWish). j.wish) judged
 
--- the answers to wishes of which the first came as request number n
-abbrev pub answers : ℕ → List JudgedWish → List ℕ
+-- the answer to a wish that came as request number n, with the wish's moment
+abbrev pub answer_of : ℕ → JudgedWish → Answer
+answer_of n j = record { text = answer_to n j; at = j.wish.at }
+
+-- the answers, one a wish, to wishes of which the first came as request number n
+abbrev pub answers : ℕ → List JudgedWish → List Answer
 answers n [] = []
-answers n (j ∷ js) = answer_to n j ++ answers (n + 1) js
+answers n (j ∷ js) = answer_of n j ∷ answers (n + 1) js
 
 -- Replay: what was judged leads from the one ledger to the other, each turn from where the turn before left it
 abbrev pub Replays : List JudgedWish → Ledger → Ledger → Type 0

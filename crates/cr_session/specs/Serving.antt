@@ -3,10 +3,10 @@
 use Rattle.std.specs.Prelude.{◌≡◌, ◌⊎◌, ℕ, ◌+◌, ◌≤◌, length, List, [], ◌∷◌, ◌++◌, Option, Some, None, Bool}
 use Rattle.cr_base.specs.Lists.{listed}
 use Rattle.cr_ports.specs.Count.{Rises}
-use Rattle.cr_ports.specs.Stream.{and_left}
+use Rattle.cr_ports.specs.Stream.{Taken, and_left}
 use Rattle.cr_http.specs.declared.refusal.Refusal.{Refusal}
 use Rattle.cr_http.specs.Filling.{IsAtEnd, ReadsWhile}
-use Rattle.cr_http.specs.Reading.{IsUnsettled}
+use Rattle.cr_http.specs.Reading.{IsSettled, IsUnsettled}
 use Rattle.cr_http.specs.Requests.{ended_clean, ended_cut, asked, closed}
 use Rattle.cr_http.specs.ToHead.{IsToHead}
 use Rattle.cr_print.specs.Answers.{closing_text, no_memory_text}
@@ -14,36 +14,67 @@ use Rattle.cr_session.specs.declared.serve.Ending.{Ending}
 use Rattle.cr_session.specs.declared.serve.Ending.TheVariants as endings
 use Rattle.cr_session.specs.declared.serve.Why.TheVariants as whys
 use Rattle.cr_session.specs.Reading.{StandsWish, MayWantToRead}
-use Rattle.cr_session.specs.Replay.{JudgedWish, Ledger, Replays, answers, answer_to, wishes_of}
+use Rattle.cr_session.specs.Answering.{Answer, Desk, desk_of, GivesMoments, FailsBehind, GivesAnswers, AnswerFails}
+use Rattle.cr_session.specs.Answering.{ClockFails}
+use Rattle.cr_session.specs.Replay.{JudgedWish, Ledger, Replays, answers, answer_of, wishes_of}
 use Rattle.cr_session.specs.Passing.{KnownPass, TakesTurns}
 use Rattle.cr_session.specs.Turning.{MayWantMemory, TurnsInVain}
 use Rattle.cr_session.specs.Wishes.{Spells, Begins, Reaches}
-use Rattle.cr_ports.specs.Writing.{Outlet, outlet_of, Writes, BreaksOff}
+use Rattle.cr_ports.specs.Writing.{Outlet, WritesAnswers, AnswerBreaksOff}
 use Rattle.cr_wire.specs.declared.what.Wish.{Wish}
 
 -- what a connection works on: its turns, which change a state B, as what a pass knows; the source with its count of
--- faults, and the sink
+-- faults; and the sink and the clock, with which it answers
 pub record World (B S : Type 0) : Type 0 where
   pub state : B
   pub source : S
   pub read_faults : ℕ
-  pub sink : Outlet
+  pub desk : Desk
 
--- the world of a state, a source and a sink
-abbrev pub world_of : {B S O : Type 0} → (S → ℕ) → (O → Option (List ℕ)) → (O → ℕ) → B → S → O → World B S
-world_of read_faults taken write_faults state source sink = record {
+-- the world of a state, a source, a sink and a clock
+abbrev pub world_of : {B S O C : Type 0} → (S → ℕ) → (O → Option Taken) → (O → ℕ) → (C → Option (List ℕ)) → (C → ℕ) → B
+    → S → O → C → World B S
+world_of read_faults taken write_faults coming clock_faults state source sink clock = record {
   state = state;
   source = source;
   read_faults = read_faults source;
-  sink = outlet_of taken write_faults sink;
+  desk = desk_of taken write_faults coming clock_faults sink clock;
 }
+
+-- ---- answers to no wish
+
+-- the refusal of what is no request, at this moment
+abbrev pub refusal_at : Refusal → Bool → ℕ → Answer
+refusal_at why head at = record { text = closing_text why head at; at = at }
+
+-- the note that memory ran out, at this moment
+abbrev pub note_at : Bool → ℕ → Answer
+note_at head at = record { text = no_memory_text head at; at = at }
 
 -- ---- out of memory
 
--- the note of it was written behind the answers, or its write broke off
-abbrev pub TellsWantOfMemory : List ℕ → Bool → Outlet → Outlet → Type 0
-TellsWantOfMemory before head s s' =
-    Writes (before ++ no_memory_text head) s s' ⊎ BreaksOff before (no_memory_text head) s s'
+-- the note of it was written, or its write broke off
+abbrev pub WritesNote : Bool → ℕ → Outlet → Outlet → Type 0
+WritesNote head at s s' =
+    WritesAnswers (no_memory_text head at ∷ []) s s' ⊎ AnswerBreaksOff [] (no_memory_text head at) s s'
+
+-- what became of the note. Where the clock had given a moment for the request, it has that one. Where it had not, the
+-- clock was asked for it, and where it failed nothing was begun.
+abbrev pub NotesNoMemory : Option ℕ → Bool → Desk → Desk → Type 0
+NotesNoMemory (Some at) head d d' = (d'.clock ≡ d.clock) × WritesNote head at d.sink d'.sink
+NotesNoMemory None head d d' =
+    ((at : ℕ) × GivesMoments (at ∷ []) d.clock d'.clock × WritesNote head at d.sink d'.sink)
+    ⊎ (FailsBehind [] d.clock d'.clock × (d'.sink ≡ d.sink))
+
+-- the note was given behind the answers, or its write broke off
+abbrev pub GivesNote : List Answer → Bool → ℕ → Desk → Desk → Type 0
+GivesNote before head at d d' =
+    GivesAnswers (before ++ note_at head at ∷ []) d d' ⊎ AnswerFails before (note_at head at) d d'
+
+-- the note behind the answers, by the moment that the clock had given for the request, if any
+abbrev pub TellsWantOfMemory : List Answer → Option ℕ → Bool → Desk → Desk → Type 0
+TellsWantOfMemory before (Some at) head d d' = GivesNote before head at d d'
+TellsWantOfMemory before None head d d' = ((at : ℕ) × GivesNote before head at d d') ⊎ ClockFails before d d'
 
 -- ---- by the ending
 
@@ -54,6 +85,7 @@ EndsSource endings.Cut left = IsAtEnd left
 EndsSource (endings.Closed why) left = Unit {0}
 EndsSource endings.ReadFault left = Unit {0}
 EndsSource endings.WriteFault left = Unit {0}
+EndsSource endings.ClockFault left = Unit {0}
 EndsSource endings.OutOfMemory left = Unit {0}
 
 -- the source's count of faults: it rose, its last value aside, where a read failed, and stands elsewhere
@@ -63,6 +95,7 @@ CountsReads endings.Cut faults faults' = faults' ≡ faults
 CountsReads (endings.Closed why) faults faults' = faults' ≡ faults
 CountsReads endings.ReadFault faults faults' = (faults ≤ faults') × Rises faults faults'
 CountsReads endings.WriteFault faults faults' = faults' ≡ faults
+CountsReads endings.ClockFault faults faults' = faults' ≡ faults
 CountsReads endings.OutOfMemory faults faults' = faults' ≡ faults
 
 -- what the turns behind the wishes that were judged left: there are none, unless memory ran out
@@ -72,17 +105,20 @@ EndsTurns endings.Cut b b' = b' ≡ b
 EndsTurns (endings.Closed why) b b' = b' ≡ b
 EndsTurns endings.ReadFault b b' = b' ≡ b
 EndsTurns endings.WriteFault b b' = b' ≡ b
+EndsTurns endings.ClockFault b b' = b' ≡ b
 EndsTurns endings.OutOfMemory b b' = Unit {0}
 
 -- what writing a closing refusal did
-abbrev pub WritesRefusal : Ending → Refusal → Bool → Outlet → Outlet → Type 0
-WritesRefusal (endings.Closed (whys.Refused said)) why head s s' = (said ≡ why) × Writes (closing_text why head) s s'
-WritesRefusal (endings.Closed whys.Asked) why head s s' = ⊥
-WritesRefusal endings.WriteFault why head s s' = BreaksOff [] (closing_text why head) s s'
-WritesRefusal endings.Clean why head s s' = ⊥
-WritesRefusal endings.Cut why head s s' = ⊥
-WritesRefusal endings.ReadFault why head s s' = ⊥
-WritesRefusal endings.OutOfMemory why head s s' = ⊥
+abbrev pub WritesRefusal : Ending → Refusal → Bool → ℕ → Outlet → Outlet → Type 0
+WritesRefusal (endings.Closed (whys.Refused said)) why head at s s' =
+    (said ≡ why) × WritesAnswers (closing_text why head at ∷ []) s s'
+WritesRefusal (endings.Closed whys.Asked) why head at s s' = ⊥
+WritesRefusal endings.WriteFault why head at s s' = AnswerBreaksOff [] (closing_text why head at) s s'
+WritesRefusal endings.Clean why head at s s' = ⊥
+WritesRefusal endings.Cut why head at s s' = ⊥
+WritesRefusal endings.ReadFault why head at s s' = ⊥
+WritesRefusal endings.ClockFault why head at s s' = ⊥
+WritesRefusal endings.OutOfMemory why head at s s' = ⊥
 
 -- ---- nothing is read ahead
 
@@ -108,36 +144,47 @@ ReadsNoFurther left gives n answered source source' old new =
 -- Of turns on a state of the type B: these wishes were judged in turn from one state to the other, and memory
 -- ran out in the turn of this wish.
 module _ {B : Type 0} (Judges : List JudgedWish → B → B → Type 0) (Lacks : Wish → B → B → Type 0) where
-  -- memory ran out behind the answers so far: in reading what comes next, or in the turn of the wish that was read
-  abbrev pub MayLackMemory : B → B → List ℕ → Type 0
-  MayLackMemory b b' rest =
-      (MayWantToRead rest × (b' ≡ b)) ⊎ ((w : Wish) × (after : List ℕ) × StandsWish rest w after × Lacks w b b')
+  -- memory ran out in the turn of the wish that was read, whose moment this is
+  abbrev pub LacksInTurn : Option ℕ → B → B → List ℕ → Type 0
+  LacksInTurn at b b' rest =
+      (w : Wish) × (after : List ℕ) × StandsWish rest w after × (at ≡ Some w.at) × Lacks w b b'
+
+  -- memory ran out behind the answers so far, where this moment was read for the request that comes next, or none: in
+  -- reading it, or in its turn
+  abbrev pub MayLackMemory : Option ℕ → B → B → List ℕ → Type 0
+  MayLackMemory at b b' rest = (MayWantToRead at rest × (b' ≡ b)) ⊎ LacksInTurn at b b' rest
 
   -- From request number n on, where these bytes came of this text: which wishes were answered whole, which one was
-  -- judged and its answer's write failed, and what the sink took.
+  -- judged and its answer's write failed, what the sink took, and what the clock gave: each answer was begun once,
+  -- before its first byte, and has the moment that the one call of the clock gave which was made for it.
   abbrev pub EndsAs : Ending → ℕ → List ℕ → List ℕ → List JudgedWish → Option JudgedWish → B → B
-      → Outlet → Outlet → Type 0
-  EndsAs ending n came text answered (Some failed) b b' s s' =
+      → Desk → Desk → Type 0
+  EndsAs ending n came text answered (Some failed) b b' d d' =
       (ending ≡ endings.WriteFault) × Begins n text (wishes_of (answered ++ failed ∷ []))
-      × BreaksOff (answers n answered) (answer_to (n + length answered) failed) s s'
-  EndsAs endings.Clean n came text answered None b b' s s' =
-      Spells n text (wishes_of answered) ended_clean × Writes (answers n answered) s s'
-  EndsAs endings.Cut n came text answered None b b' s s' =
-      Spells n text (wishes_of answered) ended_cut × Writes (answers n answered) s s'
-  EndsAs (endings.Closed whys.Asked) n came text answered None b b' s s' =
-      Spells n text (wishes_of answered) asked × Writes (answers n answered) s s'
-  EndsAs (endings.Closed (whys.Refused why)) n came text answered None b b' s s' =
-      (head : Bool) × Spells n text (wishes_of answered) (closed why head)
-      × Writes (answers n answered ++ closing_text why head) s s'
-  EndsAs endings.ReadFault n came text answered None b b' s s' =
+      × AnswerFails (answers n answered) (answer_of (n + length answered) failed) d d'
+  EndsAs endings.Clean n came text answered None b b' d d' =
+      Spells n text (wishes_of answered) ended_clean × GivesAnswers (answers n answered) d d'
+  EndsAs endings.Cut n came text answered None b b' d d' =
+      Spells n text (wishes_of answered) ended_cut × GivesAnswers (answers n answered) d d'
+  EndsAs (endings.Closed whys.Asked) n came text answered None b b' d d' =
+      Spells n text (wishes_of answered) asked × GivesAnswers (answers n answered) d d'
+  EndsAs (endings.Closed (whys.Refused why)) n came text answered None b b' d d' =
+      (head : Bool) × (at : ℕ) × Spells n text (wishes_of answered) (closed why head)
+      × GivesAnswers (answers n answered ++ refusal_at why head at ∷ []) d d'
+  EndsAs endings.ReadFault n came text answered None b b' d d' =
       (Spells n came (wishes_of answered) ended_clean ⊎ Spells n came (wishes_of answered) ended_cut)
-      × Writes (answers n answered) s s'
-  EndsAs endings.WriteFault n came text answered None b b' s s' =
-      (why : Refusal) × (head : Bool) × Spells n text (wishes_of answered) (closed why head)
-      × BreaksOff (answers n answered) (closing_text why head) s s'
-  EndsAs endings.OutOfMemory n came text answered None b b' s s' =
-      (rest : List ℕ) × Reaches n came (wishes_of answered) rest × MayLackMemory b b' rest
-      × (head : Bool) × IsToHead rest head × TellsWantOfMemory (answers n answered) head s s'
+      × GivesAnswers (answers n answered) d d'
+  EndsAs endings.WriteFault n came text answered None b b' d d' =
+      (why : Refusal) × (head : Bool) × (at : ℕ) × Spells n text (wishes_of answered) (closed why head)
+      × AnswerFails (answers n answered) (refusal_at why head at) d d'
+  -- a whole request stands behind those that were answered, or what is none, and neither was judged nor answered
+  EndsAs endings.ClockFault n came text answered None b b' d d' =
+      (rest : List ℕ) × Reaches n came (wishes_of answered) rest × IsSettled rest
+      × ClockFails (answers n answered) d d'
+  EndsAs endings.OutOfMemory n came text answered None b b' d d' =
+      (rest : List ℕ) × Reaches n came (wishes_of answered) rest
+      × (read : Option ℕ) × MayLackMemory read b b' rest
+      × (head : Bool) × IsToHead rest head × TellsWantOfMemory (answers n answered) read head d d'
 
   -- A connection from request number n on, with these bytes in the inbox, up to its ending.
   pub record Connection {S : Type 0} (left : S → Option (List ℕ)) (gives : S → S → List ℕ → Type 0)
@@ -153,7 +200,7 @@ module _ {B : Type 0} (Judges : List JudgedWish → B → B → Type 0) (Lacks :
     pub judged : B
     pub turns : Judges (answered ++ listed failed) w.state judged
     pub settled : EndsTurns ending judged w'.state
-    pub ends : EndsAs ending n (inbox ++ got) (inbox ++ got) answered failed judged w'.state w.sink w'.sink
+    pub ends : EndsAs ending n (inbox ++ got) (inbox ++ got) answered failed judged w'.state w.desk w'.desk
     pub ended : EndsSource ending (left w'.source)
     pub counts : CountsReads ending w.read_faults w'.read_faults
     pub needed : ReadsNoFurther left gives n answered w.source w'.source inbox (inbox ++ got)
@@ -168,7 +215,7 @@ module _ {B : Type 0} (Judges : List JudgedWish → B → B → Type 0) (Lacks :
     pub counted : length answered ≡ count
     pub turns : Judges answered w.state w'.state
     pub reaches : Reaches n (inbox ++ got) (wishes_of answered) inbox'
-    pub writes : Writes (answers n answered) w.sink w'.sink
+    pub answering : GivesAnswers (answers n answered) w.desk w'.desk
     pub counts : w'.read_faults ≡ w.read_faults
     pub needed : ReadsNoFurther left gives n answered w.source w'.source inbox (inbox ++ got)
 
@@ -185,7 +232,7 @@ module _ {B : Type 0} (Judges : List JudgedWish → B → B → Type 0) (Lacks :
     pub turns : Judges (answered ++ listed failed) w.state judged
     pub settled : EndsTurns ending judged w'.state
     pub begins : Begins 0 b (wishes_of (answered ++ listed failed))
-    pub ends : EndsAs ending 0 came b answered failed judged w'.state w.sink w'.sink
+    pub ends : EndsAs ending 0 came b answered failed judged w'.state w.desk w'.desk
 
 -- ---- the turns of a pass: between them others may take theirs
 

@@ -42,29 +42,29 @@ is_unauthorized None V (Query query) = needs_login V query
 is_unauthorized None V what = wants_login what
 is_unauthorized (Some user) V what = false
 
--- how the answer to a wish is sent, where the connection closes behind it or not
+-- how the answer to a wish is sent, at the wish's moment, where the connection closes behind it or not
 abbrev pub sending_of : Wish → Bool → Sending
-sending_of w close = record { is_head = w.is_head; closes = close }
+sending_of w close = record { is_head = w.is_head; closes = close; date = w.at }
 
--- the answer's bytes to what a caller wishes who may, on her view
-abbrev pub served_to : Option ℕ → View → Sending → What → List ℕ
-served_to u V sending NoRoute = refusal_text refused.NoRoute sending
-served_to u V sending (WrongMethod resource) = refusal_text (refused.WrongMethod resource) sending
-served_to u V sending (BadBody ask) = refusal_text refused.BadBody sending
-served_to u V sending (BadQuery offset) = refusal_text (refused.BadQuery offset) sending
-served_to u V sending (Command command) = reply_text (reply_of (as_bulk (judge V (call_of u command)))) sending
-served_to u V sending (Bulk rows) = reply_text (reply_of (judge_bulk V (bulk_by (maker_of u) rows))) sending
-served_to u V sending (Query query) = reply_text (answer u V query) sending
+-- the answer's bytes to what a caller wishes at this moment who may, on her view
+abbrev pub served_to : Option ℕ → View → ℕ → Sending → What → List ℕ
+served_to u V at sending NoRoute = refusal_text refused.NoRoute sending
+served_to u V at sending (WrongMethod resource) = refusal_text (refused.WrongMethod resource) sending
+served_to u V at sending (BadBody ask) = refusal_text refused.BadBody sending
+served_to u V at sending (BadQuery offset) = refusal_text (refused.BadQuery offset) sending
+served_to u V at sending (Command command) = reply_text (reply_of (as_bulk (judge V (call_of u at command)))) sending
+served_to u V at sending (Bulk rows) = reply_text (reply_of (judge_bulk V (bulk_by (maker_of u) at rows))) sending
+served_to u V at sending (Query query) = reply_text (answer u V query) sending
 
--- the answer's bytes to what a caller wishes: whoever can't be told from nobody is answered one and the same, where a
--- login is wanted
-abbrev pub told_to : Option ℕ → View → Sending → What → List ℕ
-told_to u V sending what =
-    if is_unauthorized u V what then refusal_text refused.Unauthorized sending else served_to u V sending what
+-- the answer's bytes to what a caller wishes at this moment: whoever can't be told from nobody is answered one and the
+-- same, where a login is wanted
+abbrev pub told_to : Option ℕ → View → ℕ → Sending → What → List ℕ
+told_to u V at sending what =
+    if is_unauthorized u V what then refusal_text refused.Unauthorized sending else served_to u V at sending what
 
 -- the answer's bytes to a wish, computed from its caller's view
 unfoldable pub told : History → Wish → Bool → List ℕ
-told H w close = told_to (caller H w) (view (caller H w) H) (sending_of w close) w.what
+told H w close = told_to (caller H w) (view (caller H w) H) w.at (sending_of w close) w.what
 
 -- the answer's bytes where what the wish adds was not kept
 unfoldable pub unkept : Wish → Bool → List ℕ
@@ -77,22 +77,22 @@ abbrev pub accepted : Result Drawn Broken → Option Drawn
 accepted (Ok drawn) = Some drawn
 accepted (Err refusal) = None
 
--- what the wish of a caller who may adds, where it is a command or a bulk that Judge accepts
-abbrev pub drawn_of : Option ℕ → View → What → Option Drawn
-drawn_of u V NoRoute = None
-drawn_of u V (WrongMethod resource) = None
-drawn_of u V (BadBody ask) = None
-drawn_of u V (BadQuery offset) = None
-drawn_of u V (Command command) = accepted (as_bulk (judge V (call_of u command)))
-drawn_of u V (Bulk rows) = accepted (judge_bulk V (bulk_by (maker_of u) rows))
-drawn_of u V (Query query) = None
+-- what the wish of a caller who may adds at this moment, where it is a command or a bulk that Judge accepts
+abbrev pub drawn_of : Option ℕ → View → ℕ → What → Option Drawn
+drawn_of u V at NoRoute = None
+drawn_of u V at (WrongMethod resource) = None
+drawn_of u V at (BadBody ask) = None
+drawn_of u V at (BadQuery offset) = None
+drawn_of u V at (Command command) = accepted (as_bulk (judge V (call_of u at command)))
+drawn_of u V at (Bulk rows) = accepted (judge_bulk V (bulk_by (maker_of u) at rows))
+drawn_of u V at (Query query) = None
 
 -- what a caller's wish adds: nothing, where a login is wanted and nobody calls
-abbrev pub drawn_for : Option ℕ → View → What → Option Drawn
-drawn_for u V what = if is_unauthorized u V what then None else drawn_of u V what
+abbrev pub drawn_for : Option ℕ → View → ℕ → What → Option Drawn
+drawn_for u V at what = if is_unauthorized u V what then None else drawn_of u V at what
 
 unfoldable pub drawn : History → Wish → Option Drawn
-drawn H w = drawn_for (caller H w) (view (caller H w) H) w.what
+drawn H w = drawn_for (caller H w) (view (caller H w) H) w.at w.what
 
 -- a history, and behind it what was drawn
 abbrev pub and_drawn : History → Option Drawn → History

@@ -1,6 +1,6 @@
 -- What one turn and one request do.
 use mathlib.Core.List.{IsPrefix}
-use Rattle.std.specs.Prelude.{◌≡◌, ◌≢◌, ℕ, List, [], ◌++◌, Bool, true, false}
+use Rattle.std.specs.Prelude.{◌≡◌, ◌≢◌, ℕ, List, [], ◌∷◌, ◌++◌, Bool, true, false}
 use Rattle.std.specs.Prelude.{Option, Some, None, IsSome, Result, Ok, Err, IsOk}
 use Rattle.cr_base.specs.declared.bulk.Broken.{Broken}
 use Rattle.cr_base.specs.declared.bulk.Broken.TheVariants as broken
@@ -10,6 +10,7 @@ use Rattle.cr_base.specs.declared.reply.Reply.TheVariants as replies
 use Rattle.cr_base.specs.declared.reply.Receipt.{Receipt}
 use Rattle.cr_base.specs.declared.reply.Rule.{Rule}
 use Rattle.cr_base.specs.Calls.{call_of, bulk_by, maker_of}
+use Rattle.cr_base.specs.Moments.{IsMoment}
 use Rattle.cr_base.specs.Drawn.{Drawn}
 use Rattle.cr_policy.specs.Judge.{judge, judge_bulk, answer}
 use Rattle.cr_policy.specs.Legal.{IsBulkAllowed}
@@ -23,6 +24,7 @@ use Rattle.cr_print.specs.Answers.{IsBrief, refusal_text, receipt_text, reply_te
 use Rattle.cr_wire.specs.declared.what.What.{What}
 use Rattle.cr_wire.specs.declared.what.What.TheVariants as whats
 use Rattle.cr_wire.specs.declared.what.Wish.{Wish}
+use Rattle.cr_wire.specs.Bounds.{IsBoundedWhat}
 use Rattle.cr_wire.specs.Caller.{caller}
 use Rattle.cr_session.specs.declared.turn.TurnResult.{TurnResult}
 use Rattle.cr_session.specs.declared.turn.TurnResult.TheVariants as turns
@@ -32,10 +34,15 @@ use Rattle.cr_session.specs.Told.{sending_of, told, as_bulk, is_unauthorized, dr
 use Rattle.cr_lock.specs.Passes.{after_turn}
 use Rattle.cr_session.specs.Replay.{JudgedWish, Ledger, CountsLoss, answer_to, ledger_of}
 use Rattle.cr_session.specs.Passing.{KnownPass, TakesTurn}
-use Rattle.cr_ports.specs.Writing.{Outlet, Writes, BreaksOff}
+use Rattle.cr_ports.specs.Writing.{Outlet, WritesAnswers, AnswerBreaksOff}
 use Rattle.cr_wire.specs.Wishes.{closes}
 
 -- ---- one turn
+
+-- a wish's command is within the bounds on commands, and its moment is one
+pub record IsBoundedWish (w : Wish) : Type 0 where
+  pub what : IsBoundedWhat w.what
+  pub moment : IsMoment w.at
 
 -- the answer's bytes by what the turn came to
 abbrev pub turn_text : TurnResult → Sending → List ℕ
@@ -55,23 +62,27 @@ abbrev pub turn_block : TurnResult → Sending → List ℕ
 turn_block (turns.Answered reply) sending = block_text sending reply
 turn_block turn sending = []
 
--- memory may run out in the turn of what a caller wishes on her view: for a command or a bulk that Judge accepts, and
--- for a query that Answer doesn't refuse
-abbrev pub WantsRoom : Option ℕ → View → What → Type 0
-WantsRoom u V whats.NoRoute = ⊥
-WantsRoom u V (whats.WrongMethod resource) = ⊥
-WantsRoom u V (whats.BadBody ask) = ⊥
-WantsRoom u V (whats.BadQuery offset) = ⊥
-WantsRoom u V (whats.Command command) = IsOk (as_bulk (judge V (call_of u command)))
-WantsRoom u V (whats.Bulk rows) = IsOk (judge_bulk V (bulk_by (maker_of u) rows))
-WantsRoom u V (whats.Query query) = (rule : Rule) → answer u V query ≢ replies.Refused rule
+-- Answer doesn't refuse the query
+abbrev pub IsUnrefused : Option ℕ → View → Query → Type 0
+IsUnrefused u V query = (rule : Rule) → answer u V query ≢ replies.Refused rule
+
+-- memory may run out in the turn of what a caller wishes on her view at this moment: for a command or a bulk that Judge
+-- accepts, and for a query that Answer doesn't refuse
+abbrev pub WantsRoom : Option ℕ → View → ℕ → What → Type 0
+WantsRoom u V at whats.NoRoute = ⊥
+WantsRoom u V at (whats.WrongMethod resource) = ⊥
+WantsRoom u V at (whats.BadBody ask) = ⊥
+WantsRoom u V at (whats.BadQuery offset) = ⊥
+WantsRoom u V at (whats.Command command) = IsOk (as_bulk (judge V (call_of u at command)))
+WantsRoom u V at (whats.Bulk rows) = IsOk (judge_bulk V (bulk_by (maker_of u) at rows))
+WantsRoom u V at (whats.Query query) = IsUnrefused u V query
 
 -- and only for a caller who may
-abbrev pub MayWantFor : Option ℕ → View → What → Type 0
-MayWantFor u V what = (is_unauthorized u V what ≡ false) × WantsRoom u V what
+abbrev pub MayWantFor : Option ℕ → View → ℕ → What → Type 0
+MayWantFor u V at what = (is_unauthorized u V what ≡ false) × WantsRoom u V at what
 
 abbrev pub MayWantMemory : History → Wish → Type 0
-MayWantMemory H w = MayWantFor (caller H w) (view (caller H w) H) w.what
+MayWantMemory H w = MayWantFor (caller H w) (view (caller H w) H) w.at w.what
 
 -- a wish was judged or answered: its answer is Told's, the history is stepped on, and the keeper's count stands
 pub record AnswersWish (turn : TurnResult) (w : Wish) (b b' : Ledger) : Type 0 where
@@ -121,9 +132,9 @@ abbrev pub ChangesBook : {K : Type 0} → (K → ℕ) → TurnResult → Result 
 ChangesBook faults turn judged old new = JudgesChange turn judged (ledger_of faults old) (ledger_of faults new)
 
 -- a bulk's caller is a registered user, and it has no more rows than it may
-abbrev pub IsBulkCaller : History → Option ℕ → List BulkRow → Type 0
-IsBulkCaller H None rows = ⊥
-IsBulkCaller H (Some user) rows = IsBulkAllowed H (bulk_by user rows)
+abbrev pub IsBulkCaller : History → Option ℕ → ℕ → List BulkRow → Type 0
+IsBulkCaller H None at rows = ⊥
+IsBulkCaller H (Some user) at rows = IsBulkAllowed H (bulk_by user at rows)
 
 -- a query was answered for this caller
 abbrev pub AnswersQuery : TurnResult → Option ℕ → Query → History → Type 0
@@ -131,7 +142,7 @@ AnswersQuery (turns.Refused refused) u query H = ⊥
 AnswersQuery (turns.Accepted receipt) u query H = ⊥
 AnswersQuery (turns.Answered reply) u query H = reply ≡ answer u (view u H) query
 AnswersQuery turns.Lost u query H = ⊥
-AnswersQuery turns.OutOfMemory u query H = WantsRoom u (view u H) (whats.Query query)
+AnswersQuery turns.OutOfMemory u query H = IsUnrefused u (view u H) query
 
 -- writing what a turn came to may run out of memory only for a query's answer that is no brief one
 abbrev pub MayWantToPrint : TurnResult → Type 0
@@ -143,11 +154,11 @@ MayWantToPrint turns.OutOfMemory = ⊥
 
 -- ---- one request
 
--- what sending an answer did to the sink
+-- what sending an answer did to the sink: it was begun once, before its first byte, also where its write broke off
 abbrev pub Sends : RequestOutcome → Bool → List ℕ → Outlet → Outlet → Type 0
-Sends served.Goes close reply s s' = (close ≡ false) × Writes reply s s'
-Sends served.Closes close reply s s' = (close ≡ true) × Writes reply s s'
-Sends served.WriteFault close reply s s' = BreaksOff [] reply s s'
+Sends served.Goes close reply s s' = (close ≡ false) × WritesAnswers (reply ∷ []) s s'
+Sends served.Closes close reply s s' = (close ≡ true) × WritesAnswers (reply ∷ []) s s'
+Sends served.WriteFault close reply s s' = AnswerBreaksOff [] reply s s'
 Sends served.OutOfMemory close reply s s' = ⊥
 
 -- a wish was judged in one turn of the pass
@@ -166,11 +177,12 @@ pub record TurnsInVain (w : Wish) (p p' : KnownPass) : Type 0 where
   pub turn : p' ≡ after_turn p seen seen faults faults
 
 -- what one request did, as number n: it was judged once and answered once, or its answer's write failed, or memory was
--- wanting where it may be, and then nothing was added or written
+-- wanting where it may be, and then nothing was added, begun or written
 abbrev pub ServesRequest : RequestOutcome → ℕ → Wish → KnownPass → KnownPass → Outlet → Outlet → Type 0
 ServesRequest served.Goes n w p p' s s' =
-    (j : JudgesInTurn w p p') × (closes n w ≡ false) × Writes (answer_to n j.judged) s s'
+    (j : JudgesInTurn w p p') × (closes n w ≡ false) × WritesAnswers (answer_to n j.judged ∷ []) s s'
 ServesRequest served.Closes n w p p' s s' =
-    (j : JudgesInTurn w p p') × (closes n w ≡ true) × Writes (answer_to n j.judged) s s'
-ServesRequest served.WriteFault n w p p' s s' = (j : JudgesInTurn w p p') × BreaksOff [] (answer_to n j.judged) s s'
+    (j : JudgesInTurn w p p') × (closes n w ≡ true) × WritesAnswers (answer_to n j.judged ∷ []) s s'
+ServesRequest served.WriteFault n w p p' s s' =
+    (j : JudgesInTurn w p p') × AnswerBreaksOff [] (answer_to n j.judged) s s'
 ServesRequest served.OutOfMemory n w p p' s s' = (s' ≡ s) × TurnsInVain w p p'

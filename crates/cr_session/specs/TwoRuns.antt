@@ -1,5 +1,5 @@
--- TwoRuns: two runs that agree in what a user wishes and in what she sees at each of her wishes agree in every byte
--- that she is answered (in the manner of noninterference: Goguen and Meseguer, 1982).
+-- TwoRuns: two runs that agree in what a user wishes, and at which moments, and in what she sees at each of her wishes
+-- agree in every byte that she is answered (in the manner of noninterference: Goguen and Meseguer, 1982).
 use Rattle.std.specs.Prelude.{◌≡◌, ◌==◌, ℕ, List, [], ◌∷◌, ◌++◌, Option, Some, None, Bool, true, false}
 use Rattle.cr_base.specs.History.{History}
 use Rattle.cr_base.specs.Lists.{given}
@@ -8,7 +8,7 @@ use Rattle.cr_wire.specs.declared.what.Wish.{Wish}
 use Rattle.cr_wire.specs.Caller.{caller}
 use Rattle.cr_session.specs.Told.{told, after_wish}
 
--- a wish as its turn comes, and whether its connection closes behind it
+-- a wish as its turn comes, with the moment of its answer, and whether its connection closes behind it
 pub record WishInTurn : Type 0 where
   pub wish : Wish
   pub closes : Bool
@@ -19,8 +19,9 @@ pub record Run : Type 0 where
   pub opening : History
   pub wishes : List WishInTurn
 
--- what a user meets at a wish of hers: what she sees before it, the wish, and whether its connection closes behind it
-pub record Moment : Type 0 where
+-- what a user meets at a wish of hers: what she sees before it, the wish with its moment, and whether its connection
+-- closes behind it
+pub record Encounter : Type 0 where
   pub seen : View
   pub wish : Wish
   pub closes : Bool
@@ -37,7 +38,7 @@ abbrev pub is_hers : Option ℕ → History → Wish → Bool
 is_hers u H w = is_same u (caller H w)
 
 -- what she meets from this history on
-abbrev pub meets : Option ℕ → History → List WishInTurn → List Moment
+abbrev pub meets : Option ℕ → History → List WishInTurn → List Encounter
 meets u H [] = []
 meets u H (w ∷ ws) =
     given (is_hers u H w.wish) (record { seen = view u H; wish = w.wish; closes = w.closes })

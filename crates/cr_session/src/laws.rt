@@ -6,18 +6,18 @@ ghost use Rattle.cr_session.specs.Replay.{JudgedWish, Ledger, Replays, lost_coun
 ghost use Rattle.cr_session.specs.HiddenBytes.{HiddenBytes};
 ghost use Rattle.cr_session.specs.TwoRuns.{TwoRuns};
 
-/// Two runs that agree in a user's wishes and in what she sees at each of them agree in every byte that
-/// she is answered. A run opens with any history, and whoever else asks whatever else in it, nothing
-/// accepted is lost. The user is any, nobody among them; her wishes are those whose caller she is at
-/// their turn.
+/// Two runs that agree in a user's wishes, with their moments, and in what she sees at each of them agree in every byte
+/// that she is answered. A run opens with any history, and whoever else asks whatever else in it, at whatever moments,
+/// nothing accepted is lost. The user is any, nobody among them; her wishes are those whose caller she is at their
+/// turn.
 pub fn law_two_runs()
     ensures { TwoRuns }
 {}
 
-/// Two runs in which a user wishes the same agree in every byte that she is answered where, at each of her wishes,
-/// what was done before differs only in what she isn't shown: where the histories meet the four conditions of
-/// cr_policy's `law_hidden_payload`, or one is the other without entries that show her nothing, or they come to be
-/// alike in several such steps. Whoever else may ask whatever else.
+/// Two runs in which a user wishes the same at the same moments agree in every byte that she is answered where, at each
+/// of her wishes, what was done before differs only in what she isn't shown: where the histories meet the four
+/// conditions of cr_policy's `law_hidden_payload`, or one is the other without entries that show her nothing, or they
+/// come to be alike in several such steps. Whoever else may ask whatever else.
 pub fn law_hidden_bytes()
     ensures { HiddenBytes }
 {}

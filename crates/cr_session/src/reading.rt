@@ -1,10 +1,14 @@
 //! Reads one wish from a stream.
 ghost use Rattle.std.specs.Prelude.{◌≡◌, ◌≢◌, ◌≤◌, [], IfOk, IsSome};
 ghost use Rattle.cr_ports.specs.Count.{Rises};
-ghost use Rattle.cr_session.specs.Reading.{ReadsWish, IsBoundedRead, IsAtHand};
+ghost use Rattle.cr_base.specs.Moments.{IsMoment};
+ghost use Rattle.cr_session.specs.Answering.{clock_of};
+ghost use Rattle.cr_session.specs.Reading.{ReadsWish, ReadsClock, IsBoundedRead};
+ghost use Rattle.cr_session.specs.Reading.{IsRefusedNow, IsWishedNow, IsWishedAt};
 
+use cr_base::Moment;
 use cr_http::{Inbox, Refusal, Request, RequestRead, read_request};
-use cr_ports::Source;
+use cr_ports::{Clock, ClockStep, Source};
 use cr_routes::Routes;
 use cr_wire::{Wish, wish_of};
 use std::alloc::{AllocError, Global};
@@ -42,7 +46,7 @@ impl RoutedInbox {
 /// What was read.
 #[derive(Drop)]
 pub enum WishRead {
-    /// A whole request's wish.
+    /// A whole request's wish, with the moment of its answer.
     Wish(Wish),
     /// What stands there is no request, so the connection closes.
     Malformed {
@@ -50,6 +54,8 @@ pub enum WishRead {
         why: Refusal,
         /// Whether the refusal answers HEAD, so that it has no content.
         is_head: bool,
+        /// The moment of the refusal.
+        at: Moment,
     },
     /// The stream ended between requests.
     Clean,
@@ -57,10 +63,15 @@ pub enum WishRead {
     Cut,
     /// The source failed before a whole request was read.
     ReadFault,
+    /// A whole request stands there, or what is none, but the clock failed to give the moment of its answer.
+    ClockFault,
     /// Out of memory.
     OutOfMemory {
         /// Whether the request is one to HEAD; false where its head wasn't read so far.
         is_head: bool,
+        /// The moment that the clock gave for the request; None where memory ran out before that was whole, so that the
+        /// clock wasn't asked.
+        at: Option<Moment>,
     },
 }
 
@@ -73,35 +84,75 @@ pub enum WishRead {
 /// value, and with every other answer that count is as it was. `OutOfMemory` comes for lack of memory
 /// alone, and only where more bytes are needed, or a body or a search is looked at. Costs the reads, a few looks at
 /// each byte of the head, and one reading of a JSON body or of a search where one is wanted.
-pub fn read_wish<S: Source>(alloc: Global, source: &mut S, inbox: &mut RoutedInbox) -> WishRead
+///
+/// The clock is asked once, where a whole request or a refusal stands there, before a body or a search is looked at;
+/// elsewhere it isn't asked. `ClockFault` comes only where its count of faults rose, or stands at its last value, and
+/// with every other answer that count is as it was.
+pub fn read_wish<S: Source, C: Clock>(
+    alloc: Global,
+    source: &mut S,
+    inbox: &mut RoutedInbox,
+    clock: &mut C,
+) -> WishRead
     ensures reads { ReadsWish S.left S.read_gives source.old source.new inbox.old inbox.new result }
     ensures bounded { IsBoundedRead result }
     ensures count { S.faults source.old ≤ S.faults source.new }
     ensures fault { result ≡ WishRead.ReadFault → Rises (S.faults source.old) (S.faults source.new) }
     ensures steady { result ≢ WishRead.ReadFault → S.faults source.new ≡ S.faults source.old }
+    ensures clock { ReadsClock result (clock_of C.coming C.faults clock.old) (clock_of C.coming C.faults clock.new) }
 {
     match read_request(source, &mut inbox.requests) {
         RequestRead::Whole => {}
-        RequestRead::Refused { why, is_head } => return WishRead::Malformed { why, is_head },
+        RequestRead::Refused { why, is_head } => return refusal_now(why, is_head, clock),
         RequestRead::Clean => return WishRead::Clean,
         RequestRead::Cut => return WishRead::Cut,
         RequestRead::ReadFault => return WishRead::ReadFault,
-        RequestRead::OutOfMemory { is_head } => return WishRead::OutOfMemory { is_head },
+        RequestRead::OutOfMemory { is_head } => return WishRead::OutOfMemory { is_head, at: None },
     }
-    wish_at_hand(alloc, &inbox.routes, &inbox.requests)
+    wish_now(alloc, &inbox.routes, &inbox.requests, clock)
 }
 
-/// The wish of the request that the inbox lends.
-fn wish_at_hand(alloc: Global, routes: &Routes, requests: &Inbox) -> WishRead
-    requires { IsSome requests.now.request }
-    ensures wish { IsAtHand result requests.now.request }
+/// The refusal, at the moment that it is.
+fn refusal_now<C: Clock>(why: Refusal, is_head: bool, clock: &mut C) -> WishRead
+    ensures refusal { IsRefusedNow result why is_head }
     ensures bounded { IsBoundedRead result }
+    ensures read { result ≢ WishRead.ReadFault }
+    ensures clock { ReadsClock result (clock_of C.coming C.faults clock.old) (clock_of C.coming C.faults clock.new) }
+{
+    match clock.now() {
+        ClockStep::Now(at) => WishRead::Malformed { why, is_head, at },
+        ClockStep::Failed => WishRead::ClockFault,
+    }
+}
+
+/// The wish of the request that the inbox lends, at the moment that it is.
+fn wish_now<C: Clock>(alloc: Global, routes: &Routes, requests: &Inbox, clock: &mut C) -> WishRead
+    requires { IsSome requests.now.request }
+    ensures wish { IsWishedNow result requests.now.request }
+    ensures bounded { IsBoundedRead result }
+    ensures read { result ≢ WishRead.ReadFault }
+    ensures clock { ReadsClock result (clock_of C.coming C.faults clock.old) (clock_of C.coming C.faults clock.new) }
+{
+    match clock.now() {
+        ClockStep::Now(at) => wish_at(alloc, routes, requests, at),
+        ClockStep::Failed => WishRead::ClockFault,
+    }
+}
+
+/// The wish of the request that the inbox lends, at this moment.
+fn wish_at(alloc: Global, routes: &Routes, requests: &Inbox, at: Moment) -> WishRead
+    requires there { IsSome requests.now.request }
+    requires moment { IsMoment at }
+    ensures wish { IsWishedAt result at requests.now.request }
+    ensures bounded { IsBoundedRead result }
+    ensures read { result ≢ WishRead.ReadFault }
 {
     let Request { head, body } = requests.request();
-    match wish_of(alloc, routes, &head, body) {
+    match wish_of(alloc, routes, &head, body, at) {
         Ok(wish) => WishRead::Wish(wish),
         Err(_) => WishRead::OutOfMemory {
             is_head: head.is_head(),
+            at: Some(at),
         },
     }
 }

@@ -1,23 +1,25 @@
 //! The loop over the requests of one connection.
-ghost use Rattle.std.specs.Prelude.{◌≡◌, ◌≤◌, ◌<◌, ◌+◌, ◌-◌, ◌^◌, ◌++◌, [], List, ℕ, Some, vec_capacity};
+ghost use Rattle.std.specs.Prelude.{◌≡◌, ◌≤◌, ◌<◌, ◌+◌, ◌-◌, ◌^◌, ◌++◌, [], List, ℕ, IfOk, Some, vec_capacity};
 ghost use Rattle.cr_ports.specs.Count.{Rises};
-ghost use Rattle.cr_wire.specs.Bounds.{IsBoundedWhat};
 ghost use Rattle.cr_wire.specs.Wishes.{closes};
 ghost use Rattle.cr_session.specs.Passing.{StaysPass};
-ghost use Rattle.cr_session.specs.Serving.{ConnectionInHistory, TellsWantOfMemory};
+ghost use Rattle.cr_session.specs.Answering.{desk_of};
+ghost use Rattle.cr_session.specs.Serving.{ConnectionInHistory, NotesNoMemory, WritesNote};
 ghost use Rattle.cr_session.specs.Serving.{WritesRefusal, OneRound, WholeInHistory, world_of};
-ghost use Rattle.cr_session.specs.Turning.{Sends, ServesRequest};
+ghost use Rattle.cr_session.specs.Turning.{IsBoundedWish, Sends, ServesRequest};
 ghost use Rattle.cr_ports.specs.Writing.{outlet_of};
 
 use crate::reading::{RoutedInbox, WishRead, read_wish};
 use crate::server::Server;
 use crate::turn::{TurnResult, block_of, in_turn, print_turn};
+use cr_base::Moment;
 use cr_book::Book;
 use cr_http::Refusal;
 use cr_lock::Pass;
-use cr_ports::{Keeper, Sink, Source, write_all};
-use cr_print::{ANSWER_ROOM, Refused, Sending, no_memory_text, print_refusal};
+use cr_ports::{Clock, ClockStep, Keeper, Sink, Source, write_all, write_answer};
+use cr_print::{ANSWER_ROOM, Date, Refused, Sending, no_memory_text, print_refusal};
 use cr_wire::Wish;
+use std::alloc::{AllocError, Global};
 use std::sync::Wait;
 
 /// Why a connection was closed before its stream ended.
@@ -42,6 +44,8 @@ pub enum Ending {
     ReadFault,
     /// A write failed.
     WriteFault,
+    /// The clock failed to give the moment of an answer.
+    ClockFault,
     /// Out of memory.
     OutOfMemory,
 }
@@ -59,6 +63,46 @@ pub enum RequestOutcome {
     OutOfMemory,
 }
 
+/// What a connection works with from its first request to its last.
+#[derive(Drop)]
+struct Workspace {
+    /// What was read and not yet used.
+    inbox: RoutedInbox,
+    /// Room for an answer.
+    reply: Vec<u8>,
+    /// The date of the last answer, which serves again within its second.
+    date: Date,
+}
+
+impl Workspace {
+    /// Without a byte in its inbox; an error only for lack of memory.
+    fn new(alloc: Global) -> Result<Workspace, AllocError>
+        ensures { IfOk result (λ space. (space.inbox ≡ []) × (512 ≤ vec_capacity space.reply)) }
+    {
+        Ok(Workspace {
+            inbox: RoutedInbox::new(alloc)?,
+            reply: Vec::with_capacity(alloc, ANSWER_ROOM)?,
+            date: Date::of(Moment::epoch()),
+        })
+    }
+
+    /// How an answer of this moment is sent. Its date is the last answer's, where that is of the same second, and else
+    /// is written anew.
+    fn sending(&mut self, is_head: bool, closes: bool, at: Moment) -> Sending
+        ensures sending { result ≡ record { is_head = is_head; closes = closes; date = at } }
+        ensures kept { (self.new.inbox ≡ self.old.inbox) × (self.new.reply ≡ self.old.reply) }
+    {
+        let last = self.date;
+        let date = last.renewed(at);
+        self.date = date;
+        Sending {
+            is_head,
+            closes,
+            date,
+        }
+    }
+}
+
 /// The number of the last request that a connection may have, from 0.
 const LAST_REQUEST: usize = 1_048_575;
 
@@ -69,47 +113,46 @@ fn closes(wish: &Wish, number: usize) -> bool
     wish.asks_close || number == LAST_REQUEST
 }
 
-/// Judges one request in one turn, and writes its answer, in room that was made when the connection began.
+/// Judges one request in one turn, and writes its answer, in room that was made when the connection began, with the
+/// date of the wish's moment.
 fn serve_request<R: Wait, K: Keeper, O: Sink>(
     server: &Server<'_, R, K>,
     pass: &mut Pass<Book<K>>,
     sink: &mut O,
-    reply: &mut Vec<u8>,
+    space: &mut Workspace,
     wish: Wish,
     number: usize,
 ) -> RequestOutcome
     requires own { pass.old.lock ≡ server.now.lock.lock }
     requires few { pass.old.turns < 2 ^ 40 }
-    requires bounded { IsBoundedWhat wish.what }
-    requires room { 512 ≤ vec_capacity reply.old }
+    requires bounded { IsBoundedWish wish }
+    requires room { 512 ≤ vec_capacity space.old.reply }
     ensures serves { ServesRequest result number wish pass.old pass.new (outlet_of O.taken O.faults sink.old)
         (outlet_of O.taken O.faults sink.new) }
     ensures pass { StaysPass 1 pass.old pass.new }
-    ensures room { 512 ≤ vec_capacity reply.new }
+    ensures inbox { space.new.inbox ≡ space.old.inbox }
+    ensures room { 512 ≤ vec_capacity space.new.reply }
 {
     let close = closes(&wish, number);
-    let sending = Sending {
-        is_head: wish.is_head,
-        closes: close,
-    };
-    reply.clear();
+    let sending = space.sending(wish.is_head, close, wish.at);
+    space.reply.clear();
     let turn = in_turn(server, pass, wish);
     if let TurnResult::OutOfMemory = turn {
         return RequestOutcome::OutOfMemory;
     }
-    match print_turn(reply, &turn, sending) {
-        Ok(()) => send(sink, reply, block_of(&turn, sending), close),
+    let block = block_of(&turn, &sending);
+    match print_turn(&mut space.reply, &turn, sending) {
+        Ok(()) => send(sink, &space.reply, block, close),
         Err(_) => RequestOutcome::OutOfMemory,
     }
 }
 
-/// Writes an answer: what was printed of it, and what stands behind that, which isn't copied.
+/// Writes an answer, which begins here: what was printed of it, and what stands behind that, which isn't copied.
 fn send<O: Sink>(sink: &mut O, front: &[u8], block: &[u8], close: bool) -> RequestOutcome
     ensures { Sends result close (front.now ++ block.now) (outlet_of O.taken O.faults sink.old)
         (outlet_of O.taken O.faults sink.new) }
 {
-    sink.begin_answer();
-    match write_all(sink, front) {
+    match write_answer(sink, front) {
         Err(_) => return RequestOutcome::WriteFault,
         Ok(()) => {}
     }
@@ -120,123 +163,156 @@ fn send<O: Sink>(sink: &mut O, front: &[u8], block: &[u8], close: bool) -> Reque
     }
 }
 
-/// Writes the answer to what is no request, in room that was made when the connection began.
-fn refuse<O: Sink>(sink: &mut O, reply: &mut Vec<u8>, why: Refusal, is_head: bool) -> Ending
-    requires { 512 ≤ vec_capacity reply.old }
-    ensures refuses { WritesRefusal result why is_head (outlet_of O.taken O.faults sink.old)
+/// Writes the answer to what is no request, in room that was made when the connection began, with the date of this
+/// moment.
+fn refuse<O: Sink>(
+    sink: &mut O,
+    space: &mut Workspace,
+    why: Refusal,
+    is_head: bool,
+    at: Moment,
+) -> Ending
+    requires { 512 ≤ vec_capacity space.old.reply }
+    ensures refuses { WritesRefusal result why is_head at (outlet_of O.taken O.faults sink.old)
         (outlet_of O.taken O.faults sink.new) }
-    ensures room { 512 ≤ vec_capacity reply.new }
+    ensures room { 512 ≤ vec_capacity space.new.reply }
 {
-    reply.clear();
-    let sending = Sending {
-        is_head: is_head,
-        closes: true,
-    };
-    print_refusal(reply, Refused::Closing(why), sending);
-    sink.begin_answer();
-    match write_all(sink, reply) {
+    let sending = space.sending(is_head, true, at);
+    space.reply.clear();
+    print_refusal(&mut space.reply, Refused::Closing(why), sending);
+    match write_answer(sink, &space.reply) {
         Ok(()) => Ending::Closed(Why::Refused(why)),
         Err(_) => Ending::WriteFault,
     }
 }
 
 /// Writes that memory ran out, as far as the sink takes it, and tells that the connection ended so. Takes no memory.
-pub fn note_no_memory<O: Sink>(sink: &mut O, is_head: bool) -> Ending
-    ensures notes { TellsWantOfMemory [] is_head (outlet_of O.taken O.faults sink.old)
-        (outlet_of O.taken O.faults sink.new) }
+///
+/// The note's date is of the moment that the clock gave for the request, if it gave one. Else the clock is asked, once,
+/// and where it fails nothing is written.
+pub fn note_no_memory<O: Sink, C: Clock>(
+    sink: &mut O,
+    clock: &mut C,
+    is_head: bool,
+    at: Option<Moment>,
+) -> Ending
+    ensures notes { let desk = desk_of O.taken O.faults C.coming C.faults in
+        NotesNoMemory at is_head (desk sink.old clock.old) (desk sink.new clock.new) }
     ensures ending { result ≡ Ending.OutOfMemory }
 {
-    sink.begin_answer();
-    let _ = write_all(sink, no_memory_text(is_head));
+    match at {
+        Some(at) => write_note(sink, is_head, at),
+        None => match clock.now() {
+            ClockStep::Now(at) => write_note(sink, is_head, at),
+            ClockStep::Failed => {}
+        },
+    }
     Ending::OutOfMemory
 }
 
+/// Writes the note of missing memory with the date of this moment, as far as the sink takes it.
+fn write_note<O: Sink>(sink: &mut O, is_head: bool, at: Moment)
+    ensures { WritesNote is_head at (outlet_of O.taken O.faults sink.old) (outlet_of O.taken O.faults sink.new) }
+{
+    let _ = write_answer(sink, no_memory_text(is_head, Date::of(at)).as_slice());
+}
+
 /// Reads request number `number` and serves it; an ending where it is the last.
-fn serve_next_request<R: Wait, K: Keeper, S: Source, O: Sink>(
+fn serve_next_request<R: Wait, K: Keeper, S: Source, O: Sink, C: Clock>(
     server: &Server<'_, R, K>,
     pass: &mut Pass<Book<K>>,
     source: &mut S,
     sink: &mut O,
-    inbox: &mut RoutedInbox,
-    reply: &mut Vec<u8>,
+    clock: &mut C,
+    space: &mut Workspace,
     number: usize,
 ) -> Option<Ending>
     requires own { pass.old.lock ≡ server.now.lock.lock }
     requires few { pass.old.turns < 2 ^ 40 }
-    requires room { 512 ≤ vec_capacity reply.old }
-    ensures round { let world = world_of S.faults O.taken O.faults in
-        OneRound S.left S.read_gives result number inbox.old inbox.new (world pass.old source.old sink.old)
-        (world pass.new source.new sink.new) }
+    requires room { 512 ≤ vec_capacity space.old.reply }
+    ensures round { let world = world_of S.faults O.taken O.faults C.coming C.faults in
+        OneRound S.left S.read_gives result number space.old.inbox space.new.inbox
+        (world pass.old source.old sink.old clock.old) (world pass.new source.new sink.new clock.new) }
     ensures pass { StaysPass 1 pass.old pass.new }
-    ensures room { 512 ≤ vec_capacity reply.new }
+    ensures room { 512 ≤ vec_capacity space.new.reply }
 {
-    match read_wish(server.alloc, source, inbox) {
+    match read_wish(server.alloc, source, &mut space.inbox, clock) {
         WishRead::Wish(wish) => {
             let is_head = wish.is_head;
-            match serve_request(server, pass, sink, reply, wish, number) {
+            let at = wish.at;
+            match serve_request(server, pass, sink, space, wish, number) {
                 RequestOutcome::Goes => None,
                 RequestOutcome::Closes => Some(Ending::Closed(Why::Asked)),
                 RequestOutcome::WriteFault => Some(Ending::WriteFault),
-                RequestOutcome::OutOfMemory => Some(note_no_memory(sink, is_head)),
+                RequestOutcome::OutOfMemory => {
+                    Some(note_no_memory(sink, clock, is_head, Some(at)))
+                }
             }
         }
-        WishRead::Malformed { why, is_head } => Some(refuse(sink, reply, why, is_head)),
+        WishRead::Malformed { why, is_head, at } => Some(refuse(sink, space, why, is_head, at)),
         WishRead::Clean => Some(Ending::Clean),
         WishRead::Cut => Some(Ending::Cut),
         WishRead::ReadFault => Some(Ending::ReadFault),
-        WishRead::OutOfMemory { is_head } => Some(note_no_memory(sink, is_head)),
+        WishRead::ClockFault => Some(Ending::ClockFault),
+        WishRead::OutOfMemory { is_head, at } => Some(note_no_memory(sink, clock, is_head, at)),
     }
 }
 
 /// Serves a connection to its end: reads requests from the source, judges each in one turn of the lock, and
-/// writes each answer to the sink before the next request is read. Reading and writing are outside of the turns,
-/// in which other passes take theirs.
+/// writes each answer to the sink before the next request is read. Each answer is begun once, before its first byte,
+/// a refusal and the note of missing memory among them. Reading and writing are outside of the turns, in which other
+/// passes take theirs.
 ///
 /// Each answer is the one that is told on the history at its turn's place, which holds all that the pass had seen;
 /// what an accepted command adds stands there once. 503 comes only at a turn that is marked, for an accepted command
 /// or bulk, which then adds nothing. The pass takes one turn a request, at most 1,048,576, and no other.
 ///
+/// For each answer the clock is asked once, outside of the turns, when its request is whole or refused: that moment is
+/// the answer's date, and what an accepted command adds is of it. Where no request is answered, and for a connection
+/// that ends between requests or inside one, the clock isn't asked. A clock that goes back is no fault.
+///
 /// Each ending's cause is in the contract: `Clean`, `Cut` and `Closed` exactly by what the bytes spell,
-/// `ReadFault` and `WriteFault` only where that count of faults rose, or stands at its last value, and no
-/// count rises elsewhere. Behind an answer that couldn't be written no request is judged, and behind one
-/// that closes no byte is read.
+/// `ReadFault`, `WriteFault` and `ClockFault` only where that count of faults rose, or stands at its last value, and no
+/// count rises elsewhere, but for the clock's where it fails to give the moment of the note that memory ran out. Behind
+/// an answer that couldn't be written no request is judged, and behind one that closes no byte is read. A request for
+/// whose answer the clock failed isn't judged, and nothing is written for it.
 ///
 /// `OutOfMemory` comes for lack of memory alone. The room for answers is made at the beginning: where it
 /// can't be had, the connection ends before anything is read. Later, memory may run out for more bytes,
 /// for reading a body or a search, for an accepted command and for a query that isn't refused, and for nothing else.
-pub fn serve_connection<R: Wait, K: Keeper, S: Source, O: Sink>(
+pub fn serve_connection<R: Wait, K: Keeper, S: Source, O: Sink, C: Clock>(
     server: &Server<'_, R, K>,
     pass: &mut Pass<Book<K>>,
     source: &mut S,
     sink: &mut O,
+    clock: &mut C,
 ) -> Ending
     requires own { pass.old.lock ≡ server.now.lock.lock }
     requires few { pass.old.turns ≤ 2 ^ 40 - 2 ^ 20 }
-    ensures connection { let world = world_of S.faults O.taken O.faults in
-        ConnectionInHistory S.left S.read_gives result 0 [] (world pass.old source.old sink.old)
-        (world pass.new source.new sink.new) }
+    ensures connection { let world = world_of S.faults O.taken O.faults C.coming C.faults in
+        ConnectionInHistory S.left S.read_gives result 0 [] (world pass.old source.old sink.old clock.old)
+        (world pass.new source.new sink.new clock.new) }
 
     // The same of the whole text that the source had left.
-    ensures whole { let world = world_of S.faults O.taken O.faults in
+    ensures whole { let world = world_of S.faults O.taken O.faults C.coming C.faults in
         (b : List ℕ) → S.left source.old ≡ Some b
-        → WholeInHistory S.left result b (world pass.old source.old sink.old) (world pass.new source.new sink.new) }
+        → WholeInHistory S.left result b (world pass.old source.old sink.old clock.old)
+        (world pass.new source.new sink.new clock.new) }
 
     // The pass is of the same lock and has its share, and took at most one turn a request.
     ensures own { (pass.new.lock ≡ pass.old.lock) × (pass.new.share ≡ pass.old.share) }
     ensures turns { pass.new.turns ≤ pass.old.turns + 2 ^ 20 }
     ensures read_fault { result ≡ Ending.ReadFault → Rises (S.faults source.old) (S.faults source.new) }
     ensures write_fault { result ≡ Ending.WriteFault → Rises (O.faults sink.old) (O.faults sink.new) }
+    ensures clock_fault { result ≡ Ending.ClockFault → Rises (C.faults clock.old) (C.faults clock.new) }
 {
-    let Ok(mut inbox) = RoutedInbox::new(server.alloc) else {
-        return note_no_memory(sink, false);
-    };
-    let Ok(mut reply) = Vec::with_capacity(server.alloc, ANSWER_ROOM) else {
-        return note_no_memory(sink, false);
+    let Ok(mut space) = Workspace::new(server.alloc) else {
+        return note_no_memory(sink, clock, false, None);
     };
     let mut number = 0;
     'serving: loop {
         if let Some(ending) = serve_next_request(
-            server, pass, source, sink, &mut inbox, &mut reply, number,
+            server, pass, source, sink, clock, &mut space, number,
         ) {
             return ending;
         }

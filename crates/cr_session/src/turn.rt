@@ -1,5 +1,5 @@
 //! One turn: a wish is judged or answered by the book.
-ghost use Rattle.std.specs.Prelude.{◌≡◌, ◌≤◌, ◌<◌, ◌^◌, [], ℕ, Some, None, OnOk, OnErr, vec_capacity};
+ghost use Rattle.std.specs.Prelude.{◌≡◌, ◌≤◌, ◌<◌, ◌^◌, [], Some, None, OnOk, OnErr, vec_capacity};
 ghost use mathlib.Core.List.{IsPrefix};
 ghost use Rattle.cr_lock.specs.Passes.{after_turn};
 ghost use Rattle.cr_policy.specs.Judge.{judge, judge_bulk, needs_login};
@@ -7,15 +7,14 @@ ghost use Rattle.cr_policy.specs.Legal.{IsAllowed, IsBulkAllowed, MayAsk};
 ghost use Rattle.cr_policy.specs.View.{view};
 ghost use Rattle.cr_base.specs.Calls.{call_of, bulk_by, maker_of};
 ghost use Rattle.cr_json.specs.Put.{HasRoom};
-ghost use Rattle.cr_wire.specs.Bounds.{IsBoundedWhat};
 ghost use Rattle.cr_wire.specs.Caller.{caller};
 ghost use Rattle.cr_session.specs.Replay.{Ledger, ledger_of};
 ghost use Rattle.cr_session.specs.Told.{as_bulk, is_unauthorized};
-ghost use Rattle.cr_session.specs.Turning.{Turns, IsBulkCaller, ChangesBook, AnswersQuery};
+ghost use Rattle.cr_session.specs.Turning.{IsBoundedWish, Turns, IsBulkCaller, ChangesBook, AnswersQuery};
 ghost use Rattle.cr_session.specs.Turning.{refused_for, turn_block, turn_front, MayWantToPrint};
 
 use crate::server::Server;
-use cr_base::{Broken, BulkRows, Command, Query, Receipt, Reply, UserNo};
+use cr_base::{Broken, BulkRows, Command, Moment, Query, Receipt, Reply, UserNo};
 use cr_book::{AnswerError, Book, BookError};
 use cr_lock::Pass;
 use cr_ports::Keeper;
@@ -48,7 +47,7 @@ pub(crate) fn in_turn<R: Wait, K: Keeper>(
 ) -> TurnResult
     requires own { pass.old.lock ≡ server.now.lock.lock }
     requires few { pass.old.turns < 2 ^ 40 }
-    requires bounded { IsBoundedWhat wish.what }
+    requires bounded { IsBoundedWish wish }
     ensures { (b b' : Ledger)
         × IsPrefix pass.old.seen b.history
         × Turns result wish b b'
@@ -62,7 +61,7 @@ pub(crate) fn in_turn<R: Wait, K: Keeper>(
 /// bulk that is accepted and for a query that isn't refused, and then nothing changed. Who calls is asked first, by
 /// one look-up by name; whoever can't be told from nobody is refused alike where a login is wanted.
 pub(crate) fn take_turn<K: Keeper>(book: &mut Book<K>, wish: Wish) -> TurnResult
-    requires { IsBoundedWhat wish.what }
+    requires { IsBoundedWish wish }
     ensures { Turns result wish (ledger_of K.faults book.old) (ledger_of K.faults book.new) }
 {
     let caller = caller_of(book, &wish);
@@ -70,6 +69,7 @@ pub(crate) fn take_turn<K: Keeper>(book: &mut Book<K>, wish: Wish) -> TurnResult
         drop(wish);
         return TurnResult::Refused(Refused::Unauthorized);
     }
+    let at = wish.at;
     let what = wish.what;
     drop(wish.credentials);
     match what {
@@ -77,8 +77,8 @@ pub(crate) fn take_turn<K: Keeper>(book: &mut Book<K>, wish: Wish) -> TurnResult
         What::WrongMethod(resource) => TurnResult::Refused(Refused::WrongMethod(resource)),
         What::BadBody(_) => TurnResult::Refused(Refused::BadBody),
         What::BadQuery { offset } => TurnResult::Refused(Refused::BadQuery { offset }),
-        What::Command(command) => judge(book, &caller, command),
-        What::Bulk(rows) => judge_bulk(book, &caller, rows),
+        What::Command(command) => judge(book, &caller, command, at),
+        What::Bulk(rows) => judge_bulk(book, &caller, rows, at),
         What::Query(query) => answer(book, &caller, &query),
     }
 }
@@ -106,13 +106,18 @@ fn caller_of<K: Keeper>(book: &Book<K>, wish: &Wish) -> Option<UserNo>
     book.caller(&credentials.name, &credentials.digest)
 }
 
-/// Judges a command.
-fn judge<K: Keeper>(book: &mut Book<K>, caller: &Option<UserNo>, command: Command) -> TurnResult
-    requires { IsAllowed book.old.log (call_of caller.now command) }
+/// Judges a command of this moment.
+fn judge<K: Keeper>(
+    book: &mut Book<K>,
+    caller: &Option<UserNo>,
+    command: Command,
+    at: Moment,
+) -> TurnResult
+    requires { IsAllowed book.old.log (call_of caller.now at command) }
     ensures { ChangesBook K.faults result
-        (as_bulk (judge (view caller.now book.old.log) (call_of caller.now command))) book.old book.new }
+        (as_bulk (judge (view caller.now book.old.log) (call_of caller.now at command))) book.old book.new }
 {
-    match book.command(caller, command) {
+    match book.command(caller, command, at) {
         Ok(receipt) => TurnResult::Accepted(receipt),
         Err(BookError::Broken(rule)) => TurnResult::Refused(Refused::Rule(rule)),
         Err(BookError::KeeperFault) => TurnResult::Lost,
@@ -120,25 +125,30 @@ fn judge<K: Keeper>(book: &mut Book<K>, caller: &Option<UserNo>, command: Comman
     }
 }
 
-/// Judges a bulk, of which a registered user is the caller.
-fn judge_bulk<K: Keeper>(book: &mut Book<K>, caller: &Option<UserNo>, rows: BulkRows) -> TurnResult
-    requires { IsBulkCaller book.old.log caller.now rows }
+/// Judges a bulk of this moment, of which a registered user is the caller.
+fn judge_bulk<K: Keeper>(
+    book: &mut Book<K>,
+    caller: &Option<UserNo>,
+    rows: BulkRows,
+    at: Moment,
+) -> TurnResult
+    requires { IsBulkCaller book.old.log caller.now at rows }
     ensures { ChangesBook K.faults result
-        (judge_bulk (view caller.now book.old.log) (bulk_by (maker_of caller.now) rows)) book.old book.new }
+        (judge_bulk (view caller.now book.old.log) (bulk_by (maker_of caller.now) at rows)) book.old book.new }
 {
     match caller {
-        Some(user) => judge_rows(book, *user, rows),
+        Some(user) => judge_rows(book, *user, rows, at),
         None => unreachable!(),
     }
 }
 
-/// Judges a bulk of this user.
-fn judge_rows<K: Keeper>(book: &mut Book<K>, user: UserNo, rows: BulkRows) -> TurnResult
-    requires { IsBulkAllowed book.old.log (bulk_by user rows) }
+/// Judges a bulk of this user and this moment.
+fn judge_rows<K: Keeper>(book: &mut Book<K>, user: UserNo, rows: BulkRows, at: Moment) -> TurnResult
+    requires { IsBulkAllowed book.old.log (bulk_by user at rows) }
     ensures { ChangesBook K.faults result
-        (judge_bulk (view (Some user) book.old.log) (bulk_by user rows)) book.old book.new }
+        (judge_bulk (view (Some user) book.old.log) (bulk_by user at rows)) book.old book.new }
 {
-    match book.bulk(user, rows) {
+    match book.bulk(user, rows, at) {
         Ok(count_told) => TurnResult::Accepted(count_told),
         Err(BookError::Broken(broken)) => TurnResult::Refused(refused_for(broken)),
         Err(BookError::KeeperFault) => TurnResult::Lost,
@@ -192,8 +202,8 @@ pub(crate) fn print_turn(
 }
 
 /// What is written behind that, lent from where it is kept: a paper's content.
-pub(crate) fn block_of(turn: &TurnResult, sending: Sending) -> &[u8]
-    ensures { result.now ≡ turn_block turn.now sending }
+pub(crate) fn block_of<'a>(turn: &'a TurnResult, sending: &Sending) -> &'a [u8]
+    ensures { result.now ≡ turn_block turn.now sending.now }
 {
     match turn {
         TurnResult::Answered(reply) => block(reply, sending),

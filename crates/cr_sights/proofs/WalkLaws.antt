@@ -80,10 +80,10 @@ module _ (r : Reader) (H : History) (at : ℕ) (d : Stamped) (within : at < leng
     written = writes-append was.done line s s' s'' was.written now;
   }
 
-  pub broke_line : (s s' s'' : Outlet) → Reached r H at s s' → BreaksOff [] line s' s'' → BreaksOff [] (lines_text (sights r [] H)) s s''
+  pub broke_line : (s s' s'' : Outlet) → Reached r H at s s' → BreaksOff line s' s'' → BreaksOff (lines_text (sights r [] H)) s s''
   broke_line s s' s'' was now =
       let rest = lines_text (sights_from r H (at + 1)) in
-      subst (λ (b : List ℕ). BreaksOff [] b s s'') (sym (was.split ∙ ap (λ (b : List ℕ). was.done ++ b) lines))
+      subst (λ (b : List ℕ). BreaksOff b s s'') (sym (was.split ∙ ap (λ (b : List ℕ). was.done ++ b) lines))
       (breaks_later was.done (line ++ rest) s s' s'' was.written (breaks_sooner line rest s' s'' now))
 
 -- ---- the ends

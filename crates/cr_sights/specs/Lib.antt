@@ -1,4 +1,5 @@
 pub mod Readers
+pub mod Stamps
 pub mod SeatRows
 pub mod FormRows
 pub mod Lines

@@ -16,7 +16,7 @@ use Rattle.cr_policy.specs.Sighting.{Sighting}
 use Rattle.cr_policy.specs.View.{View}
 use Rattle.cr_json.specs.Json.{Member, bid_text, decision_text, member_of, object_text, review_kind_text, truth_text}
 
--- ---- the values of members, where names and texts are strings and numbers decimal
+-- ---- the values of members, where names and texts are strings, and numbers and moments, which are seconds, decimal
 
 -- a digest in lower-case hexadecimal digits
 abbrev pub digest_text : List ℕ → List ℕ
@@ -61,33 +61,37 @@ unfoldable pub first_members : Sighting → List Member
 first_members s =
     member_of (codes "abstract") (option_map quoted s.abstract)
     ++ member_of (codes "accepted") (option_map truth_text s.accepted)
+    ++ member_of (codes "at") (option_map decimal s.at)
     ++ member_of (codes "by") (option_map decimal (by_told s.kind s.by))
     ++ member_of (codes "bytes") (option_map content_text s.content)
-    ++ member_of (codes "confidence") (option_map decimal s.confidence)
-    ++ member_of (codes "decision") (option_map decision_text s.decision)
 
 unfoldable pub second_members : Sighting → List Member
 second_members s =
-    member_of (codes "digest") (option_map digest_text s.digest)
+    member_of (codes "confidence") (option_map decimal s.confidence)
+    ++ member_of (codes "decision") (option_map decision_text s.decision)
+    ++ member_of (codes "digest") (option_map digest_text s.digest)
     ++ member_of (codes "done") (option_map truth_text s.done)
     ++ member_of (codes "kind") (Some (quoted (kind_name s.kind)))
-    ++ member_of (codes "mine") (where_told s.mine (Some (codes "true")))
-    ++ member_of (codes "mode") (option_map mode_text s.mode)
-    ++ member_of (codes "n") (option_map decimal s.n)
 
 unfoldable pub third_members : Sighting → List Member
 third_members s =
-    member_of (codes "name") (option_map quoted s.name)
+    member_of (codes "mine") (where_told s.mine (Some (codes "true")))
+    ++ member_of (codes "mode") (option_map mode_text s.mode)
+    ++ member_of (codes "n") (option_map decimal s.n)
+    ++ member_of (codes "name") (option_map quoted s.name)
     ++ member_of (codes "on") (option_map truth_text s.on)
-    ++ member_of (codes "ordinal") (option_map decimal s.ordinal)
-    ++ member_of (codes "outcome") (option_map truth_text s.outcome)
-    ++ member_of (codes "paper") (option_map decimal s.paper)
-    ++ member_of (codes "phase") (option_map phase_text s.phase)
 
 unfoldable pub fourth_members : Sighting → List Member
 fourth_members s =
-    member_of (codes "role") (option_map role_text s.role)
-    ++ member_of (codes "score") (option_map decimal s.score)
+    member_of (codes "ordinal") (option_map decimal s.ordinal)
+    ++ member_of (codes "outcome") (option_map truth_text s.outcome)
+    ++ member_of (codes "paper") (option_map decimal s.paper)
+    ++ member_of (codes "phase") (option_map phase_text s.phase)
+    ++ member_of (codes "role") (option_map role_text s.role)
+
+unfoldable pub fifth_members : Sighting → List Member
+fifth_members s =
+    member_of (codes "score") (option_map decimal s.score)
     ++ member_of (codes "seat") (option_map review_kind_text s.review_kind)
     ++ member_of (codes "tag") (option_map quoted s.tag)
     ++ member_of (codes "text") (option_map quoted s.text)
@@ -103,7 +107,8 @@ last_members s =
     ++ member_of (codes "writer") (option_map decimal (writer_told s.kind s.by))
 
 abbrev pub sighting_members : Sighting → List Member
-sighting_members s = first_members s ++ second_members s ++ third_members s ++ fourth_members s ++ last_members s
+sighting_members s =
+    first_members s ++ second_members s ++ third_members s ++ fourth_members s ++ fifth_members s ++ last_members s
 
 unfoldable pub line_text : Sighting → List ℕ
 line_text s = object_text (sighting_members s) ++ codes "\n"

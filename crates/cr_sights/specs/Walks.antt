@@ -1,5 +1,5 @@
 -- What writing a view did to a sink.
-use Rattle.std.specs.Prelude.{◌≡◌, ℕ, List, [], ◌++◌, Result, Ok, Err}
+use Rattle.std.specs.Prelude.{◌≡◌, ℕ, List, ◌++◌, Result, Ok, Err}
 use Rattle.cr_ports.specs.Writing.{Outlet, Writes, BreaksOff}
 use Rattle.cr_sights.specs.declared.walk.ViewError.{ViewError}
 use Rattle.cr_sights.specs.declared.walk.ViewError.TheVariants.{WriteFault, OutOfMemory}
@@ -14,5 +14,5 @@ pub record StopsShort (bytes : List ℕ) (s s' : Outlet) : Type 0 where
 -- All of the bytes were written; or a part of them, behind which a write failed, or memory ran out.
 abbrev pub WritesView : Result (Unit {0}) ViewError → List ℕ → Outlet → Outlet → Type 0
 WritesView (Ok done) bytes s s' = Writes bytes s s'
-WritesView (Err WriteFault) bytes s s' = BreaksOff [] bytes s s'
+WritesView (Err WriteFault) bytes s s' = BreaksOff bytes s s'
 WritesView (Err OutOfMemory) bytes s s' = StopsShort bytes s s'

@@ -9,7 +9,7 @@ ghost use Rattle.cr_policy.specs.Triggers.{Around, none_alike};
 ghost use Rattle.cr_policy.specs.View.{sight as sight_at};
 ghost use Rattle.cr_sights.specs.Readers.{reader_in};
 
-use crate::sighting::{Sighting, blank};
+use crate::sighting::{Sighting, of_stamp};
 use cr_base::{Entry, EntryKind, Stamped, Standing, UserNo};
 use cr_view::Live;
 
@@ -72,7 +72,7 @@ pub(crate) fn decision<'a>(
     if !tells_decision(&by, is_last, accepted, mine) {
         return None;
     }
-    let mut sighting = blank(EntryKind::Decided, mine);
+    let mut sighting = of_stamp(EntryKind::Decided, reader, &stamped.stamp);
     sighting.paper = Some(*paper);
     sighting.decision = shows_decision(&by, is_last, mine).then_some(*decision);
     sighting.outcome = is_outcome(&by, is_last).then_some(true);

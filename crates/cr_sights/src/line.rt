@@ -5,7 +5,8 @@ ghost use Rattle.cr_base.specs.Lists.{listed};
 ghost use Rattle.cr_json.specs.Json.{AddsMembers};
 ghost use Rattle.cr_json.specs.Put.{Appends};
 ghost use Rattle.cr_sights.specs.Lines.{by_told, line_text, lines_text, user_told, writer_told};
-ghost use Rattle.cr_sights.specs.Lines.{first_members, second_members, third_members, fourth_members, last_members};
+ghost use Rattle.cr_sights.specs.Lines.{first_members, second_members, third_members, fourth_members};
+ghost use Rattle.cr_sights.specs.Lines.{fifth_members, last_members};
 
 use crate::members::add;
 use crate::sighting::Sighting;
@@ -43,21 +44,20 @@ fn by_told<'a>(sighting: &'a Sighting) -> Option<&'a UserNo>
     }
 }
 
-/// Writes the members up to `decision`.
+/// Writes the members up to `bytes`.
 fn add_first(object: &mut Object, into: &mut Vec<u8>, sighting: &Sighting) -> Result<(), AllocError>
     ensures { AddsMembers result into.old into.new object.old.is_first object.new.is_first
         (first_members sighting.now) }
 {
     add(object, into, "abstract", sighting.abstract_)?;
     object.truth(into, "accepted", sighting.accepted)?;
+    add(object, into, "at", sighting.at.as_ref())?;
     add(object, into, "by", by_told(sighting))?;
     add(object, into, "bytes", sighting.content)?;
-    add(object, into, "confidence", sighting.confidence.as_ref())?;
-    add(object, into, "decision", sighting.decision.as_ref())?;
     Ok(())
 }
 
-/// Writes the members from `digest` to `n`.
+/// Writes the members from `confidence` to `kind`.
 fn add_second(
     object: &mut Object,
     into: &mut Vec<u8>,
@@ -66,30 +66,28 @@ fn add_second(
     ensures { AddsMembers result into.old into.new object.old.is_first object.new.is_first
         (second_members sighting.now) }
 {
+    add(object, into, "confidence", sighting.confidence.as_ref())?;
+    add(object, into, "decision", sighting.decision.as_ref())?;
     add(object, into, "digest", sighting.digest)?;
     object.truth(into, "done", sighting.done)?;
     object.string(into, "kind", sighting.kind.name().as_bytes())?;
-    object.fixed(into, "mine", sighting.mine, "true")?;
-    add(object, into, "mode", sighting.mode.as_ref())?;
-    add(object, into, "n", sighting.n.as_ref())?;
     Ok(())
 }
 
-/// Writes the members from `name` to `phase`.
+/// Writes the members from `mine` to `on`.
 fn add_third(object: &mut Object, into: &mut Vec<u8>, sighting: &Sighting) -> Result<(), AllocError>
     ensures { AddsMembers result into.old into.new object.old.is_first object.new.is_first
         (third_members sighting.now) }
 {
+    object.fixed(into, "mine", sighting.mine, "true")?;
+    add(object, into, "mode", sighting.mode.as_ref())?;
+    add(object, into, "n", sighting.n.as_ref())?;
     add(object, into, "name", sighting.name)?;
     object.truth(into, "on", sighting.on)?;
-    add(object, into, "ordinal", sighting.ordinal.as_ref())?;
-    object.truth(into, "outcome", sighting.outcome)?;
-    add(object, into, "paper", sighting.paper.as_ref())?;
-    add(object, into, "phase", sighting.phase.as_ref())?;
     Ok(())
 }
 
-/// Writes the members from `role` to `title`.
+/// Writes the members from `ordinal` to `role`.
 fn add_fourth(
     object: &mut Object,
     into: &mut Vec<u8>,
@@ -98,7 +96,19 @@ fn add_fourth(
     ensures { AddsMembers result into.old into.new object.old.is_first object.new.is_first
         (fourth_members sighting.now) }
 {
+    add(object, into, "ordinal", sighting.ordinal.as_ref())?;
+    object.truth(into, "outcome", sighting.outcome)?;
+    add(object, into, "paper", sighting.paper.as_ref())?;
+    add(object, into, "phase", sighting.phase.as_ref())?;
     add(object, into, "role", sighting.role.as_ref())?;
+    Ok(())
+}
+
+/// Writes the members from `score` to `title`.
+fn add_fifth(object: &mut Object, into: &mut Vec<u8>, sighting: &Sighting) -> Result<(), AllocError>
+    ensures { AddsMembers result into.old into.new object.old.is_first object.new.is_first
+        (fifth_members sighting.now) }
+{
     add(object, into, "score", sighting.score.as_ref())?;
     add(object, into, "seat", sighting.review_kind.as_ref())?;
     add(object, into, "tag", sighting.tag)?;
@@ -130,6 +140,7 @@ fn append_line(into: &mut Vec<u8>, sighting: &Sighting) -> Result<(), AllocError
     add_second(&mut object, into, sighting)?;
     add_third(&mut object, into, sighting)?;
     add_fourth(&mut object, into, sighting)?;
+    add_fifth(&mut object, into, sighting)?;
     add_last(&mut object, into, sighting)?;
     object.close(into)?;
     into.push(b'\n')?;

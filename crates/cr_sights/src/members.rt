@@ -7,7 +7,8 @@ ghost use Rattle.cr_json.specs.Json.{AddsMembers, bid_text, decision_text, membe
 ghost use Rattle.cr_sights.specs.Lines.{content_text, digest_text, mode_text, phase_text, role_text};
 
 use cr_base::{
-    Bid, Blob, Decision, Digest, Grade, Kind, Mode, PaperNo, Phase, Role, Short, Tag, Text, UserNo,
+    Bid, Blob, Decision, Digest, Grade, Kind, Mode, Moment, PaperNo, Phase, Role, Short, Tag, Text,
+    UserNo,
 };
 use cr_json::Object;
 use std::alloc::AllocError;
@@ -63,6 +64,15 @@ impl Part for PaperNo {
 
     fn write(&self, object: &mut Object, into: &mut Vec<u8>, key: &str) -> Result<(), AllocError> {
         object.number(into, key, self.number())
+    }
+}
+
+/// A moment by its seconds.
+impl Part for Moment {
+    ghost text = { decimal };
+
+    fn write(&self, object: &mut Object, into: &mut Vec<u8>, key: &str) -> Result<(), AllocError> {
+        object.number(into, key, self.seconds())
     }
 }
 

@@ -12,7 +12,7 @@ ghost use Rattle.cr_policy.specs.Triggers.{standing_to, unless_anonymous, user_n
 ghost use Rattle.cr_policy.specs.View.{sight as sight_at};
 ghost use Rattle.cr_sights.specs.Readers.{reader_in};
 
-use crate::sighting::{Sighting, blank};
+use crate::sighting::{Sighting, of_stamp};
 use cr_anonymity::shows_author;
 use cr_base::{Blob, Entry, EntryKind, PaperNo, Stamped, Standing, Text, UserNo};
 use cr_view::Live;
@@ -114,7 +114,7 @@ pub(crate) fn submission<'a>(
     let mine = reader == stamped.stamp.maker;
     let by = live.standing(&Some(reader), &Some(*paper));
     let accepted = live.is_accepted(*paper);
-    let mut sighting = blank(EntryKind::Submitted, mine);
+    let mut sighting = of_stamp(EntryKind::Submitted, reader, &stamped.stamp);
     sighting.paper = Some(*paper);
     sighting.by = shows_author(&by, accepted).then_some(stamped.stamp.maker);
     sighting.title = shows_title(&by, mine, is_last, accepted).then_some(title);
@@ -137,7 +137,7 @@ pub(crate) fn coauthor<'a>(
     if !tells_coauthor(live, reader, stamped.stamp.maker, *paper) {
         return None;
     }
-    let mut sighting = blank(EntryKind::Coauthor, reader == stamped.stamp.maker);
+    let mut sighting = of_stamp(EntryKind::Coauthor, reader, &stamped.stamp);
     sighting.paper = Some(*paper);
     sighting.user = Some(*user);
     Some(sighting)
@@ -169,7 +169,7 @@ pub(crate) fn revision<'a>(
     let mine = reader == stamped.stamp.maker;
     let by = live.standing(&Some(reader), &Some(*paper));
     let accepted = live.is_accepted(*paper);
-    let mut sighting = blank(EntryKind::Revised, mine);
+    let mut sighting = of_stamp(EntryKind::Revised, reader, &stamped.stamp);
     sighting.paper = Some(*paper);
     sighting.title = shows_title(&by, mine, is_last, accepted).then_some(title);
     sighting.abstract_ = shows_abstract(&by, mine, is_last, accepted).then_some(abstract_);
@@ -198,7 +198,7 @@ pub(crate) fn upload<'a>(
     if !tells_upload(live, reader, stamped.stamp.maker, is_last, *paper) {
         return None;
     }
-    let mut sighting = blank(EntryKind::Uploaded, reader == stamped.stamp.maker);
+    let mut sighting = of_stamp(EntryKind::Uploaded, reader, &stamped.stamp);
     sighting.paper = Some(*paper);
     sighting.version = Some(*version);
     sighting.content = Some(content);
@@ -220,7 +220,7 @@ pub(crate) fn withdrawal<'a>(
     if !tells_withdrawal(live, reader, stamped.stamp.maker, *paper) {
         return None;
     }
-    let mut sighting = blank(EntryKind::Withdrawn, reader == stamped.stamp.maker);
+    let mut sighting = of_stamp(EntryKind::Withdrawn, reader, &stamped.stamp);
     sighting.paper = Some(*paper);
     Some(sighting)
 }

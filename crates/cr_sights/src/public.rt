@@ -8,7 +8,7 @@ ghost use Rattle.cr_policy.specs.Triggers.{Around};
 ghost use Rattle.cr_policy.specs.View.{sight as sight_at};
 ghost use Rattle.cr_sights.specs.Readers.{reader_in};
 
-use crate::sighting::{Sighting, blank};
+use crate::sighting::{Sighting, of_stamp};
 use cr_base::{Entry, EntryKind, Stamped, UserNo};
 
 /// What a registration shows her: the user and her name, and the digest where it is her own.
@@ -20,7 +20,7 @@ pub(crate) fn registration<'a>(reader: UserNo, stamped: &'a Stamped) -> Option<S
         return None;
     };
     let mine = reader == stamped.stamp.maker;
-    let mut sighting = blank(EntryKind::Registered, mine);
+    let mut sighting = of_stamp(EntryKind::Registered, reader, &stamped.stamp);
     sighting.user = Some(*user);
     sighting.name = Some(name);
     sighting.digest = mine.then_some(digest);
@@ -35,7 +35,7 @@ pub(crate) fn naming<'a>(reader: UserNo, stamped: &'a Stamped) -> Option<Sightin
     let Entry::Named { user, role } = &stamped.entry else {
         return None;
     };
-    let mut sighting = blank(EntryKind::Named, reader == stamped.stamp.maker);
+    let mut sighting = of_stamp(EntryKind::Named, reader, &stamped.stamp);
     sighting.user = Some(*user);
     sighting.role = Some(*role);
     Some(sighting)
@@ -49,7 +49,7 @@ pub(crate) fn phase_set<'a>(reader: UserNo, stamped: &'a Stamped) -> Option<Sigh
     let Entry::PhaseSet { phase } = &stamped.entry else {
         return None;
     };
-    let mut sighting = blank(EntryKind::PhaseSet, reader == stamped.stamp.maker);
+    let mut sighting = of_stamp(EntryKind::PhaseSet, reader, &stamped.stamp);
     sighting.phase = Some(*phase);
     Some(sighting)
 }
@@ -62,7 +62,7 @@ pub(crate) fn mode_set<'a>(reader: UserNo, stamped: &'a Stamped) -> Option<Sight
     let Entry::ModeSet { mode } = &stamped.entry else {
         return None;
     };
-    let mut sighting = blank(EntryKind::ModeSet, reader == stamped.stamp.maker);
+    let mut sighting = of_stamp(EntryKind::ModeSet, reader, &stamped.stamp);
     sighting.mode = Some(*mode);
     Some(sighting)
 }

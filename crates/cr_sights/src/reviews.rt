@@ -11,7 +11,7 @@ ghost use Rattle.cr_sights.specs.FormRows.{is_discussed_by, is_done_for, is_for_
 ghost use Rattle.cr_sights.specs.Readers.{reader_in};
 
 use crate::position::Position;
-use crate::sighting::{Sighting, blank};
+use crate::sighting::{Sighting, of_stamp};
 use cr_base::{Entry, EntryKind, Stamped, Standing, UserNo};
 use cr_view::Live;
 
@@ -95,7 +95,7 @@ pub(crate) fn review<'a>(
     }
     let all = shows_all(&by, position, mine);
     let grades = shows_grades(&by, position, mine);
-    let mut sighting = blank(EntryKind::Reviewed, mine);
+    let mut sighting = of_stamp(EntryKind::Reviewed, reader, &stamped.stamp);
     sighting.paper = Some(*paper);
     sighting.version = all.then_some(*version);
     sighting.ordinal = Some(ordinal.number());

@@ -11,7 +11,7 @@ ghost use Rattle.cr_policy.specs.View.{sight as sight_at};
 ghost use Rattle.cr_sights.specs.Readers.{reader_in};
 ghost use Rattle.cr_sights.specs.SeatRows.{AreShown, rows_with};
 
-use crate::sighting::{Sighting, blank};
+use crate::sighting::{Sighting, of_stamp};
 use cr_base::{Entry, EntryKind, Kind, Ordinal, PaperNo, Stamped, Standing, UserNo};
 use cr_view::Live;
 
@@ -115,7 +115,7 @@ pub(crate) fn assignment<'a>(
         return None;
     };
     let parts = seat_parts(live, reader, stamped.stamp.maker, *paper, *user)?;
-    let mut sighting = blank(EntryKind::Assigned, reader == stamped.stamp.maker);
+    let mut sighting = of_stamp(EntryKind::Assigned, reader, &stamped.stamp);
     sighting.paper = Some(*paper);
     sighting.user = parts.user.then_some(*user);
     sighting.review_kind = parts.kind.then_some(*kind);
@@ -141,7 +141,7 @@ pub(crate) fn unassignment<'a>(
         return None;
     };
     let parts = seat_parts(live, reader, stamped.stamp.maker, *paper, *user)?;
-    let mut sighting = blank(EntryKind::Unassigned, reader == stamped.stamp.maker);
+    let mut sighting = of_stamp(EntryKind::Unassigned, reader, &stamped.stamp);
     sighting.paper = Some(*paper);
     sighting.user = parts.user.then_some(*user);
     sighting.ordinal = parts.ordinal.then_some(ordinal.number());

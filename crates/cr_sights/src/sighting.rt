@@ -1,10 +1,10 @@
 //! What one entry shows a reader, as a value.
 ghost use Rattle.std.specs.Prelude.{◌≡◌};
-ghost use Rattle.cr_policy.specs.Sighting.{blank as blank_sighting};
+ghost use Rattle.cr_sights.specs.Stamps.{stamp_shown};
 
 use cr_base::{
-    Bid, Blob, Decision, Digest, EntryKind, Grade, Kind, Mode, PaperNo, Phase, Role, Short, Tag,
-    Text, UserNo,
+    Bid, Blob, Decision, Digest, EntryKind, Grade, Kind, Mode, Moment, PaperNo, Phase, Role, Short,
+    Stamp, Tag, Text, UserNo,
 };
 use std::marker::Model;
 
@@ -73,6 +73,8 @@ pub struct Sighting<'a> {
     pub outcome: Option<bool>,
     /// That the paper is accepted: true where it is told.
     pub accepted: Option<bool>,
+    /// The moment of its command's request, where the reader made it.
+    pub at: Option<Moment>,
 }
 
 impl<'a> Model for Sighting<'a> {
@@ -111,13 +113,15 @@ impl<'a> Model for Sighting<'a> {
       decision = s.decision;
       outcome = s.outcome;
       accepted = s.accepted;
+      at = s.at;
     } };
 }
 
-/// No part of an entry.
-pub(crate) fn blank<'a>(kind: EntryKind, mine: bool) -> Sighting<'a>
-    ensures { result ≡ record (blank_sighting kind) { mine = mine } }
+/// What an entry of this kind shows her by its stamp alone: that it is her own, where she made it, and then when.
+pub(crate) fn of_stamp<'a>(kind: EntryKind, reader: UserNo, stamp: &Stamp) -> Sighting<'a>
+    ensures { result ≡ stamp_shown reader stamp.now kind }
 {
+    let mine = reader == stamp.maker;
     Sighting {
         kind,
         mine,
@@ -148,5 +152,6 @@ pub(crate) fn blank<'a>(kind: EntryKind, mine: bool) -> Sighting<'a>
         decision: None,
         outcome: None,
         accepted: None,
+        at: mine.then_some(stamp.at),
     }
 }

@@ -10,7 +10,7 @@ ghost use Rattle.cr_policy.specs.Triggers.{Around, standing_to, user_named};
 ghost use Rattle.cr_policy.specs.View.{sight as sight_at};
 ghost use Rattle.cr_sights.specs.Readers.{reader_in};
 
-use crate::sighting::{Sighting, blank};
+use crate::sighting::{Sighting, of_stamp};
 use cr_base::{Entry, EntryKind, PaperNo, Stamped, Tag, UserNo};
 use cr_view::Live;
 
@@ -47,7 +47,7 @@ pub(crate) fn tagging<'a>(live: &Live, reader: UserNo, stamped: &'a Stamped) -> 
     if !tells_tag(live, reader, stamped.stamp.maker, *paper, tag) {
         return None;
     }
-    let mut sighting = blank(EntryKind::Tagged, reader == stamped.stamp.maker);
+    let mut sighting = of_stamp(EntryKind::Tagged, reader, &stamped.stamp);
     sighting.paper = Some(*paper);
     sighting.on = Some(*on);
     sighting.tag = Some(tag);

@@ -10,7 +10,7 @@ ghost use Rattle.cr_policy.specs.Triggers.{Around, names_writers, reads_comments
 ghost use Rattle.cr_policy.specs.View.{sight as sight_at};
 ghost use Rattle.cr_sights.specs.Readers.{reader_in};
 
-use crate::sighting::{Sighting, blank};
+use crate::sighting::{Sighting, of_stamp};
 use cr_base::{Entry, EntryKind, Ordinal, PaperNo, Stamped, Standing, Text, UserNo};
 use cr_view::Live;
 
@@ -86,7 +86,7 @@ pub(crate) fn comment<'a>(live: &Live, reader: UserNo, stamped: &'a Stamped) -> 
     }
     let mine = reader == stamped.stamp.maker;
     let label = shows_label(live, reader, stamped.stamp.maker, *paper);
-    let mut sighting = blank(EntryKind::Commented, mine);
+    let mut sighting = of_stamp(EntryKind::Commented, reader, &stamped.stamp);
     sighting.paper = Some(*paper);
     sighting.by = shows_writer(live, reader, *paper).then_some(stamped.stamp.maker);
     sighting.n = Some(*n);

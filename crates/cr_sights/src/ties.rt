@@ -9,7 +9,7 @@ ghost use Rattle.cr_policy.specs.Triggers.{Around, authors, standing_to, user_na
 ghost use Rattle.cr_policy.specs.View.{sight as sight_at};
 ghost use Rattle.cr_sights.specs.Readers.{reader_in};
 
-use crate::sighting::{Sighting, blank};
+use crate::sighting::{Sighting, of_stamp};
 use cr_base::{Bid, Entry, EntryKind, PaperNo, Stamped, Standing, UserNo};
 use cr_view::Live;
 
@@ -63,7 +63,7 @@ pub(crate) fn conflict<'a>(
     if !tells_conflict(live, reader, stamped.stamp.maker, *user, *paper) {
         return None;
     }
-    let mut sighting = blank(EntryKind::Conflict, reader == stamped.stamp.maker);
+    let mut sighting = of_stamp(EntryKind::Conflict, reader, &stamped.stamp);
     sighting.paper = Some(*paper);
     sighting.user = Some(*user);
     sighting.on = Some(*on);
@@ -83,7 +83,7 @@ pub(crate) fn bid<'a>(live: &Live, reader: UserNo, stamped: &'a Stamped) -> Opti
         return None;
     }
     let by = live.standing(&Some(reader), &Some(*paper));
-    let mut sighting = blank(EntryKind::Bid, reader == stamped.stamp.maker);
+    let mut sighting = of_stamp(EntryKind::Bid, reader, &stamped.stamp);
     sighting.paper = Some(*paper);
     sighting.by = sees_bids(&by).then_some(stamped.stamp.maker);
     sighting.value = Some(*value);

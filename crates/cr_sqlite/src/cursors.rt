@@ -68,7 +68,7 @@ fn page_from<S: Alter>(
 }
 
 /// The first place behind these rows; none where there are none.
-fn behind(rows: &[sqlite::Row]) -> Result<Option<i64>, Error> {
+pub(crate) fn behind(rows: &[sqlite::Row]) -> Result<Option<i64>, Error> {
     match rows.last() {
         Some(last) => Ok(place_of(last)?.checked_add(1)),
         None => Ok(None),

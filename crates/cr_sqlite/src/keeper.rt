@@ -7,7 +7,7 @@ use crate::cursors::Cursors;
 use crate::notices::Notices;
 use crate::reason::{Reason, StoreError};
 use crate::record::insert;
-use crate::schema::make_or_check;
+use crate::schema::bring_up_to_date;
 use crate::table::Table;
 use cr_base::Row;
 use cr_ports::{Keeper, KeeperError};
@@ -53,13 +53,13 @@ impl<S: Alter> Model for SqliteKeeper<S> {
     ghost view = { λ k. k.faults };
 }
 
-/// Makes the store's tables where the database has none, and else looks at them. The cursors, and
-/// how many rows there are.
+/// Makes the store's tables where the database has none or those of version 1, and else looks at them. The cursors,
+/// and how many rows there are.
 fn prepare<S: Alter>(
     alloc: Global,
     conn: &mut Connection<S>,
 ) -> Result<(Cursors, u64), StoreError> {
-    make_or_check(conn)?;
+    bring_up_to_date(conn)?;
     let len = count_all(conn)?;
     let cursors = Cursors::new(alloc, conn)?;
     Ok((cursors, len))
@@ -132,11 +132,11 @@ fn insert_one<S: Alter>(
 
 impl<S: Alter> SqliteKeeper<S> {
     /// A keeper of the rows that the connection's database has as a store, with no fault counted.
-    /// A database without tables becomes a store without rows, in one transaction; any other is
-    /// left as it is.
+    /// A database without tables becomes a store without rows, in one transaction, and a store of version 1 one of
+    /// version 2, in one transaction as well, which gives each row the moment 0; any other is left as it is.
     ///
     /// `Failed` comes only where `faults` rose, or stands at its last value: the database isn't a
-    /// store of version 1, or a statement failed. `OutOfMemory` comes only where it is as it was.
+    /// store of either version, or a statement failed. `OutOfMemory` comes only where it is as it was.
     /// Counts the rows; what they are is looked at as they are read. Where each of the first that
     /// many places then has one row, there is no other. Standard error is told nothing.
     pub fn adopt(

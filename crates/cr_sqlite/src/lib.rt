@@ -8,6 +8,7 @@
 mod access;
 mod cursors;
 mod keeper;
+mod migrate;
 mod notices;
 mod reason;
 mod record;

@@ -9,7 +9,7 @@ pub enum Reason {
     Database(Error),
     /// The file has other tables, or one of the store's has other columns.
     OtherTables,
-    /// The store isn't of version 1.
+    /// The version that the store says isn't that of its tables, which is 2, or 1 for tables without moments.
     OtherVersion,
     /// No row stands at this place, which is below the number of rows.
     MissingPlace(u64),
@@ -30,7 +30,7 @@ impl fmt::Display for Reason {
         match self {
             Reason::Database(error) => write!(f, "{error}"),
             Reason::OtherTables => f.write_str("the tables are not those of a store"),
-            Reason::OtherVersion => f.write_str("the store is not of version 1"),
+            Reason::OtherVersion => f.write_str("the version is not that of the tables"),
             Reason::MissingPlace(place) => write!(f, "no row stands at place {place}"),
             Reason::TakenPlace(place) => write!(f, "two rows stand at place {place}"),
             Reason::OtherTable(place) => write!(

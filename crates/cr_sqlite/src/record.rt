@@ -21,11 +21,11 @@ pub(crate) fn insert<S: Alter>(
 }
 
 /// The numbers of a row's columns; none where one is past 2^63 - 1.
-fn numbers_of(place: u64, row: &Row) -> Option<[i64; 9]> {
+fn numbers_of(place: u64, row: &Row) -> Option<[i64; 10]> {
     let unsigned = [
-        place, row.kind, row.maker, row.more, row.n1, row.n2, row.n3, row.n4, row.n5,
+        place, row.kind, row.maker, row.more, row.at, row.n1, row.n2, row.n3, row.n4, row.n5,
     ];
-    let mut numbers = [0; 9];
+    let mut numbers = [0; 10];
     for (number, from) in numbers.iter_mut().zip(unsigned) {
         *number = i64::try_from(from).ok()?;
     }
@@ -35,14 +35,16 @@ fn numbers_of(place: u64, row: &Row) -> Option<[i64; 9]> {
 fn put<S: Alter>(
     transaction: &mut Transaction<'_, S>,
     statement: &Statement,
-    n: &[i64; 9],
+    n: &[i64; 10],
     row: &Row,
 ) -> Result<usize, Error> {
     let b1 = row.b1.as_slice();
     let b2 = row.b2.as_slice();
     transaction.execute_prepared(
         statement,
-        params![n[0], n[1], n[2], n[3], n[4], n[5], n[6], n[7], n[8], b1, b2],
+        params![
+            n[0], n[1], n[2], n[3], n[4], n[5], n[6], n[7], n[8], n[9], b1, b2
+        ],
     )
 }
 
@@ -90,13 +92,14 @@ fn is_of(table: Table, kind: u64) -> bool {
 }
 
 fn fields_of(alloc: Global, row: &sqlite::Row) -> Result<Row, Error> {
-    let [kind, maker, more, n1, n2, n3, n4, n5] = numbers_in(row)?;
-    let b1 = blob_at(alloc, row, 9)?;
-    let b2 = blob_at(alloc, row, 10)?;
+    let [kind, maker, more, at, n1, n2, n3, n4, n5] = numbers_in(row)?;
+    let b1 = blob_at(alloc, row, 10)?;
+    let b2 = blob_at(alloc, row, 11)?;
     Ok(Row {
         kind,
         maker,
         more,
+        at,
         n1,
         n2,
         n3,
@@ -108,22 +111,22 @@ fn fields_of(alloc: Global, row: &sqlite::Row) -> Result<Row, Error> {
 }
 
 /// The numbers behind the place.
-fn numbers_in(row: &sqlite::Row) -> Result<[u64; 8], Error> {
-    let mut numbers = [0; 8];
-    for (number, at) in numbers.iter_mut().zip(1..9) {
-        *number = number_at(row, at)?;
+fn numbers_in(row: &sqlite::Row) -> Result<[u64; 9], Error> {
+    let mut numbers = [0; 9];
+    for (number, column) in numbers.iter_mut().zip(1..10) {
+        *number = number_at(row, column)?;
     }
     Ok(numbers)
 }
 
-fn number_at(row: &sqlite::Row, at: usize) -> Result<u64, Error> {
-    row.get(at)
+fn number_at(row: &sqlite::Row, column: usize) -> Result<u64, Error> {
+    row.get(column)
 }
 
 /// The bytes of a column, copied once.
-fn blob_at(alloc: Global, row: &sqlite::Row, at: usize) -> Result<Blob, Error> {
-    match row.get_ref(at)? {
+fn blob_at(alloc: Global, row: &sqlite::Row, column: usize) -> Result<Blob, Error> {
+    match row.get_ref(column)? {
         ValueRef::Blob(bytes) => Ok(Blob::from_slice(alloc, bytes)?),
-        other => Err(Error::InvalidColumnType(at, Type::of(other))),
+        other => Err(Error::InvalidColumnType(column, Type::of(other))),
     }
 }

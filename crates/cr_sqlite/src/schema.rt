@@ -1,42 +1,65 @@
-//! The tables of a store: made where a file has none, else looked at.
+//! The tables of a store: made where a file has none, brought to this version where they are of the first one, else
+//! looked at.
 ghost use Rattle.std.specs.Prelude.{◌≡◌, false};
 
+use crate::migrate::migrate;
 use crate::reason::{Reason, StoreError};
 use sqlite::{Alter, Connection, Error, Row, Transaction};
 
-/// The text that makes a table of rows.
+/// The text that makes a table of rows; of version 2, `$at` is the column that version 1 hasn't.
 macro_rules! table_of_rows {
-    ($name:literal) => {
+    ($name:literal, $at:literal) => {
         concat!(
             "CREATE TABLE ",
             $name,
             " (place INTEGER PRIMARY KEY, kind INTEGER NOT NULL, maker INTEGER NOT NULL, more INTEGER NOT NULL,",
+            $at,
             " n1 INTEGER NOT NULL, n2 INTEGER NOT NULL, n3 INTEGER NOT NULL, n4 INTEGER NOT NULL,",
             " n5 INTEGER NOT NULL, b1 BLOB NOT NULL, b2 BLOB NOT NULL) STRICT"
         )
     };
 }
 
+pub(crate) const PEOPLE: &str = table_of_rows!("people_v2", " at INTEGER NOT NULL,");
+
+pub(crate) const PAPERS: &str = table_of_rows!("papers_v2", " at INTEGER NOT NULL,");
+
+pub(crate) const TIES: &str = table_of_rows!("ties_v2", " at INTEGER NOT NULL,");
+
+pub(crate) const TALK: &str = table_of_rows!("talk_v2", " at INTEGER NOT NULL,");
+
+const META: &str = "CREATE TABLE meta (version INTEGER NOT NULL) STRICT";
+
 /// The texts that make the tables, by the tables' names in ascending order. A file keeps them as
 /// they were written.
-const TABLES: [&str; 5] = [
-    "CREATE TABLE meta (version INTEGER NOT NULL) STRICT",
-    table_of_rows!("papers"),
-    table_of_rows!("people"),
-    table_of_rows!("talk"),
-    table_of_rows!("ties"),
+const TABLES: [&str; 5] = [META, PAPERS, PEOPLE, TALK, TIES];
+
+/// Those of version 1, whose rows have no moment.
+const FIRST_TABLES: [&str; 5] = [
+    META,
+    table_of_rows!("papers", ""),
+    table_of_rows!("people", ""),
+    table_of_rows!("talk", ""),
+    table_of_rows!("ties", ""),
 ];
 
-/// The version of these tables.
-const VERSION: i64 = 1;
+/// The version of the tables that are made.
+const VERSION: i64 = 2;
 
-/// Makes the tables in one transaction where there are none; else tests that they are those of a
-/// store, and of this version.
-pub(crate) fn make_or_check<S: Alter>(conn: &mut Connection<S>) -> Result<(), StoreError> {
+/// The version of those without moments.
+const FIRST_VERSION: i64 = 1;
+
+/// Makes the tables in one transaction where there are none, and in one those of this version out of those of
+/// version 1; else tests that they are those of a store of this version. A database that isn't taken is as it was.
+pub(crate) fn bring_up_to_date<S: Alter>(conn: &mut Connection<S>) -> Result<(), StoreError> {
     match tables_in(conn)? {
         Found::Nothing => make(conn),
         Found::Others => Err(StoreError::Failed(Reason::OtherTables)),
-        Found::Store => check_version(conn),
+        Found::Store => check_version(conn, VERSION),
+        Found::FirstStore => {
+            check_version(conn, FIRST_VERSION)?;
+            migrate(conn)
+        }
     }
 }
 
@@ -46,29 +69,42 @@ enum Found {
     Nothing,
     /// Those of a store.
     Store,
+    /// Those of a store of version 1.
+    FirstStore,
     /// Any others.
     Others,
 }
 
 fn tables_in<S: Alter>(conn: &mut Connection<S>) -> Result<Found, Error> {
     let rows = all(conn, "SELECT sql FROM sqlite_schema ORDER BY name")?;
-    compare(rows.as_slice(), &TABLES)
+    found_in(rows.as_slice())
 }
 
-/// What tables the rows tell, whose texts are to be these.
-fn compare(rows: &[Row], texts: &[&str]) -> Result<Found, Error> {
+/// What tables the rows tell.
+fn found_in(rows: &[Row]) -> Result<Found, Error> {
     if rows.is_empty() {
         return Ok(Found::Nothing);
     }
+    if are_texts(rows, &TABLES)? {
+        return Ok(Found::Store);
+    }
+    if are_texts(rows, &FIRST_TABLES)? {
+        return Ok(Found::FirstStore);
+    }
+    Ok(Found::Others)
+}
+
+/// Whether the rows are these texts.
+fn are_texts(rows: &[Row], texts: &[&str]) -> Result<bool, Error> {
     if rows.len() != texts.len() {
-        return Ok(Found::Others);
+        return Ok(false);
     }
     for (row, text) in rows.iter().zip(texts) {
         if !is_text(row, text)? {
-            return Ok(Found::Others);
+            return Ok(false);
         }
     }
-    Ok(Found::Store)
+    Ok(true)
 }
 
 fn is_text(row: &Row, text: &str) -> Result<bool, Error> {
@@ -76,17 +112,17 @@ fn is_text(row: &Row, text: &str) -> Result<bool, Error> {
     Ok(found.as_str() == text)
 }
 
-/// Tests that the store is of this version.
-fn check_version<S: Alter>(conn: &mut Connection<S>) -> Result<(), StoreError> {
-    if has_version(conn)? {
+/// Tests that the store says this version, that of its tables.
+fn check_version<S: Alter>(conn: &mut Connection<S>, version: i64) -> Result<(), StoreError> {
+    if has_version(conn, version)? {
         return Ok(());
     }
     Err(StoreError::Failed(Reason::OtherVersion))
 }
 
-fn has_version<S: Alter>(conn: &mut Connection<S>) -> Result<bool, Error> {
+fn has_version<S: Alter>(conn: &mut Connection<S>, version: i64) -> Result<bool, Error> {
     let rows = all(conn, "SELECT version FROM meta LIMIT 2")?;
-    is_version(rows.as_slice())
+    is_version(rows.as_slice(), version)
 }
 
 /// All rows of a query.
@@ -94,13 +130,13 @@ fn all<S: Alter>(conn: &mut Connection<S>, sql: &str) -> Result<Vec<Row>, Error>
     conn.query_all(sql, &[])
 }
 
-/// Whether the rows are one, which tells the version of these tables.
-fn is_version(rows: &[Row]) -> Result<bool, Error> {
+/// Whether the rows are one, which tells this version.
+fn is_version(rows: &[Row], version: i64) -> Result<bool, Error> {
     let Some(first) = rows.first() else {
         return Ok(false);
     };
-    let version: i64 = first.get(0)?;
-    Ok(rows.len() == 1 && version == VERSION)
+    let found: i64 = first.get(0)?;
+    Ok(rows.len() == 1 && found == version)
 }
 
 /// Makes the tables, all or none of them.
@@ -125,7 +161,7 @@ fn run_all<S: Alter>(transaction: &mut Transaction<'_, S>, texts: &[&str]) -> Re
     for text in texts {
         run(transaction, text)?;
     }
-    run(transaction, "INSERT INTO meta VALUES (1)")?;
+    run(transaction, "INSERT INTO meta VALUES (2)")?;
     Ok(())
 }
 

@@ -1,5 +1,28 @@
 //! The four tables of rows.
 
+/// The text that adds a row to a table.
+macro_rules! insert {
+    ($name:literal) => {
+        concat!(
+            "INSERT INTO ",
+            $name,
+            " VALUES (?1, ?2, ?3, ?4, ?5, ?6, ?7, ?8, ?9, ?10, ?11, ?12)"
+        )
+    };
+}
+
+/// The text that reads so many rows of a table from a place on.
+macro_rules! page {
+    ($name:literal, $most:literal) => {
+        concat!(
+            "SELECT * FROM ",
+            $name,
+            " WHERE place >= ?1 ORDER BY place LIMIT ",
+            $most
+        )
+    };
+}
+
 /// A table of rows, by the kinds of entry that it has.
 #[derive(Clone, Copy, PartialEq, Eq)]
 pub(crate) enum Table {
@@ -28,32 +51,30 @@ impl Table {
     /// Adds a row: its place, then its fields in their order.
     pub fn insert(self) -> &'static str {
         match self {
-            Table::People =>
-                "INSERT INTO people VALUES (?1, ?2, ?3, ?4, ?5, ?6, ?7, ?8, ?9, ?10, ?11)",
-            Table::Papers =>
-                "INSERT INTO papers VALUES (?1, ?2, ?3, ?4, ?5, ?6, ?7, ?8, ?9, ?10, ?11)",
-            Table::Ties => "INSERT INTO ties VALUES (?1, ?2, ?3, ?4, ?5, ?6, ?7, ?8, ?9, ?10, ?11)",
-            Table::Talk => "INSERT INTO talk VALUES (?1, ?2, ?3, ?4, ?5, ?6, ?7, ?8, ?9, ?10, ?11)",
+            Table::People => insert!("people_v2"),
+            Table::Papers => insert!("papers_v2"),
+            Table::Ties => insert!("ties_v2"),
+            Table::Talk => insert!("talk_v2"),
         }
     }
 
     /// Reads a page of rows from a place on: 1,000, and 16 where contents of 4 MiB may stand.
     pub fn page(self) -> &'static str {
         match self {
-            Table::People => "SELECT * FROM people WHERE place >= ?1 ORDER BY place LIMIT 1000",
-            Table::Papers => "SELECT * FROM papers WHERE place >= ?1 ORDER BY place LIMIT 16",
-            Table::Ties => "SELECT * FROM ties WHERE place >= ?1 ORDER BY place LIMIT 1000",
-            Table::Talk => "SELECT * FROM talk WHERE place >= ?1 ORDER BY place LIMIT 1000",
+            Table::People => page!("people_v2", "1000"),
+            Table::Papers => page!("papers_v2", "16"),
+            Table::Ties => page!("ties_v2", "1000"),
+            Table::Talk => page!("talk_v2", "1000"),
         }
     }
 
     /// Counts the rows.
     pub fn count(self) -> &'static str {
         match self {
-            Table::People => "SELECT count(*) FROM people",
-            Table::Papers => "SELECT count(*) FROM papers",
-            Table::Ties => "SELECT count(*) FROM ties",
-            Table::Talk => "SELECT count(*) FROM talk",
+            Table::People => "SELECT count(*) FROM people_v2",
+            Table::Papers => "SELECT count(*) FROM papers_v2",
+            Table::Ties => "SELECT count(*) FROM ties_v2",
+            Table::Talk => "SELECT count(*) FROM talk_v2",
         }
     }
 }

@@ -1,6 +1,6 @@
 -- A part of an entry, as a user is shown it, is told or left out: so it is of each sighting of its kind.
-use Rattle.std.proofs.Common.{◌≡◌, ℕ, Bool, true, false, [], ◌∷◌, ◌++◌, ◌||◌, ◌&&◌, ◌∙◌, refl, Option, Some, append_assoc}
-use Rattle.std.specs.Prelude.{IsTrue, not}
+use Rattle.std.proofs.Common.{◌≡◌, ℕ, Bool, true, false, [], ◌∷◌, ◌++◌, ◌||◌, ◌&&◌, ◌∙◌, refl, sym, Option, Some, append_assoc}
+use Rattle.std.specs.Prelude.{IsTrue, is_some, not}
 use Rattle.std.specs.List.{AllByRecursion}
 use Rattle.std.proofs.lemmas.Bool.{true≢false}
 use Rattle.std.proofs.lemmas.List.Elements.{recursion_from_All}
@@ -17,7 +17,7 @@ use Rattle.cr_base.specs.Words.{is_chair}
 use Rattle.cr_history.specs.Invariants.{Invariants, IsInOrder, InTurn, IsByRight, IsHeld}
 use Rattle.cr_policy.specs.Legal.{Legal}
 use Rattle.cr_policy.specs.Part.{Part}
-use Rattle.cr_policy.specs.ShownTo.{is_told}
+use Rattle.cr_policy.specs.ShownTo.{is_told, where_known}
 use Rattle.cr_policy.specs.Sighting.{Sighting}
 use Rattle.cr_policy.specs.View.{View, view}
 use Rattle.cr_policy.specs.ViewFacts.{is_kind}
@@ -78,6 +78,11 @@ all-known H legal = by H (all-there H kept.in_order) (by-authors H kept.in_order
       record { there = there.0; author = author.0; settled = settled.0; chairs = chairs.0; held = held.0 },
       by G there.1 author.1 settled.1 chairs.1 held.1,
     )
+
+-- the moment is shown of one's own entry alone
+pub known-own : (own : Bool) (at : ℕ) → is_some (where_known own at) ≡ true → own ≡ true
+known-own true at shown = refl
+known-own false at shown = absurd (true≢false (sym shown))
 
 -- each part of each sighting of this kind is told or left out
 abbrev pub AllOf : EntryKind → Type 0

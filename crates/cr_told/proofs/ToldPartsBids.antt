@@ -24,7 +24,7 @@ use Rattle.cr_told.specs.ToldPages.{page_told, bids_shown_of, own_bids_shown, na
 use Rattle.cr_told.specs.ToldLists.{bids_listed}
 use Rattle.cr_told.specs.ToldParts.{has, agree, lists, is_name_of, is_told as is_part_told, is_left_untold}
 use Rattle.cr_told.proofs.ToldEach.{last-here, last-there, last-or-told, known}
-use Rattle.cr_told.proofs.ToldKnown.{AllOf, Each, all-of}
+use Rattle.cr_told.proofs.ToldKnown.{AllOf, Each, all-of, known-own}
 use Rattle.cr_told.proofs.ToldLists.{page_lists_told}
 use Rattle.cr_told.proofs.ToldNames.{swap, account-listed, named}
 use Rattle.cr_told.proofs.ToldPages.{pages_told}
@@ -178,6 +178,7 @@ module _ (u : Option ℕ) (H : History) (legal : Legal H) (before after : View) 
                 hers false not-hers =
                     third listed-bid (is_number u stamp.maker) key-same later-bid later-own (is_number u stamp.maker && not (is_eligible u paper H))
                     (λ i. mine none i && not (not-hers i))
+        bid part.at shown = known-own (is_number u stamp.maker) stamp.at shown
         bid _ shown = absurd (true≢false (sym shown))
 
 pub bid-all : AllOf kinds.Bid

@@ -29,7 +29,7 @@ use Rattle.cr_policy.proofs.StandingLaws.{papers-seen, standing_from_view}
 use Rattle.cr_told.specs.ToldPages.{page_told, is_shown_in_conflict, writers_shown, names_shown, users_shown}
 use Rattle.cr_told.specs.ToldParts.{has, lists, conflicts_given, is_name_of, is_told as is_part_told, is_left_untold}
 use Rattle.cr_told.proofs.ToldEach.{last-here, listed-here}
-use Rattle.cr_told.proofs.ToldKnown.{AllOf, Each, all-of}
+use Rattle.cr_told.proofs.ToldKnown.{AllOf, Each, all-of, known-own}
 use Rattle.cr_told.proofs.ToldLists.{me_told}
 use Rattle.cr_told.proofs.ToldNames.{swap, named, account-listed}
 use Rattle.cr_told.proofs.ToldPages.{pages_told}
@@ -172,6 +172,7 @@ module _ (u : Option ℕ) (H : History) (legal : Legal H) (before after : View) 
       conflict-all' : (what : Part) → IsTrue (has what s) → IsTrue (is_part_told u H s kinds.Conflict what || is_left_untold u H s after kinds.Conflict what)
       conflict-all' part.user shown = conflict
       conflict-all' part.on shown = conflict
+      conflict-all' part.at shown = known-own (is_number u stamp.maker) stamp.at shown
       conflict-all' _ shown = absurd (true≢false (sym shown))
 
 pub conflict-all : AllOf kinds.Conflict

@@ -31,7 +31,7 @@ use Rattle.cr_told.specs.ToldPages.{page_told, shown_by}
 use Rattle.cr_told.specs.ToldLists.{contents_of, content_answered, first_of}
 use Rattle.cr_told.specs.ToldParts.{has, agree, lists, is_told as is_part_told, is_left_untold}
 use Rattle.cr_told.proofs.ToldEach.{listed-here, known}
-use Rattle.cr_told.proofs.ToldKnown.{AllOf, Each, all-of}
+use Rattle.cr_told.proofs.ToldKnown.{AllOf, Each, all-of, known-own}
 use Rattle.cr_told.proofs.ToldLists.{contents_told}
 use Rattle.cr_told.proofs.ToldNames.{same-bytes}
 use Rattle.cr_told.proofs.ToldPages.{pages_told, abstract-some, reads_it, public}
@@ -222,6 +222,7 @@ module _ (u : Option ℕ) (H : History) (legal : Legal H) (before after : View) 
           shows =
               (λ i. only (eq-eqb paper paper refl i && is_number (where_known (told i) version) version) (listed (where_known (told i) content)))
               ∙ ap (λ b. only b (content ∷ [])) (eq-eqb version version refl)
+      uploaded part.at shown = known-own (is_number u stamp.maker) stamp.at shown
       uploaded _ shown = absurd (true≢false (sym shown))
 
 pub uploaded-all : AllOf kinds.Uploaded

@@ -26,7 +26,7 @@ use Rattle.cr_policy.proofs.ReviewTells.{written-seen}
 use Rattle.cr_told.specs.ToldPages.{shown_of, ordinal_by}
 use Rattle.cr_told.specs.ToldLists.{is_left, is_shown_done, reviewer_shown, reviewers_listed}
 use Rattle.cr_told.specs.ToldParts.{has_mark, is_taken_off, is_form_left}
-use Rattle.cr_told.proofs.ToldKnown.{AllOf, Each, all-of}
+use Rattle.cr_told.proofs.ToldKnown.{AllOf, Each, all-of, known-own}
 use Rattle.cr_told.proofs.ToldLists.{leads-serves, page_lists_told}
 use Rattle.cr_told.proofs.ToldPlaces.{reviewing-begun}
 use Rattle.cr_told.proofs.ToldReports.{written}
@@ -511,6 +511,7 @@ module _ (u : Option ℕ) (H : History) (legal : Legal H) (before after : View) 
               second (has_line u H s (λ l. true)) (has_mark u H s) (is_form_left u H s after) (is_taken_off u H s)
               (mark
               (counted (reads_form u H earlier later stamp.maker paper o) (administers u paper H) (not (is_reviewed paper o earlier)) (learns_form u H later paper o) told none))
+      reviewed part.at shown = known-own (is_number u stamp.maker) stamp.at shown
       reviewed _ shown = absurd (true≢false (sym shown))
 
 pub reviewed-all : AllOf kinds.Reviewed

@@ -32,7 +32,7 @@ use Rattle.cr_told.specs.ToldPages.{shown_on, writers_shown, writer_by, page_tol
 use Rattle.cr_told.specs.ToldParts.{is_name_of, has, accounts_answered, accounts_given, agree, lists, same_mode, same_role, is_told as is_part_told, is_left_untold}
 use Rattle.cr_told.specs.ToldPublic.{account_shown, all_shown}
 use Rattle.cr_told.proofs.ToldEach.{last-told, last-or-told, listed-here, known}
-use Rattle.cr_told.proofs.ToldKnown.{AllOf, Each, all-of}
+use Rattle.cr_told.proofs.ToldKnown.{AllOf, Each, all-of, known-own}
 use Rattle.cr_told.proofs.ToldNames.{role-seen, same-bytes, swap, account-listed, some-named}
 use Rattle.cr_told.proofs.ToldPages.{pages_told}
 use Rattle.cr_told.proofs.ToldPublic as conference
@@ -84,6 +84,7 @@ module _ (u : Option ℕ) (H : History) (legal : Legal H) (before after : View) 
         (shown_to u H earlier later stamp (Registered user name digest)) is
         ((λ i. (eq-eqb user user refl i && same-bytes name i) || false)))
     registered user name digest part.digest is shown = refl
+    registered user name digest part.at is shown = known-own (is_number u stamp.maker) stamp.at shown
     registered user name digest _ is shown = absurd (true≢false (sym shown))
 
     phase-set : (phase : Phase) (what : Part) → Whole what (shown_to u H earlier later stamp (PhaseSet phase))
@@ -91,6 +92,7 @@ module _ (u : Option ℕ) (H : History) (legal : Legal H) (before after : View) 
         last-or-told is_phase (λ (s : Sighting). listed s.phase) before after
         (shown_to u H earlier later stamp (PhaseSet phase)) phase Setup (eq-eqb (phase_rank phase) (phase_rank phase) refl) refl (phase_in_view V)
         (ap (last_or Setup) (conference.phases u H) ∙ ap (λ (W : View). last_or Setup (all_shown (λ (s : Sighting). s.phase) W)) is)
+    phase-set phase part.at is shown = known-own (is_number u stamp.maker) stamp.at shown
     phase-set phase _ is shown = absurd (true≢false (sym shown))
 
     mode-set : (mode : Mode) (what : Part) → Whole what (shown_to u H earlier later stamp (ModeSet mode))
@@ -98,6 +100,7 @@ module _ (u : Option ℕ) (H : History) (legal : Legal H) (before after : View) 
         last-or-told same_mode (λ (s : Sighting). listed s.mode) before after
         (shown_to u H earlier later stamp (ModeSet mode)) mode Blind (eq-eqb (mode_number mode) (mode_number mode) refl) refl (mode_in_view V)
         (ap (last_or Blind) (conference.modes u H) ∙ ap (λ (W : View). last_or Blind (all_shown (λ (s : Sighting). s.mode) W)) is)
+    mode-set mode part.at is shown = known-own (is_number u stamp.maker) stamp.at shown
     mode-set mode _ is shown = absurd (true≢false (sym shown))
 
     named-to : (user : ℕ) (role : Role) (what : Part) → IsRegistered H user → Whole what (shown_to u H earlier later stamp (Named user role))
@@ -122,6 +125,7 @@ module _ (u : Option ℕ) (H : History) (legal : Legal H) (before after : View) 
             (account-listed u H user there (λ line. eqb user line.user && same_role role line.role) true
             (λ r same. (λ i. (swap r.user user ∙ same) i && same_role role (role_of (Some (eqb-true r.user user same i)) H)) ∙ h) refl)
         by false h either = or_right (lists (accounts_given u H) (λ line. eqb user line.user && same_role role line.role)) (not (is_nothing (flat_map f after))) either
+    named-to user role part.at there is shown = known-own (is_number u stamp.maker) stamp.at shown
     named-to user role _ there is shown = absurd (true≢false (sym shown))
 
     submitted : (paper : ℕ) (title abstract : List ℕ) (what : Part) → IsSubmitted H paper → IsRegistered H stamp.maker
@@ -140,6 +144,7 @@ module _ (u : Option ℕ) (H : History) (legal : Legal H) (before after : View) 
     submitted paper title abstract part.abstract there registered is shown =
         text-told paper (λ (s : Sighting). s.abstract) (shown_to u H earlier later stamp (Submitted paper title abstract)) abstract is refl (known _ abstract shown) _
         (pages_told u paper H legal there).abstract_
+    submitted paper title abstract part.at there registered is shown = known-own (is_number u stamp.maker) stamp.at shown
     submitted paper title abstract _ there registered is shown = absurd (true≢false (sym shown))
 
     revised : (paper : ℕ) (title abstract : List ℕ) (what : Part) → IsSubmitted H paper → Whole what (shown_to u H earlier later stamp (Revised paper title abstract))
@@ -149,12 +154,14 @@ module _ (u : Option ℕ) (H : History) (legal : Legal H) (before after : View) 
     revised paper title abstract part.abstract there is shown =
         text-told paper (λ (s : Sighting). s.abstract) (shown_to u H earlier later stamp (Revised paper title abstract)) abstract is refl (known _ abstract shown) _
         (pages_told u paper H legal there).abstract_
+    revised paper title abstract part.at there is shown = known-own (is_number u stamp.maker) stamp.at shown
     revised paper title abstract _ there is shown = absurd (true≢false (sym shown))
 
     coauthor : (paper user : ℕ) (what : Part) → IsSubmitted H paper → IsRegistered H user → Whole what (shown_to u H earlier later stamp (Coauthor paper user))
     coauthor paper user part.user there registered is shown =
         or_left _ false
         (author-told paper user (shown_to u H earlier later stamp (Coauthor paper user)) is there registered (ap (λ b. only b (user ∷ [])) (eq-eqb paper paper refl)))
+    coauthor paper user part.at there registered is shown = known-own (is_number u stamp.maker) stamp.at shown
     coauthor paper user _ there registered is shown = absurd (true≢false (sym shown))
 
 -- ---- the kinds
@@ -225,5 +232,6 @@ withdrawn-all = all-of kinds.Withdrawn each
             → (is_part_told u H (shown_to u H earlier later stamp (Withdrawn paper)) kinds.Withdrawn what
             || is_left_untold u H (shown_to u H earlier later stamp (Withdrawn paper)) after kinds.Withdrawn what) ≡ true
         none part.user shown = absurd (true≢false (sym shown))
+        none part.at shown = known-own (is_number u stamp.maker) stamp.at shown
         none _ shown = absurd (true≢false (sym shown))
     each u H legal before after what earlier later stamp more e whole there told is kind shown = absurd (true≢false (sym kind))

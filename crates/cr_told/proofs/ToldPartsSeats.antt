@@ -33,7 +33,7 @@ use Rattle.cr_told.specs.ToldPages.{page_told, label_shown_of, shown_of, shown_b
 use Rattle.cr_told.specs.ToldLists.{is_left, knows_reviewers, reviewer_shown, reviewers_listed, name_shown}
 use Rattle.cr_told.specs.ToldParts.{has, agree, lists, same_kind, assigned_given, is_taken_off, is_told as is_part_told, is_left_untold}
 use Rattle.cr_told.proofs.ToldEach.{last-here, last-or-told, listed-here, known}
-use Rattle.cr_told.proofs.ToldKnown.{AllOf, Each, all-of}
+use Rattle.cr_told.proofs.ToldKnown.{AllOf, Each, all-of, known-own}
 use Rattle.cr_told.proofs.ToldLists.{leads-serves, me_told, page_lists_told}
 use Rattle.cr_told.proofs.ToldNames.{swap, name-is}
 use Rattle.cr_told.proofs.ToldPages.{pages_told}
@@ -269,6 +269,7 @@ module _ (u : Option ℕ) (H : History) (legal : Legal H) (before after : View) 
           by true stays false e false f =
               other lined (is_user u s.user && lists (assigned_given u H) (eqb paper)) (is_taken_off u H s) (is_user u s.user && again) (is_user u s.user)
               m n onc begun c lead past a hides shown-to e f hs hl own
+      assigned part.at shown = known-own (is_number u stamp.maker) stamp.at shown
       assigned _ shown = absurd (true≢false (sym shown))
 
   module _ (earlier later : History) (stamp : Stamp) (more : Bool) (paper user : ℕ) (o : ℕ) (there : IsSubmitted H paper)
@@ -322,6 +323,7 @@ module _ (u : Option ℕ) (H : History) (legal : Legal H) (before after : View) 
               ∙ other (is_some (page_told (λ page. page.reviewers) u paper H) && not (lists (page_told (λ page. page.reviewers) u paper H) (λ r. eqb o r.label)))
               (is_number u stamp.maker) (is_number u user) onc begun (has_conflict u paper H) lead (is_past_reviewing (phase_of H)) (is_answered u paper H)
               (discusses u paper H && not (hides_reviewers (mode_of H))) told none hs (leads-serves (role_of u H)) own
+      unassigned part.at shown = known-own (is_number u stamp.maker) stamp.at shown
       unassigned _ shown = absurd (true≢false (sym shown))
 
 pub assigned-all : AllOf kinds.Assigned

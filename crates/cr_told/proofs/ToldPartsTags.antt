@@ -28,7 +28,7 @@ use Rattle.cr_policy.specs.ViewFacts.{only, is_kind, tag_shown, tag_seen, tags_i
 use Rattle.cr_policy.proofs.BoundsWalk.{shown_to}
 use Rattle.cr_told.specs.ToldPages.{page_told}
 use Rattle.cr_told.specs.ToldParts.{has, agree, lists, is_told as is_part_told, is_left_untold}
-use Rattle.cr_told.proofs.ToldKnown.{AllOf, Each, all-of}
+use Rattle.cr_told.proofs.ToldKnown.{AllOf, Each, all-of, known-own}
 use Rattle.cr_told.proofs.ToldLists.{page_lists_told}
 use Rattle.cr_told.proofs.ToldNames.{same-bytes}
 use Rattle.cr_told.proofs.ToldPlaces.{own-so, number-is}
@@ -304,6 +304,7 @@ module _ (u : Option ℕ) (H : History) (legal : Legal H) (before after : View) 
       tagged-all' : (what : Part) → IsTrue (has what s) → IsTrue (is_part_told u H s kinds.Tagged what || is_left_untold u H s after kinds.Tagged what)
       tagged-all' part.tag shown = tagged
       tagged-all' part.on shown = tagged
+      tagged-all' part.at shown = known-own (is_number u stamp.maker) stamp.at shown
       tagged-all' _ shown = absurd (true≢false (sym shown))
 
 pub tagged-all : AllOf kinds.Tagged

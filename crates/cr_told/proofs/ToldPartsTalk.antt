@@ -39,7 +39,7 @@ use Rattle.cr_told.specs.ToldLists.{comment_shown_by, comments_listed, name_show
 use Rattle.cr_told.specs.ToldPlaces.{has_key}
 use Rattle.cr_told.specs.ToldParts.{has, agree, lists, same_decision, comments_given, is_told as is_part_told, is_left_untold}
 use Rattle.cr_told.proofs.ToldEach.{last-here, last-told, listed-here, known}
-use Rattle.cr_told.proofs.ToldKnown.{AllOf, Each, all-of}
+use Rattle.cr_told.proofs.ToldKnown.{AllOf, Each, all-of, known-own}
 use Rattle.cr_told.proofs.ToldLists.{comments_told}
 use Rattle.cr_told.proofs.ToldNames.{same-bytes, swap, name-is}
 use Rattle.cr_told.proofs.ToldPages.{pages_told, programme}
@@ -149,6 +149,7 @@ module _ (u : Option ℕ) (H : History) (legal : Legal H) (before after : View) 
                 ap (λ b. (eqb n n && agree nat_eq s.ordinal (if b then None else label_shown s.ordinal)) || false) none
                 ∙ (λ i. (eq-eqb n n refl i && agree nat_eq (known _ o shown i) (labelled none label i)) || false)
                 ∙ ap (λ b. b || false) (eq-eqb o o refl))
+        commented part.at shown = known-own (is_number u stamp.maker) stamp.at shown
         commented _ shown = absurd (true≢false (sym shown))
 
     module _ (paper : ℕ) (decision : Decision) (there : IsSubmitted H paper) (begun : is_from Discussion (phase_of H) ≡ true)
@@ -267,6 +268,7 @@ module _ (u : Option ℕ) (H : History) (legal : Legal H) (before after : View) 
                 marked false unmarked =
                     second _ again other left
                     ((λ i. (accepted-is ∙ e) i && not (is_some (where_known (unmarked i) true))))
+        decided part.at shown = known-own (is_number u stamp.maker) stamp.at shown
         decided _ shown = absurd (true≢false (sym shown))
 
 pub commented-all : AllOf kinds.Commented

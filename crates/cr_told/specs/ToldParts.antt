@@ -70,6 +70,7 @@ has part.tag s = is_some s.tag
 has part.decision s = is_some s.decision
 has part.outcome s = is_some s.outcome
 has part.accepted s = is_some s.accepted
+has part.at s = is_some s.at
 
 -- ---- when an answer tells a part
 
@@ -293,7 +294,7 @@ is_tag_left u H s after =
 -- anew, and what she is to the paper, before the discussion; her conflict with a paper of her own; the label with a
 -- comment whose writer is named, and that she has none; a decision before the one by which the paper was accepted; and
 -- the reader's own entries on a paper that she isn't eligible for, and being assigned to it, since she came into
--- conflict with it
+-- conflict with it; and when she made her own entries
 abbrev pub is_left_untold : Option ℕ → History → Sighting → View → EntryKind → Part → Bool
 is_left_untold u H s after kinds.Registered part.digest = true
 is_left_untold u H s after kinds.Named part.role = not (is_nothing (roles_shown s.user after))
@@ -334,6 +335,7 @@ is_left_untold u H s after kinds.Decided part.decision =
     is_again (λ (t : Sighting). t.decision) s after
     || (is_shown_accepted (paper_of s) (view u H) && not (is_some s.accepted))
     || is_left_behind u (paper_of s) H s
+is_left_untold u H s after _ part.at = s.mine
 is_left_untold u H s after _ _ = false
 
 -- ---- all of it

@@ -13,10 +13,10 @@ use Rattle.cr_wire.specs.declared.what.Wish.{Wish}
 use Rattle.cr_session.specs.declared.serve.Ending.{Ending}
 use Rattle.cr_session.specs.declared.serve.Ending.TheVariants as endings
 use Rattle.cr_session.specs.declared.serve.Why.TheVariants as whys
+use Rattle.cr_session.specs.Answering.{Answer, Desk, GivesAnswers}
 use Rattle.cr_session.specs.Told.{told, after_wish}
 use Rattle.cr_session.specs.Replay.{JudgedWish, Ledger, Turned, Replays, wishes_of, answers, answer_to, history_after, lost_count}
 use Rattle.cr_session.specs.Wishes.{Spells}
-use Rattle.cr_ports.specs.Writing.{Outlet, Writes}
 use Rattle.cr_wire.specs.Wishes.{closes}
 use Rattle.cr_session.specs.Serving.{EndsAs, CountsReads, StaysInVain}
 use Rattle.cr_session.proofs.Turns.{counted}
@@ -25,7 +25,7 @@ use Rattle.cr_top.specs.declared.exit.Exit.{Exit}
 use Rattle.cr_top.specs.declared.exit.Exit.TheVariants as exits
 use Rattle.cr_top.specs.Exits.{exit_of}
 use Rattle.cr_top.specs.Replayed.{told_along, steps_along, last_words, exit_at}
-use Rattle.cr_top.specs.Runs.{Outside, Pipes, IsFaultless, AnswersAll, world}
+use Rattle.cr_top.specs.Runs.{Outside, Pipes, IsFaultless, AnswersAll, desk, world}
 
 -- ---- nothing lost: Replay is Told along Step
 
@@ -50,8 +50,9 @@ pub answers-told : (n : ℕ) (b b' : Ledger) (judged : List JudgedWish) → Repl
 answers-told n b b' [] r none = refl
 answers-told n b b' (j ∷ js) r none =
     let zero = is_zero j.lost (lost_count js) none in
-    ap (λ (text : List ℕ). text ++ answers (n + 1) js) (answer_to-told n j zero.0 ∙ ap (λ (h : History). told h j.wish (closes n j.wish)) r.1.seen)
-    ∙ ap (λ (texts : List ℕ). told b.history j.wish (closes n j.wish) ++ texts)
+    ap (λ (text : List ℕ). record { text = text; at = j.wish.at } ∷ answers (n + 1) js)
+    (answer_to-told n j zero.0 ∙ ap (λ (h : History). told h j.wish (closes n j.wish)) r.1.seen)
+    ∙ ap (λ (more : List Answer). record { text = told b.history j.wish (closes n j.wish); at = j.wish.at } ∷ more)
     (answers-told (n + 1) r.0 b' js r.2 zero.1 ∙ ap (λ (h : History). told_along (n + 1) h (wishes_of js)) (stepped j b r.0 r.1 zero.0))
 
 pub leads-steps : (b b' : Ledger) (judged : List JudgedWish) → Replays judged b b' → lost_count judged ≡ 0
@@ -68,42 +69,57 @@ wishes : (b : List ℕ) (ws : List Wish) (end : End) → Spells 0 b ws end → W
 wishes b ws end s = record { requests = s.requests; spells = s.spells; wished = s.wish }
 
 -- the text ended so, and what it spells was answered
-record Answered (exit : Exit) (b : List ℕ) (judged : List JudgedWish) (s s' : Outlet) : Type 0 where
+record Answered (exit : Exit) (b : List ℕ) (judged : List JudgedWish) (d d' : Desk) : Type 0 where
   end : End
   spells : Wishes b (wishes_of judged) end
   exit_is : exit ≡ exit_at end
-  told : Writes (answers 0 judged ++ last_words end) s s'
+  at : ℕ
+  told : GivesAnswers (answers 0 judged ++ last_words end at) d d'
 
-bare : (bytes : List ℕ) (s s' : Outlet) → Writes bytes s s' → Writes (bytes ++ []) s s'
-bare bytes s s' w = subst (λ (t : List ℕ). Writes t s s') (sym (append-nil bytes)) w
+bare : (texts : List Answer) (d d' : Desk) → GivesAnswers texts d d' → GivesAnswers (texts ++ []) d d'
+bare texts d d' w = subst (λ (t : List Answer). GivesAnswers t d d') (sym (append-nil texts)) w
 
-ended : (ending : Ending) (came b : List ℕ) (answered : List JudgedWish) (failed : Option JudgedWish) (p q : Ledger) (s s' : Outlet) (f g : ℕ)
-    → (Rises f g → ⊥) → (Rises s.faults s'.faults → ⊥) → CountsReads ending f g → EndsAs Replays StaysInVain ending 0 came b answered failed p q s s'
-    → (exit_of ending ≡ exits.OutOfMemory) ⊎ (Answered (exit_of ending) b answered s s' × (failed ≡ None))
-ended ending came b answered (Some j) p q s s' f g read written counts e = absurd (written e.2.rises)
-ended endings.Clean came b answered None p q s s' f g read written counts e =
-    inr (record { end = ended_clean; spells = wishes b (wishes_of answered) ended_clean e.0; exit_is = refl; told = bare (answers 0 answered) s s' e.1 }, refl)
-ended endings.Cut came b answered None p q s s' f g read written counts e =
-    inr (record { end = ended_cut; spells = wishes b (wishes_of answered) ended_cut e.0; exit_is = refl; told = bare (answers 0 answered) s s' e.1 }, refl)
-ended (endings.Closed whys.Asked) came b answered None p q s s' f g read written counts e =
-    inr (record { end = asked; spells = wishes b (wishes_of answered) asked e.0; exit_is = refl; told = bare (answers 0 answered) s s' e.1 }, refl)
-ended (endings.Closed (whys.Refused why)) came b answered None p q s s' f g read written counts e =
-    inr (record { end = closed why e.0; spells = wishes b (wishes_of answered) (closed why e.0) e.1; exit_is = refl; told = e.2 }, refl)
-ended endings.ReadFault came b answered None p q s s' f g read written counts e = absurd (read counts.1)
-ended endings.WriteFault came b answered None p q s s' f g read written counts e = absurd (written e.3.rises)
-ended endings.OutOfMemory came b answered None p q s s' f g read written counts e = inl refl
+-- it ended by no refusal
+unrefused : (exit : Exit) (end : End) (b : List ℕ) (judged : List JudgedWish) (d d' : Desk) → Spells 0 b (wishes_of judged) end → exit ≡ exit_at end
+    → last_words end 0 ≡ [] → GivesAnswers (answers 0 judged) d d' → Answered exit b judged d d'
+unrefused exit end b judged d d' spells is none told = record {
+  end = end;
+  spells = wishes b (wishes_of judged) end spells;
+  exit_is = is;
+  at = 0;
+  told = subst (λ (last : List Answer). GivesAnswers (answers 0 judged ++ last) d d') (sym none) (bare (answers 0 judged) d d' told);
+}
+
+ended : (ending : Ending) (came b : List ℕ) (answered : List JudgedWish) (failed : Option JudgedWish) (p q : Ledger) (d d' : Desk) (f g : ℕ)
+    → (Rises f g → ⊥) → (Rises d.sink.faults d'.sink.faults → ⊥) → (Rises d.clock.faults d'.clock.faults → ⊥) → CountsReads ending f g
+    → EndsAs Replays StaysInVain ending 0 came b answered failed p q d d'
+    → (exit_of ending ≡ exits.OutOfMemory) ⊎ (Answered (exit_of ending) b answered d d' × (failed ≡ None))
+ended ending came b answered (Some j) p q d d' f g read written timed counts e = absurd (written e.2.broken.rises)
+ended endings.Clean came b answered None p q d d' f g read written timed counts e =
+    inr (unrefused exits.Done ended_clean b answered d d' e.0 refl refl e.1, refl)
+ended endings.Cut came b answered None p q d d' f g read written timed counts e =
+    inr (unrefused exits.Cut ended_cut b answered d d' e.0 refl refl e.1, refl)
+ended (endings.Closed whys.Asked) came b answered None p q d d' f g read written timed counts e =
+    inr (unrefused exits.Done asked b answered d d' e.0 refl refl e.1, refl)
+ended (endings.Closed (whys.Refused why)) came b answered None p q d d' f g read written timed counts e =
+    inr (record { end = closed why e.0; spells = wishes b (wishes_of answered) (closed why e.0) e.2; exit_is = refl; at = e.1; told = e.3 }, refl)
+ended endings.ReadFault came b answered None p q d d' f g read written timed counts e = absurd (read counts.1)
+ended endings.WriteFault came b answered None p q d d' f g read written timed counts e = absurd (written e.4.broken.rises)
+ended endings.ClockFault came b answered None p q d d' f g read written timed counts e = absurd (timed e.3.failed.rises)
+ended endings.OutOfMemory came b answered None p q d d' f g read written timed counts e = inl refl
 
 module _ {I : Type 0} (opening : History) where
   answered : (exit : Exit) (b : List ℕ) (judged : List JudgedWish) (o o' : Outside I) (b0 b1 : Ledger) → b0.history ≡ opening → Legal b1.history
       → Replays judged b0 b1 → lost_count judged ≡ 0
-      → Answered exit b judged o.output o'.output → AnswersAll opening exit b o o'
+      → Answered exit b judged (desk o) (desk o') → AnswersAll opening exit b o o'
   answered exit b judged o o' b0 b1 opens legal r none a = record {
     wishes = wishes_of judged;
     end = a.end;
     spells = a.spells;
     exit_is = a.exit_is;
     legal = subst Legal (leads-steps b0 b1 judged r none ∙ ap (λ (h : History). steps_along h (wishes_of judged)) opens) legal;
-    told = subst (λ (texts : List ℕ). Writes (texts ++ last_words a.end) o.output o'.output)
+    at = a.at;
+    told = subst (λ (texts : List Answer). GivesAnswers (texts ++ last_words a.end a.at) (desk o) (desk o'))
         (answers-told 0 b0 b1 judged r none ∙ ap (λ (h : History). told_along 0 h (wishes_of judged)) opens) a.told;
   }
 
@@ -140,7 +156,8 @@ pub pipe_answers : {K I : Type 0} (rows : K → Option (List Row)) (faults : K �
 pipe_answers rows faults left gives opening ending keeper keeper' b o o' p told faultless idle =
     let text = p.whole b told in
     by text.answered text.failed (replayed_whole left ending b (world o opening (faults keeper)) (world o' p.history (faults keeper')) text)
-    (ended ending text.came b text.answered text.failed text.judged b1 o.output o'.output o.read_faults o'.read_faults faultless.read faultless.written
+    (ended ending text.came b text.answered text.failed text.judged b1 (desk o) (desk o') o.read_faults o'.read_faults faultless.read
+    faultless.written faultless.timed
     p.connection.counts text.ends)
   where
     b0 : Ledger
@@ -150,7 +167,7 @@ pipe_answers rows faults left gives opening ending keeper keeper' b o o' p told 
     b1 = record { history = p.history; faults = faults keeper' }
 
     by : (js : List JudgedWish) (failed : Option JudgedWish) → Replays (js ++ listed failed) b0 b1
-        → (exit_of ending ≡ exits.OutOfMemory) ⊎ (Answered (exit_of ending) b js o.output o'.output × (failed ≡ None))
+        → (exit_of ending ≡ exits.OutOfMemory) ⊎ (Answered (exit_of ending) b js (desk o) (desk o') × (failed ≡ None))
         → (exit_of ending ≡ exits.OutOfMemory) ⊎ AnswersAll opening (exit_of ending) b o o'
     by js failed r (inl e) = inl e
     by js failed r (inr a) =

@@ -57,7 +57,7 @@ more-there f t r = λ below. (let some = r (omega (arith, below)) in omega (arit
 
 -- ---- new doors
 
-pub new_doors : {D I O : Type 0} (left : D → ℕ) (is_out : D → Bool) (faults : D → ℕ) (log : D → Option (DoorLog I O)) (doors : List D)
+pub new_doors : {D I O C : Type 0} (left : D → ℕ) (is_out : D → Bool) (faults : D → ℕ) (log : D → Option (DoorLog I O C)) (doors : List D)
     → All (λ d. IsFalse (is_out d)) doors → All (λ d. faults d ≡ 0) doors → All (λ d. IfSome (log d) (λ l. l ≡ unasked)) doors
     → Every IsNew (map (door_of left is_out faults log) doors)
 new_doors left is_out faults log [] idle fresh asked = tt
@@ -71,32 +71,32 @@ new_doors {D} left is_out faults log (d ∷ ds) idle fresh asked = (
       (All-tail (λ (x : D). IfSome (log x) (λ l. l ≡ unasked)) d ds asked),
 )
 
-module _ {I O : Type 0} where
-  abbrev pub befores : List (DoorWork I O) → List (SeenDoor I O)
-  befores ws = map (λ (w : DoorWork I O). w.before) ws
+module _ {I O C : Type 0} where
+  abbrev pub befores : List (DoorWork I O C) → List (SeenDoor I O C)
+  befores ws = map (λ (w : DoorWork I O C). w.before) ws
 
-  abbrev pub afters : List (DoorWork I O) → List (SeenDoor I O)
-  afters ws = map (λ (w : DoorWork I O). w.after) ws
+  abbrev pub afters : List (DoorWork I O C) → List (SeenDoor I O C)
+  afters ws = map (λ (w : DoorWork I O C). w.after) ws
 
   -- ---- nothing is out
 
-  back-one : (ended : Worked) (w : DoorWork I O) → IsWorkedOn ended w → w.before.is_out ≡ false → w.after.is_out ≡ false
+  back-one : (ended : Worked) (w : DoorWork I O C) → IsWorkedOn ended w → w.before.is_out ≡ false → w.after.is_out ≡ false
   back-one worked.Done w is b = is.0.2.back
   back-one worked.DoorFailed w (inl x, none) b = x.2.back
   back-one worked.DoorFailed w (inr x, none) b = x.2.back
   back-one worked.OutOfMemory w (inl x) b = x.2.back
   back-one worked.OutOfMemory w (inr (inl x)) b = x.2.back
-  back-one worked.OutOfMemory w (inr (inr x)) b = ap (λ (d : SeenDoor I O). d.is_out) x.1 ∙ b
+  back-one worked.OutOfMemory w (inr (inr x)) b = ap (λ (d : SeenDoor I O C). d.is_out) x.1 ∙ b
 
-  pub back-works : (ended : Worked) (ws : List (DoorWork I O)) → Every (IsWorkedOn ended) ws → Every IsNew (befores ws)
-      → Every (λ (d : SeenDoor I O). d.is_out ≡ false) (afters ws)
+  pub back-works : (ended : Worked) (ws : List (DoorWork I O C)) → Every (IsWorkedOn ended) ws → Every IsNew (befores ws)
+      → Every (λ (d : SeenDoor I O C). d.is_out ≡ false) (afters ws)
   back-works ended [] each new = tt
   back-works ended (w ∷ ws) each new = (back-one ended w each.0 new.0.back, back-works ended ws each.1 new.1)
 
   -- ---- what the gates tell
 
   -- the connections of a door that wasn't asked before
-  more-then : (cs : List (ServedConnection I O)) (a b c : Option (DoorLog I O)) (l : DoorLog I O) → IfSome a (λ log. log ≡ unasked)
+  more-then : (cs : List (ServedConnection I O C)) (a b c : Option (DoorLog I O C)) (l : DoorLog I O C) → IfSome a (λ log. log ≡ unasked)
       → TellsMore cs a b → TellsMore [] b c → c ≡ Some l → l.served ≡ ends_of cs
   more-then cs None None None l new x y e = absurd (cc (e))
   more-then cs None None (Some c) l new x y e = elim y [ ]
@@ -105,9 +105,9 @@ module _ {I O : Type 0} where
   more-then cs (Some a) (Some b) None l new x y e = elim y [ ]
   more-then cs (Some a) (Some b) (Some c) l new x y e =
       let is : c ≡ l = cc (e) in
-      ap (λ (z : DoorLog I O). z.served) (sym is) ∙ (y ∙ (sym (append-nil b.served) ∙ (x ∙ ap (λ (z : DoorLog I O). z.served ++ ends_of cs) new)))
+      ap (λ (z : DoorLog I O C). z.served) (sym is) ∙ (y ∙ (sym (append-nil b.served) ∙ (x ∙ ap (λ (z : DoorLog I O C). z.served ++ ends_of cs) new)))
 
-  served-one : (ended : Worked) (w : DoorWork I O) (l : DoorLog I O) → IsWorkedOn ended w → IsNew w.before → w.after.log ≡ Some l
+  served-one : (ended : Worked) (w : DoorWork I O C) (l : DoorLog I O C) → IsWorkedOn ended w → IsNew w.before → w.after.log ≡ Some l
       → l.served ≡ ends_of w.connections
   served-one worked.Done w l is new e = more-then w.connections w.before.log is.0.0.log w.after.log l new.log is.0.1.log is.0.2.log e
   served-one worked.DoorFailed w l (inl x, none) new e = more-then w.connections w.before.log x.0.log w.after.log l new.log x.1.log x.2.log e
@@ -115,56 +115,56 @@ module _ {I O : Type 0} where
   served-one worked.OutOfMemory w l (inl x) new e = more-then w.connections w.before.log x.0.log w.after.log l new.log x.1.log x.2.log e
   served-one worked.OutOfMemory w l (inr (inl x)) new e = more-then w.connections w.before.log x.0.log w.after.log l new.log x.1.log x.2.log e
   served-one worked.OutOfMemory w l (inr (inr x)) new e =
-      let told : w.before.log ≡ Some l = ap (λ (d : SeenDoor I O). d.log) (sym x.1) ∙ e in
-      let fresh : l ≡ unasked = subst (λ (o : Option (DoorLog I O)). IfSome o (λ log. log ≡ unasked)) told new.log in
-      ap (λ (z : DoorLog I O). z.served) fresh ∙ ap (λ (cs : List (ServedConnection I O)). ends_of cs) (sym x.0)
+      let told : w.before.log ≡ Some l = ap (λ (d : SeenDoor I O C). d.log) (sym x.1) ∙ e in
+      let fresh : l ≡ unasked = subst (λ (o : Option (DoorLog I O C)). IfSome o (λ log. log ≡ unasked)) told new.log in
+      ap (λ (z : DoorLog I O C). z.served) fresh ∙ ap (λ (cs : List (ServedConnection I O C)). ends_of cs) (sym x.0)
 
-  last-one : (ended : Worked) (w : DoorWork I O) (l : DoorLog I O) → IsWorkedOn ended w → w.after.log ≡ Some l → DoorEndsBy ended l
-  last-one worked.Done w l is e = subst (λ (o : Option (DoorLog I O)). TellsLast answers.Done o) e is.0.2.by.3
-  last-one worked.DoorFailed w l (inl x, none) e = inl (subst (λ (o : Option (DoorLog I O)). TellsLast answers.Done o) e x.2.by.3)
-  last-one worked.DoorFailed w l (inr x, none) e = inr (subst (λ (o : Option (DoorLog I O)). TellsLast answers.Failed o) e x.2.by.2)
+  last-one : (ended : Worked) (w : DoorWork I O C) (l : DoorLog I O C) → IsWorkedOn ended w → w.after.log ≡ Some l → DoorEndsBy ended l
+  last-one worked.Done w l is e = subst (λ (o : Option (DoorLog I O C)). TellsLast answers.Done o) e is.0.2.by.3
+  last-one worked.DoorFailed w l (inl x, none) e = inl (subst (λ (o : Option (DoorLog I O C)). TellsLast answers.Done o) e x.2.by.3)
+  last-one worked.DoorFailed w l (inr x, none) e = inr (subst (λ (o : Option (DoorLog I O C)). TellsLast answers.Failed o) e x.2.by.2)
   last-one worked.OutOfMemory w l is e = tt
 
-  pub are-told : (ended : Worked) (ws : List (DoorWork I O)) (logs : List (DoorLog I O)) → Every (IsWorkedOn ended) ws → Every IsNew (befores ws)
-      → map (λ (d : SeenDoor I O). d.log) (afters ws) ≡ map Some logs → AreDoorsTold ended ws logs
+  pub are-told : (ended : Worked) (ws : List (DoorWork I O C)) (logs : List (DoorLog I O C)) → Every (IsWorkedOn ended) ws → Every IsNew (befores ws)
+      → map (λ (d : SeenDoor I O C). d.log) (afters ws) ≡ map Some logs → AreDoorsTold ended ws logs
   are-told ended [] [] each new e = record { served = refl; last = tt }
   are-told ended [] (l ∷ ls) each new e = absurd (cc (e))
   are-told ended (w ∷ ws) [] each new e = absurd (cc (e))
   are-told ended (w ∷ ws) (l ∷ ls) each new e =
       let one : w.after.log ≡ Some l = cc (e) in
-      let more : map (λ (d : SeenDoor I O). d.log) (afters ws) ≡ map Some ls = cc (e) in
+      let more : map (λ (d : SeenDoor I O C). d.log) (afters ws) ≡ map Some ls = cc (e) in
       let rest = are-told ended ws ls each.1 new.1 more in record {
-        served = ap₂ (λ (x : List (Served I O)) (xs : List (List (Served I O))). x ∷ xs) (served-one ended w l each.0 new.0 one) rest.served;
+        served = ap₂ (λ (x : List (Served I O C)) (xs : List (List (Served I O C))). x ∷ xs) (served-one ended w l each.0 new.0 one) rest.served;
         last = (last-one ended w l each.0 one, rest.last);
       }
 
   -- ---- how many connections, and how they ended
 
-  counts-one : (w : DoorWork I O) → IsWorkedOn worked.Done w → length w.connections ≡ w.before.left
+  counts-one : (w : DoorWork I O C) → IsWorkedOn worked.Done w → length w.connections ≡ w.before.left
   counts-one w is = (let n = is.0.1.left in let z = is.0.2.by.0 in omega (arith, n, z))
 
-  pub counts-all : (ws : List (DoorWork I O)) → Every (IsWorkedOn worked.Done) ws
-      → map (λ (w : DoorWork I O). length w.connections) ws ≡ map (λ (d : SeenDoor I O). d.left) (befores ws)
+  pub counts-all : (ws : List (DoorWork I O C)) → Every (IsWorkedOn worked.Done) ws
+      → map (λ (w : DoorWork I O C). length w.connections) ws ≡ map (λ (d : SeenDoor I O C). d.left) (befores ws)
   counts-all [] each = refl
   counts-all (w ∷ ws) each = ap₂ (λ (n : ℕ) (ns : List ℕ). n ∷ ns) (counts-one w each.0) (counts-all ws each.1)
 
-  none-one : (ended : Worked) → ended ≢ worked.OutOfMemory → (w : DoorWork I O) → IsWorkedOn ended w → NoneLacked w.connections
+  none-one : (ended : Worked) → ended ≢ worked.OutOfMemory → (w : DoorWork I O C) → IsWorkedOn ended w → NoneLacked w.connections
   none-one worked.Done some w is = is.1
   none-one worked.DoorFailed some w is = is.1
   none-one worked.OutOfMemory some w is = absurd (some refl)
 
-  pub none-all : (ended : Worked) → ended ≢ worked.OutOfMemory → (ws : List (DoorWork I O)) → Every (IsWorkedOn ended) ws → NoneLacked (connections_of ws)
+  pub none-all : (ended : Worked) → ended ≢ worked.OutOfMemory → (ws : List (DoorWork I O C)) → Every (IsWorkedOn ended) ws → NoneLacked (connections_of ws)
   none-all ended some [] each = tt
   none-all ended some (w ∷ ws) each =
-      every-append (λ (c : ServedConnection I O). lacks c.ending ≡ false) w.connections (connections_of ws) (none-one ended some w each.0)
+      every-append (λ (c : ServedConnection I O C). lacks c.ending ≡ false) w.connections (connections_of ws) (none-one ended some w each.0)
       (none-all ended some ws each.1)
 
   -- ---- faults
 
-  failed-one : (w : DoorWork I O) → Works lasts.Failed w.connections w.before w.after → IsNew w.before → Rises 0 w.after.faults
+  failed-one : (w : DoorWork I O C) → Works lasts.Failed w.connections w.before w.after → IsNew w.before → Rises 0 w.after.faults
   failed-one w x new = λ below. (let rose = x.2.by.1 below in let e = x.1.faults in let z = new.faults in omega (arith, rose, e, z))
 
-  pub failed-counts : (ws : List (DoorWork I O)) → OneFailed ws → Every IsNew (befores ws) → Rises 0 (total (λ (d : SeenDoor I O). d.faults) (afters ws))
+  pub failed-counts : (ws : List (DoorWork I O C)) → OneFailed ws → Every IsNew (befores ws) → Rises 0 (total (λ (d : SeenDoor I O C). d.faults) (afters ws))
   failed-counts [] x new = elim x [ ]
-  failed-counts (w ∷ ws) (inl x) new = more-here w.after.faults (total (λ (d : SeenDoor I O). d.faults) (afters ws)) (failed-one w x new.0)
-  failed-counts (w ∷ ws) (inr x) new = more-there w.after.faults (total (λ (d : SeenDoor I O). d.faults) (afters ws)) (failed-counts ws x new.1)
+  failed-counts (w ∷ ws) (inl x) new = more-here w.after.faults (total (λ (d : SeenDoor I O C). d.faults) (afters ws)) (failed-one w x new.0)
+  failed-counts (w ∷ ws) (inr x) new = more-there w.after.faults (total (λ (d : SeenDoor I O C). d.faults) (afters ws)) (failed-counts ws x new.1)

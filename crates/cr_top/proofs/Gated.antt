@@ -9,6 +9,7 @@ use Rattle.cr_base.specs.Rows.{rows_of}
 use Rattle.cr_lock.specs.Counts.{Every, total}
 use Rattle.cr_ports.specs.Count.{Gains, Rises}
 use Rattle.cr_ports.specs.Doors.{DoorLog, shares}
+use Rattle.cr_ports.specs.Opening.{AsksAtMost}
 use Rattle.cr_ports.specs.Shelving.{and_file}
 use Rattle.cr_ports.specs.Writing.{Outlet}
 use Rattle.cr_ports.proofs.Sharing.{length-shares_below, shares_add_up}
@@ -24,7 +25,7 @@ use Rattle.cr_workers.specs.declared.worked.Worked.TheVariants as worked
 use Rattle.cr_top.specs.declared.exit.Exit.{Exit}
 use Rattle.cr_top.specs.declared.exit.Exit.TheVariants as exits
 use Rattle.cr_top.specs.Exits.{exit_of_workers}
-use Rattle.cr_top.specs.Serves.{GatesState, IsNew, AreDoorsTold, TellsEntries, ServesMany, ServesGates, StaysClosed, IsWhyClosed}
+use Rattle.cr_top.specs.Serves.{GatesState, IsNew, AreDoorsTold, OpensAt, TellsEntries, ServesMany, ServesGates, StaysClosed, IsWhyClosed}
 use Rattle.cr_top.specs.Stores.{Files, ShelfState, OpensStore, IsWhyShut}
 use Rattle.cr_top.proofs.Doors.{all-of, are-told, back-works, counts-all, every-seen, failed-counts, map-seen, none-all, total-seen, total-sum}
 use Rattle.cr_top.proofs.Lost.{lost-count}
@@ -33,26 +34,27 @@ use Rattle.cr_top.proofs.Stored.{count-now, last-rows, opens-or-memory, risen, s
 -- ---- doors that were shut
 
 -- none has a connection out
-pub doors-back : {I O : Type 0} (streams : Streams I O) (ended : Worked) (doors doors' : List (SeenDoor I O)) (b b' : Ledger)
+pub doors-back : {I O C : Type 0} (streams : Streams I O C) (ended : Worked) (doors doors' : List (SeenDoor I O C)) (b b' : Ledger)
     → ServesHistory streams ended doors doors' b b' → Every IsNew doors
-    → Every (λ (d : SeenDoor I O). d.is_out ≡ false) doors'
-doors-back {I} {O} streams ended doors doors' b b' serves new =
-    subst (λ (ds : List (SeenDoor I O)). Every (λ (d : SeenDoor I O). d.is_out ≡ false) ds) serves.after
-    (back-works ended serves.works serves.each (subst (λ (ds : List (SeenDoor I O)). Every IsNew ds) (sym serves.before) new))
+    → Every (λ (d : SeenDoor I O C). d.is_out ≡ false) doors'
+doors-back {I} {O} {C} streams ended doors doors' b b' serves new =
+    subst (λ (ds : List (SeenDoor I O C)). Every (λ (d : SeenDoor I O C). d.is_out ≡ false) ds) serves.after
+    (back-works ended serves.works serves.each (subst (λ (ds : List (SeenDoor I O C)). Every IsNew ds) (sym serves.before) new))
 
 -- ---- no gate was opened
 
 -- the store of a book that wasn't worked on was shut again
-pub stays-closed : {K I O : Type 0} (rows : K → Option (List Row)) (faults : K → ℕ) (path : List ℕ) (exit : Exit) (book : SeenBook K) (keeper' : K)
-    (s m s' : ShelfState) (g g' : GatesState I O)
+pub stays-closed : {K I O C : Type 0} (rows : K → Option (List Row)) (faults : K → ℕ) (path listen : List ℕ) (exit : Exit) (book : SeenBook K) (keeper' : K)
+    (s m s' : ShelfState) (g g' : GatesState I O C)
     → OpensStore rows faults path book s m → keeper' ≡ book.keeper → IfSome (rows keeper') (λ told. s'.files ≡ and_file m.files path told)
     → Gains m.faults (faults keeper') s'.faults
-    → IsWhyClosed exit g g' → g.faults ≤ g'.faults → StaysClosed exit s s' g g'
-stays-closed rows faults path exit book keeper' s m s' g g' opens same kept gains why later = record {
+    → IsWhyClosed exit g g' → g.faults ≤ g'.faults → AsksAtMost listen g.asked g'.asked → StaysClosed listen exit s s' g g'
+stays-closed rows faults path listen exit book keeper' s m s' g g' opens same kept gains why later asked = record {
   refused = why;
   files = same-rows rows faults path book keeper' s m s' opens kept gains same;
   count = (count-now rows faults path book keeper' s m s' opens kept gains).0;
   gates = later;
+  asked = asked;
 }
 
 -- ---- doors within their limits
@@ -74,19 +76,19 @@ few-turns left workers connections doors some most shared =
 
 -- ---- many connections were served
 
-pub serves-many : {K I O : Type 0} (rows : K → Option (List Row)) (faults : K → ℕ) (path : List ℕ) (streams : Streams I O) (workers connections : ℕ)
+pub serves-many : {K I O C : Type 0} (rows : K → Option (List Row)) (faults : K → ℕ) (path : List ℕ) (streams : Streams I O C) (listen : List ℕ) (workers connections : ℕ)
     (ended : Worked) (written : Bool) (exit : Exit)
-    → exit ≡ exit_of_workers ended written → (book book' : SeenBook K) (keeper' : K) (doors doors' : List (SeenDoor I O)) (o o' : Outlet) (s m s' : ShelfState)
-    (g g' : GatesState I O)
+    → exit ≡ exit_of_workers ended written → (book book' : SeenBook K) (keeper' : K) (doors doors' : List (SeenDoor I O C)) (o o' : Outlet) (s m s' : ShelfState)
+    (g h g' : GatesState I O C) → OpensAt listen g h
     → OpensStore rows faults path book s m → keeper' ≡ book'.keeper → Legal book'.log → IsKept rows keeper' book'.log
     → IfSome (rows keeper') (λ told. s'.files ≡ and_file m.files path told) → Gains m.faults (faults keeper') s'.faults
-    → map (λ (d : SeenDoor I O). d.left) doors ≡ shares workers connections → Every IsNew doors
+    → map (λ (d : SeenDoor I O C). d.left) doors ≡ shares workers connections → Every IsNew doors
     → ServesHistory streams ended doors doors' (ledger_of faults book) (ledger_of faults book') → TellsEntries written (length book'.log) o o'
-    → IfSome g'.logs (λ logs. map (λ (d : SeenDoor I O). d.log) doors' ≡ map Some logs)
-    → Gains g.faults (total (λ (d : SeenDoor I O). d.faults) doors') g'.faults
-    → ServesMany rows path streams workers connections exit o o' s s' g g'
-serves-many {K} {I} {O} rows faults path streams workers connections ended written exit is book book' keeper' doors doors' o o' s m s' g g' opens same legal
-    kept files gains shared new serves line told counted = record {
+    → IfSome g'.logs (λ logs. map (λ (d : SeenDoor I O C). d.log) doors' ≡ map Some logs)
+    → Gains h.faults (total (λ (d : SeenDoor I O C). d.faults) doors') g'.faults → g'.asked ≡ h.asked
+    → ServesMany rows path streams listen workers connections exit o o' s s' g g'
+serves-many {K} {I} {O} {C} rows faults path streams listen workers connections ended written exit is book book' keeper' doors doors' o o' s m s' g h g' at opens
+    same legal kept files gains shared new serves line told counted asked = record {
       opening = book.log;
       opens = opens.legal;
       found = opens.found;
@@ -100,7 +102,7 @@ serves-many {K} {I} {O} rows faults path streams workers connections ended writt
       ended = ended;
       serves = from;
       all = λ done. counts-all from.works (subst (λ (e : Worked). Every (IsWorkedOn e) from.works) done from.each)
-          ∙ ap (λ (ds : List (SeenDoor I O)). map (λ (d : SeenDoor I O). d.left) ds) from.before ∙ shared;
+          ∙ ap (λ (ds : List (SeenDoor I O C)). map (λ (d : SeenDoor I O C). d.left) ds) from.before ∙ shared;
       none_lacked = λ some. none-all ended some from.works from.each;
       written = written;
       line = line;
@@ -108,8 +110,9 @@ serves-many {K} {I} {O} rows faults path streams workers connections ended writt
       kept = last-rows rows faults path book keeper' s m s' opens files gains book'.log kept;
       counted = gained;
       lost = lost-count streams book.log book'.log (connections_of from.works) from.served (faults keeper') s.faults s'.faults from.marked gained;
+      asked = asked ∙ at.asked;
       told = tells g'.logs told;
-      gates = counted;
+      gates = subst (λ (n : ℕ). Gains n (total (λ (d : SeenDoor I O C). d.faults) doors') g'.faults) at.faults counted;
     }
   where
     from : ServesHistory streams ended doors doors' (record { history = book.log; faults = 0 }) (record { history = book'.log; faults = faults keeper' })
@@ -122,38 +125,38 @@ serves-many {K} {I} {O} rows faults path streams workers connections ended writt
     gained : Gains s.faults (faults keeper') s'.faults
     gained = count-now rows faults path book keeper' s m s' opens files gains
 
-    tells : (logs : Option (List (DoorLog I O))) → IfSome logs (λ ls. map (λ (d : SeenDoor I O). d.log) doors' ≡ map Some ls)
+    tells : (logs : Option (List (DoorLog I O C))) → IfSome logs (λ ls. map (λ (d : SeenDoor I O C). d.log) doors' ≡ map Some ls)
         → IfSome logs (λ ls. AreDoorsTold ended from.works ls)
     tells None t = tt
     tells (Some logs) t =
-        are-told ended from.works logs from.each (subst (λ (ds : List (SeenDoor I O)). Every IsNew ds) (sym from.before) new)
-        (ap (λ (ds : List (SeenDoor I O)). map (λ (d : SeenDoor I O). d.log) ds) from.after ∙ t)
+        are-told ended from.works logs from.each (subst (λ (ds : List (SeenDoor I O C)). Every IsNew ds) (sym from.before) new)
+        (ap (λ (ds : List (SeenDoor I O C)). map (λ (d : SeenDoor I O C). d.log) ds) from.after ∙ t)
 
 -- ---- of doors what is seen of them
 
-module _ {D I O : Type 0} (left : D → ℕ) (is_out : D → Bool) (faults : D → ℕ) (log : D → Option (DoorLog I O)) where
+module _ {D I O C : Type 0} (left : D → ℕ) (is_out : D → Bool) (faults : D → ℕ) (log : D → Option (DoorLog I O C)) where
   pub shared-seen : (doors : List D) (all : List ℕ) → map left doors ≡ all
-      → map (λ (d : SeenDoor I O). d.left) (map (door_of left is_out faults log) doors) ≡ all
-  shared-seen doors all is = map-seen (door_of left is_out faults log) (λ (d : SeenDoor I O). d.left) doors ∙ is
+      → map (λ (d : SeenDoor I O C). d.left) (map (door_of left is_out faults log) doors) ≡ all
+  shared-seen doors all is = map-seen (door_of left is_out faults log) (λ (d : SeenDoor I O C). d.left) doors ∙ is
 
-  pub told-seen : (doors : List D) (logs : Option (List (DoorLog I O))) → IfSome logs (λ ls. map log doors ≡ map Some ls)
-      → IfSome logs (λ ls. map (λ (d : SeenDoor I O). d.log) (map (door_of left is_out faults log) doors) ≡ map Some ls)
+  pub told-seen : (doors : List D) (logs : Option (List (DoorLog I O C))) → IfSome logs (λ ls. map log doors ≡ map Some ls)
+      → IfSome logs (λ ls. map (λ (d : SeenDoor I O C). d.log) (map (door_of left is_out faults log) doors) ≡ map Some ls)
   told-seen doors None told = tt
-  told-seen doors (Some logs) told = map-seen (door_of left is_out faults log) (λ (d : SeenDoor I O). d.log) doors ∙ told
+  told-seen doors (Some logs) told = map-seen (door_of left is_out faults log) (λ (d : SeenDoor I O C). d.log) doors ∙ told
 
   pub counted-seen : (doors : List D) (before now : ℕ) → Gains before (sum_by faults doors) now
-      → Gains before (total (λ (d : SeenDoor I O). d.faults) (map (door_of left is_out faults log) doors)) now
+      → Gains before (total (λ (d : SeenDoor I O C). d.faults) (map (door_of left is_out faults log) doors)) now
   counted-seen doors before now gains =
-      subst (λ (n : ℕ). Gains before n now) (sym (total-seen (door_of left is_out faults log) (λ (d : SeenDoor I O). d.faults) doors)) gains
+      subst (λ (n : ℕ). Gains before n now) (sym (total-seen (door_of left is_out faults log) (λ (d : SeenDoor I O C). d.faults) doors)) gains
 
   pub new-back : (doors : List D) → Every IsNew (map (door_of left is_out faults log) doors) → Every (λ (d : D). is_out d ≡ false) doors
   new-back [] new = tt
   new-back (d ∷ ds) new = (new.0.back, new-back ds new.1)
 
-  pub back-seen : (doors : List D) → Every (λ (d : SeenDoor I O). d.is_out ≡ false) (map (door_of left is_out faults log) doors)
+  pub back-seen : (doors : List D) → Every (λ (d : SeenDoor I O C). d.is_out ≡ false) (map (door_of left is_out faults log) doors)
       → All (λ (d : D). IsFalse (is_out d)) doors
   back-seen doors back = all-of (λ (d : D). IsFalse (is_out d)) doors
-      (every-seen (door_of left is_out faults log) (λ (d : SeenDoor I O). d.is_out ≡ false) doors back)
+      (every-seen (door_of left is_out faults log) (λ (d : SeenDoor I O C). d.is_out ≡ false) doors back)
 
 -- ---- what an exit tells
 
@@ -174,22 +177,22 @@ ended-by ended written is e = subst EndsServing (sym is ∙ e) (by ended written
     by worked.Done true = tt
     by worked.Done false = tt
 
-module _ {K I O : Type 0} (rows : K → Option (List Row)) (path : List ℕ) (streams : Streams I O) (workers connections : ℕ) (exit : Exit) (o o' : Outlet)
-    (s s' : ShelfState) (g g' : GatesState I O) where
+module _ {K I O C : Type 0} (rows : K → Option (List Row)) (path : List ℕ) (streams : Streams I O C) (listen : List ℕ) (workers connections : ℕ) (exit : Exit) (o o' : Outlet)
+    (s s' : ShelfState) (g g' : GatesState I O C) where
   abbrev pub Serves : Type 0
-  Serves = ServesGates rows path streams workers connections exit o o' s s' g g'
+  Serves = ServesGates rows path streams listen workers connections exit o o' s s' g g'
 
   -- a door failed, which the gates counted
-  door-counted : (ended : Worked) (works : List (DoorWork I O)) (doors doors' : List (SeenDoor I O)) → map (λ (w : DoorWork I O). w.before) works ≡ doors
-      → map (λ (w : DoorWork I O). w.after) works ≡ doors'
-      → Every IsNew doors → HasFailedDoor ended works → ended ≡ worked.DoorFailed → Gains g.faults (total (λ (d : SeenDoor I O). d.faults) doors') g'.faults
+  door-counted : (ended : Worked) (works : List (DoorWork I O C)) (doors doors' : List (SeenDoor I O C)) → map (λ (w : DoorWork I O C). w.before) works ≡ doors
+      → map (λ (w : DoorWork I O C). w.after) works ≡ doors'
+      → Every IsNew doors → HasFailedDoor ended works → ended ≡ worked.DoorFailed → Gains g.faults (total (λ (d : SeenDoor I O C). d.faults) doors') g'.faults
       → Rises g.faults g'.faults
   door-counted ended works doors doors' before after new cause failed gains =
-      let up : Rises 0 (total (λ (d : SeenDoor I O). d.faults) doors') =
-      subst (λ (ds : List (SeenDoor I O)). Rises 0 (total (λ (d : SeenDoor I O). d.faults) ds)) after
+      let up : Rises 0 (total (λ (d : SeenDoor I O C). d.faults) doors') =
+      subst (λ (ds : List (SeenDoor I O C)). Rises 0 (total (λ (d : SeenDoor I O C). d.faults) ds)) after
       (failed-counts works (subst (λ (e : Worked). HasFailedDoor e works) failed cause)
-      (subst (λ (ds : List (SeenDoor I O)). Every IsNew ds) (sym before) new)) in
-      risen g.faults (total (λ (d : SeenDoor I O). d.faults) doors') g'.faults up gains
+      (subst (λ (ds : List (SeenDoor I O C)). Every IsNew ds) (sym before) new)) in
+      risen g.faults (total (λ (d : SeenDoor I O C). d.faults) doors') g'.faults up gains
 
   by-listen : (ended : Worked) (written : Bool) → exits.ListenFault ≡ exit_of_workers ended written → ended ≡ worked.DoorFailed
   by-listen worked.DoorFailed written e = refl
@@ -231,6 +234,10 @@ module _ {K I O : Type 0} (rows : K → Option (List Row)) (path : List ℕ) (st
   pub never-reads : Serves → exit ≢ exits.ReadFault
   never-reads = never exits.ReadFault (λ none. none) (λ none. none) (λ none. none)
 
+  -- the clock that top was given isn't asked
+  pub never-asks : Serves → exit ≢ exits.ClockFault
+  never-asks = never exits.ClockFault (λ none. none) (λ none. none) (λ none. none)
+
   pub never-usage : Serves → exit ≢ exits.Usage
   never-usage = never exits.Usage (λ none. none) (λ none. none) (λ none. none)
 
@@ -247,6 +254,7 @@ module _ {K I O : Type 0} (rows : K → Option (List Row)) (path : List ℕ) (st
   by-closed exits.WriteFault why idle = absurd why
   by-closed exits.KeeperFault why idle = absurd why
   by-closed exits.NoUser why idle = absurd why
+  by-closed exits.ClockFault why idle = absurd why
 
   by-ended : (ended : Worked) (written : Bool) (n : ℕ) → TellsEntries written n o o' → (Rises o.faults o'.faults → ⊥) → (ended ≡ worked.DoorFailed → ⊥)
       → (exit_of_workers ended written ≡ exits.OutOfMemory) ⊎ (exit_of_workers ended written ≡ exits.Done)

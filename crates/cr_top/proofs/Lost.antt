@@ -31,8 +31,8 @@ marks-vain w p q vain =
 
 -- ---- connections
 
-module _ {I O : Type 0} (streams : Streams I O) where
-  lost-one : (c : ServedConnection I O) (x : IsServed streams c) → lost_count (x.connection.answered ++ listed x.connection.failed) ≤ marks c.turns
+module _ {I O C : Type 0} (streams : Streams I O C) where
+  lost-one : (c : ServedConnection I O C) (x : IsServed streams c) → lost_count (x.connection.answered ++ listed x.connection.failed) ≤ marks c.turns
   lost-one c x =
       let k = x.connection in
       let most = marked_losses (k.answered ++ listed k.failed) c.before k.judged k.turns in
@@ -42,8 +42,8 @@ module _ {I O : Type 0} (streams : Streams I O) where
       let sum = ap marks x.mine ∙ total_append (λ (t : Turn Stamped). if t.marked then 1 else 0) c.before.mine c.turns in
       omega (arith, most, more, sum)
 
-  lost-all : (first last : History) (cs : List (ServedConnection I O)) (each : Every (IsServedWithin streams first last) cs)
-      → lost_in streams first last cs each ≤ total (λ (c : ServedConnection I O). marks c.turns) cs
+  lost-all : (first last : History) (cs : List (ServedConnection I O C)) (each : Every (IsServedWithin streams first last) cs)
+      → lost_in streams first last cs each ≤ total (λ (c : ServedConnection I O C). marks c.turns) cs
   lost-all first last [] each = omega arith
   lost-all first last (c ∷ cs) each = (
       let one = lost-one c each.0.served in
@@ -51,12 +51,12 @@ module _ {I O : Type 0} (streams : Streams I O) where
       omega (arith, one, more))
 
   -- the shelf's count rose by as many at least as were lost
-  pub lost-count : (first last : History) (cs : List (ServedConnection I O)) (each : Every (IsServedWithin streams first last) cs) (faults n n' : ℕ)
-      → (0 + total (λ (c : ServedConnection I O). marks c.turns) cs ≤ faults) ⊎ (last_count ≤ faults) → Gains n faults n'
+  pub lost-count : (first last : History) (cs : List (ServedConnection I O C)) (each : Every (IsServedWithin streams first last) cs) (faults n n' : ℕ)
+      → (0 + total (λ (c : ServedConnection I O C). marks c.turns) cs ≤ faults) ⊎ (last_count ≤ faults) → Gains n faults n'
       → Gains n (lost_in streams first last cs each) n'
   lost-count first last cs each faults n n' marked gains = (
     gains.0,
-    λ below. by (lost_in streams first last cs each) (total (λ (c : ServedConnection I O). marks c.turns) cs) faults n n'
+    λ below. by (lost_in streams first last cs each) (total (λ (c : ServedConnection I O C). marks c.turns) cs) faults n n'
         (lost-all first last cs each) marked below (gains.1 below),
   )
     where

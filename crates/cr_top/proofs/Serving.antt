@@ -1,5 +1,5 @@
 -- One connection, with its keeper handed back; over a keeper that counts no fault nothing is lost.
-use Rattle.std.proofs.Common.{◌≡◌, ◌++◌, ℕ, List, [], Option, false, refl, sym, ap, subst, arith}
+use Rattle.std.proofs.Common.{◌≡◌, ◌++◌, ℕ, List, [], None, Option, false, refl, sym, ap, subst, arith}
 use Rattle.cr_base.specs.Lists.{listed}
 use Rattle.cr_base.specs.declared.row.Row.{Row}
 use Rattle.cr_base.specs.History.{History}
@@ -10,7 +10,7 @@ use Rattle.cr_lock.specs.Closing.{Closes}
 use Rattle.cr_session.specs.declared.serve.Ending.{Ending}
 use Rattle.cr_session.specs.declared.serve.Ending.TheVariants as endings
 use Rattle.cr_session.specs.Passing.{KnownPass}
-use Rattle.cr_session.specs.Serving.{ConnectionInHistory, ConnectionBytes, TellsWantOfMemory, StaysInVain}
+use Rattle.cr_session.specs.Serving.{ConnectionInHistory, ConnectionBytes, NotesNoMemory, StaysInVain}
 use Rattle.cr_session.specs.Replay.{JudgedWish, Ledger, ledger_of, Replays, lost_count}
 use Rattle.cr_session.proofs.Turns.{counted}
 use Rattle.cr_session.proofs.Endings.{replayed, bytes-closed}
@@ -18,7 +18,7 @@ use Rattle.cr_session.proofs.NoMemory.{round_unbegun}
 use Rattle.cr_session.proofs.Whole.{whole_text}
 use Rattle.cr_top.specs.declared.exit.Exit.{Exit}
 use Rattle.cr_top.specs.Exits.{exit_of}
-use Rattle.cr_top.specs.Runs.{Outside, Pipes, ServesPipe, world}
+use Rattle.cr_top.specs.Runs.{Outside, Pipes, ServesPipe, desk, world}
 
 -- as many were lost at most as the count rose by
 none_lost : (judged : List JudgedWish) (b b' : Ledger) → b.faults ≡ 0 → b'.faults ≡ 0 → Replays judged b b' → lost_count judged ≡ 0
@@ -67,19 +67,19 @@ pub pipes-locked : {K I : Type 0} (rows : K → Option (List Row)) (faults : K �
     (ending : Ending) (book first x : SeenBook K) (keeper' : K) (p p' : KnownPass) (o o' : Outside I)
     → first ≡ book → p.seen ≡ book.log → p.mine ≡ [] → Closes (λ (b : SeenBook K). b.log) (λ (b : SeenBook K). faults b.keeper) first p' x
     → keeper' ≡ x.keeper → Legal x.log → IsKept rows keeper' x.log
-    → ConnectionInHistory left gives ending 0 [] (record { state = p; source = o.input; read_faults = o.read_faults; sink = o.output })
-    (record { state = p'; source = o'.input; read_faults = o'.read_faults; sink = o'.output })
+    → ConnectionInHistory left gives ending 0 [] (record { state = p; source = o.input; read_faults = o.read_faults; desk = desk o })
+    (record { state = p'; source = o'.input; read_faults = o'.read_faults; desk = desk o' })
     → Pipes rows faults left gives book.log ending book.keeper keeper' o o'
 pipes-locked {K} {I} rows faults left gives ending book first x keeper' p p' o o' is opens bare closes same legal kept connection =
     pipes-of rows faults left gives book.log x.log ending book.keeper x.keeper keeper' o o' same legal kept
     (bytes-closed (λ (b : SeenBook K). b.log) (λ (b : SeenBook K). faults b.keeper) book x left gives ending p p' o.input o'.input o.read_faults o'.read_faults
-    o.output o'.output opens bare
+    (desk o) (desk o') opens bare
     (subst (λ (b : SeenBook K). Closes (λ (b : SeenBook K). b.log) (λ (b : SeenBook K). faults b.keeper) b p' x) is closes) connection)
 
 -- and where memory for the lock was wanting
 pub pipes-unlocked : {K I : Type 0} (rows : K → Option (List Row)) (faults : K → ℕ) (left : I → Option (List ℕ)) (gives : I → I → List ℕ → Type 0)
     (ending : Ending) (book x : SeenBook K) (keeper' : K) (o o' : Outside I)
-    → x ≡ book → ending ≡ endings.OutOfMemory → TellsWantOfMemory [] false o.output o'.output → o'.input ≡ o.input → o'.read_faults ≡ o.read_faults
+    → x ≡ book → ending ≡ endings.OutOfMemory → NotesNoMemory None false (desk o) (desk o') → o'.input ≡ o.input → o'.read_faults ≡ o.read_faults
     → keeper' ≡ x.keeper → Legal x.log → IsKept rows keeper' x.log → Pipes rows faults left gives book.log ending book.keeper keeper' o o'
 pipes-unlocked {K} rows faults left gives ending book x keeper' o o' is out notes input counts same legal kept =
     pipes-of rows faults left gives book.log x.log ending book.keeper x.keeper keeper' o o' same legal kept

@@ -188,6 +188,7 @@ opens-or-memory path exits.ReadFault s s' shut idle files told H legal spells = 
 opens-or-memory path exits.WriteFault s s' shut idle files told H legal spells = absurd shut.refused
 opens-or-memory path exits.NoUser s s' shut idle files told H legal spells = absurd shut.refused
 opens-or-memory path exits.ListenFault s s' shut idle files told H legal spells = absurd shut.refused
+opens-or-memory path exits.ClockFault s s' shut idle files told H legal spells = absurd shut.refused
 
 -- the keeper of a book that was read alone was taken back
 pub views-store : {K : Type 0} (rows : K → Option (List Row)) (faults : K → ℕ) (path name : List ℕ) (exit : Exit) (book : SeenBook K) (keeper' : K)
@@ -216,6 +217,7 @@ answers-view H name exits.ListenFault o o' tells idle = absurd tells
 answers-view H name exits.Cut o o' tells idle = absurd tells
 answers-view H name exits.Usage o o' tells idle = absurd tells
 answers-view H name exits.ReadFault o o' tells idle = absurd tells
+answers-view H name exits.ClockFault o o' tells idle = absurd tells
 
 -- ---- names
 

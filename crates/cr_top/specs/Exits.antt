@@ -18,6 +18,7 @@ exit_of (endings.Closed why) = exits.Done
 exit_of endings.Cut = exits.Cut
 exit_of endings.ReadFault = exits.ReadFault
 exit_of endings.WriteFault = exits.WriteFault
+exit_of endings.ClockFault = exits.ClockFault
 exit_of endings.OutOfMemory = exits.OutOfMemory
 
 -- the exit of a run whose store the shelf didn't open
@@ -50,3 +51,4 @@ exit_status exits.KeeperFault = 6
 exit_status exits.ListenFault = 7
 exit_status exits.NoUser = 8
 exit_status exits.OutOfMemory = 9
+exit_status exits.ClockFault = 10

@@ -5,66 +5,71 @@ use Rattle.cr_base.specs.History.{History}
 use Rattle.cr_base.specs.Rows.{rows_of}
 use Rattle.cr_ports.specs.Count.{Rises}
 use Rattle.cr_ports.specs.Doors.{DoorLog}
+use Rattle.cr_ports.specs.Stream.{Taken}
 use Rattle.cr_policy.specs.Legal.{Legal}
 use Rattle.cr_words.specs.Job.{NamedJob, pipe_job, serve_job, view_job, drill_job}
 use Rattle.cr_workers.specs.Connections.{Streams}
 use Rattle.cr_top.specs.declared.exit.Exit.{Exit}
 use Rattle.cr_top.specs.declared.exit.Exit.TheVariants as exits
-use Rattle.cr_top.specs.Runs.{Outside, outside_of, ServesPipe, TellsDrill, IsFaultless, AnswersAll}
+use Rattle.cr_top.specs.Runs.{Outside, outside_of, ReadsNothing, ServesPipe, TellsDrill, IsFaultless, AnswersAll}
 use Rattle.cr_top.specs.Serves.{GatesState, gates_of, ServesGates}
 use Rattle.cr_top.specs.Stores.{Files, ShelfState, state_of, PipesStore, TellsStore, AnswersView}
 
--- all that a run works on: input and output, the stores, and the gates with what their doors' connections are
-pub record Surroundings (I C D : Type 0) : Type 0 where
+-- all that a run works on: input, output and clock, the stores, and the gates with what their doors' connections are
+pub record Surroundings (I A B D : Type 0) : Type 0 where
   pub outside : Outside I
   pub stores : ShelfState
-  pub gates : GatesState C D
+  pub gates : GatesState A B D
 
-abbrev pub around_of : {I O S G C D : Type 0} → (I → ℕ) → (O → Option (List ℕ)) → (O → ℕ)
-    → (S → Option Files) → (S → ℕ)
-    → (G → ℕ) → (G → Option (List (DoorLog C D))) → I → O → S → G → Surroundings I C D
-around_of read_faults taken write_faults files shelf_faults gate_faults logs input out shelf gates = record {
-  outside = outside_of read_faults taken write_faults input out;
-  stores = state_of files shelf_faults shelf;
-  gates = gates_of gate_faults logs gates;
-}
+abbrev pub around_of : {I O C S G A B D : Type 0} → (I → ℕ) → (O → Option Taken) → (O → ℕ)
+    → (C → Option (List ℕ)) → (C → ℕ) → (S → Option Files) → (S → ℕ)
+    → (G → ℕ) → (G → Option (List (DoorLog A B D))) → (G → Option (List (List ℕ)))
+    → I → O → S → G → C → Surroundings I A B D
+around_of read_faults taken write_faults coming clock_faults files shelf_faults gate_faults logs asked
+    input out shelf gates clock = record {
+      outside = outside_of read_faults taken write_faults coming clock_faults input out clock;
+      stores = state_of files shelf_faults shelf;
+      gates = gates_of gate_faults logs asked gates;
+    }
 
 -- memory ran out before anything was read or written
-pub record IsUntouched {I C D : Type 0} (exit : Exit) (a a' : Surroundings I C D) : Type 0 where
+pub record IsUntouched {I A B D : Type 0} (exit : Exit) (a a' : Surroundings I A B D) : Type 0 where
   pub exit_is : exit ≡ exits.OutOfMemory
   pub same : a' ≡ a
 
 -- An exit that tells of a fault comes only where the count of what failed rose, or stands at its last value.
-pub record IsCounted {I C D : Type 0} (exit : Exit) (a a' : Surroundings I C D) : Type 0 where
+pub record IsCounted {I A B D : Type 0} (exit : Exit) (a a' : Surroundings I A B D) : Type 0 where
   pub read : exit ≡ exits.ReadFault → Rises a.outside.read_faults a'.outside.read_faults
   pub write : exit ≡ exits.WriteFault → Rises a.outside.output.faults a'.outside.output.faults
   pub keeper : exit ≡ exits.KeeperFault → Rises a.stores.faults a'.stores.faults
   pub listen : exit ≡ exits.ListenFault → Rises a.gates.faults a'.gates.faults
+  pub clock : exit ≡ exits.ClockFault → Rises a.outside.clock.faults a'.outside.clock.faults
 
 -- One connection from the empty history on, or from that of a store on; many connections over a store; the view of a
--- store; or a drill. The last three read no input, and all but serving leave the gates alone. A drill has no store.
-abbrev pub DoesJob : {K I C D : Type 0} → (K → Option (List Row)) → (I → Option (List ℕ))
-    → (I → I → List ℕ → Type 0) → Streams C D
-    → NamedJob → Exit → Surroundings I C D → Surroundings I C D → Type 0
+-- store; or a drill. The last three read no input and ask no clock but those that doors give, and all but serving leave
+-- the gates alone. A drill has no store.
+abbrev pub DoesJob : {K I A B D : Type 0} → (K → Option (List Row)) → (I → Option (List ℕ))
+    → (I → I → List ℕ → Type 0) → Streams A B D
+    → NamedJob → Exit → Surroundings I A B D → Surroundings I A B D → Type 0
 DoesJob rows left gives streams (pipe_job None) exit a a' =
     ServesPipe left gives [] exit a.outside a'.outside × (a'.stores ≡ a.stores) × (a'.gates ≡ a.gates)
 DoesJob rows left gives streams (pipe_job (Some path)) exit a a' =
     PipesStore rows path left gives exit a.outside a'.outside a.stores a'.stores × (a'.gates ≡ a.gates)
 DoesJob rows left gives streams (serve_job listen workers connections path) exit a a' =
-    ServesGates rows path streams workers connections exit a.outside.output a'.outside.output a.stores
+    ServesGates rows path streams listen workers connections exit a.outside.output a'.outside.output a.stores
     a'.stores a.gates a'.gates
-    × (a'.outside.input ≡ a.outside.input) × (a'.outside.read_faults ≡ a.outside.read_faults)
+    × ReadsNothing a.outside a'.outside
 DoesJob rows left gives streams (view_job path name) exit a a' =
     TellsStore path name exit a.outside.output a'.outside.output a.stores a'.stores
-    × (a'.outside.input ≡ a.outside.input) × (a'.outside.read_faults ≡ a.outside.read_faults) × (a'.gates ≡ a.gates)
+    × ReadsNothing a.outside a'.outside × (a'.gates ≡ a.gates)
 DoesJob rows left gives streams (drill_job seed steps) exit a a' =
     TellsDrill seed steps exit a.outside.output a'.outside.output × (a'.stores ≡ a.stores)
-    × (a'.outside.input ≡ a.outside.input) × (a'.outside.read_faults ≡ a.outside.read_faults) × (a'.gates ≡ a.gates)
+    × ReadsNothing a.outside a'.outside × (a'.gates ≡ a.gates)
 
 -- the same, unless memory ran out before it began
-abbrev pub Does : {K I C D : Type 0} → (K → Option (List Row)) → (I → Option (List ℕ))
-    → (I → I → List ℕ → Type 0) → Streams C D
-    → NamedJob → Exit → Surroundings I C D → Surroundings I C D → Type 0
+abbrev pub Does : {K I A B D : Type 0} → (K → Option (List Row)) → (I → Option (List ℕ))
+    → (I → I → List ℕ → Type 0) → Streams A B D
+    → NamedJob → Exit → Surroundings I A B D → Surroundings I A B D → Type 0
 Does rows left gives streams job exit a a' = IsUntouched exit a a' ⊎ DoesJob rows left gives streams job exit a a'
 
 -- a store whose rows are a legal history's, over a shelf of which no call failed
@@ -78,8 +83,8 @@ pub record HasHistory (path : List ℕ) (H : History) (s s' : ShelfState) : Type
 -- Where nothing fails, all that the input's bytes spell is answered, from the empty history on or from the store's;
 -- each door gives its share of connections; the view of the store's history is told whole, or nobody there has the
 -- name; and so is the summary of a drill. Memory may be wanting.
-abbrev pub AnswersJob : {I C D : Type 0} → (I → Option (List ℕ)) → NamedJob → Exit → Surroundings I C D
-    → Surroundings I C D → Type 0
+abbrev pub AnswersJob : {I A B D : Type 0} → (I → Option (List ℕ)) → NamedJob → Exit → Surroundings I A B D
+    → Surroundings I A B D → Type 0
 AnswersJob left (pipe_job None) exit a a' =
     (b : List ℕ) → left a.outside.input ≡ Some b → IsFaultless a.outside a'.outside
     → (exit ≡ exits.OutOfMemory) ⊎ AnswersAll [] exit b a.outside a'.outside

@@ -1,30 +1,32 @@
 -- Replay where nothing is lost: what a list of wishes is told, each on the history that the wishes before it left.
-use Rattle.std.specs.Prelude.{ℕ, ◌+◌, List, [], ◌∷◌, ◌++◌}
+use Rattle.std.specs.Prelude.{ℕ, ◌+◌, List, [], ◌∷◌}
 use Rattle.cr_base.specs.History.{History}
 use Rattle.cr_http.specs.Requests.{End, ended_clean, ended_cut, asked, closed}
-use Rattle.cr_print.specs.Answers.{closing_text}
 use Rattle.cr_wire.specs.declared.what.Wish.{Wish}
+use Rattle.cr_session.specs.Answering.{Answer}
+use Rattle.cr_session.specs.Serving.{refusal_at}
 use Rattle.cr_session.specs.Told.{told, after_wish}
 use Rattle.cr_wire.specs.Wishes.{closes}
 use Rattle.cr_top.specs.declared.exit.Exit.{Exit}
 use Rattle.cr_top.specs.declared.exit.Exit.TheVariants as exits
 
--- the answers to the wishes, of which the first is request number n and meets this history
-abbrev pub told_along : ℕ → History → List Wish → List ℕ
+-- the answers to the wishes, each at its wish's moment; the first is request number n and meets this history
+abbrev pub told_along : ℕ → History → List Wish → List Answer
 told_along n H [] = []
-told_along n H (w ∷ ws) = told H w (closes n w) ++ told_along (n + 1) (after_wish H w) ws
+told_along n H (w ∷ ws) =
+    record { text = told H w (closes n w); at = w.at } ∷ told_along (n + 1) (after_wish H w) ws
 
 -- the history that the wishes lead to
 abbrev pub steps_along : History → List Wish → History
 steps_along H [] = H
 steps_along H (w ∷ ws) = steps_along (after_wish H w) ws
 
--- what is answered behind the last wish, by the end of the text
-abbrev pub last_words : End → List ℕ
-last_words ended_clean = []
-last_words ended_cut = []
-last_words asked = []
-last_words (closed why head) = closing_text why head
+-- what is answered behind the last wish, by the end of the text: a refusal at this moment, where it ends by one
+abbrev pub last_words : End → ℕ → List Answer
+last_words ended_clean at = []
+last_words ended_cut at = []
+last_words asked at = []
+last_words (closed why head) at = refusal_at why head at ∷ []
 
 -- the exit by the end of the text
 abbrev pub exit_at : End → Exit

@@ -4,6 +4,7 @@ use Rattle.cr_base.specs.Lists.{listed}
 use Rattle.cr_base.specs.declared.row.Row.{Row}
 use Rattle.cr_base.specs.History.{History}
 use Rattle.cr_ports.specs.Count.{Rises}
+use Rattle.cr_ports.specs.Stream.{Taken}
 use Rattle.cr_policy.specs.Legal.{Legal}
 use Rattle.cr_book.specs.Sound.{IsKept}
 use Rattle.cr_drill.specs.Drill.{drilled, summary}
@@ -12,6 +13,7 @@ use Rattle.cr_words.specs.Usage.{usage}
 use Rattle.cr_wire.specs.declared.what.Wish.{Wish}
 use Rattle.cr_wire.specs.Wishes.{Wishes}
 use Rattle.cr_session.specs.declared.serve.Ending.{Ending}
+use Rattle.cr_session.specs.Answering.{ClockState, Desk, GivesAnswers, clock_of}
 use Rattle.cr_session.specs.Replay.{Ledger, lost_count}
 use Rattle.cr_session.specs.Serving.{World, ConnectionBytes, WholeBytes}
 use Rattle.cr_ports.specs.Writing.{Outlet, outlet_of, Writes, BreaksOff}
@@ -20,23 +22,39 @@ use Rattle.cr_top.specs.declared.exit.Exit.TheVariants as exits
 use Rattle.cr_top.specs.Exits.{exit_of}
 use Rattle.cr_top.specs.Replayed.{told_along, steps_along, last_words, exit_at}
 
--- what a run meets outside: its input with its count of faults, and its output
+-- what a run meets outside: its input with its count of faults, its output, and its clock
 pub record Outside (I : Type 0) : Type 0 where
   pub input : I
   pub read_faults : ℕ
   pub output : Outlet
+  pub clock : ClockState
 
-abbrev pub outside_of : {I O : Type 0} → (I → ℕ) → (O → Option (List ℕ)) → (O → ℕ) → I → O → Outside I
-outside_of read_faults taken write_faults input out =
-    record { input = input; read_faults = read_faults input; output = outlet_of taken write_faults out }
+abbrev pub outside_of : {I O C : Type 0} → (I → ℕ) → (O → Option Taken) → (O → ℕ) → (C → Option (List ℕ)) → (C → ℕ)
+    → I → O → C → Outside I
+outside_of read_faults taken write_faults coming clock_faults input out clock = record {
+  input = input;
+  read_faults = read_faults input;
+  output = outlet_of taken write_faults out;
+  clock = clock_of coming clock_faults clock;
+}
 
--- the same beside a history and its keeper's count of faults
+-- what its one connection is answered with
+abbrev pub desk : {I : Type 0} → Outside I → Desk
+desk o = record { sink = o.output; clock = o.clock }
+
+-- nothing was read, and the clock wasn't asked
+pub record ReadsNothing {I : Type 0} (o o' : Outside I) : Type 0 where
+  pub input : o'.input ≡ o.input
+  pub faults : o'.read_faults ≡ o.read_faults
+  pub clock : o'.clock ≡ o.clock
+
+-- what a run meets outside, beside a history and its keeper's count of faults
 abbrev pub world : {I : Type 0} → Outside I → History → ℕ → World Ledger I
 world o H faults = record {
   state = record { history = H; faults = faults };
   source = o.input;
   read_faults = o.read_faults;
-  sink = o.output;
+  desk = desk o;
 }
 
 -- ---- one connection from an opening history on
@@ -67,33 +85,38 @@ pub record ServesPipe {I : Type 0} (left : I → Option (List ℕ)) (gives : I �
   pub none_lost : lost_count (connection.answered ++ listed connection.failed) ≡ 0
   pub whole : (b : List ℕ) → left o.input ≡ Some b → WholeBytes left ending b (world o opening 0) (world o' history 0)
 
--- Words were refused: nothing was read, and the usage line was written, or a part of it where its write failed.
+-- Words were refused: nothing was read, no clock was asked, and the usage line was written, or a part of it where its
+-- write failed.
 pub record TellsUsage {I : Type 0} (exit : Exit) (o o' : Outside I) : Type 0 where
-  pub unread : o'.input ≡ o.input
-  pub no_read : o'.read_faults ≡ o.read_faults
+  pub unread : ReadsNothing o o'
   pub written : ((exit ≡ exits.Usage) × Writes usage o.output o'.output)
-      ⊎ ((exit ≡ exits.WriteFault) × BreaksOff [] usage o.output o'.output)
+      ⊎ ((exit ≡ exits.WriteFault) × BreaksOff usage o.output o'.output)
 
 -- the summary of a drill was written, or its write broke off; nothing was written, for want of memory
 abbrev pub TellsDrill : ℕ → ℕ → Exit → Outlet → Outlet → Type 0
 TellsDrill seed steps exits.Done o o' = Writes (summary steps (drilled seed steps)) o o'
-TellsDrill seed steps exits.WriteFault o o' = BreaksOff [] (summary steps (drilled seed steps)) o o'
+TellsDrill seed steps exits.WriteFault o o' = BreaksOff (summary steps (drilled seed steps)) o o'
 TellsDrill seed steps exits.OutOfMemory o o' = o' ≡ o
 TellsDrill seed steps _ o o' = ⊥
 
 -- ---- nothing fails
 
--- neither count rose
+-- none of the three counts rose
 pub record IsFaultless {I : Type 0} (o o' : Outside I) : Type 0 where
   pub read : Rises o.read_faults o'.read_faults → ⊥
   pub written : Rises o.output.faults o'.output.faults → ⊥
+  pub timed : Rises o.clock.faults o'.clock.faults → ⊥
 
 -- Each wish that the bytes spell has its answer, told on the history that the wishes before it lead to, from the
--- opening one on; then comes what the end of the bytes is answered, which gives the exit.
+-- opening one on; then comes what the end of the bytes is answered, which gives the exit. Each of these answers was
+-- begun once, before its first byte, and the clock gave their moments, one an answer, in the order in which they were
+-- to come.
 pub record AnswersAll {I : Type 0} (opening : History) (exit : Exit) (b : List ℕ) (o o' : Outside I) : Type 0 where
   pub wishes : List Wish
   pub end : End
   pub spells : Wishes b wishes end
   pub exit_is : exit ≡ exit_at end
   pub legal : Legal (steps_along opening wishes)
-  pub told : Writes (told_along 0 opening wishes ++ last_words end) o.output o'.output
+  -- the moment of the refusal at the end, where there is one
+  pub at : ℕ
+  pub told : GivesAnswers (told_along 0 opening wishes ++ last_words end at) (desk o) (desk o')

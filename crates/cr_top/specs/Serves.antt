@@ -9,6 +9,7 @@ use Rattle.cr_drill.specs.Drill.{entries_line}
 use Rattle.cr_lock.specs.Counts.{Every, total}
 use Rattle.cr_ports.specs.Count.{Gains, Rises}
 use Rattle.cr_ports.specs.Doors.{DoorLog, shares, unasked}
+use Rattle.cr_ports.specs.Opening.{AsksAtMost, and_asked}
 use Rattle.cr_ports.specs.Shelving.{and_file}
 use Rattle.cr_ports.specs.Writing.{Outlet, Writes, BreaksOff}
 use Rattle.cr_ports.specs.declared.door.DoorAnswer.TheVariants as answers
@@ -24,52 +25,62 @@ use Rattle.cr_top.specs.declared.exit.Exit.TheVariants as exits
 use Rattle.cr_top.specs.Exits.{exit_of_workers}
 use Rattle.cr_top.specs.Stores.{ShelfState, KeepsFiles, StaysShut, TellsRows}
 
--- gates: their count of faults, and what the doors that were shut last did, where they tell it
-pub record GatesState (I O : Type 0) : Type 0 where
+-- gates: their count of faults; what the doors that were shut last did, and at which addresses doors were asked for,
+-- where they tell it
+pub record GatesState (I O C : Type 0) : Type 0 where
   pub faults : ℕ
-  pub logs : Option (List (DoorLog I O))
+  pub logs : Option (List (DoorLog I O C))
+  pub asked : Option (List (List ℕ))
 
-abbrev pub gates_of : {G I O : Type 0} → (G → ℕ) → (G → Option (List (DoorLog I O))) → G → GatesState I O
-gates_of faults logs gates = record { faults = faults gates; logs = logs gates }
+abbrev pub gates_of : {G I O C : Type 0} → (G → ℕ) → (G → Option (List (DoorLog I O C))) → (G → Option (List (List ℕ)))
+    → G → GatesState I O C
+gates_of faults logs asked gates = record { faults = faults gates; logs = logs gates; asked = asked gates }
+
+-- gates that were asked for doors at this address, and opened them
+pub record OpensAt {I O C : Type 0} (listen : List ℕ) (g g' : GatesState I O C) : Type 0 where
+  pub asked : g'.asked ≡ and_asked g.asked listen
+  pub faults : g'.faults ≡ g.faults
+  pub logs : g'.logs ≡ g.logs
 
 -- the line at the end was written, or its write broke off
 abbrev pub TellsEntries : Bool → ℕ → Outlet → Outlet → Type 0
 TellsEntries true entries o o' = Writes (entries_line entries) o o'
-TellsEntries false entries o o' = BreaksOff [] (entries_line entries) o o'
+TellsEntries false entries o o' = BreaksOff (entries_line entries) o o'
 
 -- ---- the doors
 
 -- A door as gates open it: no connection is out, it has counted no fault, and it tells that it wasn't asked
 -- yet, where it tells what it did.
-pub record IsNew {I O : Type 0} (d : SeenDoor I O) : Type 0 where
+pub record IsNew {I O C : Type 0} (d : SeenDoor I O C) : Type 0 where
   pub back : d.is_out ≡ false
   pub faults : d.faults ≡ 0
   pub log : IfSome d.log (λ log. log ≡ unasked)
 
 -- the doors of which this is seen are new
-abbrev pub AreNew : {D I O : Type 0} → (D → SeenDoor I O) → List D → Type 0
+abbrev pub AreNew : {D I O C : Type 0} → (D → SeenDoor I O C) → List D → Type 0
 AreNew seen doors = Every IsNew (map seen doors)
 
 -- a door's last answer, by how the workers ended: its share was given; or that, or it
 -- failed; or, for lack of memory, any
-abbrev pub DoorEndsBy : {I O : Type 0} → Worked → DoorLog I O → Type 0
+abbrev pub DoorEndsBy : {I O C : Type 0} → Worked → DoorLog I O C → Type 0
 DoorEndsBy worked.Done log = log.last ≡ Some answers.Done
 DoorEndsBy worked.DoorFailed log = (log.last ≡ Some answers.Done) ⊎ (log.last ≡ Some answers.Failed)
 DoorEndsBy worked.OutOfMemory log = Unit {0}
 
 -- Doors that were shut, with the connections that were served by each, by what the gates tell: each connection as it
 -- was given and as it came back, in order, and the door's last answer.
-pub record AreDoorsTold {I O : Type 0} (ended : Worked) (works : List (DoorWork I O))
-    (logs : List (DoorLog I O)) : Type 0 where
-  pub served : map (λ (log : DoorLog I O). log.served) logs ≡ map (λ (w : DoorWork I O). ends_of w.connections) works
+pub record AreDoorsTold {I O C : Type 0} (ended : Worked) (works : List (DoorWork I O C))
+    (logs : List (DoorLog I O C)) : Type 0 where
+  pub served : map (λ (log : DoorLog I O C). log.served) logs
+      ≡ map (λ (w : DoorWork I O C). ends_of w.connections) works
   pub last : Every (DoorEndsBy ended) logs
 
 -- ---- answers that a command wasn't kept
 
 -- how many wishes of these connections were lost to the keeper: each has such an answer, or a
 -- part of it where its write failed
-abbrev pub lost_in : {I O : Type 0}
-    → (streams : Streams I O) (first last : History) (connections : List (ServedConnection I O))
+abbrev pub lost_in : {I O C : Type 0}
+    → (streams : Streams I O C) (first last : History) (connections : List (ServedConnection I O C))
     → Every (IsServedWithin streams first last) connections → ℕ
 lost_in streams first last [] served = 0
 lost_in streams first last (c ∷ cs) served =
@@ -78,19 +89,20 @@ lost_in streams first last (c ∷ cs) served =
 
 -- ---- connections were served
 
--- From the history of the rows at the path on workers served the connections that their doors gave, one door each, and
--- the exit is by how they ended: 0 or 5 where each door gave its share, 7 where one failed, and 9 where memory ran
--- out. The rows at the path are then those of the last history, and the output has the number of its entries.
-pub record ServesMany {K I O : Type 0} (rows : K → Option (List Row)) (path : List ℕ) (streams : Streams I O)
-    (workers connections : ℕ)
-    (exit : Exit) (o o' : Outlet) (s s' : ShelfState) (g g' : GatesState I O) : Type 0 where
+-- The gates were asked to listen at the address, once and at no other. From the history of the rows at the path on
+-- workers served the connections that their doors gave, one door each, and the exit is by how they ended: 0 or 5 where
+-- each door gave its share, 7 where one failed, and 9 where memory ran out. The rows at the path are then those of the
+-- last history, and the output has the number of its entries.
+pub record ServesMany {K I O C : Type 0} (rows : K → Option (List Row)) (path : List ℕ) (streams : Streams I O C)
+    (listen : List ℕ) (workers connections : ℕ)
+    (exit : Exit) (o o' : Outlet) (s s' : ShelfState) (g g' : GatesState I O C) : Type 0 where
   pub opening : History
   pub opens : Legal opening
   pub found : IfSome s.files (λ files. rows_of opening ≡ files path)
   -- the doors as they were opened, with their shares of the connections, and as they were shut
-  pub doors : List (SeenDoor I O)
-  pub doors' : List (SeenDoor I O)
-  pub shared : map (λ (d : SeenDoor I O). d.left) doors ≡ shares workers connections
+  pub doors : List (SeenDoor I O C)
+  pub doors' : List (SeenDoor I O C)
+  pub shared : map (λ (d : SeenDoor I O C). d.left) doors ≡ shares workers connections
   pub new : Every IsNew doors
   -- the last history, and the keeper's count of faults
   pub history : History
@@ -103,7 +115,7 @@ pub record ServesMany {K I O : Type 0} (rows : K → Option (List Row)) (path : 
   -- With exit 0 or 5 as many connections were served by each door as its share was, and with 0, 5 or 7
   -- none ended for lack of memory.
   pub all : ended ≡ worked.Done
-      → map (λ (w : DoorWork I O). length w.connections) serves.works ≡ shares workers connections
+      → map (λ (w : DoorWork I O C). length w.connections) serves.works ≡ shares workers connections
   pub none_lacked : ended ≢ worked.OutOfMemory → NoneLacked (connections_of serves.works)
   -- the line at the end
   pub written : Bool
@@ -113,28 +125,33 @@ pub record ServesMany {K I O : Type 0} (rows : K → Option (List Row)) (path : 
   pub kept : TellsRows rows → s'.files ≡ and_file s.files path (rows_of history)
   pub counted : Gains s.faults faults s'.faults
   pub lost : Gains s.faults (lost_in streams opening history (connections_of serves.works) serves.served) s'.faults
+  pub asked : g'.asked ≡ and_asked g.asked listen
   -- the gates tell what each door did, and count its faults
   pub told : IfSome g'.logs (λ logs. AreDoorsTold ended serves.works logs)
-  pub gates : Gains g.faults (total (λ (d : SeenDoor I O). d.faults) doors') g'.faults
+  pub gates : Gains g.faults (total (λ (d : SeenDoor I O C). d.faults) doors') g'.faults
 
 -- ---- no connection was served
 
 -- why not, though the store was opened: the gates failed, which was counted; or memory ran out
-abbrev pub IsWhyClosed : {I O : Type 0} → Exit → GatesState I O → GatesState I O → Type 0
+abbrev pub IsWhyClosed : {I O C : Type 0} → Exit → GatesState I O C → GatesState I O C → Type 0
 IsWhyClosed exits.ListenFault g g' = Rises g.faults g'.faults
 IsWhyClosed exits.OutOfMemory g g' = Unit {0}
 IsWhyClosed _ g g' = ⊥
 
--- the store was opened and shut again, with its rows as they were
-pub record StaysClosed {I O : Type 0} (exit : Exit) (s s' : ShelfState) (g g' : GatesState I O) : Type 0 where
+-- The store was opened and shut again, with its rows as they were. The gates were asked to listen at the address, and
+-- at no other.
+pub record StaysClosed {I O C : Type 0} (listen : List ℕ) (exit : Exit) (s s' : ShelfState)
+    (g g' : GatesState I O C) : Type 0 where
   pub refused : IsWhyClosed exit g g'
   pub files : KeepsFiles s s'
   pub count : s.faults ≤ s'.faults
   pub gates : g.faults ≤ g'.faults
+  pub asked : AsksAtMost listen g.asked g'.asked
 
 -- a store that doesn't open leaves the gates unasked; and where no connection was served, nothing is written
-abbrev pub ServesGates : {K I O : Type 0} → (K → Option (List Row)) → List ℕ → Streams I O → ℕ → ℕ
-    → Exit → Outlet → Outlet → ShelfState → ShelfState → GatesState I O → GatesState I O → Type 0
-ServesGates rows path streams workers connections exit o o' s s' g g' =
+abbrev pub ServesGates : {K I O C : Type 0} → (K → Option (List Row)) → List ℕ → Streams I O C → List ℕ → ℕ → ℕ
+    → Exit → Outlet → Outlet → ShelfState → ShelfState → GatesState I O C → GatesState I O C → Type 0
+ServesGates rows path streams listen workers connections exit o o' s s' g g' =
     (StaysShut path exit s s' × (o' ≡ o) × (g' ≡ g))
-    ⊎ ((StaysClosed exit s s' g g' × (o' ≡ o)) ⊎ ServesMany rows path streams workers connections exit o o' s s' g g')
+    ⊎ ((StaysClosed listen exit s s' g g' × (o' ≡ o))
+    ⊎ ServesMany rows path streams listen workers connections exit o o' s s' g g')

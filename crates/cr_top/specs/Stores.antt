@@ -116,7 +116,7 @@ abbrev pub TellsView : History → List ℕ → Exit → Outlet → Outlet → T
 TellsView H name exits.Done s s' =
     (user : ℕ) × (number_of name H ≡ Some user) × Writes (lines_text (view (Some user) H)) s s'
 TellsView H name exits.WriteFault s s' =
-    (user : ℕ) × (number_of name H ≡ Some user) × BreaksOff [] (lines_text (view (Some user) H)) s s'
+    (user : ℕ) × (number_of name H ≡ Some user) × BreaksOff (lines_text (view (Some user) H)) s s'
 TellsView H name exits.OutOfMemory s s' =
     (user : ℕ) × (number_of name H ≡ Some user) × StopsShort (lines_text (view (Some user) H)) s s'
 TellsView H name exits.NoUser s s' = (number_of name H ≡ None) × (s' ≡ s)

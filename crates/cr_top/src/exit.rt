@@ -35,10 +35,12 @@ pub enum Exit {
     NoUser,
     /// Out of memory.
     OutOfMemory,
+    /// The clock gave no moment for an answer of the one connection.
+    ClockFault,
 }
 
 impl Exit {
-    /// The status that the process ends with: 0 to 9.
+    /// The status that the process ends with: 0 to 10.
     pub fn code(self) -> u8
         ensures { result ≡ exit_status self }
     {
@@ -53,6 +55,7 @@ impl Exit {
             Exit::ListenFault => 7,
             Exit::NoUser => 8,
             Exit::OutOfMemory => 9,
+            Exit::ClockFault => 10,
         }
     }
 }
@@ -78,6 +81,7 @@ pub fn exit_of(ending: Ending) -> Exit
         Ending::Cut => Exit::Cut,
         Ending::ReadFault => Exit::ReadFault,
         Ending::WriteFault => Exit::WriteFault,
+        Ending::ClockFault => Exit::ClockFault,
         Ending::OutOfMemory => Exit::OutOfMemory,
     }
 }

@@ -1,4 +1,4 @@
-//! The top call: a command line, an input, an output, a shelf and gates.
+//! The top call: a command line, an input, an output, a shelf, gates and a clock.
 //!
 //! `top` does what the program's words ask for: `pipe` is one connection from a book's history on, `pipe_store`,
 //! `serve_store` and `view_store` work on the rows of a store, and `drill` writes what made-up commands come to.

@@ -6,46 +6,50 @@ ghost use Rattle.cr_top.specs.Exits.{exit_of};
 ghost use Rattle.cr_top.specs.Runs.{Pipes, outside_of, IsFaultless, AnswersAll};
 
 use cr_book::Book;
-use cr_ports::{Keeper, Sink, Source};
+use cr_ports::{Clock, Keeper, Sink, Source};
 use cr_session::{Ending, Server, note_no_memory, serve_connection};
 use std::alloc::Global;
 use std::sync::Wait;
 
-/// Serves one connection over `input` and `out`, from the book's history on. Tells how it ended, and
-/// hands back the book's keeper, which keeps the rows of the last history.
+/// Serves one connection over `input` and `out`, at the moments that `clock` gives, from the book's history on. Tells
+/// how it ended, and hands back the book's keeper, which keeps the rows of the last history.
 ///
 /// It has the only pass of the lock that it makes round the book, so it waits for nobody.
 ///
 /// `ReadFault` comes only where the count of `input` has risen, or stands at its last value, `WriteFault` so for
-/// `out`, and no other ending lets a count rise. `OutOfMemory` comes
-/// for lack of memory alone, and behind a wish that was read only where it wanted some: see
-/// `serve_connection`.
-pub fn pipe<R: Wait, K: Keeper, I: Source, O: Sink>(
+/// `out` and `ClockFault` so for `clock`, and no other ending lets a count rise, but for the clock's where it fails
+/// to give the moment of the note that memory ran out. `OutOfMemory` comes for lack of memory alone, and behind a wish
+/// that was read only where it wanted some: see `serve_connection`.
+pub fn pipe<R: Wait, K: Keeper, I: Source, O: Sink, C: Clock>(
     rt: &R,
     alloc: Global,
     book: Book<K>,
     input: &mut I,
     out: &mut O,
+    clock: &mut C,
 ) -> (Ending, K)
-    ensures pipes { let outside = outside_of I.faults O.taken O.faults in
-        Pipes K.rows K.faults I.left I.read_gives book.log result.0 book.keeper result.1 (outside input.old out.old)
-        (outside input.new out.new) }
+    ensures pipes { let outside = outside_of I.faults O.taken O.faults C.coming C.faults in
+        Pipes K.rows K.faults I.left I.read_gives book.log result.0 book.keeper result.1
+        (outside input.old out.old clock.old) (outside input.new out.new clock.new) }
 
     // Where nothing fails, the keeper's calls included, all that the input's bytes spell is answered,
     // or memory runs out.
-    ensures answers { let outside = outside_of I.faults O.taken O.faults in
-        (b : List ℕ) → I.left input.old ≡ Some b → IsFaultless (outside input.old out.old) (outside input.new out.new)
+    ensures answers { let outside = outside_of I.faults O.taken O.faults C.coming C.faults in
+        (b : List ℕ) → I.left input.old ≡ Some b
+        → IsFaultless (outside input.old out.old clock.old) (outside input.new out.new clock.new)
         → (Rises (K.faults book.keeper) (K.faults result.1) → ⊥)
         → (exit_of result.0 ≡ Exit.OutOfMemory)
-        ⊎ AnswersAll book.log (exit_of result.0) b (outside input.old out.old) (outside input.new out.new) }
+        ⊎ AnswersAll book.log (exit_of result.0) b (outside input.old out.old clock.old)
+        (outside input.new out.new clock.new) }
     ensures read_fault { result.0 ≡ Ending.ReadFault → Rises (I.faults input.old) (I.faults input.new) }
     ensures write_fault { result.0 ≡ Ending.WriteFault → Rises (O.faults out.old) (O.faults out.new) }
+    ensures clock_fault { result.0 ≡ Ending.ClockFault → Rises (C.faults clock.old) (C.faults clock.new) }
 {
     let (server, mut pass) = match Server::new(rt, alloc, book) {
         Ok(made) => made,
-        Err(book) => return (note_no_memory(out, false), book.close()),
+        Err(book) => return (note_no_memory(out, clock, false, None), book.close()),
     };
-    let ending = serve_connection(&server, &mut pass, input, out);
+    let ending = serve_connection(&server, &mut pass, input, out, clock);
     let book = server.close(pass);
     (ending, book.close())
 }

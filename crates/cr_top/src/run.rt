@@ -1,5 +1,5 @@
 //! What the program does with its words.
-ghost use Rattle.std.specs.Prelude.{◌≡◌, ◌≢◌, ◌⊎◌, ℕ, List, [], Some};
+ghost use Rattle.std.specs.Prelude.{◌≡◌, ◌≢◌, ◌⊎◌, ℕ, List, Some};
 ghost use Rattle.cr_ports.specs.Writing.{BreaksOff, Writes, outlet_of};
 ghost use Rattle.cr_words.specs.Job.{NamedJob, IsInRange, job_seen};
 ghost use Rattle.cr_workers.specs.Connections.{streams_of};
@@ -15,7 +15,7 @@ use crate::serve::{Address, serve_store};
 use crate::storing::pipe_store;
 use crate::viewing::view_store;
 use cr_book::empty_book;
-use cr_ports::{Gates, Shelf, Sink, Source, write_all};
+use cr_ports::{Clock, Gates, Shelf, Sink, Source, write_all};
 use cr_words::{Job, WordsError, read_words, usage_text};
 use std::alloc::Global;
 use std::sync::Wait;
@@ -26,7 +26,7 @@ fn refuse_words<O: Sink>(out: &mut O) -> Exit
     ensures usage { result ≡ Exit.Usage
         → Writes usage (outlet_of O.taken O.faults out.old) (outlet_of O.taken O.faults out.new) }
     ensures fault { result ≡ Exit.WriteFault
-        → BreaksOff [] usage (outlet_of O.taken O.faults out.old) (outlet_of O.taken O.faults out.new) }
+        → BreaksOff usage (outlet_of O.taken O.faults out.old) (outlet_of O.taken O.faults out.new) }
     ensures either { (result ≡ Exit.Usage) ⊎ (result ≡ Exit.WriteFault) }
 {
     match write_all(out, usage_text()) {
@@ -36,7 +36,7 @@ fn refuse_words<O: Sink>(out: &mut O) -> Exit
 }
 
 /// Does the job that the words name.
-fn do_job<R: Threads + Wait + Sync, I: Source, O: Sink, S: Shelf, G: Gates>(
+fn do_job<R: Threads + Wait + Sync, I: Source, O: Sink, S: Shelf, G: Gates, C: Clock>(
     rt: &R,
     alloc: Global,
     job: Job,
@@ -44,30 +44,35 @@ fn do_job<R: Threads + Wait + Sync, I: Source, O: Sink, S: Shelf, G: Gates>(
     out: &mut O,
     shelf: &mut S,
     gates: &mut G,
+    clock: &mut C,
 ) -> Exit
     requires { IsInRange (job_seen job) }
-    ensures does { let around = around_of I.faults O.taken O.faults S.rows S.faults G.faults G.logs in
+    ensures does { let around = around_of I.faults O.taken O.faults C.coming C.faults S.rows S.faults G.faults G.logs
+        G.asked in
         Does S.Keeper.rows I.left I.read_gives
-        (streams_of G.Door.In.left G.Door.In.read_gives G.Door.In.faults G.Door.Out.taken G.Door.Out.faults)
-        (job_seen job.entry) result (around input.old out.old shelf.old gates.old)
-        (around input.new out.new shelf.new gates.new) }
-    ensures answers { let around = around_of I.faults O.taken O.faults S.rows S.faults G.faults G.logs in
-        AnswersJob I.left (job_seen job.entry) result (around input.old out.old shelf.old gates.old)
-        (around input.new out.new shelf.new gates.new) }
+        (streams_of G.Door.In.left G.Door.In.read_gives G.Door.In.faults G.Door.Out.taken G.Door.Out.faults
+        G.Door.Clock.coming G.Door.Clock.faults)
+        (job_seen job.entry) result (around input.old out.old shelf.old gates.old clock.old)
+        (around input.new out.new shelf.new gates.new clock.new) }
+    ensures answers { let around = around_of I.faults O.taken O.faults C.coming C.faults S.rows S.faults G.faults G.logs
+        G.asked in
+        AnswersJob I.left (job_seen job.entry) result (around input.old out.old shelf.old gates.old clock.old)
+        (around input.new out.new shelf.new gates.new clock.new) }
     ensures known { result ≢ Exit.Usage }
-    ensures counted { let around = around_of I.faults O.taken O.faults S.rows S.faults G.faults G.logs in
-        IsCounted result (around input.old out.old shelf.old gates.old)
-        (around input.new out.new shelf.new gates.new) }
+    ensures counted { let around = around_of I.faults O.taken O.faults C.coming C.faults S.rows S.faults G.faults G.logs
+        G.asked in
+        IsCounted result (around input.old out.old shelf.old gates.old clock.old)
+        (around input.new out.new shelf.new gates.new clock.new) }
 {
     match job {
         Job::Pipe { store: None } => {
             let Some(book) = empty_book(alloc) else {
                 return Exit::OutOfMemory;
             };
-            let (ending, _keeper) = pipe(rt, alloc, book, input, out);
+            let (ending, _keeper) = pipe(rt, alloc, book, input, out, clock);
             exit_of(ending)
         }
-        Job::Pipe { store: Some(path) } => pipe_store(rt, alloc, path, input, out, shelf),
+        Job::Pipe { store: Some(path) } => pipe_store(rt, alloc, path, input, out, shelf, clock),
         Job::Serve {
             listen,
             workers,
@@ -86,12 +91,12 @@ fn do_job<R: Threads + Wait + Sync, I: Source, O: Sink, S: Shelf, G: Gates>(
     }
 }
 
-/// Does what the words ask for, the first of which is the program's name. `pipe` serves one connection over
-/// `input` and `out`, from the empty history on, whose rows it keeps in memory, or from the history of the rows of
-/// a store on, which are those of the last history when it ends. `serve` serves many connections, which the gates'
-/// doors give, from the history of a store's rows on: however their turns interleave, there is one history. `view`
-/// prints what a user sees of a store's history. `drill` makes up commands from a number, gives them to a book in
-/// memory, and prints what they come to.
+/// Does what the words ask for, the first of which is the program's name. `pipe` serves one connection over `input` and
+/// `out`, at the moments that `clock` gives, from the empty history on, whose rows it keeps in memory, or from the
+/// history of the rows of a store on, which are those of the last history when it ends. `serve` serves many
+/// connections, which the gates' doors give with a clock each, from the history of a store's rows on: however their
+/// turns interleave, there is one history. `view` prints what a user sees of a store's history. `drill` makes up
+/// commands from a number, gives them to a book in memory, and prints what they come to.
 ///
 /// - `Done` comes only where the connection's ending is `Clean` or `Closed`, each door gave its share and
 ///   no connection ended for lack of memory, or the view or the drill's summary was printed; `Cut`
@@ -104,10 +109,11 @@ fn do_job<R: Threads + Wait + Sync, I: Source, O: Sink, S: Shelf, G: Gates>(
 /// - `ListenFault` comes only where the count of `gates` rose in this call, or stands at its last value. Where they
 ///   weren't opened, nothing is written.
 /// - `NoUser` comes exactly where `view` opened its store and nobody there has registered the name.
-/// - `ReadFault` and `WriteFault` come only where the count of `input`, of `out` rose in this call, or
-///   stands at its last value.
+/// - `ReadFault`, `WriteFault` and `ClockFault` come only where the count of `input`, of `out`, of `clock` rose in this
+///   call, or stands at its last value. `ClockFault` comes exactly where the ending of `pipe`'s connection is that;
+///   where the clock of one of `serve`'s connections fails, that connection alone ends by it.
 /// - `OutOfMemory` comes for lack of memory alone.
-pub fn top<R: Threads + Wait + Sync, I: Source, O: Sink, S: Shelf, G: Gates>(
+pub fn top<R: Threads + Wait + Sync, I: Source, O: Sink, S: Shelf, G: Gates, C: Clock>(
     rt: &R,
     alloc: Global,
     words: &[String],
@@ -115,38 +121,45 @@ pub fn top<R: Threads + Wait + Sync, I: Source, O: Sink, S: Shelf, G: Gates>(
     out: &mut O,
     shelf: &mut S,
     gates: &mut G,
+    clock: &mut C,
 ) -> Exit
     // What the job that the words name did: one connection, or many, whose bytes are the answers that its wishes are
     // told, each on the caller's view of the one history at its turn's place; or a user's view; or a drill's summary.
-    ensures does { let around = around_of I.faults O.taken O.faults S.rows S.faults G.faults G.logs in
+    ensures does { let around = around_of I.faults O.taken O.faults C.coming C.faults S.rows S.faults G.faults G.logs
+        G.asked in
         (job : NamedJob) → AreFor words.now job
         → Does S.Keeper.rows I.left I.read_gives
-        (streams_of G.Door.In.left G.Door.In.read_gives G.Door.In.faults G.Door.Out.taken G.Door.Out.faults)
-        job result (around input.old out.old shelf.old gates.old) (around input.new out.new shelf.new gates.new) }
+        (streams_of G.Door.In.left G.Door.In.read_gives G.Door.In.faults G.Door.Out.taken G.Door.Out.faults
+        G.Door.Clock.coming G.Door.Clock.faults)
+        job result (around input.old out.old shelf.old gates.old clock.old)
+        (around input.new out.new shelf.new gates.new clock.new) }
 
     // Where nothing fails, all that the input's bytes spell is answered, each door gives its share, and the view is
     // told whole, or memory runs out.
-    ensures answers { let around = around_of I.faults O.taken O.faults S.rows S.faults G.faults G.logs in
+    ensures answers { let around = around_of I.faults O.taken O.faults C.coming C.faults S.rows S.faults G.faults G.logs
+        G.asked in
         (job : NamedJob) → AreFor words.now job
-        → AnswersJob I.left job result (around input.old out.old shelf.old gates.old)
-        (around input.new out.new shelf.new gates.new) }
+        → AnswersJob I.left job result (around input.old out.old shelf.old gates.old clock.old)
+        (around input.new out.new shelf.new gates.new clock.new) }
 
     // Words that name no job are answered by the usage line, and nothing is read.
-    ensures refuses { let around = around_of I.faults O.taken O.faults S.rows S.faults G.faults G.logs in
-        let a = around input.old out.old shelf.old gates.old in
-        let a' = around input.new out.new shelf.new gates.new in
+    ensures refuses { let around = around_of I.faults O.taken O.faults C.coming C.faults S.rows S.faults G.faults G.logs
+        G.asked in
+        let a = around input.old out.old shelf.old gates.old clock.old in
+        let a' = around input.new out.new shelf.new gates.new clock.new in
         AreRefused words.now
         → IsUntouched result a a'
         ⊎ (TellsUsage result a.outside a'.outside × (shelf.new ≡ shelf.old) × (gates.new ≡ gates.old)) }
     ensures usage { result ≡ Exit.Usage → AreRefused words.now }
     ensures passes { PassTest words.now → result ≢ Exit.Usage }
 
-    ensures counted { let around = around_of I.faults O.taken O.faults S.rows S.faults G.faults G.logs in
-        IsCounted result (around input.old out.old shelf.old gates.old)
-        (around input.new out.new shelf.new gates.new) }
+    ensures counted { let around = around_of I.faults O.taken O.faults C.coming C.faults S.rows S.faults G.faults G.logs
+        G.asked in
+        IsCounted result (around input.old out.old shelf.old gates.old clock.old)
+        (around input.new out.new shelf.new gates.new clock.new) }
 {
     match read_words(alloc, words) {
-        Ok(job) => do_job(rt, alloc, job, input, out, shelf, gates),
+        Ok(job) => do_job(rt, alloc, job, input, out, shelf, gates, clock),
         Err(WordsError::Usage) => refuse_words(out),
         Err(WordsError::OutOfMemory) => Exit::OutOfMemory,
     }
@@ -154,7 +167,7 @@ pub fn top<R: Threads + Wait + Sync, I: Source, O: Sink, S: Shelf, G: Gates>(
 
 /// Does what `top` does, and promises nothing of its own: what is said of a run is said of `top`. It is for callers
 /// that state nothing of one, so that `top`'s clauses aren't read again at each of their types.
-pub fn run_top<R: Threads + Wait + Sync, I: Source, O: Sink, S: Shelf, G: Gates>(
+pub fn run_top<R: Threads + Wait + Sync, I: Source, O: Sink, S: Shelf, G: Gates, C: Clock>(
     rt: &R,
     alloc: Global,
     words: &[String],
@@ -162,6 +175,7 @@ pub fn run_top<R: Threads + Wait + Sync, I: Source, O: Sink, S: Shelf, G: Gates>
     out: &mut O,
     shelf: &mut S,
     gates: &mut G,
+    clock: &mut C,
 ) -> Exit {
-    top(rt, alloc, words, input, out, shelf, gates)
+    top(rt, alloc, words, input, out, shelf, gates, clock)
 }

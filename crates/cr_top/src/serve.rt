@@ -1,16 +1,18 @@
 //! Many connections over a store.
-ghost use Rattle.std.specs.Prelude.{◌≡◌, ◌≢◌, ◌⊎◌, ◌≤◌, ◌*◌, ◌^◌, ℕ, length, map, Some, is_ok, IfOk, IfErr};
+ghost use Rattle.std.specs.Prelude.{◌≡◌, ◌≢◌, ◌⊎◌, ◌≤◌, ◌*◌, ◌^◌, ℕ, List, length, map, Some, is_ok, IfOk, IfErr};
 ghost use Rattle.cr_base.specs.History.{History};
 ghost use Rattle.cr_base.specs.Rows.{rows_of};
 ghost use Rattle.cr_policy.specs.Legal.{Legal};
 ghost use Rattle.cr_lock.specs.Counts.{total};
 ghost use Rattle.cr_ports.specs.Count.{Rises};
 ghost use Rattle.cr_ports.specs.Doors.{shares};
+ghost use Rattle.cr_ports.specs.Opening.{AsksAtMost, and_asked};
 ghost use Rattle.cr_ports.specs.Writing.{outlet_of};
 ghost use Rattle.cr_workers.specs.Connections.{streams_of};
 ghost use Rattle.cr_workers.specs.Doors.{door_of, turns_for};
 ghost use Rattle.cr_top.specs.declared.exit.Exit.{Exit};
-ghost use Rattle.cr_top.specs.Serves.{AreNew, IsWhyClosed, ServesGates, ServesMany, TellsEntries, gates_of};
+ghost use Rattle.cr_top.specs.Serves.{AreNew, GatesState, IsWhyClosed, OpensAt, ServesGates, ServesMany};
+ghost use Rattle.cr_top.specs.Serves.{TellsEntries, gates_of};
 ghost use Rattle.cr_top.specs.Stores.{Files, OpensStore, ShelfState, state_of};
 
 use crate::exit::{Exit, exit_of_workers};
@@ -46,7 +48,7 @@ pub struct Address<'a> {
     pub connections: u32,
 }
 
-/// Opens the gates, or tells why they don't open.
+/// Opens the gates at the address, or tells why they don't open.
 #[tactic(auto, using(crate::proofs::Doors::new_doors))]
 fn open_gates<G: Gates>(
     alloc: Global,
@@ -60,7 +62,9 @@ fn open_gates<G: Gates>(
         (λ doors. AreNew (door_of G.Door.left G.Door.is_out G.Door.faults G.Door.log) doors.items) }
     ensures same { IfOk result (λ doors. G.faults gates.new ≡ G.faults gates.old) }
     ensures logs { IfOk result (λ doors. G.logs gates.new ≡ G.logs gates.old) }
-    ensures refused { let gates_at = gates_of G.faults G.logs in
+    ensures asked { IfOk result (λ doors. G.asked gates.new ≡ and_asked (G.asked gates.old) address.entry.listen.now) }
+    ensures other { IfErr result (λ exit. AsksAtMost address.entry.listen.now (G.asked gates.old) (G.asked gates.new)) }
+    ensures refused { let gates_at = gates_of G.faults G.logs G.asked in
         IfErr result (λ exit. IsWhyClosed exit (gates_at gates.old) (gates_at gates.new)
         × (G.faults gates.old ≤ G.faults gates.new)) }
 {
@@ -89,13 +93,15 @@ fn serve_open_book<R: Threads + Wait + Sync, S: Shelf, G: Gates, O: Sink>(
     requires new { AreNew (door_of G.Door.left G.Door.is_out G.Door.faults G.Door.log) doors.items }
     requires open { S.has_opened shelf.old path.now }
     ensures { let outlet = outlet_of O.taken O.faults in let stores = state_of S.rows S.faults in
-        let gates_at = gates_of G.faults G.logs in
+        let gates_at = gates_of G.faults G.logs G.asked in
         (s : ShelfState) → OpensStore S.Keeper.rows S.Keeper.faults path.now book s (stores shelf.old)
+        → (g : GatesState G.Door.In G.Door.Out G.Door.Clock) → (listen : List ℕ) → OpensAt listen g (gates_at gates.old)
         → (workers connections : ℕ) → map G.Door.left doors.items ≡ shares workers connections
         → ServesMany S.Keeper.rows path.now
-        (streams_of G.Door.In.left G.Door.In.read_gives G.Door.In.faults G.Door.Out.taken G.Door.Out.faults)
-        workers connections result (outlet out.old) (outlet out.new) s (stores shelf.new)
-        (gates_at gates.old) (gates_at gates.new) }
+        (streams_of G.Door.In.left G.Door.In.read_gives G.Door.In.faults G.Door.Out.taken G.Door.Out.faults
+        G.Door.Clock.coming G.Door.Clock.faults)
+        listen workers connections result (outlet out.old) (outlet out.new) s (stores shelf.new)
+        g (gates_at gates.new) }
 {
     let (ended, book, doors) = serve_book(rt, alloc, book, doors);
     gates.shut(doors);
@@ -105,8 +111,9 @@ fn serve_open_book<R: Threads + Wait + Sync, S: Shelf, G: Gates, O: Sink>(
 }
 
 /// Serves so many connections at the address from the history of the rows at the path on, which are then those of the
-/// last history: each worker those of a door of its own, one after another. Then writes `entries K`, K the number of
-/// entries of the history. Where the rows don't open no gate is asked, and where the gates don't nothing is written.
+/// last history: each worker those of a door of its own, one after another, each at the moments that its clock gives.
+/// Then writes `entries K`, K the number of entries of the history. Where the rows don't open no gate is asked, and
+/// where the gates don't nothing is written.
 pub fn serve_store<R: Threads + Wait + Sync, S: Shelf, G: Gates, O: Sink>(
     rt: &R,
     alloc: Global,
@@ -119,11 +126,13 @@ pub fn serve_store<R: Threads + Wait + Sync, S: Shelf, G: Gates, O: Sink>(
     requires workers { (1 ≤ address.workers) × (address.workers ≤ 64) }
     requires connections { (1 ≤ address.connections) × (address.connections ≤ 65536) }
     ensures serves { let outlet = outlet_of O.taken O.faults in let stores = state_of S.rows S.faults in
-        let gates_at = gates_of G.faults G.logs in
+        let gates_at = gates_of G.faults G.logs G.asked in
         ServesGates S.Keeper.rows path.now
-        (streams_of G.Door.In.left G.Door.In.read_gives G.Door.In.faults G.Door.Out.taken G.Door.Out.faults)
-        address.entry.workers address.entry.connections result (outlet out.old) (outlet out.new)
-        (stores shelf.old) (stores shelf.new) (gates_at gates.old) (gates_at gates.new) }
+        (streams_of G.Door.In.left G.Door.In.read_gives G.Door.In.faults G.Door.Out.taken G.Door.Out.faults
+        G.Door.Clock.coming G.Door.Clock.faults)
+        address.entry.listen.now address.entry.workers address.entry.connections result
+        (outlet out.old) (outlet out.new) (stores shelf.old) (stores shelf.new)
+        (gates_at gates.old) (gates_at gates.new) }
 
     // Where nothing fails and the rows are a legal history's, each door gives its share, or memory runs out.
     ensures answers { (Rises (O.faults out.old) (O.faults out.new) → ⊥)
@@ -132,6 +141,7 @@ pub fn serve_store<R: Threads + Wait + Sync, S: Shelf, G: Gates, O: Sink>(
         → (result ≡ Exit.OutOfMemory) ⊎ (result ≡ Exit.Done) }
     ensures known { result ≢ Exit.Usage }
     ensures unread { result ≢ Exit.ReadFault }
+    ensures untimed { result ≢ Exit.ClockFault }
     ensures write_fault { result ≡ Exit.WriteFault → Rises (O.faults out.old) (O.faults out.new) }
     ensures keeper_fault { result ≡ Exit.KeeperFault → Rises (S.faults shelf.old) (S.faults shelf.new) }
     ensures listen_fault { result ≡ Exit.ListenFault → Rises (G.faults gates.old) (G.faults gates.new) }

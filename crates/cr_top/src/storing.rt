@@ -12,7 +12,7 @@ ghost use Rattle.cr_top.specs.Stores.{Files, OpensStore, PipesStore, StaysShut, 
 use crate::exit::{Exit, exit_of};
 use crate::piping::pipe;
 use cr_book::{Book, OpenError};
-use cr_ports::{KeeperError, Shelf, Sink, Source};
+use cr_ports::{Clock, KeeperError, Shelf, Sink, Source};
 use std::alloc::Global;
 use std::sync::Wait;
 
@@ -66,31 +66,35 @@ pub(crate) fn open_store<S: Shelf>(
     }
 }
 
-/// Serves one connection over `input` and `out` from the history of the rows at the path on, which are then
-/// those of the last history. Where they don't open, nothing is read and nothing written.
-pub fn pipe_store<R: Wait, S: Shelf, I: Source, O: Sink>(
+/// Serves one connection over `input` and `out`, at the moments that `clock` gives, from the history of the rows at the
+/// path on, which are then those of the last history. Where they don't open, nothing is read and nothing written.
+pub fn pipe_store<R: Wait, S: Shelf, I: Source, O: Sink, C: Clock>(
     rt: &R,
     alloc: Global,
     path: &str,
     input: &mut I,
     out: &mut O,
     shelf: &mut S,
+    clock: &mut C,
 ) -> Exit
-    ensures pipes { let outside = outside_of I.faults O.taken O.faults in let stores = state_of S.rows S.faults in
-        PipesStore S.Keeper.rows path.now I.left I.read_gives result
-        (outside input.old out.old) (outside input.new out.new) (stores shelf.old) (stores shelf.new) }
+    ensures pipes { let outside = outside_of I.faults O.taken O.faults C.coming C.faults in
+        let stores = state_of S.rows S.faults in
+        PipesStore S.Keeper.rows path.now I.left I.read_gives result (outside input.old out.old clock.old)
+        (outside input.new out.new clock.new) (stores shelf.old) (stores shelf.new) }
 
     // Where nothing fails and the rows are a legal history's, all that the input's bytes spell is answered from that
     // history on, or memory runs out.
-    ensures answers { let outside = outside_of I.faults O.taken O.faults in
-        (b : List ℕ) → I.left input.old ≡ Some b → IsFaultless (outside input.old out.old) (outside input.new out.new)
+    ensures answers { let outside = outside_of I.faults O.taken O.faults C.coming C.faults in
+        (b : List ℕ) → I.left input.old ≡ Some b
+        → IsFaultless (outside input.old out.old clock.old) (outside input.new out.new clock.new)
         → (Rises (S.faults shelf.old) (S.faults shelf.new) → ⊥)
         → (files : Files) → S.rows shelf.old ≡ Some files → (H : History) → Legal H → rows_of H ≡ files path.now
-        → (result ≡ Exit.OutOfMemory) ⊎ AnswersAll H result b (outside input.old out.old) (outside input.new out.new) }
+        → (result ≡ Exit.OutOfMemory)
+        ⊎ AnswersAll H result b (outside input.old out.old clock.old) (outside input.new out.new clock.new) }
 {
     match open_store(alloc, path, shelf) {
         Ok(book) => {
-            let (ending, keeper) = pipe(rt, alloc, book, input, out);
+            let (ending, keeper) = pipe(rt, alloc, book, input, out, clock);
             shelf.shut(path, keeper);
             exit_of(ending)
         }

@@ -1,3 +1,4 @@
 pub mod AskLaws
 pub mod Utf8
 pub mod Numbers
+pub mod WishLaws

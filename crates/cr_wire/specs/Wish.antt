@@ -1,5 +1,5 @@
--- The wish of a request: what is asked for, by whom (RFC 9110, section 11.6.2), and in which form the answer comes;
--- whether the connection closes behind it (RFC 9112, section 9.3).
+-- The wish of a request: what is asked for, by whom (RFC 9110, section 11.6.2), in which form the answer comes, and of
+-- which moment it is; whether the connection closes behind it (RFC 9112, section 9.3).
 use Rattle.std.specs.Prelude.{ℕ, List, [], ◌∷◌, Bool, true, false, ◌||◌, Option}
 use Rattle.std.specs.Prelude.{Some, None, option_and_then, codes, if◌then◌else◌}
 use Rattle.std.specs.List.{list_any}
@@ -38,15 +38,16 @@ is_single versions.Http11 = false
 abbrev pub asks_close : HeadText → Bool
 asks_close h = is_single h.version || list_any has_close (values_of (codes "connection") h.fields)
 
--- what is wished by a request of this head
-abbrev pub wish_with : HeadText → What → Wish
-wish_with h what = record {
+-- what is wished at this moment by a request of this head
+abbrev pub wish_with : HeadText → What → ℕ → Wish
+wish_with h what at = record {
   credentials = credentials_for what h.fields;
   is_head = is_head_method h;
   asks_close = asks_close h;
+  at = at;
   what = what;
 }
 
--- what a request wishes, who tells so, and in which form the answer comes
-abbrev pub wish_text : RequestText → Wish
-wish_text r = wish_with r.head (what_of r.head.method r.head.target r.body)
+-- what a request wishes, who tells so, and in which form the answer comes, where the clock gave this moment for that
+abbrev pub wish_text : RequestText → ℕ → Wish
+wish_text r at = wish_with r.head (what_of r.head.method r.head.target r.body) at

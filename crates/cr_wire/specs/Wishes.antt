@@ -1,7 +1,7 @@
 -- Wishes: what a whole text of a connection spells, request by request, and how it ends.
-use Rattle.std.specs.Prelude.{◌≡◌, ℕ, List, map, Bool, ◌||◌, ◌==◌}
+use Rattle.std.specs.Prelude.{◌≡◌, ℕ, List, [], ◌∷◌, map, Bool, ◌||◌, ◌==◌}
 use Rattle.cr_http.specs.Requests.{RequestText, End, SpellsFrom}
-use Rattle.cr_wire.specs.Wish.{wish_text}
+use Rattle.cr_wire.specs.Wish.{asks_close, wish_text}
 use Rattle.cr_wire.specs.declared.what.Wish.{Wish}
 
 -- the number of the last request of a connection, counted from 0: there are at most 2 ^ 20
@@ -12,12 +12,23 @@ last_request = 1048575
 abbrev pub closes : ℕ → Wish → Bool
 closes n w = w.asks_close || n == last_request
 
--- the same of the request itself
+-- the same of the request itself, whose moment is nothing to it
 unfoldable pub closes_behind : ℕ → RequestText → Bool
-closes_behind n r = closes n (wish_text r)
+closes_behind n r = asks_close r.head || n == last_request
+
+-- the wishes of these requests, one by one, each at its own moment
+abbrev pub AreWishes : List RequestText → List Wish → Type 0
+AreWishes [] [] = Unit {0}
+AreWishes [] (w ∷ ws) = ⊥
+AreWishes (r ∷ rs) [] = ⊥
+AreWishes (r ∷ rs) (w ∷ ws) = (w ≡ wish_text r w.at) × AreWishes rs ws
+
+-- the moments of wishes, which the clock gave
+abbrev pub moments_of : List Wish → List ℕ
+moments_of wishes = map (λ (w : Wish). w.at) wishes
 
 -- the bytes spell these wishes, and so they end
 pub record Wishes (bytes : List ℕ) (wishes : List Wish) (end : End) : Type 0 where
   pub requests : List RequestText
   pub spells : SpellsFrom closes_behind 0 bytes requests end
-  pub wished : wishes ≡ map wish_text requests
+  pub wished : AreWishes requests wishes

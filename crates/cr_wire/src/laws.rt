@@ -1,11 +1,11 @@
 //! Laws over the definitions alone.
-ghost use Rattle.std.specs.Prelude.{◌≡◌, ℕ, List, Some};
+ghost use Rattle.std.specs.Prelude.{◌≡◌, ℕ, List, Some, length};
 ghost use Rattle.cr_http.specs.Requests.{End};
 ghost use Rattle.cr_base.specs.declared.ask.Ask.{Ask};
 ghost use Rattle.cr_wire.specs.Asked.{asked};
 ghost use Rattle.cr_routes.specs.Parts.{FoundPath};
 ghost use Rattle.cr_wire.specs.Caller.{ask_of};
-ghost use Rattle.cr_wire.specs.Wishes.{Wishes};
+ghost use Rattle.cr_wire.specs.Wishes.{Wishes, moments_of};
 ghost use Rattle.cr_wire.specs.declared.what.Wish.{Wish};
 
 use cr_http::law_one_reading;
@@ -17,10 +17,11 @@ pub fn law_one_ask()
     ensures { (ask : Ask) (found : FoundPath) (query body : List ℕ) → ask_of (asked ask found query body) ≡ Some ask }
 {}
 
-/// A text spells one list of wishes, and has one end.
+/// A text has one end, and spells so many wishes, of each of which all but its moment is told by the text.
 pub fn law_one_list_of_wishes()
     ensures { (bytes : List ℕ) (ws vs : List Wish) (one other : End)
-        → Wishes bytes ws one → Wishes bytes vs other → (ws ≡ vs) × (one ≡ other) }
+        → Wishes bytes ws one → Wishes bytes vs other
+        → (one ≡ other) × (length ws ≡ length vs) × (moments_of ws ≡ moments_of vs → ws ≡ vs) }
 {
     law_one_reading();
 }

@@ -1,7 +1,7 @@
 //! What a request wishes.
 ghost use Rattle.std.specs.Prelude.{◌≡◌};
 
-use cr_base::{Ask, BulkRows, Command, Query};
+use cr_base::{Ask, BulkRows, Command, Moment, Query};
 use cr_bodies::Credentials;
 use cr_routes::Resource;
 
@@ -28,7 +28,7 @@ pub enum What {
     Bulk(BulkRows),
 }
 
-/// What a whole request wishes, who tells so, and in which form the answer comes.
+/// What a whole request wishes, who tells so, in which form the answer comes, and of which moment it is.
 #[derive(Drop)]
 pub struct Wish {
     /// What the field Authorization tells a request that reads it; None where another comes with it, and where there
@@ -38,6 +38,8 @@ pub struct Wish {
     pub is_head: bool,
     /// The request asks that the connection be closed behind its answer.
     pub asks_close: bool,
+    /// The moment that the clock gave for its answer.
+    pub at: Moment,
     /// What is wished.
     pub what: What,
 }

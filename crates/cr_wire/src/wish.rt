@@ -12,6 +12,7 @@ ghost use Rattle.cr_wire.specs.Wish.{credentials_in as credentials_text, wish_te
 use crate::asked::what_of;
 use crate::connection::has_close;
 use crate::what::{What, Wish};
+use cr_base::Moment;
 use cr_bodies::{Credentials, read_credentials};
 use cr_http::{Body, Head, Values, Version};
 use cr_routes::Routes;
@@ -58,18 +59,19 @@ fn asks_close(head: &Head<'_>) -> bool
     head.version() == Version::Http10 || field_asks_close(head)
 }
 
-/// The wish of a request, by its head and its body. Fails only for lack of memory, which the reading of a JSON body,
-/// of the rows of a bulk or of a search and the keeping of an upload alone take. Reads the target's path, the fields'
-/// names and the field Connection once, the body and the query string only where the method and the path want them,
-/// and the field Authorization only where `reads_credentials` says so. A command that is wished is within the bounds
-/// on commands, and a bulk has at most 512 rows.
+/// The wish of a request, by its head, its body and the moment that the clock gave for its answer. Fails only for lack
+/// of memory, which the reading of a JSON body, of the rows of a bulk or of a search and the keeping of an upload alone
+/// take. Reads the target's path, the fields' names and the field Connection once, the body and the query string only
+/// where the method and the path want them, and the field Authorization only where `reads_credentials` says so. A
+/// command that is wished is within the bounds on commands, and a bulk has at most 512 rows.
 pub fn wish_of(
     alloc: Global,
     routes: &Routes,
     head: &Head<'_>,
     body: Body<'_>,
+    at: Moment,
 ) -> Result<Wish, AllocError>
-    ensures told { Gives result (wish_text (record { head = head.now; body = body.entry })) }
+    ensures told { Gives result (wish_text (record { head = head.now; body = body.entry }) at) }
     ensures bounded { IfOk result (λ wish. IsBoundedWhat wish.what) }
     ensures sure { OnErr result (LooksBehindPath (what_text head.now.method head.now.target body.entry)) }
 {
@@ -81,6 +83,7 @@ pub fn wish_of(
         credentials: credentials_for(&what, head),
         is_head: head.is_head(),
         asks_close: asks_close(head),
+        at,
         what,
     })
 }

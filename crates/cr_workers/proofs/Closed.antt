@@ -22,9 +22,9 @@ none-within : (n k : ℕ) → within n n k ≡ 0
 none-within n k = dite (dec_le n k) (λ le. within_out n n k (inl le)) (λ more. within_out n n k (inr (omega (arith, more))))
 
 -- without a lock no door was asked
-pub history-unasked : {I O : Type 0} (streams : Streams I O) (doors : List (SeenDoor I O)) (b : Ledger)
+pub history-unasked : {I O C : Type 0} (streams : Streams I O C) (doors : List (SeenDoor I O C)) (b : Ledger)
     → ServesHistory streams worked.OutOfMemory doors doors b b
-history-unasked {I} {O} streams doors b = record {
+history-unasked {I} {O} {C} streams doors b = record {
   works = unasked doors;
   before = unasked-before doors;
   after = unasked-after doors;
@@ -32,19 +32,19 @@ history-unasked {I} {O} streams doors b = record {
   cause = tt;
   served = subst (λ cs. Every (IsServedWithin streams b.history b.history) cs) none tt;
   begins = prefix_self b.history;
-  once = λ k. sym (ap (λ cs. total (λ (c : ServedConnection I O). groups_with k c.turns) cs) none) ∙ sym (none-within (length b.history) k);
-  counted = (let z = ap (λ cs. total (λ (c : ServedConnection I O). rises c.turns) cs) none in omega (arith, z));
-  marked = inl (let z = ap (λ cs. total (λ (c : ServedConnection I O). marks c.turns) cs) none in omega (arith, z));
+  once = λ k. sym (ap (λ cs. total (λ (c : ServedConnection I O C). groups_with k c.turns) cs) none) ∙ sym (none-within (length b.history) k);
+  counted = (let z = ap (λ cs. total (λ (c : ServedConnection I O C). rises c.turns) cs) none in omega (arith, z));
+  marked = inl (let z = ap (λ cs. total (λ (c : ServedConnection I O C). marks c.turns) cs) none in omega (arith, z));
 }
   where
     none : [] ≡ connections_of (unasked doors)
     none = unasked-connections doors
 
 -- the one pass of a closed lock has the turns of all connections, and the closed value stands for what it has seen
-pub history-closed : {T I O : Type 0} (list : T → History) (faults : T → ℕ) (streams : Streams I O) (ended : Worked) (doors doors' : List (SeenDoor I O))
+pub history-closed : {T I O C : Type 0} (list : T → History) (faults : T → ℕ) (streams : Streams I O C) (ended : Worked) (doors doors' : List (SeenDoor I O C))
     (first last : T) (p₀ p : KnownPass) → p₀.seen ≡ list first → p₀.mine ≡ [] → ServesDoors streams ended doors doors' p₀ p → Closes list faults first p last
     → ServesHistory streams ended doors doors' (record { history = list first; faults = faults first }) (record { history = list last; faults = faults last })
-history-closed {T} {I} {O} list faults streams ended doors doors' first last p₀ p saw none x closes = record {
+history-closed {T} {I} {O} {C} list faults streams ended doors doors' first last p₀ p saw none x closes = record {
   works = x.works;
   before = x.before;
   after = x.after;

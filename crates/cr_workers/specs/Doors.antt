@@ -36,54 +36,56 @@ ended_by false lasts.Done = worked.Done
 -- ---- one door
 
 -- a door: how many connections it has still to give, whether one is out, its count of faults, and what it tells
-pub record SeenDoor (I O : Type 0) : Type 0 where
+pub record SeenDoor (I O C : Type 0) : Type 0 where
   pub left : ℕ
   pub is_out : Bool
   pub faults : ℕ
-  pub log : Option (DoorLog I O)
+  pub log : Option (DoorLog I O C)
 
-abbrev pub door_of : {D I O : Type 0} → (D → ℕ) → (D → Bool) → (D → ℕ) → (D → Option (DoorLog I O)) → D → SeenDoor I O
+abbrev pub door_of : {D I O C : Type 0} → (D → ℕ) → (D → Bool) → (D → ℕ) → (D → Option (DoorLog I O C)) → D
+    → SeenDoor I O C
 door_of left is_out faults log door =
     record { left = left door; is_out = is_out door; faults = faults door; log = log door }
 
--- the sources and sinks of connections, as they were given and came back
-abbrev pub ends_of : {I O : Type 0} → List (ServedConnection I O) → List (Served I O)
-ends_of {I} {O} connections = map (λ (c : ServedConnection I O). c.ends) connections
+-- the sources, sinks and clocks of connections, as they were given and came back
+abbrev pub ends_of : {I O C : Type 0} → List (ServedConnection I O C) → List (Served I O C)
+ends_of {I} {O} {C} connections = map (λ (c : ServedConnection I O C). c.ends) connections
 
 -- where the door tells them, the connections that it took back are more by these
-abbrev pub TellsMore : {I O : Type 0} → List (ServedConnection I O) → Option (DoorLog I O)
-    → Option (DoorLog I O) → Type 0
+abbrev pub TellsMore : {I O C : Type 0} → List (ServedConnection I O C) → Option (DoorLog I O C)
+    → Option (DoorLog I O C) → Type 0
 TellsMore connections None None = Unit {0}
 TellsMore connections None (Some log') = ⊥
 TellsMore connections (Some log) None = ⊥
 TellsMore connections (Some log) (Some log') = log'.served ≡ log.served ++ ends_of connections
 
 -- where the door tells it, this was its last answer
-abbrev pub TellsLast : {I O : Type 0} → DoorAnswer → Option (DoorLog I O) → Type 0
+abbrev pub TellsLast : {I O C : Type 0} → DoorAnswer → Option (DoorLog I O C) → Type 0
 TellsLast answer None = Unit {0}
 TellsLast answer (Some log) = log.last ≡ Some answer
 
 -- the door gave these connections, and took them back
-pub record Visits {I O : Type 0} (connections : List (ServedConnection I O)) (d d' : SeenDoor I O) : Type 0 where
+pub record Visits {I O C : Type 0} (connections : List (ServedConnection I O C)) (d d' : SeenDoor I O C) : Type 0 where
   pub left : d.left ≡ d'.left + length connections
   pub back : d'.is_out ≡ false
   pub faults : d'.faults ≡ d.faults
   pub log : TellsMore connections d.log d'.log
 
 -- how its state tells that it has no further one: its share was given, or it failed
-abbrev pub StopsBy : {I O : Type 0} → Last → SeenDoor I O → SeenDoor I O → Type 0
+abbrev pub StopsBy : {I O C : Type 0} → Last → SeenDoor I O C → SeenDoor I O C → Type 0
 StopsBy lasts.Done d d' = (d.left ≡ 0) × (d'.left ≡ 0) × (d'.faults ≡ d.faults) × TellsLast answers.Done d'.log
 StopsBy lasts.Failed d d' = (d.faults ≤ d'.faults) × Rises d.faults d'.faults × TellsLast answers.Failed d'.log
 
 -- the door was asked, and had no further connection
-pub record Stops {I O : Type 0} (last : Last) (d d' : SeenDoor I O) : Type 0 where
+pub record Stops {I O C : Type 0} (last : Last) (d d' : SeenDoor I O C) : Type 0 where
   pub by : StopsBy last d d'
   pub back : d'.is_out ≡ false
   pub log : TellsMore [] d.log d'.log
 
 -- what a worker did with its door, from end to end: it served these connections, and then there was no further one
-abbrev pub Works : {I O : Type 0} → Last → List (ServedConnection I O) → SeenDoor I O → SeenDoor I O → Type 0
-Works {I} {O} last connections d d' = (between : SeenDoor I O) × Visits connections d between × Stops last between d'
+abbrev pub Works : {I O C : Type 0} → Last → List (ServedConnection I O C) → SeenDoor I O C → SeenDoor I O C → Type 0
+Works {I} {O} {C} last connections d d' =
+    (between : SeenDoor I O C) × Visits connections d between × Stops last between d'
 
 -- a connection ended for lack of memory
 abbrev pub lacks : Ending → Bool
@@ -92,23 +94,24 @@ lacks endings.Cut = false
 lacks (endings.Closed why) = false
 lacks endings.ReadFault = false
 lacks endings.WriteFault = false
+lacks endings.ClockFault = false
 lacks endings.OutOfMemory = true
 
 -- none of them did
-abbrev pub NoneLacked : {I O : Type 0} → List (ServedConnection I O) → Type 0
-NoneLacked {I} {O} connections = Every (λ (c : ServedConnection I O). lacks c.ending ≡ false) connections
+abbrev pub NoneLacked : {I O C : Type 0} → List (ServedConnection I O C) → Type 0
+NoneLacked {I} {O} {C} connections = Every (λ (c : ServedConnection I O C). lacks c.ending ≡ false) connections
 
 -- ---- all doors
 
 -- a door with the connections that were served by it
-pub record DoorWork (I O : Type 0) : Type 0 where
-  pub before : SeenDoor I O
-  pub after : SeenDoor I O
-  pub connections : List (ServedConnection I O)
+pub record DoorWork (I O C : Type 0) : Type 0 where
+  pub before : SeenDoor I O C
+  pub after : SeenDoor I O C
+  pub connections : List (ServedConnection I O C)
 
 -- By how workers ended: each door gave its share; or it did, or failed; or, for lack of memory, it did, or failed, or
 -- wasn't asked.
-abbrev pub IsWorkedOn : {I O : Type 0} → Worked → DoorWork I O → Type 0
+abbrev pub IsWorkedOn : {I O C : Type 0} → Worked → DoorWork I O C → Type 0
 IsWorkedOn worked.Done w = Works lasts.Done w.connections w.before w.after × NoneLacked w.connections
 IsWorkedOn worked.DoorFailed w =
     (Works lasts.Done w.connections w.before w.after ⊎ Works lasts.Failed w.connections w.before w.after)
@@ -118,32 +121,32 @@ IsWorkedOn worked.OutOfMemory w =
     ⊎ ((w.connections ≡ []) × (w.after ≡ w.before))
 
 -- one of them failed
-abbrev pub OneFailed : {I O : Type 0} → List (DoorWork I O) → Type 0
+abbrev pub OneFailed : {I O C : Type 0} → List (DoorWork I O C) → Type 0
 OneFailed [] = ⊥
 OneFailed (w ∷ ws) = Works lasts.Failed w.connections w.before w.after ⊎ OneFailed ws
 
 -- where they ended by a door's failure, one of them failed
-abbrev pub HasFailedDoor : {I O : Type 0} → Worked → List (DoorWork I O) → Type 0
+abbrev pub HasFailedDoor : {I O C : Type 0} → Worked → List (DoorWork I O C) → Type 0
 HasFailedDoor worked.Done works = Unit {0}
 HasFailedDoor worked.DoorFailed works = OneFailed works
 HasFailedDoor worked.OutOfMemory works = Unit {0}
 
 -- the connections of all doors
-abbrev pub connections_of : {I O : Type 0} → List (DoorWork I O) → List (ServedConnection I O)
-connections_of {I} {O} works = flat_map (λ (w : DoorWork I O). w.connections) works
+abbrev pub connections_of : {I O C : Type 0} → List (DoorWork I O C) → List (ServedConnection I O C)
+connections_of {I} {O} {C} works = flat_map (λ (w : DoorWork I O C). w.connections) works
 
 -- What workers did with these doors, who began with one pass and ended with one.
-pub record ServesDoors {I O : Type 0} (streams : Streams I O) (ended : Worked) (doors doors' : List (SeenDoor I O))
-    (p p' : KnownPass) : Type 0 where
-  pub works : List (DoorWork I O)
-  pub before : map (λ (w : DoorWork I O). w.before) works ≡ doors
-  pub after : map (λ (w : DoorWork I O). w.after) works ≡ doors'
+pub record ServesDoors {I O C : Type 0} (streams : Streams I O C) (ended : Worked)
+    (doors doors' : List (SeenDoor I O C)) (p p' : KnownPass) : Type 0 where
+  pub works : List (DoorWork I O C)
+  pub before : map (λ (w : DoorWork I O C). w.before) works ≡ doors
+  pub after : map (λ (w : DoorWork I O C). w.after) works ≡ doors'
   pub each : Every (IsWorkedOn ended) works
   pub cause : HasFailedDoor ended works
   pub served : ServeAll streams (connections_of works) p p'
 
 -- the same of doors of which this is seen
-abbrev pub ServesSeen : {D I O : Type 0} → (D → SeenDoor I O) → Streams I O → Worked → List D → List D
+abbrev pub ServesSeen : {D I O C : Type 0} → (D → SeenDoor I O C) → Streams I O C → Worked → List D → List D
     → KnownPass → KnownPass → Type 0
 ServesSeen seen streams ended doors doors' p p' = ServesDoors streams ended (map seen doors) (map seen doors') p p'
 
@@ -160,8 +163,8 @@ AreReady left is_out doors turns =
 -- ---- one worker's steps
 
 -- the next connection of a door was served and given back, or there was none
-abbrev pub ServesNext : {I O : Type 0} → Streams I O → Result Ending Last → SeenDoor I O → SeenDoor I O
+abbrev pub ServesNext : {I O C : Type 0} → Streams I O C → Result Ending Last → SeenDoor I O C → SeenDoor I O C
     → KnownPass → KnownPass → Type 0
-ServesNext {I} {O} streams (Ok ending) d d' p p' = (c : ServedConnection I O)
+ServesNext {I} {O} {C} streams (Ok ending) d d' p p' = (c : ServedConnection I O C)
     × IsServed streams c × (c.ending ≡ ending) × (c.before ≡ p) × (c.after ≡ p') × Visits (c ∷ []) d d'
 ServesNext streams (Err last) d d' p p' = (p' ≡ p) × Stops last d d'

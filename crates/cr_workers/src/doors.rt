@@ -26,7 +26,7 @@ fn serve_last<R: Wait, K: Keeper, D: Door + Drop>(
     requires last { length doors.items ≤ 1 }
     requires ready { AreReady D.left D.is_out doors.items pass.turns }
     ensures serves { ServesSeen (door_of D.left D.is_out D.faults D.log)
-        (streams_of D.In.left D.In.read_gives D.In.faults D.Out.taken D.Out.faults)
+        (streams_of D.In.left D.In.read_gives D.In.faults D.Out.taken D.Out.faults D.Clock.coming D.Clock.faults)
         result.2 doors.items result.1.items pass result.0 }
     ensures pass { StaysPass (turns_for (total D.left doors.items)) pass result.0 }
     ensures len { length result.1.items ≡ length doors.items }
@@ -97,7 +97,7 @@ pub(crate) fn serve_doors<R: Threads + Wait + Sync, K: Keeper + Send, D: Door + 
     requires share { length doors.items ≤ pass.share }
     requires ready { AreReady D.left D.is_out doors.items pass.turns }
     ensures serves { ServesSeen (door_of D.left D.is_out D.faults D.log)
-        (streams_of D.In.left D.In.read_gives D.In.faults D.Out.taken D.Out.faults)
+        (streams_of D.In.left D.In.read_gives D.In.faults D.Out.taken D.Out.faults D.Clock.coming D.Clock.faults)
         result.2 doors.items result.1.items pass result.0 }
     ensures pass { StaysPass (turns_for (total D.left doors.items)) pass result.0 }
     ensures len { length result.1.items ≡ length doors.items }
@@ -117,7 +117,7 @@ pub(crate) fn serve_doors<R: Threads + Wait + Sync, K: Keeper + Send, D: Door + 
         requires { IsSync R.row × (larger.lock ≡ server.now.lock.lock) × (length front.items ≤ larger.share)
             × AreReady D.left D.is_out front.items larger.turns }
         ensures serves { ServesSeen (door_of D.left D.is_out D.faults D.log)
-            (streams_of D.In.left D.In.read_gives D.In.faults D.Out.taken D.Out.faults)
+            (streams_of D.In.left D.In.read_gives D.In.faults D.Out.taken D.Out.faults D.Clock.coming D.Clock.faults)
             result.2 front.items result.1.items larger result.0 }
         ensures pass { StaysPass (turns_for (total D.left front.items)) larger result.0 }
         ensures len { length result.1.items ≡ length front.items }
@@ -127,7 +127,7 @@ pub(crate) fn serve_doors<R: Threads + Wait + Sync, K: Keeper + Send, D: Door + 
         requires { IsSync R.row × (smaller.lock ≡ server.now.lock.lock) × (length back.items ≤ smaller.share)
             × AreReady D.left D.is_out back.items smaller.turns }
         ensures serves { ServesSeen (door_of D.left D.is_out D.faults D.log)
-            (streams_of D.In.left D.In.read_gives D.In.faults D.Out.taken D.Out.faults)
+            (streams_of D.In.left D.In.read_gives D.In.faults D.Out.taken D.Out.faults D.Clock.coming D.Clock.faults)
             result.2 back.items result.1.items smaller result.0 }
         ensures pass { StaysPass (turns_for (total D.left back.items)) smaller result.0 }
         ensures len { length result.1.items ≡ length back.items }

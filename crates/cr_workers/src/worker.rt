@@ -30,16 +30,17 @@ fn serve_next_connection<R: Wait, K: Keeper, D: Door>(
     requires few { pass.old.turns + turns_for (D.left door.old) ≤ 2 ^ 40 }
     requires back { IsFalse (D.is_out door.old) }
     ensures serves { let seen = door_of D.left D.is_out D.faults D.log in
-        ServesNext (streams_of D.In.left D.In.read_gives D.In.faults D.Out.taken D.Out.faults) result (seen door.old)
-        (seen door.new) pass.old pass.new }
+        ServesNext
+        (streams_of D.In.left D.In.read_gives D.In.faults D.Out.taken D.Out.faults D.Clock.coming D.Clock.faults)
+        result (seen door.old) (seen door.new) pass.old pass.new }
     ensures pass { StaysPass (turns_for 1) pass.old pass.new }
 {
     match door.next() {
         NextConnection::Done => Err(Last::Done),
         NextConnection::Failed => Err(Last::Failed),
-        NextConnection::Conn(mut source, mut sink) => {
-            let ending = serve_connection(server, pass, &mut source, &mut sink);
-            door.give_back(source, sink);
+        NextConnection::Conn(mut source, mut sink, mut clock) => {
+            let ending = serve_connection(server, pass, &mut source, &mut sink, &mut clock);
+            door.give_back(source, sink, clock);
             Ok(ending)
         }
     }
@@ -51,8 +52,12 @@ fn has_lacked(lacked: bool, ending: Ending) -> bool
 {
     match ending {
         Ending::OutOfMemory => true,
-        Ending::Clean | Ending::Cut | Ending::Closed(_) | Ending::ReadFault | Ending::WriteFault =>
-            lacked,
+        Ending::Clean
+        | Ending::Cut
+        | Ending::Closed(_)
+        | Ending::ReadFault
+        | Ending::WriteFault
+        | Ending::ClockFault => lacked,
     }
 }
 
@@ -79,7 +84,7 @@ pub(crate) fn serve_door<R: Wait, K: Keeper, D: Door>(
     requires few { pass.old.turns + turns_for (D.left door.old) ≤ 2 ^ 40 }
     requires back { IsFalse (D.is_out door.old) }
     ensures serves { ServesSeen (door_of D.left D.is_out D.faults D.log)
-        (streams_of D.In.left D.In.read_gives D.In.faults D.Out.taken D.Out.faults)
+        (streams_of D.In.left D.In.read_gives D.In.faults D.Out.taken D.Out.faults D.Clock.coming D.Clock.faults)
         result (door.old ∷ []) (door.new ∷ []) pass.old pass.new }
     ensures pass { StaysPass (turns_for (D.left door.old)) pass.old pass.new }
 {

@@ -15,6 +15,7 @@ fn numbers_the_exits(rt: HostRuntime) {
         (Exit::KeeperFault, 6),
         (Exit::NoUser, 8),
         (exit_of(Ending::OutOfMemory), 9),
+        (exit_of(Ending::ClockFault), 10),
     ] {
         assert_eq!(rt; exit.code(), code);
     }

@@ -2,10 +2,10 @@
 ghost use Rattle.std.specs.Prelude.{◌≡◌, ◌+◌, ◌-◌, ◌^◌, ◌≤◌, IfOk};
 
 use crate::streams::{GET_PHASE, sink, source};
-use cr_base::UserNo;
+use cr_base::{Moment, UserNo};
 use cr_book::{Book, empty_book};
 use cr_lock::Pass;
-use cr_ports::{MemSink, PlainKeeper, PlainSource};
+use cr_ports::{MemSink, PlainClock, PlainKeeper, PlainSource};
 use cr_session::{Server, serve_connection};
 use std::alloc::{AllocError, Global};
 use std::sync::Wait;
@@ -25,7 +25,8 @@ const SUBMIT: &str = concat!(
 );
 
 const ONE_PAPER: &str = concat!(
-    "HTTP/1.1 200 OK\r\nContent-Type: application/json\r\nContent-Length: 48\r\n\r\n",
+    "HTTP/1.1 200 OK\r\nDate: Thu, 01 Jan 1970 00:00:00 GMT\r\n",
+    "Content-Type: application/json\r\nContent-Length: 48\r\n\r\n",
     "{\"mode\":\"blind\",\"papers\":1,\"phase\":\"submission\"}",
 );
 
@@ -74,7 +75,7 @@ fn new_server<R: Wait>(
     }
 }
 
-/// Serves a connection, of whose clauses the pass's alone are told.
+/// Serves a connection at the first moment, of whose clauses the pass's alone are told.
 fn serve<R: Wait>(
     server: &Server<'_, R, PlainKeeper>,
     pass: &mut Pass<Book<PlainKeeper>>,
@@ -86,7 +87,8 @@ fn serve<R: Wait>(
     ensures own { (pass.new.lock ≡ pass.old.lock) × (pass.new.share ≡ pass.old.share) }
     ensures turns { pass.new.turns ≤ pass.old.turns + 2 ^ 20 }
 {
-    let _ = serve_connection(server, pass, source, sink);
+    let mut clock = PlainClock::new(Moment::epoch());
+    let _ = serve_connection(server, pass, source, sink, &mut clock);
 }
 
 /// One of two passes submits a paper; joined with the other, it asks for the phase.
@@ -116,19 +118,20 @@ fn view_len(book: Book<PlainKeeper>) -> Result<u64, AllocError> {
     length
 }
 
-/// Whether the last answer tells of the paper, and the length of its author's view.
-fn told_by_joined_passes<R: Wait>(rt: &R, alloc: Global) -> Result<(bool, u64), AllocError> {
+/// Whether the last answer tells of the paper, how many answers were begun, and the length of the author's view.
+fn told_by_joined_passes<R: Wait>(rt: &R, alloc: Global) -> Result<(bool, u64, u64), AllocError> {
     let mut streams = new_streams(alloc)?;
     let (server, pass) = new_server(rt, alloc)?;
     let pass = join_and_ask(&server, pass, &mut streams);
     let is_told = streams.sink.taken().ends_with(ONE_PAPER.as_bytes());
+    let begun = streams.sink.begun();
     let length = view_len(server.close(pass))?;
-    Ok((is_told, length))
+    Ok((is_told, begun, length))
 }
 
 #[test]
 fn joined_passes_saw_the_paper(rt: HostRuntime) -> Result<(), Fail> {
     let told = told_by_joined_passes(&rt, rt.alloc())?;
-    assert!(rt; told == (true, 4));
+    assert!(rt; told == (true, 4, 4));
     Ok(())
 }

@@ -2,8 +2,11 @@
 ghost use Rattle.std.specs.Prelude.{◌≡◌, ⊤, None, Some, true, false, is_some, IfOk, if◌then◌else◌};
 
 use crate::streams::{GET_PHASE, sink, source};
+use cr_base::Moment;
 use cr_book::empty_book;
-use cr_ports::{Door, MemSink, NextConnection, PlainSource, ReadStep, Sink, Source, WriteStep};
+use cr_ports::{
+    Door, MemSink, NextConnection, PlainClock, PlainSource, ReadStep, Sink, Source, WriteStep,
+};
 use cr_workers::{Worked, serve_book};
 use std::alloc::{AllocError, Global};
 use std::sync::atomic::{AtomicBool, Ordering};
@@ -15,7 +18,8 @@ use std::thread::Threads;
 const LOOKS: u64 = 100_000_000;
 
 const PHASE: &str = concat!(
-    "HTTP/1.1 200 OK\r\nContent-Type: application/json\r\nContent-Length: 43\r\n\r\n",
+    "HTTP/1.1 200 OK\r\nDate: Thu, 01 Jan 1970 00:00:00 GMT\r\n",
+    "Content-Type: application/json\r\nContent-Length: 43\r\n\r\n",
     "{\"mode\":\"blind\",\"papers\":0,\"phase\":\"setup\"}",
 );
 
@@ -97,6 +101,10 @@ impl Sink for FlagSink {
         }
         step
     }
+
+    fn begin_answer(&mut self) {
+        self.sink.begin_answer();
+    }
 }
 
 /// Gives one connection, and keeps what its sink took.
@@ -121,6 +129,8 @@ impl Door for OneDoor {
 
     type Out = FlagSink;
 
+    type Clock = PlainClock;
+
     ghost left = { λ d. if is_some d.coming then 1 else 0 };
 
     ghost is_out = { λ d. d.is_out };
@@ -129,17 +139,17 @@ impl Door for OneDoor {
 
     ghost log = { λ _. None };
 
-    fn next(&mut self) -> NextConnection<HeldSource, FlagSink> {
+    fn next(&mut self) -> NextConnection<HeldSource, FlagSink, PlainClock> {
         match self.coming.take() {
             Some((source, sink)) => {
                 self.is_out = true;
-                NextConnection::Conn(source, sink)
+                NextConnection::Conn(source, sink, PlainClock::new(Moment::epoch()))
             }
             None => NextConnection::Done,
         }
     }
 
-    fn give_back(&mut self, _source: HeldSource, sink: FlagSink) {
+    fn give_back(&mut self, _source: HeldSource, sink: FlagSink, _clock: PlainClock) {
         self.is_out = false;
         self.back = Some(sink);
     }

@@ -1,13 +1,16 @@
-//! Sources, sinks, keepers and shelves in memory, and the adapters over streams, through their bounds.
+//! Sources, sinks, clocks, keepers and shelves in memory, and the adapters over streams and over the system's clock,
+//! through their bounds.
 
-use cr_base::{Blob, Row};
+use cr_base::{Blob, Moment, Row};
 use cr_ports::{
-    Keeper, KeeperError, MemKeeper, MemShelf, MemSink, MemSource, PlainKeeper, PlainSource,
-    ReadSource, ReadStep, Shelf, Sink, Source, WriteSink, WriteStep,
+    Clock, ClockStep, Keeper, KeeperError, MemClock, MemKeeper, MemShelf, MemSink, MemSource,
+    PlainClock, PlainKeeper, PlainSource, ReadSource, ReadStep, Shelf, Sink, Source, SystemClock,
+    WriteSink, WriteStep,
 };
 use std::alloc::{AllocError, Global};
 use std::io::{self, Cursor, Read, Write};
 use std::test::Fail;
+use std::time::{self, Duration};
 
 /// Three reads of at most four bytes each.
 fn reads<S: Source>(source: &mut S) -> [ReadStep; 3] {
@@ -110,14 +113,20 @@ fn scripted_sink(alloc: Global) -> Result<MemSink, AllocError> {
     MemSink::new(alloc, 6, pieces, failing)
 }
 
-/// What it answers to six writes, and whether it has the six bytes then.
+/// What it answers to six writes, with an answer begun before them and one behind; and whether it has the six bytes
+/// and the two answers then.
 fn scripted_writes(alloc: Global) -> Result<([[WriteStep; 3]; 2], bool), AllocError> {
     let mut sink = scripted_sink(alloc)?;
+    sink.begin_answer();
     let steps = [
         writes(&mut sink, [b"0123".as_slice(), b"1234", b"1234"]),
         writes(&mut sink, [b"4567".as_slice(), b"67", b""]),
     ];
-    Ok((steps, sink.taken() == b"012345".as_slice()))
+    sink.begin_answer();
+    Ok((
+        steps,
+        sink.taken() == b"012345".as_slice() && sink.begun() == 2,
+    ))
 }
 
 #[test]
@@ -139,12 +148,94 @@ fn writers(rt: HostRuntime) {
     assert!(rt; failing == [WriteStep::Took(2), WriteStep::Failed, WriteStep::Took(2)]);
 }
 
+/// The moment of so many seconds, which are one's.
+fn at(seconds: u64) -> Moment {
+    Moment::new(seconds).unwrap_or(Moment::epoch())
+}
+
+/// A clock asked three times.
+fn moments<C: Clock>(clock: &mut C) -> [ClockStep; 3] {
+    [clock.now(), clock.now(), clock.now()]
+}
+
+/// Gives three moments, of which the last goes back; its second call fails.
+fn scripted_clock(alloc: Global) -> Result<MemClock, AllocError> {
+    let moments = [at(5), at(9), at(3)].as_slice().to_vec(alloc)?;
+    let failing = [1].as_slice().to_vec(alloc)?;
+    Ok(MemClock::new(moments, failing))
+}
+
+/// What it gives, asked six times; how many moments are left between, and how often it has failed at last.
+fn scripted_moments(alloc: Global) -> Result<([[ClockStep; 3]; 2], usize, u64), AllocError> {
+    let mut clock = scripted_clock(alloc)?;
+    let first = moments(&mut clock);
+    let left = clock.coming().len();
+    let second = moments(&mut clock);
+    Ok(([first, second], left, clock.fault_count()))
+}
+
+#[test]
+fn clocks(rt: HostRuntime) -> Result<(), Fail> {
+    let (scripted, left, faults) = scripted_moments(rt.alloc())?;
+    let plain = moments(&mut PlainClock::new(at(7)));
+    assert!(rt;
+        scripted[0]
+            == [
+                ClockStep::Now(at(5)),
+                ClockStep::Failed,
+                ClockStep::Now(at(9))
+            ]
+    );
+    assert!(rt; scripted[1] == [ClockStep::Now(at(3)), ClockStep::Failed, ClockStep::Failed]);
+    assert!(rt; left == 1 && faults == 3);
+    assert!(rt; plain == [ClockStep::Now(at(7)); 3]);
+    Ok(())
+}
+
+/// A time that stands, or one that can't be read, as it is before 1970.
+#[derive(Clone, Copy)]
+struct SetTime {
+    since_1970: Option<Duration>,
+}
+
+impl time::Clock for SetTime {
+    fn monotonic(&self) -> io::Result<Duration> {
+        self.since_1970()
+    }
+
+    fn since_1970(&self) -> io::Result<Duration> {
+        self.since_1970
+            .ok_or(io::Error::from(io::ErrorKind::InvalidData))
+    }
+}
+
+/// What the adapter makes of such a time.
+fn told_of(since_1970: Duration) -> ClockStep {
+    let since_1970 = Some(since_1970);
+    SystemClock::new(SetTime { since_1970 }).now()
+}
+
+#[test]
+fn system_clocks(rt: HostRuntime) {
+    let last = 253_402_300_799;
+    assert!(rt; told_of(Duration::from_secs(0)) == ClockStep::Now(Moment::epoch()));
+    assert!(rt;
+        told_of(Duration::new(784_111_777, 999_999_999)) == ClockStep::Now(at(784_111_777))
+    );
+    assert!(rt; told_of(Duration::new(last, 999_999_999)) == ClockStep::Now(at(last)));
+    assert!(rt; told_of(Duration::from_secs(last + 1)) == ClockStep::Failed);
+    assert!(rt; told_of(Duration::from_secs(u64::MAX)) == ClockStep::Failed);
+    assert!(rt; SystemClock::new(SetTime { since_1970: None }).now() == ClockStep::Failed);
+    assert!(rt; SystemClock::new(rt).now() != ClockStep::Failed);
+}
+
 /// A row of this kind and nothing else.
 fn row_of(kind: u64) -> Row {
     Row {
         kind,
         maker: 0,
         more: 0,
+        at: 0,
         n1: 0,
         n2: 0,
         n3: 0,

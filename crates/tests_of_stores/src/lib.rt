@@ -1,5 +1,12 @@
-//! Stores over SQLite, once with ample memory: that rows come back as they were, and what a reason's text is.
+//! Stores over SQLite, once with ample memory: that rows come back as they were, also from a store of version 1, and
+//! what a reason's text is.
 #![tactic(auto)]
 
+#[cfg(test)]
+mod first_version;
+#[cfg(test)]
+mod rows;
+#[cfg(test)]
+mod steps;
 #[cfg(test)]
 mod stores;

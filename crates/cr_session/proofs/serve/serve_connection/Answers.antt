@@ -7,13 +7,14 @@ use Rattle.cr_session.proofs.Connections.{started, ends_after, goes_after}
 use Rattle.cr_session.proofs.NoMemory.{round_unbegun}
 use Rattle.cr_session.proofs.Rounds.{not_last}
 use Rattle.cr_session.proofs.Passes.{stays-now, stays-then}
-use Rattle.cr_session.proofs.Whole.{whole_text, read_rises, write_rises}
+use Rattle.cr_session.proofs.Whole.{whole_text, read_rises, write_rises, clock_rises}
 use Rattle.cr_session.proofs.serve.serve_connection.Goals as goal
 
 pub returns-in_default-clause-connection : goal.returns-in_default-clause-connection
 returns-in_default-clause-connection g c =
-    let w = world_of g.S.Source.faults g.O.Sink.taken g.O.Sink.faults c.args.pass.now c.args.source.now c.args.sink.now in
-    let w' = world_of g.S.Source.faults g.O.Sink.taken g.O.Sink.faults c.args.pass.now c.args.source.now c.note_no_memory.new.sink in
+    let world = world_of g.S.Source.faults g.O.Sink.taken g.O.Sink.faults g.C.Clock.coming g.C.Clock.faults in
+    let w = world c.args.pass.now c.args.source.now c.args.sink.now c.args.clock.now in
+    let w' = world c.args.pass.now c.args.source.now c.note_no_memory.new.sink c.note_no_memory.new.clock in
     subst (λ (e : Ending). ConnectionInHistory g.S.Source.left g.S.Source.read_gives e 0 [] w w') (sym c.note_no_memory.ensures.ending)
     (round_unbegun TakesTurns TurnsInVain (λ p. refl) g.S.Source.left g.S.Source.read_gives 0 w w' refl refl c.note_no_memory.ensures.notes refl)
 
@@ -21,27 +22,16 @@ pub returns-in_default-clause-whole : goal.returns-in_default-clause-whole
 returns-in_default-clause-whole g c b told =
     whole_text TakesTurns TurnsInVain g.S.Source.left g.S.Source.read_gives _ b _ _ (returns-in_default-clause-connection g c) told
 
-pub returns-in_default-with_capacity-clause-connection : goal.returns-in_default-with_capacity-clause-connection
-returns-in_default-with_capacity-clause-connection g c =
-    let w = world_of g.S.Source.faults g.O.Sink.taken g.O.Sink.faults c.args.pass.now c.args.source.now c.args.sink.now in
-    let w' = world_of g.S.Source.faults g.O.Sink.taken g.O.Sink.faults c.args.pass.now c.args.source.now c.note_no_memory-in_default-with_capacity.new.sink in
-    subst (λ (e : Ending). ConnectionInHistory g.S.Source.left g.S.Source.read_gives e 0 [] w w') (sym c.note_no_memory-in_default-with_capacity.ensures.ending)
-    (round_unbegun TakesTurns TurnsInVain (λ p. refl) g.S.Source.left g.S.Source.read_gives 0 w w' refl refl
-    c.note_no_memory-in_default-with_capacity.ensures.notes refl)
-
-pub returns-in_default-with_capacity-clause-whole : goal.returns-in_default-with_capacity-clause-whole
-returns-in_default-with_capacity-clause-whole g c b told =
-    whole_text TakesTurns TurnsInVain g.S.Source.left g.S.Source.read_gives _ b _ _ (returns-in_default-with_capacity-clause-connection g c) told
-
 pub serving-init : goal.serving-init
 serving-init g c =
-    let w = world_of g.S.Source.faults g.O.Sink.taken g.O.Sink.faults c.args.pass.now c.args.source.now c.args.sink.now in
+    let w = world_of g.S.Source.faults g.O.Sink.taken g.O.Sink.faults g.C.Clock.coming g.C.Clock.faults
+    c.args.pass.now c.args.source.now c.args.sink.now c.args.clock.now in
     record {
-      goes_on = subst (λ i. GoesOnInHistory g.S.Source.left g.S.Source.read_gives 0 0 [] i w w) (sym c.in-Ok.ensures)
+      goes_on = subst (λ i. GoesOnInHistory g.S.Source.left g.S.Source.read_gives 0 0 [] i w w) (sym c.in-Ok.ensures.0)
           (started g.S.Source.left g.S.Source.read_gives w);
       few = omega arith;
       pass = stays-now c.args.pass.now;
-      room = c.in-Ok-with_capacity.ensures.capacity;
+      room = c.in-Ok.ensures.1;
     }
 
 pub returns-in-Some-clause-connection : goal.returns-in-Some-clause-connection
@@ -60,9 +50,14 @@ pub returns-in-Some-clause-write_fault : goal.returns-in-Some-clause-write_fault
 returns-in-Some-clause-write_fault g c is =
     write_rises TakesTurns TurnsInVain g.S.Source.left g.S.Source.read_gives _ _ _ _ _ (returns-in-Some-clause-connection g c) is
 
+pub returns-in-Some-clause-clock_fault : goal.returns-in-Some-clause-clock_fault
+returns-in-Some-clause-clock_fault g c is =
+    clock_rises TakesTurns TurnsInVain g.S.Source.left g.S.Source.read_gives _ _ _ _ _ (returns-in-Some-clause-connection g c) is
+
 pub serving-preserved : goal.serving-preserved
 serving-preserved g c =
-    let u = world_of g.S.Source.faults g.O.Sink.taken g.O.Sink.faults c.serve_next_request.new.pass c.serve_next_request.new.source c.serve_next_request.new.sink in
+    let next = c.serve_next_request.new in
+    let u = world_of g.S.Source.faults g.O.Sink.taken g.O.Sink.faults g.C.Clock.coming g.C.Clock.faults next.pass next.source next.sink next.clock in
     let last = not_last g.S.Source.left g.S.Source.read_gives c.serving.number _ _ _ u c.in_default-serve_next_request.ensures.round in
     let few = c.serving.invariant.few in
     record {

@@ -4,14 +4,15 @@ use Rattle.cr_session.specs.Passing.{StaysPass}
 use Rattle.cr_session.proofs.serve.serve_connection.Given as goal
 
 abbrev pub invariant-serving : goal.invariant-serving
-invariant-serving g l = record {
-  goes_on : GoesOnInHistory g.S.Source.left g.S.Source.read_gives l.number 0 [] l.inbox
-      (world_of g.S.Source.faults g.O.Sink.taken g.O.Sink.faults l.initial.pass l.initial.source l.initial.sink)
-      (world_of g.S.Source.faults g.O.Sink.taken g.O.Sink.faults l.pass l.source l.sink);
-  few : l.number ≤ 1048575;
-  pass : StaysPass l.number l.initial.pass l.pass;
-  room : 512 ≤ vec_capacity l.reply;
-}
+invariant-serving g l =
+    let world = world_of g.S.Source.faults g.O.Sink.taken g.O.Sink.faults g.C.Clock.coming g.C.Clock.faults in
+    record {
+      goes_on : GoesOnInHistory g.S.Source.left g.S.Source.read_gives l.number 0 [] l.space.inbox
+          (world l.initial.pass l.initial.source l.initial.sink l.initial.clock) (world l.pass l.source l.sink l.clock);
+      few : l.number ≤ 1048575;
+      pass : StaysPass l.number l.initial.pass l.pass;
+      room : 512 ≤ vec_capacity l.space.reply;
+    }
 
 abbrev pub decreases-serving : goal.decreases-serving
 decreases-serving g l = 1048576 - l.number

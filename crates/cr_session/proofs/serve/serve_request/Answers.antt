@@ -1,6 +1,6 @@
-use Rattle.std.proofs.Common.{◌∙◌, ◌++◌, refl, ap}
+use Rattle.std.proofs.Common.{◌∙◌, ◌++◌, ap, refl}
 use Rattle.cr_session.specs.Told.{sending_of}
-use Rattle.cr_session.specs.Turning.{turn_front}
+use Rattle.cr_session.specs.Turning.{turn_block, turn_front}
 use Rattle.cr_session.proofs.Requests.{serves_sent, unprinted}
 use Rattle.cr_session.proofs.Sendings.{turn_parts}
 use Rattle.cr_session.proofs.serve.serve_request.Goals as goal
@@ -9,12 +9,15 @@ pub returns-in-Ok-clause-serves : goal.returns-in-Ok-clause-serves
 returns-in-Ok-clause-serves g c =
     let t = c.in_turn-turn.ensures in
     let turn = c.in_turn-turn.result in
-    let sending = sending_of c.args.wish c.closes-close.result in
-    let block = c.block_of.result.now in
-    serves_sent c.args.wish t.0 t.1 c.args.pass.now c.in_turn-turn.new.pass t.2 t.4 turn c.send.result c.args.number c.closes-close.result
+    let close = c.closes-close.result in
+    let sending = sending_of c.args.wish close in
+    let same = c.sending-sending.ensures.sending in
+    let block = c.block_of-block.result.now in
+    serves_sent c.args.wish t.0 t.1 c.args.pass.now c.in_turn-turn.new.pass t.2 t.4 turn c.send.result c.args.number close
     (c.print_turn.new.reply.items ++ block) _ _
     c.in_default.not-OutOfMemory t.3 c.closes-close.ensures
-    (ap (λ f. f ++ block) c.in-Ok.ensures.ok ∙ ap (λ b. turn_front turn sending ++ b) c.block_of.ensures ∙ turn_parts turn sending)
+    (ap (λ f. f ++ block) (c.in-Ok.ensures.ok ∙ ap (turn_front turn) same)
+    ∙ ap (λ b. turn_front turn sending ++ b) (c.block_of-block.ensures ∙ ap (turn_block turn) same) ∙ turn_parts turn sending)
     (rw c.deref.ensures.value at c.send.ensures)
 
 pub returns-clause-serves : goal.returns-clause-serves

@@ -7,6 +7,6 @@ use Rattle.cr_session.proofs.turn.judge_bulk.Goals as goal
 
 pub returns : goal.returns
 returns g c =
-    subst (λ (u : Option ℕ). ChangesBook g.K.Keeper.faults c.judge_rows.result (judge_bulk (view u c.args.book.now.log) (bulk_by (maker_of u) c.args.rows))
+    subst (λ (u : Option ℕ). ChangesBook g.K.Keeper.faults c.judge_rows.result (judge_bulk (view u c.args.book.now.log) (bulk_by (maker_of u) c.args.at c.args.rows))
     c.args.book.now c.judge_rows.new.book)
     (sym c.in-Some.is) c.judge_rows.ensures

@@ -34,14 +34,15 @@ pub judge-requires : goal.judge-requires
 judge-requires g c = record {
   caller = caller-command _ _ _ _
       (may-wish _ c.args.wish _ _ _ c.in-Command.is c.caller_of-caller.ensures c.is_unauthorized.ensures c.if-is_unauthorized.false);
-  bounded = subst (λ (x : What). IsBoundedWhat x) c.in-Command.is c.requires;
+  bounded = subst (λ (x : What). IsBoundedWhat x) c.in-Command.is c.requires.what;
+  moment = c.requires.moment;
 }
 
 pub judge_bulk-requires : goal.judge_bulk-requires
 judge_bulk-requires g c =
     caller-bulk _ _ _ _
     (may-wish _ c.args.wish _ _ _ c.in-Bulk.is c.caller_of-caller.ensures c.is_unauthorized.ensures c.if-is_unauthorized.false)
-    (subst (λ (x : What). IsBoundedWhat x) c.in-Bulk.is c.requires)
+    (subst (λ (x : What). IsBoundedWhat x) c.in-Bulk.is c.requires.what) c.requires.moment
 
 pub answer-requires : goal.answer-requires
 answer-requires g c =

@@ -29,4 +29,4 @@ returns c at last =
     let decided = part-shown _ _ _ _ c.then_some-sighting-inside.ensures shown in
     let became = part-shown _ _ _ _ c.then_some-sighting-inside-2.ensures outcome in
     let told = part-shown _ _ _ _ c.then_some-sighting-inside-3.ensures accepted in
-    ap parts (c.sighting.view_is ∙ c.blank-sighting.ensures) ∙ rw (decided, became, told, mine) (seen-shown r at e x c.in-Decided.is seen)
+    ap parts (c.sighting.view_is ∙ c.of_stamp-sighting.ensures) ∙ rw (decided, became, told) (seen-shown r at e x c.in-Decided.is seen)

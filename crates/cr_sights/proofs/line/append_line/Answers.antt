@@ -10,7 +10,7 @@ returns c =
     let before = c.args.into.now in
     let object = object_text (sighting_members c.args.sighting.now) in
     let members = c.in_ok-add_first.ensures then c.in_ok-add_second.ensures then c.in_ok-add_third.ensures in
-    let all = members then c.in_ok-add_fourth.ensures then c.in_ok-add_last.ensures in
+    let all = members then c.in_ok-add_fourth.ensures then c.in_ok-add_fifth.ensures then c.in_ok-add_last.ensures in
     let whole : c.close.new.into.items ≡ before.items ++ object =
     closed {E = Unit {0}} (Ok tt) before c.open.new.into c.add_last.new.into c.close.new.into _ _ _
     c.in_ok-object.ensures.text c.in_ok-object.ensures.first all c.in_ok-close.ensures.text in

@@ -28,4 +28,4 @@ returns c at last =
       title = option_map (λ (text : Bor Text). text.now) c.then_some-sighting-inside.result;
       abstract = option_map (λ (text : Bor Text). text.now) c.then_some-sighting-inside-2.result;
     } ∷ [] in
-    ap parts (c.sighting.view_is ∙ c.blank-sighting.ensures) ∙ rw (titled, told, mine) (seen-shown r at e x c.in-Revised.is seen)
+    ap parts (c.sighting.view_is ∙ c.of_stamp-sighting.ensures) ∙ rw (titled, told) (seen-shown r at e x c.in-Revised.is seen)

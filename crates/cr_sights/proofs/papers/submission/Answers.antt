@@ -31,4 +31,4 @@ returns c at last =
       title = option_map (λ (text : Bor Text). text.now) c.then_some-sighting-inside-2.result;
       abstract = option_map (λ (text : Bor Text). text.now) c.then_some-sighting-inside-3.result;
     } ∷ [] in
-    ap parts (c.sighting.view_is ∙ c.blank-sighting.ensures) ∙ rw (made, titled, told, mine) (seen-shown r at e x c.in-Submitted.is refl)
+    ap parts (c.sighting.view_is ∙ c.of_stamp-sighting.ensures) ∙ rw (made, titled, told) (seen-shown r at e x c.in-Submitted.is refl)

@@ -38,6 +38,6 @@ returns c at placed =
       to_pc = option_map (λ (text : Bor Text). text.now) c.then_some-sighting-inside-5.result;
       done = c.then_some-sighting-inside-6.result;
     } ∷ [] in
-    ap parts (c.sighting.view_is ∙ c.blank-sighting.ensures)
-    ∙ rw (version, score, confidence, to_authors, to_pc, mark, mine, c.number.ensures.value)
+    ap parts (c.sighting.view_is ∙ c.of_stamp-sighting.ensures)
+    ∙ rw (version, score, confidence, to_authors, to_pc, mark, c.number.ensures.value)
     (rw seen at (seen-shown r at e x c.in-Reviewed.is seen))

@@ -27,5 +27,5 @@ returns c at =
       ordinal = c.then_some-sighting-inside-2.result;
       text = Some c.in-Commented.text;
     } ∷ [] in
-    ap parts (c.sighting.view_is ∙ c.blank-sighting.ensures)
-    ∙ rw (made, under, mine) (rw shared at (seen-shown r at e x c.in-Commented.is seen))
+    ap parts (c.sighting.view_is ∙ c.of_stamp-sighting.ensures)
+    ∙ rw (made, under) (rw shared at (seen-shown r at e x c.in-Commented.is seen))

@@ -7,15 +7,15 @@ use Rattle.cr_top.proofs.piping.pipe.Goals as goal
 
 pub returns-in-Err-clause-pipes : goal.returns-in-Err-clause-pipes
 returns-in-Err-clause-pipes g c =
-    let o = outside_of g.I.Source.faults g.O.Sink.taken g.O.Sink.faults c.args.input.now c.args.out.now in
-    let o' = outside_of g.I.Source.faults g.O.Sink.taken g.O.Sink.faults c.args.input.now c.note_no_memory.new.sink in
+    let o = outside_of g.I.Source.faults g.O.Sink.taken g.O.Sink.faults g.C.Clock.coming g.C.Clock.faults c.args.input.now c.args.out.now c.args.clock.now in
+    let o' = outside_of g.I.Source.faults g.O.Sink.taken g.O.Sink.faults g.C.Clock.coming g.C.Clock.faults c.args.input.now c.note_no_memory.new.sink c.note_no_memory.new.clock in
     pipes-unlocked g.K.Keeper.rows g.K.Keeper.faults g.I.Source.left g.I.Source.read_gives c.note_no_memory.result c.args.book c.in-Err.book c.close.result o o'
     c.in-Err.ensures c.note_no_memory.ensures.ending c.note_no_memory.ensures.notes refl refl c.close.ensures.same c.close.ensures.legal c.close.ensures.kept
 
 pub returns-clause-pipes : goal.returns-clause-pipes
 returns-clause-pipes g c =
-    let o = outside_of g.I.Source.faults g.O.Sink.taken g.O.Sink.faults c.args.input.now c.args.out.now in
-    let o' = outside_of g.I.Source.faults g.O.Sink.taken g.O.Sink.faults c.serve_connection-ending.new.source c.serve_connection-ending.new.sink in
+    let o = outside_of g.I.Source.faults g.O.Sink.taken g.O.Sink.faults g.C.Clock.coming g.C.Clock.faults c.args.input.now c.args.out.now c.args.clock.now in
+    let o' = outside_of g.I.Source.faults g.O.Sink.taken g.O.Sink.faults g.C.Clock.coming g.C.Clock.faults c.serve_connection-ending.new.source c.serve_connection-ending.new.sink c.serve_connection-ending.new.clock in
     let made = c.in-Ok.ensures in
     pipes-locked g.K.Keeper.rows g.K.Keeper.faults g.I.Source.left g.I.Source.read_gives c.serve_connection-ending.result c.args.book c.in-Ok.made.0.lock.first
     c.close-book.result c.close-2.result c.in-Ok.made.1 c.serve_connection-ending.new.pass o o'
@@ -24,8 +24,8 @@ returns-clause-pipes g c =
 
 pub returns-clause-answers : goal.returns-clause-answers
 returns-clause-answers g c b left faultless idle =
-    let o = outside_of g.I.Source.faults g.O.Sink.taken g.O.Sink.faults c.args.input.now c.args.out.now in
-    let o' = outside_of g.I.Source.faults g.O.Sink.taken g.O.Sink.faults c.serve_connection-ending.new.source c.serve_connection-ending.new.sink in
+    let o = outside_of g.I.Source.faults g.O.Sink.taken g.O.Sink.faults g.C.Clock.coming g.C.Clock.faults c.args.input.now c.args.out.now c.args.clock.now in
+    let o' = outside_of g.I.Source.faults g.O.Sink.taken g.O.Sink.faults g.C.Clock.coming g.C.Clock.faults c.serve_connection-ending.new.source c.serve_connection-ending.new.sink c.serve_connection-ending.new.clock in
     pipe_answers g.K.Keeper.rows g.K.Keeper.faults g.I.Source.left g.I.Source.read_gives c.args.book.log c.serve_connection-ending.result c.args.book.keeper
     c.close-2.result b o o'
     (returns-clause-pipes g c) left faultless idle

@@ -12,9 +12,9 @@ use Rattle.cr_top.proofs.run.do_job.Goals as goal
 
 pub returns-in-Some-clause-does : goal.returns-in-Some-clause-does
 returns-in-Some-clause-does g c =
-    let outside = outside_of g.I.Source.faults g.O.Sink.taken g.O.Sink.faults in
-    let o = outside c.args.input.now c.args.out.now in
-    let o' = outside c.pipe-ending.new.input c.pipe-ending.new.out in
+    let outside = outside_of g.I.Source.faults g.O.Sink.taken g.O.Sink.faults g.C.Clock.coming g.C.Clock.faults in
+    let o = outside c.args.input.now c.args.out.now c.args.clock.now in
+    let o' = outside c.pipe-ending.new.input c.pipe-ending.new.out c.pipe-ending.new.clock in
     let none : c.in-Pipe-None.store ≡ None = rw c.in-Pipe-None.is at c.in-Pipe-None.store-is in
     let seen : job_seen c.args.job ≡ pipe_job None = ap job_seen c.in-Pipe-None.is ∙ ap (λ t. pipe_job (option_map (λ x. x.now) t)) none in
     does-named _ _ _ _ _ (pipe_job None) _ _ _ seen (
@@ -37,9 +37,9 @@ from-nothing {I} opening exit exit' b o o' none is answers =
 
 pub returns-in-Some-clause-answers : goal.returns-in-Some-clause-answers
 returns-in-Some-clause-answers g c =
-    let outside = outside_of g.I.Source.faults g.O.Sink.taken g.O.Sink.faults in
-    let o = outside c.args.input.now c.args.out.now in
-    let o' = outside c.pipe-ending.new.input c.pipe-ending.new.out in
+    let outside = outside_of g.I.Source.faults g.O.Sink.taken g.O.Sink.faults g.C.Clock.coming g.C.Clock.faults in
+    let o = outside c.args.input.now c.args.out.now c.args.clock.now in
+    let o' = outside c.pipe-ending.new.input c.pipe-ending.new.out c.pipe-ending.new.clock in
     let none : c.in-Pipe-None.store ≡ None = rw c.in-Pipe-None.is at c.in-Pipe-None.store-is in
     let seen : job_seen c.args.job ≡ pipe_job None = ap job_seen c.in-Pipe-None.is ∙ ap (λ t. pipe_job (option_map (λ x. x.now) t)) none in
     answers-named _ _ (pipe_job None) _ _ _ seen

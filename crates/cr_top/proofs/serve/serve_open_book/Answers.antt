@@ -27,10 +27,10 @@ pub shut-requires-2 : goal.shut-requires-2
 shut-requires-2 g c = c.requires.open
 
 pub returns : goal.returns
-returns g c s opens workers connections shared =
+returns g c s opens before listen at workers connections shared =
     let outlet = outlet_of g.O.Sink.taken g.O.Sink.faults in
     let stores = state_of g.S.Shelf.rows g.S.Shelf.faults in
-    let gates_at = gates_of g.G.Gates.faults g.G.Gates.logs in
+    let gates_at = gates_of g.G.Gates.faults g.G.Gates.logs g.G.Gates.asked in
     let left = g.G.Door.Door.left in
     let is_out = g.G.Door.Door.is_out in
     let faults = g.G.Door.Door.faults in
@@ -38,12 +38,13 @@ returns g c s opens workers connections shared =
     let worked = c.serve_book-ended.result in
     let o = outlet c.args.out.now in
     let o' = outlet c.tell_entries.new.out in
-    serves-many g.S.Keeper.Keeper.rows g.S.Keeper.Keeper.faults c.args.path.now _ workers connections worked.0
+    serves-many g.S.Keeper.Keeper.rows g.S.Keeper.Keeper.faults c.args.path.now _ listen workers connections worked.0
     (is_ok c.tell_entries.result) c.exit_of_workers.result
     (c.exit_of_workers.ensures ∙ ap (λ (b : Bool). exit_of_workers worked.0 b) c.is_ok.ensures.value) c.args.book worked.1 c.close.result
     (map (door_of left is_out faults log) c.args.doors.items) (map (door_of left is_out faults log) worked.2.items) o o'
-    s (stores c.args.shelf.now) (stores c.shut-2.new.self) (gates_at c.args.gates.now) (gates_at c.shut.new.self)
-    opens c.close.ensures.same c.close.ensures.legal c.close.ensures.kept c.shut-2.ensures.kept c.shut-2.ensures.count
+    s (stores c.args.shelf.now) (stores c.shut-2.new.self) before (gates_at c.args.gates.now) (gates_at c.shut.new.self)
+    at opens c.close.ensures.same c.close.ensures.legal c.close.ensures.kept c.shut-2.ensures.kept c.shut-2.ensures.count
     (shared-seen left is_out faults log c.args.doors.items _ shared) c.requires.new c.serve_book-ended.ensures
     (subst (λ (n : ℕ). TellsEntries (is_ok c.tell_entries.result) n o o') c.entries-entries.ensures.value c.tell_entries.ensures)
     (told-seen left is_out faults log worked.2.items _ c.shut.ensures.told) (counted-seen left is_out faults log worked.2.items _ _ c.shut.ensures.count)
+    c.shut.ensures.same

@@ -9,20 +9,20 @@ use Rattle.cr_top.proofs.storing.pipe_store.Goals as goal
 
 pub returns-in-Ok-clause-pipes : goal.returns-in-Ok-clause-pipes
 returns-in-Ok-clause-pipes g c =
-    let outside = outside_of g.I.Source.faults g.O.Sink.taken g.O.Sink.faults in
+    let outside = outside_of g.I.Source.faults g.O.Sink.taken g.O.Sink.faults g.C.Clock.coming g.C.Clock.faults in
     let stores = state_of g.S.Shelf.rows g.S.Shelf.faults in
     inr (serves-store g.S.Keeper.Keeper.rows g.S.Keeper.Keeper.faults c.args.path.now g.I.Source.left g.I.Source.read_gives c.exit_of.result _
     c.exit_of.ensures c.in-Ok.book _
-    (outside c.args.input.now c.args.out.now) (outside c.pipe-ending.new.input c.pipe-ending.new.out) (stores c.args.shelf.now) (stores c.open_store.new.shelf)
+    (outside c.args.input.now c.args.out.now c.args.clock.now) (outside c.pipe-ending.new.input c.pipe-ending.new.out c.pipe-ending.new.clock) (stores c.args.shelf.now) (stores c.open_store.new.shelf)
     (stores c.shut.new.self)
     c.in-Ok.ensures.opened c.pipe-ending.ensures.pipes c.shut.ensures.kept c.shut.ensures.count)
 
 pub returns-in-Ok-clause-answers : goal.returns-in-Ok-clause-answers
 returns-in-Ok-clause-answers g c b left faultless idle files told H legal spells =
-    let outside = outside_of g.I.Source.faults g.O.Sink.taken g.O.Sink.faults in
+    let outside = outside_of g.I.Source.faults g.O.Sink.taken g.O.Sink.faults g.C.Clock.coming g.C.Clock.faults in
     let stores = state_of g.S.Shelf.rows g.S.Shelf.faults in
-    let o = outside c.args.input.now c.args.out.now in
-    let o' = outside c.pipe-ending.new.input c.pipe-ending.new.out in
+    let o = outside c.args.input.now c.args.out.now c.args.clock.now in
+    let o' = outside c.pipe-ending.new.input c.pipe-ending.new.out c.pipe-ending.new.clock in
     let s = stores c.args.shelf.now in
     let m = stores c.open_store.new.shelf in
     let s' = stores c.shut.new.self in

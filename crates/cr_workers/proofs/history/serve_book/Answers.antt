@@ -9,13 +9,13 @@ use Rattle.cr_workers.proofs.history.serve_book.Goals as goal
 
 pub returns-in-Err : goal.returns-in-Err
 returns-in-Err g c =
-    rw c.in-Err.ensures (history-unasked (streams_of g.D.In.Source.left g.D.In.Source.read_gives g.D.In.Source.faults g.D.Out.Sink.taken g.D.Out.Sink.faults)
+    rw c.in-Err.ensures (history-unasked (streams_of g.D.In.Source.left g.D.In.Source.read_gives g.D.In.Source.faults g.D.Out.Sink.taken g.D.Out.Sink.faults g.D.Clock.Clock.coming g.D.Clock.Clock.faults)
     (map (door_of g.D.Door.left g.D.Door.is_out g.D.Door.faults g.D.Door.log) c.args.doors.items) (ledger_of g.K.Keeper.faults c.args.book))
 
 pub returns : goal.returns
 returns g c =
     let made = c.in-Ok.ensures in
-    subst (λ b. ServesHistory (streams_of g.D.In.Source.left g.D.In.Source.read_gives g.D.In.Source.faults g.D.Out.Sink.taken g.D.Out.Sink.faults)
+    subst (λ b. ServesHistory (streams_of g.D.In.Source.left g.D.In.Source.read_gives g.D.In.Source.faults g.D.Out.Sink.taken g.D.Out.Sink.faults g.D.Clock.Clock.coming g.D.Clock.Clock.faults)
     c.serve_doors-pass.result.2
     (map (door_of g.D.Door.left g.D.Door.is_out g.D.Door.faults g.D.Door.log) c.args.doors.items)
     (map (door_of g.D.Door.left g.D.Door.is_out g.D.Door.faults g.D.Door.log) c.serve_doors-pass.result.1.items)

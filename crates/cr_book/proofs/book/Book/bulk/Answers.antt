@@ -16,61 +16,61 @@ keep-requires-clause-legal g c =
     let same = ap (λ (v : SeenBook g.row.K.Denot). v.log) c.self.view_is in
     let group = c.in-Ok.group.items in
     let drawn : Drawn = record { group = group; receipt = receipts.Rows (length group) } in
-    Legal-bulk_accepted c.args.self.now.log (bulk_by c.args.caller c.args.rows) drawn (subst (λ (h : History). Legal h) same c.self.invariant.legal) c.requires
-    (bulk-drawn g.K.Keeper.rows _ c.args.self.now.log _ _ (bulk_by c.args.caller c.args.rows) c.in-Ok.group.items
-    (ap (λ (v : SeenBook g.row.K.Denot). v.log) c.self.view_is) c.self.invariant c.requires.caller c.in-Ok.ensures.group c.in-Ok.ensures.accepted)
+    Legal-bulk_accepted c.args.self.now.log (bulk_by c.args.caller c.args.at c.args.rows) drawn (subst (λ (h : History). Legal h) same c.self.invariant.legal) c.requires
+    (bulk-drawn g.K.Keeper.rows _ c.args.self.now.log _ _ (bulk_by c.args.caller c.args.at c.args.rows) c.in-Ok.group.items
+    (ap (λ (v : SeenBook g.row.K.Denot). v.log) c.self.view_is) c.self.invariant c.requires c.in-Ok.ensures.group c.in-Ok.ensures.accepted)
 
 pub keep-requires-clause-fits : goal.keep-requires-clause-fits
 keep-requires-clause-fits g c =
     let same = ap (λ (v : SeenBook g.row.K.Denot). v.log) c.self.view_is in
     let group = c.in-Ok.group.items in
     let drawn : Drawn = record { group = group; receipt = receipts.Rows (length group) } in
-    Legal-bulk_fits c.args.self.now.log (bulk_by c.args.caller c.args.rows) drawn (subst (λ (h : History). Legal h) same c.self.invariant.legal) c.requires.caller
-    (bulk-drawn g.K.Keeper.rows _ c.args.self.now.log _ _ (bulk_by c.args.caller c.args.rows) c.in-Ok.group.items
-    (ap (λ (v : SeenBook g.row.K.Denot). v.log) c.self.view_is) c.self.invariant c.requires.caller c.in-Ok.ensures.group c.in-Ok.ensures.accepted)
+    Legal-bulk_fits c.args.self.now.log (bulk_by c.args.caller c.args.at c.args.rows) drawn (subst (λ (h : History). Legal h) same c.self.invariant.legal) c.requires.caller c.requires.moment
+    (bulk-drawn g.K.Keeper.rows _ c.args.self.now.log _ _ (bulk_by c.args.caller c.args.at c.args.rows) c.in-Ok.group.items
+    (ap (λ (v : SeenBook g.row.K.Denot). v.log) c.self.view_is) c.self.invariant c.requires c.in-Ok.ensures.group c.in-Ok.ensures.accepted)
 
 pub returns-in-Err-clause-broken : goal.returns-in-Err-clause-broken
 returns-in-Err-clause-broken g c = λ broken told.
-    let is = bulk-by_view g.K.Keeper.rows _ c.args.self.now.log _ _ (bulk_by c.args.caller c.args.rows) (Err c.in-Err.broken)
-    (ap (λ (v : SeenBook g.row.K.Denot). v.log) c.self.view_is) c.self.invariant c.requires.caller c.in-Err.ensures.broken in
+    let is = bulk-by_view g.K.Keeper.rows _ c.args.self.now.log _ _ (bulk_by c.args.caller c.args.at c.args.rows) (Err c.in-Err.broken)
+    (ap (λ (v : SeenBook g.row.K.Denot). v.log) c.self.view_is) c.self.invariant c.requires c.in-Err.ensures.broken in
     let same : ◌≡◌ {A = Result Drawn Broken} (Err c.in-Err.broken) (Err broken) = sym is ∙ told in
     let e : c.in-Err.broken ≡ broken = cc (same) in
     ap (λ (b : Broken). Err (errors.Broken b)) e
 
 pub returns-in-Err-clause-only_broken : goal.returns-in-Err-clause-only_broken
 returns-in-Err-clause-only_broken g c = λ broken told.
-    let is = bulk-by_view g.K.Keeper.rows _ c.args.self.now.log _ _ (bulk_by c.args.caller c.args.rows) (Err c.in-Err.broken)
-    (ap (λ (v : SeenBook g.row.K.Denot). v.log) c.self.view_is) c.self.invariant c.requires.caller c.in-Err.ensures.broken in
+    let is = bulk-by_view g.K.Keeper.rows _ c.args.self.now.log _ _ (bulk_by c.args.caller c.args.at c.args.rows) (Err c.in-Err.broken)
+    (ap (λ (v : SeenBook g.row.K.Denot). v.log) c.self.view_is) c.self.invariant c.requires c.in-Err.ensures.broken in
     let e : c.in-Err.broken ≡ broken = cc (told) in
     is ∙ ap Err e
 
 pub returns-in-Err-keep-clause-broken : goal.returns-in-Err-keep-clause-broken
 returns-in-Err-keep-clause-broken g c = λ broken told.
-    let drawn = bulk-drawn g.K.Keeper.rows _ c.args.self.now.log _ _ (bulk_by c.args.caller c.args.rows) c.in-Ok.group.items
-    (ap (λ (v : SeenBook g.row.K.Denot). v.log) c.self.view_is) c.self.invariant c.requires.caller c.in-Ok.ensures.group c.in-Ok.ensures.accepted in
+    let drawn = bulk-drawn g.K.Keeper.rows _ c.args.self.now.log _ _ (bulk_by c.args.caller c.args.at c.args.rows) c.in-Ok.group.items
+    (ap (λ (v : SeenBook g.row.K.Denot). v.log) c.self.view_is) c.self.invariant c.requires c.in-Ok.ensures.group c.in-Ok.ensures.accepted in
     absurd (drawn-no_error _ _ broken drawn told)
 
 pub returns-in-Err-keep-clause-memory : goal.returns-in-Err-keep-clause-memory
 returns-in-Err-keep-clause-memory g c = λ is.
-    drawn-ok _ _ (bulk-drawn g.K.Keeper.rows _ c.args.self.now.log _ _ (bulk_by c.args.caller c.args.rows) c.in-Ok.group.items
-    (ap (λ (v : SeenBook g.row.K.Denot). v.log) c.self.view_is) c.self.invariant c.requires.caller c.in-Ok.ensures.group c.in-Ok.ensures.accepted)
+    drawn-ok _ _ (bulk-drawn g.K.Keeper.rows _ c.args.self.now.log _ _ (bulk_by c.args.caller c.args.at c.args.rows) c.in-Ok.group.items
+    (ap (λ (v : SeenBook g.row.K.Denot). v.log) c.self.view_is) c.self.invariant c.requires c.in-Ok.ensures.group c.in-Ok.ensures.accepted)
 
 pub returns-in-Err-keep-clause-lost : goal.returns-in-Err-keep-clause-lost
 returns-in-Err-keep-clause-lost g c = λ is.
-    drawn-ok _ _ (bulk-drawn g.K.Keeper.rows _ c.args.self.now.log _ _ (bulk_by c.args.caller c.args.rows) c.in-Ok.group.items
-    (ap (λ (v : SeenBook g.row.K.Denot). v.log) c.self.view_is) c.self.invariant c.requires.caller c.in-Ok.ensures.group c.in-Ok.ensures.accepted)
+    drawn-ok _ _ (bulk-drawn g.K.Keeper.rows _ c.args.self.now.log _ _ (bulk_by c.args.caller c.args.at c.args.rows) c.in-Ok.group.items
+    (ap (λ (v : SeenBook g.row.K.Denot). v.log) c.self.view_is) c.self.invariant c.requires c.in-Ok.ensures.group c.in-Ok.ensures.accepted)
 
 pub returns-in-Ok-keep-clause-accepted : goal.returns-in-Ok-keep-clause-accepted
 returns-in-Ok-keep-clause-accepted g c = record {
   drawn = record { group = c.in-Ok.group.items; receipt = receipts.Rows (length c.in-Ok.group.items) };
-  judged = bulk-drawn g.K.Keeper.rows _ c.args.self.now.log _ _ (bulk_by c.args.caller c.args.rows) c.in-Ok.group.items
-      (ap (λ (v : SeenBook g.row.K.Denot). v.log) c.self.view_is) c.self.invariant c.requires.caller c.in-Ok.ensures.group c.in-Ok.ensures.accepted;
+  judged = bulk-drawn g.K.Keeper.rows _ c.args.self.now.log _ _ (bulk_by c.args.caller c.args.at c.args.rows) c.in-Ok.group.items
+      (ap (λ (v : SeenBook g.row.K.Denot). v.log) c.self.view_is) c.self.invariant c.requires c.in-Ok.ensures.group c.in-Ok.ensures.accepted;
   receipt_is = let many : c.len-rows.result ≡ length c.in-Ok.group.items = omega (arith, c.len-rows.ensures) in ap receipts.Rows many;
   added = c.in-Ok-keep.ensures.kept;
 }
 
 pub returns-in-Ok-keep-clause-broken : goal.returns-in-Ok-keep-clause-broken
 returns-in-Ok-keep-clause-broken g c = λ broken told.
-    let drawn = bulk-drawn g.K.Keeper.rows _ c.args.self.now.log _ _ (bulk_by c.args.caller c.args.rows) c.in-Ok.group.items
-    (ap (λ (v : SeenBook g.row.K.Denot). v.log) c.self.view_is) c.self.invariant c.requires.caller c.in-Ok.ensures.group c.in-Ok.ensures.accepted in
+    let drawn = bulk-drawn g.K.Keeper.rows _ c.args.self.now.log _ _ (bulk_by c.args.caller c.args.at c.args.rows) c.in-Ok.group.items
+    (ap (λ (v : SeenBook g.row.K.Denot). v.log) c.self.view_is) c.self.invariant c.requires c.in-Ok.ensures.group c.in-Ok.ensures.accepted in
     absurd (drawn-no_error _ _ broken drawn told)

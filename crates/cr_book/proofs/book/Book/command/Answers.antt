@@ -14,7 +14,7 @@ use Rattle.cr_book.proofs.book.Book.command.Goals as goal
 
 pub returns-in-Err-clause-rule : goal.returns-in-Err-clause-rule
 returns-in-Err-clause-rule g c = λ rule told.
-    let is = judged-by_view g.K.Keeper.rows _ c.args.self.now.log _ _ (call_of c.args.caller.now c.args.command) (Err c.in-Err.rule)
+    let is = judged-by_view g.K.Keeper.rows _ c.args.self.now.log _ _ (call_of c.args.caller.now c.args.at c.args.command) (Err c.in-Err.rule)
     (ap (λ (v : SeenBook g.row.K.Denot). v.log) c.self.view_is) c.self.invariant c.in-Err.ensures.drawn in
     let same : ◌≡◌ {A = Result Drawn Rule} (Err c.in-Err.rule) (Err rule) = sym is ∙ told in
     let e : c.in-Err.rule ≡ rule = cc (same) in
@@ -22,7 +22,7 @@ returns-in-Err-clause-rule g c = λ rule told.
 
 pub returns-in-Err-clause-only_rule : goal.returns-in-Err-clause-only_rule
 returns-in-Err-clause-only_rule g c = λ rule told.
-    let is = judged-by_view g.K.Keeper.rows _ c.args.self.now.log _ _ (call_of c.args.caller.now c.args.command) (Err c.in-Err.rule)
+    let is = judged-by_view g.K.Keeper.rows _ c.args.self.now.log _ _ (call_of c.args.caller.now c.args.at c.args.command) (Err c.in-Err.rule)
     (ap (λ (v : SeenBook g.row.K.Denot). v.log) c.self.view_is) c.self.invariant c.in-Err.ensures.drawn in
     let e : c.in-Err.rule ≡ rule = cc (told) in
     is ∙ ap Err e
@@ -30,10 +30,10 @@ returns-in-Err-clause-only_rule g c = λ rule told.
 pub keep-requires-clause-legal : goal.keep-requires-clause-legal
 keep-requires-clause-legal g c =
     let same = ap (λ (v : SeenBook g.row.K.Denot). v.log) c.self.view_is in
-    let told = judged-by_view g.K.Keeper.rows _ c.args.self.now.log _ _ (call_of c.args.caller.now c.args.command) (Ok (drawn_by c.self.inside.live.tables.accounts c.in-Ok.effect))
+    let told = judged-by_view g.K.Keeper.rows _ c.args.self.now.log _ _ (call_of c.args.caller.now c.args.at c.args.command) (Ok (drawn_by c.self.inside.live.tables.accounts c.in-Ok.effect))
     (ap (λ (v : SeenBook g.row.K.Denot). v.log) c.self.view_is) c.self.invariant c.in-Ok.ensures.drawn in
     subst (λ (group : History). Legal (c.args.self.now.log ++ group)) (sym c.in-Ok-group.ensures)
-    (Legal-accepted c.args.self.now.log (call_of c.args.caller.now c.args.command) (drawn_by c.self.inside.live.tables.accounts c.in-Ok.effect) (subst (λ (h : History). Legal h) same c.self.invariant.legal)
+    (Legal-accepted c.args.self.now.log (call_of c.args.caller.now c.args.at c.args.command) (drawn_by c.self.inside.live.tables.accounts c.in-Ok.effect) (subst (λ (h : History). Legal h) same c.self.invariant.legal)
     c.requires told)
 
 pub keep-requires-clause-fits : goal.keep-requires-clause-fits
@@ -44,35 +44,35 @@ keep-requires-clause-fits g c =
 
 pub returns-in_default-clause-rule : goal.returns-in_default-clause-rule
 returns-in_default-clause-rule g c = λ rule told.
-    let drawn = judged-by_view g.K.Keeper.rows _ c.args.self.now.log _ _ (call_of c.args.caller.now c.args.command) (Ok (drawn_by c.self.inside.live.tables.accounts c.in-Ok.effect))
+    let drawn = judged-by_view g.K.Keeper.rows _ c.args.self.now.log _ _ (call_of c.args.caller.now c.args.at c.args.command) (Ok (drawn_by c.self.inside.live.tables.accounts c.in-Ok.effect))
     (ap (λ (v : SeenBook g.row.K.Denot). v.log) c.self.view_is) c.self.invariant c.in-Ok.ensures.drawn in
     absurd (drawn-no_error _ _ rule drawn told)
 
 pub returns-in_default-clause-memory : goal.returns-in_default-clause-memory
 returns-in_default-clause-memory g c = λ is.
-    drawn-ok _ _ (judged-by_view g.K.Keeper.rows _ c.args.self.now.log _ _ (call_of c.args.caller.now c.args.command) (Ok (drawn_by c.self.inside.live.tables.accounts c.in-Ok.effect))
+    drawn-ok _ _ (judged-by_view g.K.Keeper.rows _ c.args.self.now.log _ _ (call_of c.args.caller.now c.args.at c.args.command) (Ok (drawn_by c.self.inside.live.tables.accounts c.in-Ok.effect))
     (ap (λ (v : SeenBook g.row.K.Denot). v.log) c.self.view_is) c.self.invariant c.in-Ok.ensures.drawn)
 
 pub returns-in-Err-keep-clause-rule : goal.returns-in-Err-keep-clause-rule
 returns-in-Err-keep-clause-rule g c = λ rule told.
-    let drawn = judged-by_view g.K.Keeper.rows _ c.args.self.now.log _ _ (call_of c.args.caller.now c.args.command) (Ok (drawn_by c.self.inside.live.tables.accounts c.in-Ok.effect))
+    let drawn = judged-by_view g.K.Keeper.rows _ c.args.self.now.log _ _ (call_of c.args.caller.now c.args.at c.args.command) (Ok (drawn_by c.self.inside.live.tables.accounts c.in-Ok.effect))
     (ap (λ (v : SeenBook g.row.K.Denot). v.log) c.self.view_is) c.self.invariant c.in-Ok.ensures.drawn in
     absurd (drawn-no_error _ _ rule drawn told)
 
 pub returns-in-Err-keep-clause-memory : goal.returns-in-Err-keep-clause-memory
 returns-in-Err-keep-clause-memory g c = λ is.
-    drawn-ok _ _ (judged-by_view g.K.Keeper.rows _ c.args.self.now.log _ _ (call_of c.args.caller.now c.args.command) (Ok (drawn_by c.self.inside.live.tables.accounts c.in-Ok.effect))
+    drawn-ok _ _ (judged-by_view g.K.Keeper.rows _ c.args.self.now.log _ _ (call_of c.args.caller.now c.args.at c.args.command) (Ok (drawn_by c.self.inside.live.tables.accounts c.in-Ok.effect))
     (ap (λ (v : SeenBook g.row.K.Denot). v.log) c.self.view_is) c.self.invariant c.in-Ok.ensures.drawn)
 
 pub returns-in-Err-keep-clause-lost : goal.returns-in-Err-keep-clause-lost
 returns-in-Err-keep-clause-lost g c = λ is.
-    drawn-ok _ _ (judged-by_view g.K.Keeper.rows _ c.args.self.now.log _ _ (call_of c.args.caller.now c.args.command) (Ok (drawn_by c.self.inside.live.tables.accounts c.in-Ok.effect))
+    drawn-ok _ _ (judged-by_view g.K.Keeper.rows _ c.args.self.now.log _ _ (call_of c.args.caller.now c.args.at c.args.command) (Ok (drawn_by c.self.inside.live.tables.accounts c.in-Ok.effect))
     (ap (λ (v : SeenBook g.row.K.Denot). v.log) c.self.view_is) c.self.invariant c.in-Ok.ensures.drawn)
 
 pub returns-in-Ok-keep-clause-accepted : goal.returns-in-Ok-keep-clause-accepted
 returns-in-Ok-keep-clause-accepted g c = record {
   drawn = drawn_by c.self.inside.live.tables.accounts c.in-Ok.effect;
-  judged = judged-by_view g.K.Keeper.rows _ c.args.self.now.log _ _ (call_of c.args.caller.now c.args.command) (Ok (drawn_by c.self.inside.live.tables.accounts c.in-Ok.effect))
+  judged = judged-by_view g.K.Keeper.rows _ c.args.self.now.log _ _ (call_of c.args.caller.now c.args.at c.args.command) (Ok (drawn_by c.self.inside.live.tables.accounts c.in-Ok.effect))
       (ap (λ (v : SeenBook g.row.K.Denot). v.log) c.self.view_is) c.self.invariant c.in-Ok.ensures.drawn;
   receipt_is = c.receipt-receipt.ensures;
   added = c.in-Ok-keep.ensures.kept ∙ ap (λ (group : History). c.args.self.now.log ++ group) c.in-Ok-group.ensures;
@@ -80,6 +80,6 @@ returns-in-Ok-keep-clause-accepted g c = record {
 
 pub returns-in-Ok-keep-clause-rule : goal.returns-in-Ok-keep-clause-rule
 returns-in-Ok-keep-clause-rule g c = λ rule told.
-    let drawn = judged-by_view g.K.Keeper.rows _ c.args.self.now.log _ _ (call_of c.args.caller.now c.args.command) (Ok (drawn_by c.self.inside.live.tables.accounts c.in-Ok.effect))
+    let drawn = judged-by_view g.K.Keeper.rows _ c.args.self.now.log _ _ (call_of c.args.caller.now c.args.at c.args.command) (Ok (drawn_by c.self.inside.live.tables.accounts c.in-Ok.effect))
     (ap (λ (v : SeenBook g.row.K.Denot). v.log) c.self.view_is) c.self.invariant c.in-Ok.ensures.drawn in
     absurd (drawn-no_error _ _ rule drawn told)

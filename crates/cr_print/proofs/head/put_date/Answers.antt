@@ -1,0 +1,10 @@
+use Rattle.std.proofs.Common.{arith}
+use Rattle.cr_print.specs.Dates.{date_line}
+use Rattle.cr_print.proofs.Chain.{◌then◌, within}
+use Rattle.cr_print.proofs.head.put_date.Goals as goal
+
+pub returns : goal.returns
+unfolding date_line
+returns c =
+    let whole = within 37 (c.put.ensures then c.put-2.ensures then c.put-3.ensures) (omega (arith, c.as_bytes.ensures.whole)) in
+    rw c.as_bytes.ensures.value at whole

@@ -1,0 +1,64 @@
+//! The date of an answer (RFC 9110, section 6.6.1).
+ghost use Rattle.std.specs.Prelude.{◌≡◌, length};
+ghost use Rattle.cr_print.specs.Dates.{date_text};
+
+use cr_base::Moment;
+use httpdate::HttpDate;
+use std::marker::Model;
+
+/// The bytes of a date's text.
+pub(crate) const DATE_TEXT: usize = 29;
+
+/// A moment with its text as an IMF-fixdate (RFC 9110, section 5.6.7), like `Sun, 06 Nov 1994 08:49:37 GMT`, so that
+/// answers within one second have it written once.
+///
+/// Contracts see the moment.
+#[derive(Clone, Copy)]
+pub struct Date {
+    at: Moment,
+    text: [u8; DATE_TEXT],
+}
+
+impl Model for Date {
+    ghost use Rattle.std.specs.Prelude.{◌≡◌, ℕ, length};
+    ghost use Rattle.cr_print.specs.Dates.{date_text};
+
+    ghost Value = { ℕ };
+
+    ghost view = { λ d. d.at };
+
+    ghost invariant = { λ d. (d.text ≡ date_text d.at) × (length d.text ≡ 29) };
+
+    ghost inverse = { λ n. record { at = n; text = date_text n } };
+}
+
+impl Date {
+    /// The date of a moment, whose text is written now.
+    pub fn of(at: Moment) -> Date
+        ensures { result ≡ at }
+    {
+        let date = HttpDate::from_unix_secs(at.seconds()).unwrap();
+        Date {
+            at,
+            text: date.to_bytes(),
+        }
+    }
+
+    /// The date of a moment: this one where it is of the same second, and else a new one, whose text is written now.
+    pub fn renewed(self, at: Moment) -> Date
+        ensures { result ≡ at }
+    {
+        if at == self.at {
+            return self;
+        }
+        Date::of(at)
+    }
+
+    /// Its text, 29 bytes.
+    pub(crate) fn as_bytes(&self) -> &[u8]
+        ensures value { result.now ≡ date_text self.now }
+        ensures whole { length result.now ≡ 29 }
+    {
+        self.text.as_slice()
+    }
+}

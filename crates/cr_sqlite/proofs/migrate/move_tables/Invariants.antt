@@ -1,0 +1,9 @@
+use Rattle.std.proofs.Common.{◌≡◌}
+use Rattle.sqlite.specs.Held.{state}
+use Rattle.cr_sqlite.specs.Migration.{CommitsNothing}
+use Rattle.cr_sqlite.proofs.migrate.move_tables.Given as goal
+
+abbrev pub invariant-tables : goal.invariant-tables
+invariant-tables g l =
+    (l.transaction.conn.ghost_name ≡ l.fn.transaction.conn.ghost_name)
+    × CommitsNothing (state g.S.Store l.fn.transaction.conn.now) (state g.S.Store l.transaction.conn.now)
