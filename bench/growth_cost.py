@@ -43,7 +43,7 @@ WORDS, LABELS = 100, 3  # the tags that there are, and the reviewers of a paper
 TEXT = "Why is that so?"
 REFUSAL = b'{"error":'
 LAST, LAST_ANSWER = request("GET", "/that-is-no-route"), REFUSAL + b'"no_route"}'
-ROW = "INSERT INTO {} (place, kind, maker, more, n1, n2, n3, n4, n5, b1, b2) VALUES (?, ?, ?, ?, ?, ?, ?, ?, ?, ?, ?)"
+ROW = "INSERT INTO {} (place, kind, maker, more, n1, n2, n3, n4, n5, b1, b2{}) VALUES (?, ?, ?, ?, ?, ?, ?, ?, ?, ?, ?{})"
 TABLES = {"people": range(1, 5), "papers": range(5, 10), "ties": range(10, 14), "talk": range(14, 18)}
 PEER = "create table t (paper integer, n integer, user integer, what, primary key ({})) without rowid"
 PUT = "insert or replace into t values (?1, 0, ?2, ?3)"
@@ -186,9 +186,12 @@ def make_store(program, store, rows):
     """Makes a store of these rows, in tables that the program makes."""
     opened(program, store)
     with contextlib.closing(sqlite3.connect(store)) as file, file:
+        # A store of version 1 keeps no moments.
+        names = [name for (name,) in file.execute("SELECT name FROM sqlite_schema")]
+        end, moment = ("_v2", (", at", ", 0")) if "people_v2" in names else ("", ("", ""))
         for table, kinds in TABLES.items():
             placed = ((place, *row) for place, row in enumerate(rows) if row[0] in kinds)
-            file.executemany(ROW.format(table), placed)
+            file.executemany(ROW.format(table + end, *moment), placed)
 
 
 def stores(programs, runs):
@@ -199,12 +202,12 @@ def stores(programs, runs):
         sizes = (0, count // 10, count)
         found = {(name, size): [] for name in programs for size in sizes}
         with tempfile.TemporaryDirectory() as folder:
-            for size in sizes:
-                make_store(programs["confd"], f"{folder}/{size}", stored(kind, size))
+            for name, size in found:
+                make_store(programs[name], f"{folder}/{name}-{size}", stored(kind, size))
             for turn in range(5 * runs):
                 for (name, size), times in found.items():
                     if turn < runs or size < count:
-                        times.append(opened(programs[name], f"{folder}/{size}"))
+                        times.append(opened(programs[name], f"{folder}/{name}-{size}"))
         for name in programs:
             none, tenth, whole = [min(found[name, size]) for size in sizes]
             row, row_of_tenth = (whole - none) / count * 1e6, (tenth - none) / sizes[1] * 1e6

@@ -2,22 +2,28 @@
 """What a page with a long abstract costs, and what the program keeps of many.
 
     python3 bench/page_cost.py [PROGRAM] [PAGES]
+    python3 bench/page_cost.py --before OTHER [PROGRAM] [PAGES]
 
 PROGRAM is `confd` as `rt run` builds it (crates/confd/out/confd where none is named). Python 3 alone
 is needed. Each figure is one run of `confd pipe` over requests made here, of which a run without what is
 measured is taken off; the least of five counts. Nothing is kept.
+
+With --before it only compares two builds, in one run: they take turns, nine each, and what a page costs is told
+as the median of the nine.
 """
 
 import http.client
 import http.server
 import json
 import os
+import statistics
 import subprocess
 import sys
 import threading
 import time
 
 RUNS = 5
+TURNS = 9
 ABSTRACT = ("We prove what we can. " * 228)[:5000]
 PAPERS_EACH = 20
 SUBMISSIONS = 9_000
@@ -81,6 +87,19 @@ def page_cost(program, abstract, pages):
     without = min(run(program, base) for _ in range(RUNS))
     spent = min(run(program, whole) for _ in range(RUNS))
     return (spent - without) / pages * 1e6
+
+
+def compared(programs, pages):
+    """Prints what a page costs by each of two builds, which take turns, and the difference of the medians."""
+    for abstract in (ABSTRACT, ""):
+        base = conference(abstract)
+        whole = base + request("GET", "/papers/1", "erin") * pages
+        costs = [[], []]
+        for _ in range(TURNS):
+            for program, found in zip(programs, costs):
+                found.append((run(program, whole) - run(program, base)) / pages * 1e6)
+        before, now = map(statistics.median, costs)
+        print(f"a page with an abstract of {len(abstract):,} bytes: before {before:.2f} us, now {now:.2f}, {now - before:+.2f}")
 
 
 def peer_json(pages):
@@ -167,12 +186,21 @@ def model():
 
 def main():
     here = os.path.dirname(os.path.abspath(__file__))
-    program = sys.argv[1] if len(sys.argv) > 1 else f"{here}/../crates/confd/out/confd"
-    pages = int(sys.argv[2]) if len(sys.argv) > 2 else 20_000
-    if not os.access(program, os.X_OK):
-        sys.exit(f"{program} isn't there: run `rt run` in crates/confd, or name a program")
+    words = sys.argv[1:]
+    before = None
+    if words[:1] == ["--before"] and len(words) > 1:
+        before, words = words[1], words[2:]
+    program = words[0] if words else f"{here}/../crates/confd/out/confd"
+    pages = int(words[1]) if len(words) > 1 else 20_000
+    for named in (program, before or program):
+        if not os.access(named, os.X_OK):
+            sys.exit(f"{named} isn't there: run `rt run` in crates/confd, or name a program")
     print(f"{time.strftime('%Y-%m-%d')}, {os.cpu_count()} processors, {model()}")
     size = check(program, ABSTRACT)
+    if before is not None:
+        check(before, ABSTRACT)
+        compared((before, program), pages)
+        return
     long = page_cost(program, ABSTRACT, pages)
     short = page_cost(program, "", pages)
     print(f"a page with an abstract of 5,000 bytes, {size} bytes in all: {long:.1f} us")

@@ -103,6 +103,7 @@ def ask(port, method, path, who=None, body=None):
     connection.request(method, path, body, fields)
     answer = connection.getresponse()
     told = answer.status, answer.read().decode()
+    expect(len(answer.headers.get_all("Date", [])) == 1, f"the fields are {answer.headers}")
     connection.close()
     return told
 

@@ -13,8 +13,9 @@ import os
 import re
 import subprocess
 import sys
+import time
 
-from serve import Client, serving
+from serve import Client, is_now, serving
 from store import LONG, expect, opening, program_named, run_all
 
 SECRET = "alice-secret-0123456789"
@@ -32,7 +33,7 @@ def address(server, path):
 
 
 def with_curl(program, folder):
-    """curl: register, log in, submit, a page, a wrong secret, HEAD, a 413, HTTP/1.0, ten requests on one connection."""
+    """curl: register, log in, submit, a page, a wrong secret, HEAD and its date, a 413, HTTP/1.0, ten requests on one connection."""
 
     def curl(*words, text=b""):
         out = said("curl", "--silent", "--show-error", "--max-time", "20", "--write-out", "\n%{http_code}", *words, text=text)
@@ -52,8 +53,11 @@ def with_curl(program, folder):
         expect(code == 200 and json.loads(page)["title"] == "Proofs", page)
         told = curl("--oauth2-bearer", "alice.wrong-secret-0123456789", address(server, "/papers/1"))
         expect(told == (401, '{"error":"unauthorized"}'), told)
+        since = time.time()
         code, head = curl("--head", address(server, "/phase"))
         expect(code == 200 and "Content-Length:" in head, head)
+        told = re.findall(r"^Date: (.*?)\r?$", head, re.MULTILINE)
+        expect(len(told) == 1 and is_now(told[0], since), head)
         expect(curl("--http1.0", address(server, "/phase"))[0] == 200, "HTTP/1.0")
         told = curl("--header", "Expect:", "--data-binary", "@-", address(server, "/register"), text=b"x" * 4_194_305)
         expect(told == (413, '{"error":"too_large"}'), told)
@@ -66,8 +70,10 @@ def with_requests(program, folder):
     import requests
 
     with serving(program, os.path.join(folder, "store")) as server, requests.Session() as session:
+        since = time.time()
         told = session.post(address(server, "/register"), json={"name": "alice", "secret": SECRET}, timeout=20)
         expect((told.status_code, told.json()) == (201, {"user": 1}), told.text)
+        expect(is_now(told.headers["Date"], since), told.headers)
         session.headers["Authorization"] = f"Bearer alice.{SECRET}"
         told = session.post(address(server, "/phase"), json={"phase": "submission"}, timeout=20)
         expect(told.json() == {"phase": "submission"}, told.text)

@@ -1,5 +1,5 @@
 #!/usr/bin/env python3
-"""Tries what no proof says of sockets, clocks, threads and sizes: time-outs, an hour's connection, growth, addresses.
+"""Tries what no proof says of sockets, clocks, threads and sizes: time-outs, an hour's connection, the time of day, growth, addresses.
 
     python3 checks/edge.py [CHECK..] [PROGRAM]
 
@@ -21,9 +21,9 @@ import tempfile
 import threading
 import time
 
-from conference import post, raw
+from conference import beginnings, codes_of, post, raw
 from serve import LARGEST, SOON, Client, at_once, serving, upload, words_of
-from shim import SOCKETS, Orders, chosen, shim_for
+from shim import DATE, MOMENT, SOCKETS, Orders, chosen, shim_for
 from store import LONG, expect, opening, register, request, rows, run_all, submit
 
 # For how many seconds a request or an answer may go on, and how long a kept connection may ask nothing.
@@ -34,6 +34,9 @@ SPEED = 12
 LATE = 40
 # More rows than any one page, any one bulk, and 20,000.
 BULKS, ROWS_EACH = 41, 512
+# The last moment that has a date, and what is said where the time of day can't be had.
+LAST, LAST_DATE = 253_402_300_799, "Fri, 31 Dec 9999 23:59:59 GMT"
+NO_TIME = b"confd: the clock could not be read\n"
 shim = None
 
 
@@ -132,6 +135,59 @@ def an_hour(program, folder):
                 expect(answer is not None and answer[0] == 200, f"{answer} after {50 * (turn + 1)} seconds")
                 continue
             expect(False, f"ended after {50 * (turn + 1)} seconds")
+
+
+# ---- the time of day
+
+
+def time_of_day(program, folder):
+    """It is asked for once an answer. Where it can't be had, or has no date, `pipe` ends with status 10, that request unanswered."""
+    steps = ((2, register("alice")), (0, request("HEAD", "/phase")), (0, request("GET", "/nowhere")), (1, register("bob")))
+    steps += ((0, b"no request\r\n\r\n"),)
+    text = b"".join(text for _, text in steps)
+
+    def run(**numbers):
+        with tempfile.TemporaryDirectory(dir=folder) as place:
+            out, status, err, orders = shim.run(program, ["pipe", "--store", "store"], text, place, **numbers)
+            names = [bytes(row[5]) for row in rows(os.path.join(place, "store")) if row[1] == 1]
+            return out, status, err, orders.times, names
+
+    out, status, err, times, names = run()
+    ends = beginnings(steps, out)
+    expect((status, err, times) == (0, b"", len(steps)), f"status {status}, {err}, asked for {times} times")
+    expect((codes_of(ends), names) == ([201, 200, 404, 201, 400], [b"alice", b"bob"]), f"{codes_of(ends)}, {names}")
+    expect(out.count(f"\r\nDate: {DATE}\r\n".encode()) == len(steps), f"{out}")
+    for number in range(len(steps)):
+        kept = [b"alice"] * (number > 0) + [b"bob"] * (number > 3)
+        came = run(refuse_time=number + 1)
+        expect(came == (ends[number], 10, NO_TIME, number + 1, kept), f"call {number + 1} refused: {came}")
+    came, status, _, times, _ = run(moment=LAST)
+    expect((came, status, times) == (out.replace(DATE.encode(), LAST_DATE.encode()), 0, len(steps)), f"{status}, {came}")
+    for moment in (-1, -(10**9), LAST + 1, 2**40, 2**62):
+        came = run(moment=moment)
+        expect(came == (b"", 10, NO_TIME, 1, []), f"at {moment}: {came}")
+
+
+def jumps(program, folder):
+    """In `serve` a time of day that stands or goes back is told; where it can't be had, that connection ends, and no other."""
+    orders = Orders(os.path.join(folder, "orders"), moment=MOMENT)
+    store = os.path.join(folder, "store")
+    with serving(program, store, workers=4, env=shim.environment(orders)) as server, Client(server) as client:
+        with Client(server) as other:
+            for moment, date in ((MOMENT, DATE), (MOMENT, DATE), (LAST, LAST_DATE), (1, "Thu, 01 Jan 1970 00:00:01 GMT"), (MOMENT, DATE)):
+                orders.tell(moment=moment)
+                for asked in (client, other):
+                    code, fields, _ = asked.ask(request("GET", "/phase"))
+                    expect((code, fields[b"Date"]) == (200, date.encode()), f"at {moment}: {code} {fields}")
+            orders.tell(moment=LAST + 1)
+            expect(other.ask(register("alice")) is None, "answered at a moment without a date")
+            orders.tell(moment=MOMENT)
+        with Client(server) as other:
+            orders.tell(refuse_time=orders.times + 1)
+            expect(other.ask(register("bob")) is None, "answered without a time of day")
+            orders.tell(refuse_time=0)
+        expect(client.ask(register("carol"))[2] == b'{"user":1}', "the first to be registered")
+    expect([bytes(row[5]) for row in rows(store) if row[1] == 1] == [b"carol"], "names in the file")
 
 
 # ---- pieces
@@ -286,7 +342,7 @@ def addresses(program, folder):
             process.communicate()
 
 
-CHECKS = (deadlines, an_hour, pieces, contended, many_rows, growth, addresses)
+CHECKS = (deadlines, an_hour, time_of_day, jumps, pieces, contended, many_rows, growth, addresses)
 
 
 def main():

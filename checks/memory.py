@@ -20,15 +20,16 @@ import sys
 import tempfile
 
 from conference import BEGINNING, COMMITTEE, CUT, EVERY_ROUTE, beginnings, codes_of, rows_behind, text_of
+from edge import NO_TIME
 from serve import Client, serving
-from shim import Orders, chosen, in_turn, sample, shim_for
+from shim import DATE, MOMENT, Orders, chosen, in_turn, sample, shim_for
 from store import expect, register, request, rows, run_all
 
 MOST = 1_000
 NO_MEMORY = (
-    b"HTTP/1.1 507 Insufficient Storage\r\nContent-Type: application/json\r\n"
-    b"Content-Length: 21\r\nConnection: close\r\n\r\n"
-)
+    f"HTTP/1.1 507 Insufficient Storage\r\nDate: {DATE}\r\nContent-Type: application/json\r\n"
+    "Content-Length: 21\r\nConnection: close\r\n\r\n"
+).encode()
 LINE = b"confd: out of memory\n"
 # What the 507 may look like: to HEAD it has no content.
 ENDINGS = (NO_MEMORY + b'{"error":"no_memory"}', NO_MEMORY)
@@ -158,6 +159,22 @@ def a_drill(program, _folder):
     whole.in_turn(lambda _folder, out: expect(out == b"", f"{out} went out"))
 
 
+def no_time(program, _folder):
+    """Where the time of day can't be had either: no 507 goes out, and the status is 9 all the same."""
+    words, text, statuses = ["pipe"], register("alice"), []
+
+    def refuse(number, folder):
+        out, status, err, orders = shim.run(program, words, text, folder, refuse_allocation=number, refuse_time=1)
+        expect(out == b"" and (status, err) in ((9, LINE), (10, NO_TIME)), f"status {status}, {err}, {out}")
+        expect(orders.times <= 1, f"asked for the time {orders.times} times")
+        statuses.append(status)
+
+    numbers = sample(Whole(program, words, text).count, most)
+    failed = in_turn(refuse, numbers)
+    expect(not failed, f"{len(failed)} of {len(numbers)}, the first: allocation {failed[:1]}")
+    expect(9 in statuses, "memory never ran out")
+
+
 def taken(server, text):
     """All that comes on a connection of its own until it ends."""
     with Client(server) as client:
@@ -171,7 +188,7 @@ def taken(server, text):
 def served(program, folder):
     """`serve`: a connection that is refused memory ends behind whole answers; others are served; status 9."""
     store, count = os.path.join(folder, "store"), 80
-    orders = Orders(os.path.join(folder, "orders"))
+    orders = Orders(os.path.join(folder, "orders"), moment=MOMENT)
     steps = ((1, b""), (0, b"GET /accounts HTTP/1.0\r\n\r\n"))
     kept, cut = ["first"], 0
     with serving(program, store, workers=2, connections=2 * count + 3, env=shim.environment(orders)) as server:
@@ -203,7 +220,7 @@ def served(program, folder):
     print(f"    {count} of {each} allocations of a connection refused, one each; {cut} answers were 507", flush=True)
 
 
-CHECKS = (every_route, a_cut, a_store, opened, a_drill, served)
+CHECKS = (every_route, a_cut, a_store, opened, a_drill, no_time, served)
 
 
 def main():

@@ -32,6 +32,7 @@ CODE = {"no_user": 404, "no_paper": 404, "no_content": 404, "not_chair": 403, "n
 class Conference:
     def __init__(self):
         self.history = []  # (maker, kind, fields)
+        self.moments = {}  # when an entry's request came, by the entry's place; 0 of those that a drill makes up
 
     # ---- facts
     def entries_of(self, kind):
@@ -770,5 +771,6 @@ def view_lines(c, who):
                 row(last_decision(i, p) and author and notif, {"paper": p, "outcome": True, "decision": f[1]})
                 row(last_decision(i, p) and accepted, {"paper": p, "accepted": True})
         if seen:
-            out.append(dump({"kind": kind, **({"mine": True} if mine else {}), **shown}))
+            own = {"mine": True, "at": c.moments.get(i, 0)} if mine else {}
+            out.append(dump({"kind": kind, **own, **shown}))
     return out

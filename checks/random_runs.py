@@ -6,6 +6,7 @@
 Each run makes up a conference of nine users from its seed and asks a few hundred requests of `confd pipe` with a store:
 every command and query by every kind of caller, in and out of its phase, most of them refused. Each answer, and then what
 `confd view` prints for each user, has to be what `model.py` gives, which is written from the pages of docs/ and knows no tables.
+An entry's moment has to be the date of the answer by which its command was accepted, and each date one of the run's time.
 Ends with status 0 where all of it is, and else tells the seed, the request, what came and what was due.
 """
 import os
@@ -13,9 +14,11 @@ import random
 import subprocess
 import sys
 import tempfile
+import time
 import urllib.parse
 
 from model import Conference, PHASES, dump, view_lines
+from serve import APART, moment_of
 
 TOP = os.path.dirname(os.path.dirname(os.path.abspath(__file__)))
 CONFD = os.path.join(TOP, "crates/confd/out/confd")
@@ -34,6 +37,7 @@ class Run:
         self.random = random.Random(seed)
         self.model = Conference()
         self.asked = []
+        self.added = []  # the places of the entries that each request added
         for name in NAMES:
             self.ask("-", "POST", "/register", {"name": name, "secret": secret(name)})
         for name in NAMES[1:]:
@@ -50,7 +54,9 @@ class Run:
                 self.step()
 
     def ask(self, who, method, path, body=None):
+        before = len(self.model.history)
         code, content = self.model.ask(who, method, path, body)
+        self.added.append(range(before, len(self.model.history)))
         self.asked.append((who, method, path, body, code, without(content) if method == "HEAD" else content))
 
     def paper(self):
@@ -218,14 +224,15 @@ def without(content):
 
 
 def answers(text, methods):
-    """The status and the content of each answer in these bytes, to requests of these methods."""
-    told = []
+    """The status and the content of each answer in these bytes, to requests of these methods, and the moment that its date tells."""
+    told, moments = [], []
     for method in methods:
         if not text:
             break
         head, _, rest = text.partition(b"\r\n\r\n")
         lines = head.decode().split("\r\n")
         length = int(next(line.split(": ")[1] for line in lines if line.startswith("Content-Length")))
+        moments.append(moment_of(lines[1].removeprefix("Date: ")))
         if method == "HEAD":
             told.append((int(lines[0].split()[1]), f"{length} bytes"))
             text = rest
@@ -237,7 +244,7 @@ def answers(text, methods):
             content = "text: " + content
         told.append((int(lines[0].split()[1]), content))
         text = rest[length:]
-    return told if not text else told + [(0, f"{len(text)} bytes more")]
+    return told if not text else told + [(0, f"{len(text)} bytes more")], moments
 
 
 def tried(seed):
@@ -246,13 +253,17 @@ def tried(seed):
     with tempfile.TemporaryDirectory(prefix="random-run-") as room:
         store = os.path.join(room, "store")
         text = b"".join(spelled(*asked[:4]) for asked in run.asked)
+        begun = time.time()
         child = subprocess.run([CONFD, "pipe", "--store", store], input=text, stdout=subprocess.PIPE, check=True)
-        told = answers(child.stdout, [asked[1] for asked in run.asked])
+        told, moments = answers(child.stdout, [asked[1] for asked in run.asked])
         for asked, answer in zip(run.asked, told):
             if asked[4:] != answer:
                 return f"{' '.join(str(part) for part in asked[:4])}: came {answer}, due {asked[4:]}", 0
         if len(told) != len(run.asked):
             return f"{len(told)} answers to {len(run.asked)} requests", 0
+        if not all(begun - APART <= moment <= time.time() + APART for moment in moments):
+            return f"the dates are from {min(moments)} to {max(moments)}, the run from {begun} to {time.time()}", 0
+        run.model.moments = {place: moment for added, moment in zip(run.added, moments) for place in added}
         count = len(told)
         for name in NAMES:
             lines = subprocess.run([CONFD, "view", "--store", store, "--user", name], stdout=subprocess.PIPE, check=True).stdout.decode().splitlines()

@@ -15,6 +15,7 @@ import argparse
 import collections
 import concurrent.futures
 import contextlib
+import email.utils
 import http.client
 import itertools
 import json
@@ -48,6 +49,8 @@ LAST_REQUEST = 1_048_576
 # As many descriptors as serve a store and some of the workers.
 FEW = 40
 USAGE = re.compile(rb"usage: confd pipe\|serve\|view(\|drill)?\n")
+# By how many seconds a date may be off the system's clock.
+APART = 1
 options = None
 
 
@@ -95,6 +98,18 @@ def serving(program, store, **more):
 # ---- a client
 
 
+def moment_of(date):
+    """The seconds since 1970 that the value of a field Date tells, in the one form that there is."""
+    told = email.utils.parsedate_to_datetime(date)
+    expect(email.utils.format_datetime(told, usegmt=True) == date, f"the date {date}")
+    return int(told.timestamp())
+
+
+def is_now(date, since):
+    """Whether a date is what the system's clock gave between then and now."""
+    return since - APART <= moment_of(date) <= time.time() + APART
+
+
 class Gone(Exception):
     """The server ended the connection before its answer."""
 
@@ -123,6 +138,8 @@ class Client:
         head, _, self.rest = self.rest.partition(b"\r\n\r\n")
         lines = head.split(b"\r\n")
         fields = dict(line.split(b": ", 1) for line in lines[1:])
+        expect(lines[1].startswith(b"Date: ") and len(fields) == len(lines) - 1, f"the fields are {lines[1:]}")
+        moment_of(fields[b"Date"].decode())
         length = 0 if is_head else int(fields[b"Content-Length"])
         while len(self.rest) < length:
             expect(self.more(), "an answer was cut")
@@ -174,6 +191,7 @@ def one_client(program, folder):
             expect(b"WWW-Authenticate" in fields, "no WWW-Authenticate")
         whole = client.ask(request("GET", "/phase"))
         bare = client.ask(request("HEAD", "/phase"), is_head=True)
+        bare[1][b"Date"] = whole[1][b"Date"]
         expect(bare == (whole[0], whole[1], b""), f"HEAD: {bare}, GET: {whole}")
         expect(client.ask(request("GET", "/nowhere"))[0] == 404, "nowhere")
 
@@ -232,6 +250,31 @@ def too_large(program, folder):
             client.close()
 
 
+def dates(program, folder):
+    """The date of each answer is the system's, whatever is asked: of refusals, of a content, to HEAD, and of what closes."""
+    with serving(program, os.path.join(folder, "store")) as server, Client(server) as client:
+        client.send(opening() + submit("alice", "Proofs") + upload("alice", 1, b"x" * 100_000))
+        came = [client.answer() for _ in range(4)]
+
+        def dated(text, **more):
+            since = time.time()
+            answer = client.ask(text, **more)
+            expect(is_now(answer[1][b"Date"].decode(), since), f"{answer} at {since}")
+            return answer
+
+        for text in (
+            request("GET", "/papers/1/content", "alice"), request("GET", "/reports/load", "alice"), request("GET", "/me"),
+            request("DELETE", "/accepted"), request("GET", "/nowhere"), register("alice"), request("POST", "/register", body={}),
+        ):  # fmt: skip
+            came.append(dated(text))
+            time.sleep(0.3)
+        came.append(dated(request("HEAD", "/phase"), is_head=True))
+        came.append(dated(b"no request\r\n\r\n"))
+        expect([code for code, _, _ in came] == [201, 200, 201, 200, 200, 409, 401, 405, 404, 409, 400, 200, 400], f"{came}")
+        told = [moment_of(fields[b"Date"].decode()) for _, fields, _ in came]
+        expect(told == sorted(told) and told[0] < told[-1], f"{told}")
+
+
 def upload(who, paper, content):
     """An upload as bytes."""
     head = (
@@ -244,7 +287,7 @@ def upload(who, paper, content):
 def last_request(program, folder):
     """Request number 1,048,576 of a connection is its last: its answer closes, and nothing behind it is answered."""
     out, status, _ = program.run(["pipe"], b"GET / HTTP/1.1\r\nHost: c\r\n\r\n" * (LAST_REQUEST + 1))
-    heads = out.split(b"HTTP/1.1 404 Not Found\r\n")
+    heads = out.split(b"HTTP/1.1 404 Not Found\r\nDate: ")
     expect((status, len(heads) - 1) == (0, LAST_REQUEST), f"status {status}, {len(heads) - 1} answers")
     closing = [number for number, head in enumerate(heads) if b"Connection: close" in head]
     expect(closing == [LAST_REQUEST], f"answers {closing[:3]} close, due is the last one alone")
@@ -600,7 +643,7 @@ def deadlines(program, folder):
 
 
 CHECKS = [
-    one_client, library, closing, drips, too_large, last_request, contents, many_at_once, idle_clients, stopped,
+    one_client, library, dates, closing, drips, too_large, last_request, contents, many_at_once, idle_clients, stopped,
     ends_by_itself, few_descriptors, refused_addresses, refused_words, held, killed,
 ]  # fmt: skip
 

@@ -24,16 +24,19 @@
 
 /* The order of these fields is that of FIELDS in shim.py. */
 struct orders {
-    /* What was counted: allocations and the bytes that they asked for; reads, writes and syncs of the program. */
-    uint64_t allocations, allocated, reads, writes, syncs;
+    /* What was counted: allocations and the bytes that they asked for; reads, writes and syncs of the program, and how
+       often it asked for the time of day. */
+    uint64_t allocations, allocated, reads, writes, syncs, times;
     /* Call number so and so, from 1, is refused; from that number on, where `lasts` is not 0. 0: none. */
-    uint64_t refuse_allocation, refuse_read, refuse_write, refuse_sync, lasts;
+    uint64_t refuse_allocation, refuse_read, refuse_write, refuse_sync, refuse_time, lasts;
     /* The error of a read, write or sync that is refused. */
     uint64_t error;
     /* Reads, and writes, of more bytes are cut to so many; 0: none is. */
     uint64_t most_read, most_write;
     /* The clock goes so many times as fast, and is so many nanoseconds ahead; waits are as much shorter. 0 is as 1. */
     uint64_t speed, ahead;
+    /* The time of day stands at so many seconds since 1970, fewer than none as a negative number; 0: it goes on. */
+    int64_t moment;
     /* Reads and writes are counted, refused and cut short on: 0 every descriptor, 1 files alone, 2 sockets alone, 3 all
        but files. */
     uint64_t scope;
@@ -202,8 +205,14 @@ static int64_t speed(void) { return orders->speed > 1 ? (int64_t)orders->speed :
 static int64_t nanoseconds(const struct timespec *moment) { return moment->tv_sec * 1000000000LL + moment->tv_nsec; }
 
 int clock_gettime(clockid_t kind, struct timespec *into) {
+    if (kind == CLOCK_REALTIME && is_refused(count(&orders->times), orders->refuse_time)) return refuse();
     int ended = (int)syscall(SYS_clock_gettime, kind, into);
     if (ended != 0 || (kind != CLOCK_REALTIME && kind != CLOCK_MONOTONIC)) return ended;
+    if (kind == CLOCK_REALTIME && orders->moment != 0) {
+        into->tv_sec = orders->moment;
+        into->tv_nsec = 0;
+        return 0;
+    }
     int64_t from = nanoseconds(&begun[kind == CLOCK_MONOTONIC]);
     int64_t now = from + (nanoseconds(into) - from) * speed() + (int64_t)orders->ahead;
     into->tv_sec = now / 1000000000;

@@ -19,12 +19,14 @@ from store import program_named
 HERE = os.path.dirname(os.path.abspath(__file__))
 # As in shim.c, each a number of 64 bits.
 FIELDS = (
-    "allocations", "allocated", "reads", "writes", "syncs",
-    "refuse_allocation", "refuse_read", "refuse_write", "refuse_sync", "lasts", "error",
-    "most_read", "most_write", "speed", "ahead", "scope",
+    "allocations", "allocated", "reads", "writes", "syncs", "times",
+    "refuse_allocation", "refuse_read", "refuse_write", "refuse_sync", "refuse_time", "lasts", "error",
+    "most_read", "most_write", "speed", "ahead", "moment", "scope",
 )  # fmt: skip
 # What `scope` may be: which descriptors reads and writes are counted on.
 EVERYWHERE, FILES, SOCKETS, NO_FILES = range(4)
+# A moment, and its date (RFC 9110, section 5.6.7).
+MOMENT, DATE = 784_111_777, "Sun, 06 Nov 1994 08:49:37 GMT"
 # Runs at once.
 AT_ONCE = os.cpu_count() or 1
 
@@ -45,7 +47,7 @@ class Orders:
 
     def tell(self, **numbers):
         for name, number in numbers.items():
-            struct.pack_into("=Q", self.place, 8 * FIELDS.index(name), number)
+            struct.pack_into("=Q", self.place, 8 * FIELDS.index(name), number % 2**64)
 
     def __getattr__(self, name):
         return struct.unpack_from("=Q", self.place, 8 * FIELDS.index(name))[0]
@@ -68,8 +70,11 @@ class Shim:
         return {**os.environ, "LD_PRELOAD": self.library, "SHIM_ORDERS": orders.path}
 
     def run(self, program, words, text, folder, **numbers):
-        """A run under such orders: what it wrote, its status, its standard error, and the orders with their counts."""
-        orders = Orders(os.path.join(folder, "orders"), **numbers)
+        """A run under such orders: what it wrote, its status, its standard error, and the orders with their counts.
+
+        The time of day stands still, so that two runs write the same.
+        """
+        orders = Orders(os.path.join(folder, "orders"), **{"moment": MOMENT, **numbers})
         out, status, err = program.run(words, text, env=self.environment(orders), cwd=folder)
         return out, status, err, orders
 

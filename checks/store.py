@@ -30,7 +30,7 @@ PAPERS_EACH = 20
 KILLS = 50
 # Past so many seconds a run hangs.
 LONG = 120
-TABLES = ("people", "papers", "ties", "talk")
+TABLES = ("people_v2", "papers_v2", "ties_v2", "talk_v2")
 
 
 # ---- requests and answers
@@ -145,7 +145,7 @@ def opened(store, **more):
 
 
 def rows(store):
-    """Every row of the four tables, by place."""
+    """Every row of the four tables, by place, without its moment."""
     with opened(store) as file:
         found = [row for table in TABLES for row in file.execute(f"SELECT place, kind, maker, more, n1, b1, b2 FROM {table}")]
     return sorted(found)
@@ -193,6 +193,21 @@ def many_rows(program, folder):
     expect(len(json.loads(accounts[0][1])["accounts"]) == MANY + 1, "accounts after opening again")
 
 
+def moments(program, folder):
+    """Each row has the moment of its command's request, in seconds; all rows of a command have the same."""
+    store = os.path.join(folder, "moments")
+    first = int(time.time())
+    told, status = program.pipe(store, opening() + register("bob"))
+    time.sleep(1.1)
+    program.pipe(store, register("carol"))
+    last = int(time.time())
+    with opened(store) as file:
+        found = [at for (at,) in file.execute("SELECT at FROM people_v2 ORDER BY place")]
+    expect(status == 0 and len(found) == 5, f"status {status}, moments {found}")
+    expect(found == sorted(found) and first <= found[0] < found[-1] <= last, f"{found}, not {first} to {last}")
+    expect(found[0] == found[1], f"the first registration's rows have the moments {found[:2]}")
+
+
 def killed(program, folder):
     """Killed at a random moment: each answered command is there when the store is opened again."""
     store = os.path.join(folder, "killed")
@@ -230,7 +245,7 @@ def held_by_another(program, folder):
         refused = False
         try:
             with opened(store, timeout=0) as file:
-                file.execute("SELECT count(*) FROM people").fetchone()
+                file.execute("SELECT count(*) FROM people_v2").fetchone()
         except sqlite3.OperationalError:
             refused = True
         expect(refused, "sqlite3 read the file")
@@ -438,39 +453,46 @@ def somebody_elses(program, folder):
 
 
 OTHER_TABLES = "the tables are not those of a store"
-OTHER_VERSION = "the store is not of version 1"
+OTHER_VERSION = "the version is not that of the tables"
 
 # What is done to the six rows, and what standard error is to say; the status is 6.
 BAD_STORES = (
-    ("UPDATE meta SET version = 2", OTHER_VERSION),
+    ("UPDATE meta SET version = 1", OTHER_VERSION),
+    ("UPDATE meta SET version = 3", OTHER_VERSION),
     ("DELETE FROM meta", OTHER_VERSION),
-    ("INSERT INTO meta VALUES (1)", OTHER_VERSION),
-    ("DROP TABLE talk", OTHER_TABLES),
+    ("INSERT INTO meta VALUES (2)", OTHER_VERSION),
+    ("DROP TABLE talk_v2", OTHER_TABLES),
     ("CREATE TABLE more (place INTEGER) STRICT", OTHER_TABLES),
-    ("ALTER TABLE ties ADD COLUMN more_still INTEGER", OTHER_TABLES),
-    ("DROP TABLE talk; CREATE TABLE talk (place INTEGER PRIMARY KEY, b1 BLOB) STRICT", OTHER_TABLES),
-    ("DELETE FROM people WHERE place = 0", "no row stands at place 0"),
-    ("DELETE FROM people WHERE place = 1", "no row stands at place 1"),
-    ("UPDATE papers SET place = 40 WHERE place = 4", "no row stands at place 4"),
-    ("UPDATE ties SET place = 6 WHERE place = 5", "no row stands at place 5"),
-    ("UPDATE people SET place = -1 WHERE place = 0", "no row stands at place 0"),
-    ("INSERT INTO talk SELECT * FROM people WHERE place = 1", "two rows stand at place 1"),
-    ("UPDATE ties SET place = 2 WHERE place = 5", "two rows stand at place 2"),
+    ("ALTER TABLE ties_v2 ADD COLUMN more_still INTEGER", OTHER_TABLES),
+    ("DROP TABLE talk_v2; CREATE TABLE talk_v2 (place INTEGER PRIMARY KEY, b1 BLOB) STRICT", OTHER_TABLES),
+    ("DELETE FROM people_v2 WHERE place = 0", "no row stands at place 0"),
+    ("DELETE FROM people_v2 WHERE place = 1", "no row stands at place 1"),
+    ("UPDATE papers_v2 SET place = 40 WHERE place = 4", "no row stands at place 4"),
+    ("UPDATE ties_v2 SET place = 6 WHERE place = 5", "no row stands at place 5"),
+    ("UPDATE people_v2 SET place = -1 WHERE place = 0", "no row stands at place 0"),
+    ("INSERT INTO talk_v2 SELECT * FROM people_v2 WHERE place = 1", "two rows stand at place 1"),
+    ("UPDATE ties_v2 SET place = 2 WHERE place = 5", "two rows stand at place 2"),
     (
-        "INSERT INTO talk SELECT * FROM people WHERE place = 2; DELETE FROM people WHERE place = 2",
+        "INSERT INTO talk_v2 SELECT * FROM people_v2 WHERE place = 2; DELETE FROM people_v2 WHERE place = 2",
         "the row at place 2 stands in another table than its kind's",
     ),
-    ("UPDATE papers SET kind = 4 WHERE place = 4", "the row at place 4 stands in another table than its kind's"),
-    ("UPDATE people SET n1 = -1 WHERE place = 0", "the row at place 0 has a value that no row has"),
-    ("UPDATE papers SET n3 = -1 WHERE place = 4", "the row at place 4 has a value that no row has"),
+    ("UPDATE papers_v2 SET kind = 4 WHERE place = 4", "the row at place 4 stands in another table than its kind's"),
+    ("UPDATE people_v2 SET at = -1 WHERE place = 0", "the row at place 0 has a value that no row has"),
+    ("UPDATE people_v2 SET n1 = -1 WHERE place = 0", "the row at place 0 has a value that no row has"),
+    ("UPDATE papers_v2 SET n3 = -1 WHERE place = 4", "the row at place 4 has a value that no row has"),
 )
+
+# 9999-12-31T23:59:59Z, behind which no row has a moment.
+LAST_MOMENT = 253_402_300_799
 
 # What is done to them so that one is a row of no entry, or of no history; the status is 3.
 BAD_ROWS = (
-    ("UPDATE people SET kind = 18 WHERE place = 1", 1, 18),
-    ("UPDATE people SET n1 = 2 WHERE place = 0", 0, 1),
-    ("UPDATE people SET n2 = 1 WHERE place = 1", 1, 2),
-    ("DELETE FROM people WHERE place >= 1; DELETE FROM papers; DELETE FROM ties", 0, 1),
+    ("UPDATE people_v2 SET kind = 18 WHERE place = 1", 1, 18),
+    (f"UPDATE people_v2 SET at = {LAST_MOMENT + 1} WHERE place <= 1", 0, 1),
+    ("UPDATE people_v2 SET at = at + 1 WHERE place = 1", 1, 2),
+    ("UPDATE people_v2 SET n1 = 2 WHERE place = 0", 0, 1),
+    ("UPDATE people_v2 SET n2 = 1 WHERE place = 1", 1, 2),
+    ("DELETE FROM people_v2 WHERE place >= 1; DELETE FROM papers_v2; DELETE FROM ties_v2", 0, 1),
 )
 
 
@@ -513,11 +535,12 @@ def other_types(program, folder):
     store = os.path.join(folder, "types")
     program.pipe(store, opening())
     before = contents(store)
-    for column, value in (("kind", "'one'"), ("n1", "x'01'"), ("n2", "1.5"), ("more", "NULL"), ("b1", "'text'"), ("b2", "7")):
+    others = (("kind", "'one'"), ("at", "1.5"), ("n1", "x'01'"), ("n2", "1.5"), ("more", "NULL"), ("b1", "'text'"), ("b2", "7"))
+    for column, value in others:
         stood = True
         try:
             with opened(store) as file:
-                file.execute(f"UPDATE people SET {column} = {value} WHERE place = 0")
+                file.execute(f"UPDATE people_v2 SET {column} = {value} WHERE place = 0")
         except sqlite3.IntegrityError:
             stood = False
         expect(not stood, f"{column} took {value}")
@@ -526,6 +549,7 @@ def other_types(program, folder):
 
 CHECKS = (
     many_rows,
+    moments,
     killed,
     held_by_another,
     full_disk,

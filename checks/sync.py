@@ -191,7 +191,7 @@ def cut_writes(program, _folder):
 def short(program, _folder):
     """Reads of the input and writes of output and store that move a few bytes: the same answers, status and rows."""
     with tempfile.TemporaryDirectory() as folder:
-        out, status, _ = program.run(WORDS, registrations(), cwd=folder)
+        out, status, _, _ = shim.run(program, WORDS, registrations(), folder)
         due = (out, status, rows(os.path.join(folder, "store")))
     for orders in (
         {"most_read": 1, "scope": NO_FILES}, {"most_write": 1}, {"most_write": 7}, {"most_write": 1000},

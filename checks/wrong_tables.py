@@ -71,14 +71,19 @@ def made_up(seed):
     entries += [(1, ("ModeSet", dice.choice(MODES))), (6, ("Submitted", 1, text(), text())), (7, ("Submitted", 2, text(), text()))]
     for phase in PHASES[:dice.randint(0, 6)]:
         entries += [(1, ("PhaseSet", (phase,)))] + [(user(), dice.choice(kinds)()) for _ in range(dice.randint(2, 9))]
-    return History({"stamp": {"maker": maker}, "more": False, "entry": entry} for maker, entry in entries)
+    return stamped(entries)
+
+
+def stamped(entries):
+    """The history of these entries, each with its maker, and with a moment of its own."""
+    return History({"stamp": {"maker": maker, "at": 1_000 + at}, "more": False, "entry": entry} for at, (maker, entry) in enumerate(entries))
 
 
 def by_hand():
     """What is rarely made up: a paper that is accepted though it was withdrawn, once the conference is closed; a tag in the submission."""
     closed = [("Submitted", 3, words("a"), words("b")), ("Uploaded", 3, 1, words("c")), ("Withdrawn", 3), ("Decided", 3, ("Accept",)), ("PhaseSet", ("Closed",))]
     early = [("Named", 4, ("Member",)), ("PhaseSet", ("Submission",)), ("Submitted", 1, words("a"), words("b")), ("Tagged", 1, words("hot"), True)]
-    return [History({"stamp": {"maker": 6}, "more": False, "entry": entry} for entry in entries) for entries in (closed, early)]
+    return [stamped([(6, entry) for entry in entries]) for entries in (closed, early)]
 
 
 def small_conference(specs):

@@ -83,8 +83,12 @@ TWINS = {
 }
 
 
+# When all is asked: the moment of the small conference (`morning` in Witness.antt of cr_policy).
+MORNING = 1_772_442_000
+
+
 def entry(maker, made):
-    return {"stamp": {"maker": maker}, "more": False, "entry": made}
+    return {"stamp": {"maker": maker, "at": MORNING}, "more": False, "entry": made}
 
 
 def labels_spent():
