@@ -8,7 +8,7 @@ use Rattle.std.proofs.lemmas.Bool.Decides.{nat_tests}
 use Rattle.std.proofs.lemmas.List.{append-nil, length-map}
 use Rattle.cr_base.specs.History.{FormTold}
 use Rattle.cr_base.specs.declared.command.Command.{Command}
-use Rattle.cr_base.specs.declared.command.Command.TheVariants.{Register, SetPhase, Submit, Revise, Upload, Withdraw, Name, SetMode, SetConflict, Bid, Assign, Unassign, Review, Comment, Tag, Decide}
+use Rattle.cr_base.specs.declared.command.Command.TheVariants.{Register, SetPhase, Submit, Revise, Upload, Withdraw, Name, SetMode, SetConflict, Bid, Assign, Unassign, Review, Comment, Tag, Decide, SetDeadline}
 use Rattle.cr_base.specs.declared.entry.Account.{Account}
 use Rattle.cr_base.specs.declared.entry.Entry.TheVariants.{Registered, Named}
 use Rattle.cr_base.specs.declared.entry.Stamp.{Stamp}
@@ -17,11 +17,11 @@ use Rattle.cr_base.specs.declared.words.Role.{Role}
 use Rattle.cr_base.specs.declared.words.Role.TheVariants as roles
 use Rattle.cr_base.specs.Accounts.{number_at, lines_of}
 use Rattle.cr_base.specs.Calls.{call_by, maker_of}
-use Rattle.cr_base.specs.Checks.{NamedPaper, of_role, register_checks, phase_checks, submit_checks, revise_checks, upload_checks}
+use Rattle.cr_base.specs.Checks.{NamedPaper, of_role, register_checks, phase_checks, deadline_checks, submit_checks, revise_checks, upload_checks}
 use Rattle.cr_base.specs.Checks.{name_checks, mode_checks, conflict_checks, bid_checks, assign_checks, unassign_checks, target_is}
 use Rattle.cr_base.specs.Checks.{review_checks, comment_checks, tag_checks, decide_checks}
 use Rattle.cr_base.specs.Drawn.{Drawn, grouped, registration, registration_drawn, phase_drawn, submission_drawn, revision_drawn, upload_drawn}
-use Rattle.cr_base.specs.Drawn.{withdrawal_drawn, naming_drawn, mode_drawn, conflict_drawn, bid_drawn, assignment_drawn, unassignment_drawn, review_drawn, comment_drawn, tag_drawn, decision_drawn}
+use Rattle.cr_base.specs.Drawn.{withdrawal_drawn, naming_drawn, mode_drawn, conflict_drawn, bid_drawn, assignment_drawn, unassignment_drawn, review_drawn, comment_drawn, tag_drawn, decision_drawn, deadline_drawn}
 use Rattle.cr_base.specs.Judging.{judge_by_role}
 use Rattle.cr_base.specs.Sources.{Facts, own_forms_in, standing_at, facts_of_tables, shown_in_tables, user_among, users_among, role_among, has_paper, paper_named, target_named}
 use Rattle.cr_base.specs.Papers.{paper_count, paper_numbers, uploads_at, own_count, own_bytes}
@@ -29,6 +29,7 @@ use Rattle.cr_base.specs.Lists.{listed, is_number, at_some}
 use Rattle.cr_base.specs.Pairs.{users_tied_to}
 use Rattle.cr_base.specs.Reviews.{forms_in, is_written_in, written_told}
 use Rattle.cr_base.specs.Seats.{labels_in, ordinal_in}
+use Rattle.cr_base.specs.Stage.{is_late_in}
 use Rattle.cr_base.specs.TagTexts.{is_for_chairs}
 use Rattle.cr_base.specs.Talk.{comments_in, comment_as_told, own_comments_in}
 use Rattle.cr_base.specs.Tables.{Tables, FitInTurn}
@@ -130,6 +131,10 @@ module _ (t : Tables) (within : AreWithin (paper_count t.papers) t.ties) (stamp 
   abbrev named : Option ℕ → NamedPaper
   named paper = paper_named (facts_of_tables t (Some maker)) (shown_in_tables t) paper
 
+  -- it is too late for what the phase opens
+  abbrev late : Bool
+  late = is_late_in t.stage stamp.at
+
   -- what a user's command draws fits; a registration's is the same for all
   pub judged-fits : (command : Command) (drawn : Drawn) → judge_by_role t (call_by stamp command) ≡ Ok drawn → FitInTurn t drawn.group
   judged-fits (Register name digest) drawn accepted =
@@ -144,30 +149,30 @@ module _ (t : Tables) (within : AreWithin (paper_count t.papers) t.ties) (stamp 
       let n : ℕ = length (paper_numbers t.papers) in
       let users : List (Option ℕ) = users_among (lines_of t.accounts) authors in
       let k = judged-Ok
-      (submit_checks (list_any is_none users) (standing_at t (Some maker) None) n (own_count t.papers (Some maker)))
+      (submit_checks (list_any is_none users) (standing_at t (Some maker) None) n (own_count t.papers (Some maker)) late)
       (submission_drawn stamp (n + 1) title abstract (flat_map listed users)) drawn accepted in
       let same : n ≡ paper_count t.papers = length-numbers_from 1 t.papers.papers in
-      let few : n < 9999 = leb-false 9999 n k.0.1.1.0 in
-      let own : own_count t.papers (Some maker) < 20 = leb-false 20 (own_count t.papers (Some maker)) k.0.1.1.1.0 in
+      let few : n < 9999 = leb-false 9999 n k.0.1.1.1.0 in
+      let own : own_count t.papers (Some maker) < 20 = leb-false 20 (own_count t.papers (Some maker)) k.0.1.1.1.1.0 in
       subst (λ (d : Drawn). FitInTurn t d.group) k.1
       (submission-fits t stamp (n + 1) title abstract (flat_map listed users) (omega (arith, same), omega (arith, few), own)
       (within-before (paper_count t.papers) (n + 1) (ap (λ m. m + 1) same) t.ties.authors within.authors) (users-within t.accounts authors))
   judged-fits (Revise paper title abstract) drawn accepted =
-      let k = judged-Ok (revise_checks (standing_at t (Some maker) paper) (named paper)) (revision_drawn stamp (unwrap_or paper 0) title abstract) drawn accepted in
+      let k = judged-Ok (revise_checks (standing_at t (Some maker) paper) (named paper) late) (revision_drawn stamp (unwrap_or paper 0) title abstract) drawn accepted in
       subst (λ (d : Drawn). FitInTurn t d.group) k.1 (record { accounts = tt; papers = paper_within t.papers.papers paper k.0.0; ties = tt; seats = tt; reviews = tt; talk = tt }, tt)
   judged-fits (Upload paper content) drawn accepted =
       let own : ℕ = own_bytes t.papers (Some maker) in
       let p : ℕ = unwrap_or paper 0 in
       let k = judged-Ok
-      (upload_checks (standing_at t (Some maker) paper) (named paper) own (length content))
+      (upload_checks (standing_at t (Some maker) paper) (named paper) own (length content) late)
       (upload_drawn stamp p (length (uploads_at t.papers p) + 1) content) drawn accepted in
       subst (λ (d : Drawn). FitInTurn t d.group) k.1
-      (record { accounts = tt; papers = (paper_within t.papers.papers paper k.0.0, refl, not-past 67108864 (own + length content) k.0.1.1.1.1.0); ties = tt; seats = tt; reviews = tt; talk = tt }, tt)
+      (record { accounts = tt; papers = (paper_within t.papers.papers paper k.0.0, refl, not-past 67108864 (own + length content) k.0.1.1.1.1.1.0); ties = tt; seats = tt; reviews = tt; talk = tt }, tt)
     where
       not-past : (most n : ℕ) → nat_lt most n ≡ false → n ≤ most
       not-past most n h = grind (arith, nat_tests, h)
   judged-fits (Withdraw paper) drawn accepted =
-      let k = judged-Ok (revise_checks (standing_at t (Some maker) paper) (named paper)) (withdrawal_drawn stamp (unwrap_or paper 0)) drawn accepted in
+      let k = judged-Ok (revise_checks (standing_at t (Some maker) paper) (named paper) late) (withdrawal_drawn stamp (unwrap_or paper 0)) drawn accepted in
       subst (λ (d : Drawn). FitInTurn t d.group) k.1 (record { accounts = tt; papers = paper_within t.papers.papers paper k.0.0; ties = tt; seats = tt; reviews = tt; talk = tt }, tt)
   judged-fits (Name name role) drawn accepted =
       let target : Option ℕ = user_among (lines_of t.accounts) name in
@@ -180,12 +185,12 @@ module _ (t : Tables) (within : AreWithin (paper_count t.papers) t.ties) (stamp 
       let facts : Facts = facts_of_tables t (Some maker) in
       let target : Option ℕ = user_among (lines_of t.accounts) name in
       let k = judged-Ok
-      (conflict_checks (standing_at t (Some maker) paper) (paper_named facts (shown_in_tables t) paper) (target_named facts (shown_in_tables t) (Some maker) paper target) on)
+      (conflict_checks (standing_at t (Some maker) paper) (paper_named facts (shown_in_tables t) paper) (target_named facts (shown_in_tables t) (Some maker) paper target) on late)
       (conflict_drawn stamp (unwrap_or paper 0) (unwrap_or target 0) on) drawn accepted in
       let there = paper_within t.papers.papers paper k.0.0 in
       subst (λ (d : Drawn). FitInTurn t d.group) k.1 (record { accounts = target-in t target _ k.0.1.0; papers = there; ties = tt; seats = tt; reviews = tt; talk = tt }, tt)
   judged-fits (Bid paper value) drawn accepted =
-      let k = judged-Ok (bid_checks (standing_at t (Some maker) paper) (named paper)) (bid_drawn stamp (unwrap_or paper 0) value) drawn accepted in
+      let k = judged-Ok (bid_checks (standing_at t (Some maker) paper) (named paper) late) (bid_drawn stamp (unwrap_or paper 0) value) drawn accepted in
       subst (λ (d : Drawn). FitInTurn t d.group) k.1 (record { accounts = tt; papers = paper_within t.papers.papers paper k.0.0; ties = tt; seats = tt; reviews = tt; talk = tt }, tt)
   judged-fits (Assign paper name kind) drawn accepted =
       let target : Option ℕ = user_among (lines_of t.accounts) name in
@@ -221,7 +226,7 @@ module _ (t : Tables) (within : AreWithin (paper_count t.papers) t.ties) (stamp 
       let p : ℕ = unwrap_or paper 0 in
       let ordinal : ℕ = unwrap_or (ordinal_in t.seats (Some maker) p) 0 in
       let k = judged-Ok
-      (review_checks (standing_at t (Some maker) paper) (named paper))
+      (review_checks (standing_at t (Some maker) paper) (named paper) late)
       (review_drawn stamp p ordinal (length (own_forms_in t (Some maker) p) + 1) form) drawn accepted in
       let there = paper_within t.papers.papers paper k.0.0 in
       let next = ap (λ (n : ℕ). n + 1) (own_forms-count t (Some maker) p ordinal (own-seat t (Some maker) paper k.0.0 k.0.1.1.1.0)) in
@@ -230,12 +235,12 @@ module _ (t : Tables) (within : AreWithin (paper_count t.papers) t.ties) (stamp 
       let p : ℕ = unwrap_or paper 0 in
       let own : ℕ = own_comments_in t.talk (Some maker) in
       let k = judged-Ok
-      (comment_checks (standing_at t (Some maker) paper) (named paper) own)
+      (comment_checks (standing_at t (Some maker) paper) (named paper) own late)
       (comment_drawn stamp p (length (map comment_as_told (comments_in t.talk p)) + 1) (ordinal_in t.seats (Some maker) p) text) drawn accepted in
       let there = paper_within t.papers.papers paper k.0.0 in
       let next = ap (λ (n : ℕ). n + 1) (length-map (comments_in t.talk p) comment_as_told) in
       subst (λ (d : Drawn). FitInTurn t d.group) k.1
-      (record { accounts = tt; papers = there; ties = tt; seats = tt; reviews = tt; talk = (next, leb-false 1000 own k.0.1.1.1.1.1.0) }, tt)
+      (record { accounts = tt; papers = there; ties = tt; seats = tt; reviews = tt; talk = (next, leb-false 1000 own k.0.1.1.1.1.1.1.0) }, tt)
   judged-fits (Tag paper tag on) drawn accepted =
       let k = judged-Ok (tag_checks (standing_at t (Some maker) paper) (named paper) (is_for_chairs tag)) (tag_drawn stamp (unwrap_or paper 0) tag on) drawn accepted in
       let there = paper_within t.papers.papers paper k.0.0 in
@@ -244,3 +249,6 @@ module _ (t : Tables) (within : AreWithin (paper_count t.papers) t.ties) (stamp 
       let k = judged-Ok (decide_checks (standing_at t (Some maker) paper) (named paper)) (decision_drawn stamp (unwrap_or paper 0) decision) drawn accepted in
       let there = paper_within t.papers.papers paper k.0.0 in
       subst (λ (d : Drawn). FitInTurn t d.group) k.1 (record { accounts = tt; papers = there; ties = tt; seats = tt; reviews = tt; talk = tt }, tt)
+  judged-fits (SetDeadline phase until) drawn accepted =
+      let k = judged-Ok (deadline_checks (standing_at t (Some maker) None) t.stage.phase phase) (deadline_drawn stamp phase until) drawn accepted in
+      subst (λ (d : Drawn). FitInTurn t d.group) k.1 (record { accounts = tt; papers = tt; ties = tt; seats = tt; reviews = tt; talk = tt }, tt)

@@ -11,6 +11,7 @@ pub mod PaperLaws
 pub mod PartLaws
 pub mod RisingLists
 pub mod RoleLaws
+pub mod RowCommandLaws
 pub mod RowLaws
 pub mod SeatLaws
 pub mod SortedLists

@@ -1,5 +1,5 @@
 -- Rows and entries spell each other.
-use Rattle.std.proofs.Common.{ℕ, Bool, true, false, cond, ◌≡◌, ◌≤◌, ◌==◌, ◌-◌, List, [], ◌∷◌, ◌++◌, length, drop, replicate, refl, sym, ap, subst, ◌∙◌, arith, Option, Some, None}
+use Rattle.std.proofs.Common.{ℕ, Bool, true, false, cond, ◌≡◌, ◌≤◌, ◌<◌, ◌+◌, ◌==◌, ◌-◌, List, [], ◌∷◌, ◌++◌, length, drop, replicate, refl, sym, ap, subst, ◌∙◌, arith, Option, Some, None}
 use Rattle.std.proofs.lemmas.Bool.{eqb-true}
 use Rattle.std.proofs.lemmas.Bool.Decides.{nat_tests}
 use Rattle.std.proofs.lemmas.List.{drop-replicate}
@@ -9,13 +9,13 @@ use Rattle.cr_base.specs.Words.{phase_number, phase_numbered, mode_number, mode_
 use Rattle.std.specs.Option.{option_map}
 use Rattle.std.specs.Prelude.{find}
 use Rattle.cr_base.specs.Words.{phases, modes, named_roles, review_kinds, decisions}
-use Rattle.cr_base.specs.Shapes.{stamp_in, FitsShape, HasText, InRange, IsAtMost, unused, some_ordinal_range}
-use Rattle.cr_base.specs.Rows.{kind_number, label_number, label_numbered, shape_of, kind_of, row_of, built, restored, stamped_by}
+use Rattle.cr_base.specs.Shapes.{stamp_in, FitsShape, HasText, InRange, IsAtMost, unused}
+use Rattle.cr_base.specs.Rows.{kind_number, number_or_zero, numbered_from_one, until_number, until_numbered, shape_of, kind_of, row_of, built, restored, stamped_by}
 use Rattle.cr_base.specs.Rows.{IsBoundedEntry}
 use Rattle.cr_base.specs.declared.entry.EntryKind.{EntryKind}
 use Rattle.cr_base.specs.declared.entry.EntryKind.TheVariants as kind
 use Rattle.cr_base.specs.declared.entry.Entry.{Entry}
-use Rattle.cr_base.specs.declared.entry.Entry.TheVariants.{Named, PhaseSet, ModeSet, Conflict, Assigned, Commented, Tagged, Decided}
+use Rattle.cr_base.specs.declared.entry.Entry.TheVariants.{Named, PhaseSet, ModeSet, Conflict, Assigned, Commented, Tagged, Decided, DeadlineSet}
 use Rattle.cr_base.specs.declared.entry.Stamp.{Stamp}
 use Rattle.cr_base.specs.declared.entry.Stamped.{Stamped}
 use Rattle.cr_base.specs.declared.words.Decision.{Decision}
@@ -81,21 +81,25 @@ bit-back : (o : Bool) → (cond o 1 0 == 1) ≡ o
 bit-back true = refl
 bit-back false = refl
 
-label_number-cond : (b : Bool) (x y : Option ℕ) → label_number (cond b x y) ≡ cond b (label_number x) (label_number y)
-label_number-cond true x y = refl
-label_number-cond false x y = refl
-
-label_number-numbered : (n : ℕ) → label_number (label_numbered n) ≡ n
-label_number-numbered n = simp label_number-cond (grind (arith, nat_tests))
-
--- where a label is there, its ordinal isn't 0
-label_numbered-number : (x : Option ℕ) → InRange some_ordinal_range (label_number x) → label_numbered (label_number x) ≡ x
-label_numbered-number None h = refl
-label_numbered-number (Some n) h = by (n == 0) refl h
+-- a number that may be none, from its field and back: where it is there, it isn't 0
+number-numbered : (past n : ℕ) → number_or_zero past (numbered_from_one n) ≡ n
+number-numbered past n = by (n == 0) refl
   where
-    by : (b : Bool) → (n == 0) ≡ b → InRange some_ordinal_range (cond b 27 n) → label_numbered (cond b 27 n) ≡ Some n
-    by true is h = absurd (omega (arith, h.1))
+    by : (b : Bool) → (n == 0) ≡ b → number_or_zero past (cond b None (Some n)) ≡ n
+    by true is = sym (eqb-true n 0 is)
+    by false is = ap (λ (c : Bool). cond c past n) is
+
+numbered-number : (past : ℕ) (x : Option ℕ) → number_or_zero past x < past → numbered_from_one (number_or_zero past x) ≡ x
+numbered-number past None h = refl
+numbered-number past (Some n) h = by (n == 0) refl h
+  where
+    by : (b : Bool) → (n == 0) ≡ b → cond b past n < past → numbered_from_one (cond b past n) ≡ Some n
+    by true is h = absurd (omega (arith, h))
     by false is h = ap (λ (c : Bool). cond c None (Some n)) is
+
+-- what is at most that is less than the next
+below-next : (n most : ℕ) → n ≤ most → n < most + 1
+below-next n most h = omega (arith, h)
 
 unused-zero : (n : ℕ) → InRange unused n → 0 ≡ n
 unused-zero n h = omega arith
@@ -155,8 +159,10 @@ row_of-built kind.Assigned r e hk f = of_word (review_kind_numbered r.n3) _ e (�
     same_row r kind.Assigned _ _ _ _ _ _ _ hk f refl (unused-zero _ f.n5) refl refl (numbered-found review_kind_number r.n3 review_kinds review_kind found) (sym f.b1) (sym f.b2))
 row_of-built kind.Decided r e hk f = of_word (decision_numbered r.n2) _ e (λ (x : Entry). row_of (stamped_by r x) ≡ r) (λ decision found.
     same_row r kind.Decided _ _ _ _ _ _ _ hk f (unused-zero _ f.n4) (unused-zero _ f.n5) refl (numbered-found decision_number r.n2 decisions decision found) (unused-zero _ f.n3) (sym f.b1) (sym f.b2))
+row_of-built kind.DeadlineSet r e hk f = of_word (phase_numbered r.n1) _ e (λ (x : Entry). row_of (stamped_by r x) ≡ r) (λ phase found.
+    same_row r kind.DeadlineSet _ _ _ _ _ _ _ hk f (unused-zero _ f.n4) (unused-zero _ f.n5) (numbered-found phase_number r.n1 phases phase found) (number-numbered 253402207201 r.n2) (unused-zero _ f.n3) (sym f.b1) (sym f.b2))
 row_of-built kind.Commented r e hk f = λ is. subst (λ (x : Entry). row_of (stamped_by r x) ≡ r) (same_Some _ e is)
-    (same_row r kind.Commented _ _ _ _ _ _ _ hk f (unused-zero _ f.n4) (unused-zero _ f.n5) refl refl (label_number-numbered r.n3) refl (sym f.b2))
+    (same_row r kind.Commented _ _ _ _ _ _ _ hk f (unused-zero _ f.n4) (unused-zero _ f.n5) refl refl (number-numbered 27 r.n3) refl (sym f.b2))
 row_of-built k r e hk f = λ is.
     let s : Shape = shape_of k in
     subst (λ (x : Entry). row_of (stamped_by r x) ≡ r) (same_Some _ e is)
@@ -180,9 +186,12 @@ built-row_of (PhaseSet phase) m o h = ap (option_map (λ (x : Phase). PhaseSet x
 built-row_of (ModeSet mode) m o h = ap (option_map (λ (x : Mode). ModeSet x)) (mode_numbered-number mode)
 built-row_of (Conflict paper user on) m o h = ap (λ x. Some (Conflict paper user x)) (bit-back on)
 built-row_of (Assigned paper user review_kind ordinal) m o h = ap (option_map (λ (x : Kind). Assigned paper user x ordinal)) (review_kind_numbered-number review_kind)
-built-row_of (Commented paper n ordinal text) m o h = ap (λ x. Some (Commented paper n x text)) (label_numbered-number ordinal h.n3)
+built-row_of (Commented paper n ordinal text) m o h = ap (λ x. Some (Commented paper n x text)) (numbered-number 27 ordinal (below-next _ 26 h.n3.1))
 built-row_of (Tagged paper tag on) m o h = ap (λ x. Some (Tagged paper tag x)) (bit-back on)
 built-row_of (Decided paper decision) m o h = ap (option_map (λ (x : Decision). Decided paper x)) (decision_numbered-number decision)
+built-row_of (DeadlineSet phase until) m o h =
+    ap (option_map (λ (x : Phase). DeadlineSet x (until_numbered (until_number until)))) (phase_numbered-number phase)
+    ∙ ap (λ x. Some (DeadlineSet phase x)) (numbered-number 253402207201 until (below-next _ 253402207200 h.n2.1))
 built-row_of e m o h = refl
 
 restamp : (s : Stamped) (p : Bool) → p ≡ s.more → ◌≡◌ {A = Stamped} (record { stamp = s.stamp; more = p; entry = s.entry }) s
@@ -204,6 +213,7 @@ kind_of-built kind.PhaseSet r e = of_word (phase_numbered r.n1) _ e (λ (x : Ent
 kind_of-built kind.ModeSet r e = of_word (mode_numbered r.n1) _ e (λ (x : Entry). kind_of x ≡ kind.ModeSet) (λ mode found. refl)
 kind_of-built kind.Assigned r e = of_word (review_kind_numbered r.n3) _ e (λ (x : Entry). kind_of x ≡ kind.Assigned) (λ review_kind found. refl)
 kind_of-built kind.Decided r e = of_word (decision_numbered r.n2) _ e (λ (x : Entry). kind_of x ≡ kind.Decided) (λ decision found. refl)
+kind_of-built kind.DeadlineSet r e = of_word (phase_numbered r.n1) _ e (λ (x : Entry). kind_of x ≡ kind.DeadlineSet) (λ phase found. refl)
 kind_of-built k r e = λ is. ap kind_of (sym (same_Some _ e is))
 
 -- the only kind of a row's number is its entry's

@@ -21,8 +21,9 @@ use Rattle.cr_base.specs.declared.review.ReviewLine.{ReviewLine}
 use Rattle.cr_base.specs.declared.search.Step.{Step}
 use Rattle.cr_base.specs.declared.standing.Standing.{Standing}
 use Rattle.cr_base.specs.Checks.{Check, judged, of_there, page_checks, content_checks, reviews_checks, comments_checks}
-use Rattle.cr_base.specs.History.{Upload, BidTold, SeatTold, FormTold, CommentTold}
+use Rattle.cr_base.specs.Deadlines.{deadlines_told}
 use Rattle.cr_base.specs.Decisions.{is_published}
+use Rattle.cr_base.specs.History.{Upload, BidTold, SeatTold, FormTold, CommentTold}
 use Rattle.cr_base.specs.Labels.{by_labels, most_labels}
 use Rattle.cr_base.specs.Lists.{listed, last, at_some}
 use Rattle.cr_base.specs.Logins.{query_wants_login}
@@ -77,6 +78,7 @@ login_wanted facts query =
 abbrev pub query_checks : Facts → Shown → Query → List Check
 query_checks facts shown queries.Accounts = []
 query_checks facts shown queries.Phase = []
+query_checks facts shown queries.Deadlines = []
 query_checks facts shown queries.AcceptedPapers = []
 query_checks facts shown queries.Me = []
 query_checks facts shown (queries.Search search only_count) = []
@@ -236,6 +238,7 @@ told_by facts shown caller queries.Accounts = replies.Accounts facts.accounts
 told_by facts shown caller queries.Phase =
     let by = facts.standing None in
     replies.Conference (record { mode = by.mode; papers = length facts.papers; phase = by.phase })
+told_by facts shown caller queries.Deadlines = replies.Deadlines (deadlines_told facts.deadline)
 told_by facts shown caller queries.AcceptedPapers = replies.AcceptedPapers (accepted_by facts shown)
 told_by facts shown caller queries.Me = replies.Me (me_by facts (maker_of caller))
 told_by facts shown caller (queries.Page paper) = replies.Page (page_by facts shown caller (unwrap_or paper 0))

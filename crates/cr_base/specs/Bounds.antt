@@ -3,8 +3,10 @@
 use Rattle.std.specs.Prelude.{ℕ, ◌≡◌, ◌≤◌, length, IsTrue}
 use Rattle.cr_base.specs.declared.command.Command.{Command}
 use Rattle.cr_base.specs.declared.command.Command.TheVariants.{Register, Submit, Revise, Upload}
-use Rattle.cr_base.specs.declared.command.Command.TheVariants.{Name, Bid, Review, Comment, Tag}
+use Rattle.cr_base.specs.declared.command.Command.TheVariants.{Name, Bid, Review, Comment, Tag, SetDeadline}
 use Rattle.cr_base.specs.declared.form.Form.{Form}
+use Rattle.cr_base.specs.Deadlines.{IsDeadlineOrNone}
+use Rattle.cr_base.specs.Phases.{may_have_deadline}
 use Rattle.cr_base.specs.TagTexts.{is_tag}
 use Rattle.cr_base.specs.Texts.{IsName, IsTitle, IsAbstract, IsContent, IsReviewText, IsCommentText}
 use Rattle.cr_base.specs.Words.{is_member}
@@ -30,4 +32,5 @@ IsBoundedCommand (Bid paper value) = value ≤ 40
 IsBoundedCommand (Review paper form) = IsForm form
 IsBoundedCommand (Comment paper text) = IsCommentText text
 IsBoundedCommand (Tag paper tag on) = IsTrue (is_tag tag)
+IsBoundedCommand (SetDeadline phase until) = IsTrue (may_have_deadline phase) × IsDeadlineOrNone until
 IsBoundedCommand _ = Unit {0}

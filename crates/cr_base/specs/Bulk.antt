@@ -6,6 +6,8 @@ use Rattle.std.specs.Str.{bytes_eq}
 use Rattle.cr_base.specs.declared.bulk.Broken.{Broken}
 use Rattle.cr_base.specs.declared.bulk.Broken.TheVariants as broken
 use Rattle.cr_base.specs.declared.bulk.BulkRow.{BulkRow}
+use Rattle.cr_base.specs.declared.bulk.RowCommand.{RowCommand}
+use Rattle.cr_base.specs.declared.bulk.RowCommand.TheVariants as of_row
 use Rattle.cr_base.specs.declared.command.Command.{Command}
 use Rattle.cr_base.specs.declared.command.Command.TheVariants as commands
 use Rattle.cr_base.specs.declared.entry.Entry.{Entry}
@@ -68,6 +70,13 @@ command_told_by (Some action) row = command_by action row
 -- the command that a row tells, or why it tells none
 unfoldable pub row_command : BulkRow → Result Command Rule
 row_command row = command_told_by (action_of row.action) row
+
+-- a row's command, among all commands
+abbrev pub command_of_row : RowCommand → Command
+command_of_row (of_row.Conflict paper name on) = commands.SetConflict paper name on
+command_of_row (of_row.Assign paper name kind) = commands.Assign paper name kind
+command_of_row (of_row.Unassign paper name) = commands.Unassign paper name
+command_of_row (of_row.Tag paper tag on) = commands.Tag paper tag on
 
 -- the command is one that a row may tell
 abbrev pub IsRowCommand : Command → Type 0

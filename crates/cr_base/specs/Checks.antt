@@ -11,7 +11,7 @@ use Rattle.cr_base.specs.declared.words.Phase.{Phase}
 use Rattle.cr_base.specs.declared.words.Role.{Role}
 use Rattle.cr_base.specs.declared.words.Role.TheVariants.{Account}
 use Rattle.cr_base.specs.Decisions.{is_published}
-use Rattle.cr_base.specs.Phases.{is_next, mode_may_be_set, accepts_submissions, papers_may_change}
+use Rattle.cr_base.specs.Phases.{is_from, is_next, mode_may_be_set, accepts_submissions, papers_may_change}
 use Rattle.cr_base.specs.Phases.{authors_have_declared, conflicts_are_final, roles_are_final, committee_works}
 use Rattle.cr_base.specs.Phases.{bids_are_taken, reviews_are_written, comments_are_written, decisions_are_made}
 use Rattle.cr_base.specs.Phases.{members_see_papers, reviewers_read_own, members_read_reviews, members_read_comments}
@@ -75,12 +75,23 @@ phase_checks by now to =
     ∷ not (is_next now to) breaks rules.WrongPhase
     ∷ []
 
+-- a deadline: the caller's standing, the phase now, and the one that is to have the deadline, or none
+abbrev pub deadline_checks : Standing → Phase → Phase → List Check
+deadline_checks by now phase =
+    not (is_chair by.role) breaks rules.NotChair
+    ∷ not (is_from now phase) breaks rules.WrongPhase
+    ∷ []
+
+-- What a phase opens, and its deadline ends, takes last whether it is too late: the phase that it is has a deadline,
+-- and the moment of the request is past it.
+
 -- submit: whether a co-author isn't there, the caller's standing, how many papers there
--- are, and how many of them are hers
-abbrev pub submit_checks : Bool → Standing → ℕ → ℕ → List Check
-submit_checks missing by count own =
+-- are, how many of them are hers, and whether it is too late
+abbrev pub submit_checks : Bool → Standing → ℕ → ℕ → Bool → List Check
+submit_checks missing by count own late =
     missing breaks rules.NoUser
     ∷ not (accepts_submissions by.phase) breaks rules.WrongPhase
+    ∷ late breaks rules.Late
     ∷ nat_le 9999 count breaks rules.FullPapers
     ∷ nat_le 20 own breaks rules.QuotaPapers
     ∷ []
@@ -92,18 +103,20 @@ page_checks by accepted paper =
     ∷ not (is_member by.role || by.author || accepted) breaks rules.NotMember
     ∷ []
 
--- revise and withdraw: the caller's standing at the paper, and the paper
-abbrev pub revise_checks : Standing → NamedPaper → List Check
-revise_checks by paper =
+-- revise and withdraw: the caller's standing at the paper, the paper, and whether it is too late
+abbrev pub revise_checks : Standing → NamedPaper → Bool → List Check
+revise_checks by paper late =
     not paper.there breaks rules.NoPaper
     ∷ not by.author breaks rules.NotAuthor
     ∷ not (papers_may_change by.phase) breaks rules.WrongPhase
+    ∷ late breaks rules.Late
     ∷ paper.withdrawn breaks rules.Withdrawn
     ∷ []
 
--- upload: the same, how many bytes the caller has uploaded, and how many she uploads
-abbrev pub upload_checks : Standing → NamedPaper → ℕ → ℕ → List Check
-upload_checks by paper own more = revise_checks by paper ++ nat_lt 67108864 (own + more) breaks rules.QuotaBytes ∷ []
+-- upload: the same, and how many bytes the caller has uploaded, and how many she uploads
+abbrev pub upload_checks : Standing → NamedPaper → ℕ → ℕ → Bool → List Check
+upload_checks by paper own more late =
+    revise_checks by paper late ++ nat_lt 67108864 (own + more) breaks rules.QuotaBytes ∷ []
 
 -- the paper's content is hers to read, whatever else she is: she is its author, or it is published
 abbrev pub reads_freely : Standing → Bool → Bool
@@ -139,10 +152,11 @@ mode_checks by now =
 
 -- ---- conflict: each list is of a paper that is there, and reads whether it is withdrawn
 
--- on, before the bidding: authors declare members
-abbrev pub declare_checks : Standing → Bool → Target → List Check
-declare_checks by withdrawn target =
+-- on, before the bidding: authors declare members, until it is too late
+abbrev pub declare_checks : Standing → Bool → Target → Bool → List Check
+declare_checks by withdrawn target late =
     not by.author breaks rules.NotAuthor
+    ∷ late breaks rules.Late
     ∷ withdrawn breaks rules.Withdrawn
     ∷ not (is_member target.role) breaks rules.NotAMember
     ∷ []
@@ -164,8 +178,8 @@ other_checks by withdrawn target =
     ∷ []
 
 -- on, later: never
-abbrev pub late_checks : List Check
-late_checks =
+abbrev pub final_checks : List Check
+final_checks =
     true breaks rules.WrongPhase
     ∷ []
 
@@ -187,26 +201,26 @@ off_checks by withdrawn target =
     ∷ []
 
 -- which of the five lists it is: on or off, whether the authors have declared, and whether conflicts are final
-abbrev pub conflict_case : Bool → Bool → Bool → Standing → Bool → Target → List Check
-conflict_case false declared final by withdrawn target = off_checks by withdrawn target
-conflict_case true false final by withdrawn target = declare_checks by withdrawn target
-conflict_case true true true by withdrawn target = late_checks
-conflict_case true true false by withdrawn target =
+abbrev pub conflict_case : Bool → Bool → Bool → Standing → Bool → Target → Bool → List Check
+conflict_case false declared final by withdrawn target late = off_checks by withdrawn target
+conflict_case true false final by withdrawn target late = declare_checks by withdrawn target late
+conflict_case true true true by withdrawn target late = final_checks
+conflict_case true true false by withdrawn target late =
     if target.herself then own_checks by withdrawn else other_checks by withdrawn target
 
 -- on: by the phase
-abbrev pub on_checks : Standing → Bool → Target → List Check
-on_checks by withdrawn target =
-    conflict_case true (authors_have_declared by.phase) (conflicts_are_final by.phase) by withdrawn target
+abbrev pub on_checks : Standing → Bool → Target → Bool → List Check
+on_checks by withdrawn target late =
+    conflict_case true (authors_have_declared by.phase) (conflicts_are_final by.phase) by withdrawn target late
 
 -- conflict: the caller's standing at the paper, the paper, the user named, if there is
--- one, and whether it is turned on
-abbrev pub conflict_checks : Standing → NamedPaper → Option Target → Bool → List Check
-conflict_checks by paper target on =
+-- one, whether it is turned on, and whether it is too late for authors
+abbrev pub conflict_checks : Standing → NamedPaper → Option Target → Bool → Bool → List Check
+conflict_checks by paper target on late =
     not paper.there breaks rules.NoPaper
     ∷ is_none target breaks rules.NoUser
     ∷ about target (λ (user : Target). conflict_case on (authors_have_declared by.phase)
-    (conflicts_are_final by.phase) by paper.withdrawn user)
+    (conflicts_are_final by.phase) by paper.withdrawn user late)
 
 -- ---- bids and assignments
 
@@ -218,11 +232,12 @@ member_checks by paper =
     ∷ by.conflicted breaks rules.Conflict
     ∷ []
 
--- bid: the caller's standing at the paper, and the paper
-abbrev pub bid_checks : Standing → NamedPaper → List Check
-bid_checks by paper =
+-- bid: the caller's standing at the paper, the paper, and whether it is too late
+abbrev pub bid_checks : Standing → NamedPaper → Bool → List Check
+bid_checks by paper late =
     member_checks by paper
     ++ not (bids_are_taken by.phase) breaks rules.WrongPhase
+    ∷ late breaks rules.Late
     ∷ paper.withdrawn breaks rules.Withdrawn
     ∷ []
 
@@ -253,20 +268,22 @@ unassign_checks by paper target written =
 
 -- ---- reviews, comments and tags: the caller's standing at the paper, and the paper
 
--- review
-abbrev pub review_checks : Standing → NamedPaper → List Check
-review_checks by paper =
+-- review: and whether it is too late
+abbrev pub review_checks : Standing → NamedPaper → Bool → List Check
+review_checks by paper late =
     member_checks by paper
     ++ not by.reviewer breaks rules.NotReviewer
     ∷ not (reviews_are_written by.phase) breaks rules.WrongPhase
+    ∷ late breaks rules.Late
     ∷ paper.withdrawn breaks rules.Withdrawn
     ∷ []
 
--- comment: and how many comments the caller has written
-abbrev pub comment_checks : Standing → NamedPaper → ℕ → List Check
-comment_checks by paper own =
+-- comment: and how many comments the caller has written, and whether it is too late
+abbrev pub comment_checks : Standing → NamedPaper → ℕ → Bool → List Check
+comment_checks by paper own late =
     member_checks by paper
     ++ not (comments_are_written by.phase) breaks rules.WrongPhase
+    ∷ late breaks rules.Late
     ∷ paper.withdrawn breaks rules.Withdrawn
     ∷ nat_le 1000 own breaks rules.QuotaComments
     ∷ []

@@ -5,7 +5,7 @@ use Rattle.cr_base.specs.declared.entry.Entry.{Entry}
 use Rattle.cr_base.specs.declared.entry.Entry.TheVariants.{Registered, Named, PhaseSet, ModeSet, Submitted}
 use Rattle.cr_base.specs.declared.entry.Entry.TheVariants.{Coauthor, Revised, Uploaded, Withdrawn, Conflict}
 use Rattle.cr_base.specs.declared.entry.Entry.TheVariants.{Bid, Assigned, Unassigned, Reviewed}
-use Rattle.cr_base.specs.declared.entry.Entry.TheVariants.{Commented, Tagged, Decided}
+use Rattle.cr_base.specs.declared.entry.Entry.TheVariants.{Commented, Tagged, Decided, DeadlineSet}
 use Rattle.cr_base.specs.declared.entry.Stamp.{Stamp}
 use Rattle.cr_base.specs.declared.entry.Stamped.{Stamped}
 use Rattle.cr_base.specs.declared.reply.Receipt.{Receipt}
@@ -54,6 +54,7 @@ receipt_of name (Reviewed paper ordinal version form) = receipts.Version version
 receipt_of name (Commented paper n ordinal text) = receipts.Comment n
 receipt_of name (Tagged paper tag on) = receipts.Changed paper
 receipt_of name (Decided paper decision) = receipts.Changed paper
+receipt_of name (DeadlineSet phase until) = receipts.Deadline phase until
 
 -- what a command draws that adds one entry, and gives nobody a role
 abbrev pub alone : Stamp → Entry → Drawn
@@ -132,3 +133,6 @@ tag_drawn stamp paper tag on = alone stamp (Tagged paper tag on)
 
 abbrev pub decision_drawn : Stamp → ℕ → Decision → Drawn
 decision_drawn stamp paper decision = alone stamp (Decided paper decision)
+
+abbrev pub deadline_drawn : Stamp → Phase → Option ℕ → Drawn
+deadline_drawn stamp phase until = alone stamp (DeadlineSet phase until)

@@ -7,7 +7,7 @@ use Rattle.cr_base.specs.declared.entry.Entry.{Entry}
 use Rattle.cr_base.specs.declared.entry.Entry.TheVariants.{Registered, Named, PhaseSet, ModeSet, Submitted}
 use Rattle.cr_base.specs.declared.entry.Entry.TheVariants.{Coauthor, Revised, Uploaded, Withdrawn, Conflict}
 use Rattle.cr_base.specs.declared.entry.Entry.TheVariants.{Bid, Assigned, Unassigned, Reviewed}
-use Rattle.cr_base.specs.declared.entry.Entry.TheVariants.{Commented, Tagged, Decided}
+use Rattle.cr_base.specs.declared.entry.Entry.TheVariants.{Commented, Tagged, Decided, DeadlineSet}
 use Rattle.cr_base.specs.declared.entry.Stamped.{Stamped}
 use Rattle.cr_base.specs.declared.form.Form.{Form}
 use Rattle.cr_base.specs.declared.tag.SetTag.{SetTag}
@@ -18,7 +18,7 @@ use Rattle.cr_base.specs.declared.words.Phase.TheVariants.{Discussion}
 use Rattle.cr_base.specs.declared.words.Mode.{Mode}
 use Rattle.cr_base.specs.declared.words.Role.{Role}
 use Rattle.cr_base.specs.Lists.{given, is_number}
-use Rattle.cr_base.specs.Phases.{is_phase}
+use Rattle.cr_base.specs.Phases.{is_phase, may_have_deadline}
 use Rattle.cr_base.specs.Tags.{tag_owner}
 
 -- History: the entries of the accepted commands, in order. Those of one command stand together, and all of them
@@ -84,6 +84,16 @@ phase_told _ = []
 abbrev pub mode_told : Entry → List Mode
 mode_told (ModeSet mode) = mode ∷ []
 mode_told _ = []
+
+-- what it tells of a phase's deadline that the deadline of one is set: that it has this one now, or none; of a phase
+-- that may have none, nothing
+abbrev pub deadline_given : Phase → Phase → Option ℕ → List (Option ℕ)
+deadline_given phase set until = given (may_have_deadline set && is_phase set phase) until
+
+-- the deadline of the phase that it sets, or that it has none any more
+abbrev pub deadline_told : Phase → Entry → List (Option ℕ)
+deadline_told phase (DeadlineSet set until) = deadline_given phase set until
+deadline_told phase _ = []
 
 -- whether it opens this phase
 abbrev pub opens : Phase → Entry → Bool

@@ -18,7 +18,7 @@ use Rattle.cr_base.specs.Decisions.{is_accepted_when}
 use Rattle.cr_base.specs.Lists.{last, last_or, listed, total, is_nothing, is_number, at_some, until, since}
 use Rattle.cr_base.specs.Tags.{with_tag}
 use Rattle.cr_base.specs.History.{History, Registration, Upload, SeatTold, all_told}
-use Rattle.cr_base.specs.History.{all_told_by, phase_told, mode_told, paper_told}
+use Rattle.cr_base.specs.History.{all_told_by, phase_told, mode_told, deadline_told, paper_told}
 use Rattle.cr_base.specs.History.{own_paper_told, author_told, conflict_told, declared_told, title_told}
 use Rattle.cr_base.specs.History.{bid_told, ordinal_told, assigned_told, unassigned_told}
 use Rattle.cr_base.specs.History.{FormTold, CommentTold, TagTold, form_told, own_form_told, comment_told}
@@ -35,6 +35,10 @@ phase_of H = last_or Setup (all_told phase_told H)
 -- the last mode that was set, else blind
 abbrev pub mode_of : History → Mode
 mode_of H = last_or Blind (all_told mode_told H)
+
+-- the deadline of a phase that was set last: none where none was, or it was taken away
+abbrev pub deadline_of : Phase → History → Option ℕ
+deadline_of phase H = last_or None (all_told (deadline_told phase) H)
 
 -- the last role that the user was named to, else account
 abbrev pub role_of : Option ℕ → History → Role

@@ -7,24 +7,24 @@ use Rattle.cr_base.specs.declared.command.Call.{Call}
 use Rattle.cr_base.specs.declared.command.Command.{Command}
 use Rattle.cr_base.specs.declared.command.Command.TheVariants.{Register, SetPhase, Submit, Revise, Upload, Withdraw}
 use Rattle.cr_base.specs.declared.command.Command.TheVariants.{Name, SetMode, SetConflict, Bid, Assign, Unassign}
-use Rattle.cr_base.specs.declared.command.Command.TheVariants.{Review, Comment, Tag, Decide}
+use Rattle.cr_base.specs.declared.command.Command.TheVariants.{Review, Comment, Tag, Decide, SetDeadline}
 use Rattle.cr_base.specs.declared.entry.Stamp.{Stamp}
 use Rattle.cr_base.specs.declared.form.Form.{Form}
 use Rattle.cr_base.specs.declared.reply.Rule.{Rule}
 use Rattle.cr_base.specs.declared.words.Kind.{Kind}
 use Rattle.cr_base.specs.declared.words.Role.{Role}
 use Rattle.cr_base.specs.Calls.{stamp_of}
-use Rattle.cr_base.specs.Checks.{judged, of_role, register_checks, phase_checks}
+use Rattle.cr_base.specs.Checks.{judged, of_role, register_checks, phase_checks, deadline_checks}
 use Rattle.cr_base.specs.Checks.{submit_checks, revise_checks, upload_checks}
 use Rattle.cr_base.specs.Checks.{name_checks, mode_checks, conflict_checks, bid_checks, assign_checks, unassign_checks}
 use Rattle.cr_base.specs.Checks.{review_checks, comment_checks, tag_checks, decide_checks}
 use Rattle.cr_base.specs.Drawn.{Drawn, registration_drawn, phase_drawn, submission_drawn, revision_drawn, upload_drawn}
 use Rattle.cr_base.specs.Drawn.{withdrawal_drawn, naming_drawn, mode_drawn, conflict_drawn}
 use Rattle.cr_base.specs.Drawn.{bid_drawn, assignment_drawn, unassignment_drawn}
-use Rattle.cr_base.specs.Drawn.{review_drawn, comment_drawn, tag_drawn, decision_drawn}
+use Rattle.cr_base.specs.Drawn.{review_drawn, comment_drawn, tag_drawn, decision_drawn, deadline_drawn}
 use Rattle.cr_base.specs.Lists.{listed, at_some}
 use Rattle.cr_base.specs.Sources.{Facts, Shown, number_in, user_among, users_among, role_among}
-use Rattle.cr_base.specs.Sources.{paper_named, target_named, facts_of_tables, shown_in_tables}
+use Rattle.cr_base.specs.Sources.{paper_named, target_named, is_late, facts_of_tables, shown_in_tables}
 use Rattle.cr_base.specs.Tables.{Tables}
 use Rattle.cr_base.specs.TagTexts.{is_for_chairs}
 
@@ -39,7 +39,8 @@ name_judged facts stamp target name role =
 abbrev pub submission_judged : Facts → Stamp → List (Option ℕ) → List ℕ → List ℕ → Result Drawn Rule
 submission_judged facts stamp users title abstract =
     judged
-    (submit_checks (list_any is_none users) (facts.standing None) (length facts.papers) facts.own_papers)
+    (submit_checks (list_any is_none users) (facts.standing None) (length facts.papers) facts.own_papers
+    (is_late facts stamp.at))
     (submission_drawn stamp (length facts.papers + 1) title abstract (flat_map listed users))
 
 -- turning this user's conflict, if there is one, on or off
@@ -47,7 +48,7 @@ abbrev pub conflict_judged : Facts → Shown → Stamp → Option ℕ → Option
 conflict_judged facts shown stamp paper target on =
     judged
     (conflict_checks (facts.standing paper) (paper_named facts shown paper)
-    (target_named facts shown (Some stamp.maker) paper target) on)
+    (target_named facts shown (Some stamp.maker) paper target) on (is_late facts stamp.at))
     (conflict_drawn stamp (unwrap_or paper 0) (unwrap_or target 0) on)
 
 -- assigning this user, if there is one, to a paper, and taking her off it
@@ -73,14 +74,14 @@ abbrev pub review_judged : Facts → Shown → Stamp → Option ℕ → Form →
 review_judged facts shown stamp paper form =
     let p = unwrap_or paper 0 in
     judged
-    (review_checks (facts.standing paper) (paper_named facts shown paper))
+    (review_checks (facts.standing paper) (paper_named facts shown paper) (is_late facts stamp.at))
     (review_drawn stamp p (unwrap_or (facts.own_ordinal p) 0) (length (facts.own_forms p) + 1) form)
 
 abbrev pub comment_judged : Facts → Shown → Stamp → Option ℕ → List ℕ → Result Drawn Rule
 comment_judged facts shown stamp paper text =
     let p = unwrap_or paper 0 in
     judged
-    (comment_checks (facts.standing paper) (paper_named facts shown paper) facts.own_comments)
+    (comment_checks (facts.standing paper) (paper_named facts shown paper) facts.own_comments (is_late facts stamp.at))
     (comment_drawn stamp p (length (shown.comments p) + 1) (facts.own_ordinal p) text)
 
 abbrev pub tag_judged : Facts → Shown → Stamp → Option ℕ → List ℕ → Bool → Result Drawn Rule
@@ -101,15 +102,16 @@ judge_by facts shown stamp (Submit title abstract authors) =
     submission_judged facts stamp (users_among facts.accounts authors) title abstract
 judge_by facts shown stamp (Revise paper title abstract) =
     judged
-    (revise_checks (facts.standing paper) (paper_named facts shown paper))
+    (revise_checks (facts.standing paper) (paper_named facts shown paper) (is_late facts stamp.at))
     (revision_drawn stamp (unwrap_or paper 0) title abstract)
 judge_by facts shown stamp (Upload paper content) =
     judged
-    (upload_checks (facts.standing paper) (paper_named facts shown paper) facts.own_bytes (length content))
+    (upload_checks (facts.standing paper) (paper_named facts shown paper) facts.own_bytes (length content)
+    (is_late facts stamp.at))
     (upload_drawn stamp (unwrap_or paper 0) (length (shown.uploads (unwrap_or paper 0)) + 1) content)
 judge_by facts shown stamp (Withdraw paper) =
     judged
-    (revise_checks (facts.standing paper) (paper_named facts shown paper))
+    (revise_checks (facts.standing paper) (paper_named facts shown paper) (is_late facts stamp.at))
     (withdrawal_drawn stamp (unwrap_or paper 0))
 judge_by facts shown stamp (Name name role) =
     name_judged facts stamp (user_among facts.accounts name) (unwrap_or name []) role
@@ -119,7 +121,7 @@ judge_by facts shown stamp (SetConflict paper name on) =
     conflict_judged facts shown stamp paper (user_among facts.accounts name) on
 judge_by facts shown stamp (Bid paper value) =
     judged
-    (bid_checks (facts.standing paper) (paper_named facts shown paper))
+    (bid_checks (facts.standing paper) (paper_named facts shown paper) (is_late facts stamp.at))
     (bid_drawn stamp (unwrap_or paper 0) value)
 judge_by facts shown stamp (Assign paper name kind) =
     assignment_judged facts shown stamp paper (user_among facts.accounts name) kind
@@ -132,6 +134,8 @@ judge_by facts shown stamp (Decide paper decision) =
     judged
     (decide_checks (facts.standing paper) (paper_named facts shown paper))
     (decision_drawn stamp (unwrap_or paper 0) decision)
+judge_by facts shown stamp (SetDeadline phase until) =
+    judged (deadline_checks (facts.standing None) (facts.standing None).phase phase) (deadline_drawn stamp phase until)
 
 -- RoleAnswer of a command: the same by checks on the tables
 abbrev pub judge_by_role : Tables → Call → Result Drawn Rule

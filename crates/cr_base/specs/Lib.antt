@@ -4,6 +4,7 @@ pub mod Bounds
 pub mod Bulk
 pub mod Calls
 pub mod Checks
+pub mod Deadlines
 pub mod Decisions
 pub mod Decoding
 pub mod Drawn

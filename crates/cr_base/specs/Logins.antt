@@ -11,16 +11,18 @@ use Rattle.cr_base.specs.declared.report.Report.TheVariants as reports
 
 -- ---- the table
 
--- nobody may register, and be told the accounts, the state of the conference and the accepted papers; all else is a
--- registered user's, but for what is published (`login_wanted` in Answering)
+-- nobody may register, and be told the accounts, the state of the conference, its deadlines and the accepted papers;
+-- all else is a registered user's, but for what is published (`login_wanted` in Answering)
 abbrev pub ask_wants_login : Ask → Bool
 ask_wants_login asks.Register = false
 ask_wants_login asks.Accounts = false
 ask_wants_login asks.Phase = false
+ask_wants_login asks.Deadlines = false
 ask_wants_login asks.AcceptedPapers = false
 ask_wants_login asks.Name = true
 ask_wants_login asks.SetMode = true
 ask_wants_login asks.SetPhase = true
+ask_wants_login asks.SetDeadline = true
 ask_wants_login asks.Submit = true
 ask_wants_login asks.Revise = true
 ask_wants_login asks.Withdraw = true
@@ -74,6 +76,7 @@ command_ask (commands.Comment paper text) = asks.Comment
 command_ask (commands.Tag paper tag true) = asks.Tag
 command_ask (commands.Tag paper tag false) = asks.Untag
 command_ask (commands.Decide paper decision) = asks.Decide
+command_ask (commands.SetDeadline phase until) = asks.SetDeadline
 
 abbrev pub report_ask : Report → Ask
 report_ask reports.Papers = asks.PapersReport
@@ -86,6 +89,7 @@ abbrev pub query_ask : Query → Ask
 query_ask queries.Me = asks.Me
 query_ask queries.Accounts = asks.Accounts
 query_ask queries.Phase = asks.Phase
+query_ask queries.Deadlines = asks.Deadlines
 query_ask queries.AcceptedPapers = asks.AcceptedPapers
 query_ask (queries.Page paper) = asks.Page
 query_ask (queries.Content paper) = asks.Content

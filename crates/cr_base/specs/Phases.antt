@@ -31,6 +31,10 @@ is_next phase next = phase_rank next == phase_rank phase + 1
 
 -- ---- what is done
 
+-- chairs may set a deadline of the phase: one until which what it opens may be done
+abbrev pub may_have_deadline : Phase → Bool
+may_have_deadline phase = is_from Submission phase && not (is_from Notification phase)
+
 -- chairs choose who sees whose names, before the first paper comes
 abbrev pub mode_may_be_set : Phase → Bool
 mode_may_be_set phase = is_phase phase Setup

@@ -7,7 +7,7 @@ use Rattle.cr_base.specs.declared.entry.Entry.{Entry}
 use Rattle.cr_base.specs.declared.entry.Entry.TheVariants.{Registered, Named, PhaseSet, ModeSet, Submitted}
 use Rattle.cr_base.specs.declared.entry.Entry.TheVariants.{Coauthor, Revised, Uploaded, Withdrawn, Conflict}
 use Rattle.cr_base.specs.declared.entry.Entry.TheVariants.{Bid, Assigned, Unassigned, Reviewed}
-use Rattle.cr_base.specs.declared.entry.Entry.TheVariants.{Commented, Tagged, Decided}
+use Rattle.cr_base.specs.declared.entry.Entry.TheVariants.{Commented, Tagged, Decided, DeadlineSet}
 use Rattle.cr_base.specs.declared.entry.Stamped.{Stamped}
 use Rattle.cr_base.specs.declared.row.Row.{Row}
 use Rattle.std.specs.Option.{option_map}
@@ -24,6 +24,7 @@ use Rattle.cr_base.specs.declared.shape.TextKind.TheVariants.{Content, ReviewTex
 use Rattle.cr_base.specs.Shapes.{user_range, paper_range, phase_range, mode_range, bit}
 use Rattle.cr_base.specs.Shapes.{role_range, version_range, bid_range, review_kind_range}
 use Rattle.cr_base.specs.Shapes.{ordinal_range, some_ordinal_range, grade_range, decision_range}
+use Rattle.cr_base.specs.Shapes.{deadline_phase_range, some_deadline_range}
 use Rattle.cr_base.specs.Shapes.{unused, shape, with_fourth, with_fifth, stamp_in, FitsShape}
 
 -- the number by which rows tell the kind
@@ -45,6 +46,7 @@ kind_number kind.Reviewed = 14
 kind_number kind.Commented = 15
 kind_number kind.Tagged = 16
 kind_number kind.Decided = 17
+kind_number kind.DeadlineSet = 18
 
 -- the word for the kind: its name in lower case
 abbrev pub kind_name : EntryKind → List ℕ
@@ -65,6 +67,7 @@ kind_name kind.Reviewed = codes "reviewed"
 kind_name kind.Commented = codes "commented"
 kind_name kind.Tagged = codes "tagged"
 kind_name kind.Decided = codes "decided"
+kind_name kind.DeadlineSet = codes "deadlineset"
 
 -- the fields of each kind, a line a kind
 abbrev pub shape_of : EntryKind → Shape
@@ -87,6 +90,7 @@ shape_of kind.Reviewed =
 shape_of kind.Commented = shape paper_range version_range some_ordinal_range CommentText Nothing
 shape_of kind.Tagged = shape paper_range bit unused Tag Nothing
 shape_of kind.Decided = shape paper_range decision_range unused Nothing Nothing
+shape_of kind.DeadlineSet = shape deadline_phase_range some_deadline_range unused Nothing Nothing
 
 -- the kind of an entry
 abbrev pub kind_of : Entry → EntryKind
@@ -107,6 +111,7 @@ kind_of (Reviewed paper ordinal version form) = kind.Reviewed
 kind_of (Commented paper n ordinal text) = kind.Commented
 kind_of (Tagged paper tag on) = kind.Tagged
 kind_of (Decided paper decision) = kind.Decided
+kind_of (DeadlineSet phase until) = kind.DeadlineSet
 
 -- what a row tells of an entry beside its kind, its maker and the mark
 pub record Fields : Type 0 where
@@ -125,16 +130,29 @@ fields n1 n2 n3 b1 b2 = record { n1 = n1; n2 = n2; n3 = n3; n4 = 0; n5 = 0; b1 =
 abbrev pub bit_number : Bool → ℕ
 bit_number b = if b then 1 else 0
 
--- A label that may be none by its number: its ordinal, or 0 where there is none. Ordinals are 1 to 26; but an entry
--- of a definition may have the ordinal 0, and would be spelled as one without a label is. So that gets 27, the
--- first number past those that a row may have there (`some_ordinal_range`): the entry is out of its bounds, and of
--- entries within theirs no two have the same row.
+-- A number that may be none: itself, from 1, or 0 where there is none. But an entry of a definition may have a 0 there,
+-- and would be spelled as one without a number is. So that gets `past`, the first number past those that a row may have
+-- there: the entry is out of its bounds, and of entries within theirs no two have the same row.
+abbrev pub number_or_zero : ℕ → Option ℕ → ℕ
+number_or_zero past None = 0
+number_or_zero past (Some n) = if n == 0 then past else n
+
+abbrev pub numbered_from_one : ℕ → Option ℕ
+numbered_from_one n = if n == 0 then None else Some n
+
+-- a label that may be none by its number: its ordinal, 1 to 26 (`some_ordinal_range`)
 abbrev pub label_number : Option ℕ → ℕ
-label_number None = 0
-label_number (Some ordinal) = if ordinal == 0 then 27 else ordinal
+label_number ordinal = number_or_zero 27 ordinal
 
 abbrev pub label_numbered : ℕ → Option ℕ
-label_numbered n = if n == 0 then None else Some n
+label_numbered n = numbered_from_one n
+
+-- a deadline that may be none by its number: its seconds (`some_deadline_range`)
+abbrev pub until_number : Option ℕ → ℕ
+until_number until = number_or_zero 253402207201 until
+
+abbrev pub until_numbered : ℕ → Option ℕ
+until_numbered n = numbered_from_one n
 
 -- the numbers and bytes of an entry, each in its field
 abbrev pub fields_of : Entry → Fields
@@ -157,6 +175,7 @@ fields_of (Reviewed paper ordinal version form) =
 fields_of (Commented paper n ordinal text) = fields paper n (label_number ordinal) text []
 fields_of (Tagged paper tag on) = fields paper (bit_number on) 0 tag []
 fields_of (Decided paper decision) = fields paper (decision_number decision) 0 [] []
+fields_of (DeadlineSet phase until) = fields (phase_number phase) (until_number until) 0 [] []
 
 -- the row of an entry
 abbrev pub row_of : Stamped → Row
@@ -209,6 +228,7 @@ built kind.Reviewed r =
 built kind.Commented r = Some (Commented r.n1 r.n2 (label_numbered r.n3) r.b1)
 built kind.Tagged r = Some (Tagged r.n1 r.b1 (r.n2 == 1))
 built kind.Decided r = option_map (λ (decision : Decision). Decided r.n1 decision) (decision_numbered r.n2)
+built kind.DeadlineSet r = option_map (λ (phase : Phase). DeadlineSet phase (until_numbered r.n2)) (phase_numbered r.n1)
 
 -- an entry with the stamp that a row's fields spell and the row's mark
 abbrev pub stamped_by : Row → Entry → Stamped

@@ -8,6 +8,7 @@ use Rattle.cr_base.specs.declared.shape.TextKind.TheVariants.{Nothing, Name, Dig
 use Rattle.cr_base.specs.declared.shape.TextKind.TheVariants.{Content, ReviewText, CommentText, Tag}
 use Rattle.cr_base.specs.declared.entry.Stamp.{Stamp}
 use Rattle.cr_base.specs.declared.row.Row.{Row}
+use Rattle.cr_base.specs.Deadlines.{last_deadline}
 use Rattle.cr_base.specs.Moments.{IsMoment}
 use Rattle.cr_base.specs.TagTexts.{is_tag}
 use Rattle.cr_base.specs.Texts.{IsName, IsTitle, IsAbstract, IsContent, IsReviewText, IsCommentText}
@@ -66,6 +67,14 @@ grade_range = range 1 5
 -- accept and reject
 abbrev pub decision_range : Range
 decision_range = range 1 2
+
+-- submission to discussion
+abbrev pub deadline_phase_range : Range
+deadline_phase_range = range 1 4
+
+-- deadlines, and 0 where there is none
+abbrev pub some_deadline_range : Range
+some_deadline_range = range 0 last_deadline
 
 -- an unused number is 0
 abbrev pub unused : Range

@@ -1,6 +1,6 @@
 -- What rules and answers read, over a record of facts and one of what is shown of a paper: filled by a view they make
 -- Judge and Answer, filled by the tables they make RoleAnswer.
-use Rattle.std.specs.Prelude.{ℕ, Bool, ◌||◌, ◌==◌, List, Option, Some, is_some, find, map, if◌then◌else◌}
+use Rattle.std.specs.Prelude.{ℕ, Bool, ◌||◌, ◌==◌, List, Option, Some, None, is_some, find, map, if◌then◌else◌}
 use Rattle.std.specs.Option.{option_map, option_and_then}
 use Rattle.std.specs.List.{flat_map, list_any}
 use Rattle.std.specs.Str.{bytes_eq}
@@ -9,10 +9,12 @@ use Rattle.cr_base.specs.declared.standing.Standing.{Standing}
 use Rattle.cr_base.specs.declared.target.Target.{Target}
 use Rattle.cr_base.specs.declared.words.Decision.{Decision}
 use Rattle.cr_base.specs.declared.words.Decision.TheVariants.{Accept}
+use Rattle.cr_base.specs.declared.words.Phase.{Phase}
 use Rattle.cr_base.specs.declared.words.Role.{Role}
 use Rattle.cr_base.specs.Accounts.{lines_of, role_in}
 use Rattle.cr_base.specs.Calls.{maker_of}
 use Rattle.cr_base.specs.Checks.{NamedPaper}
+use Rattle.cr_base.specs.Deadlines.{deadline_in, is_past}
 use Rattle.cr_base.specs.Decisions.{decision_in, is_accepted_when}
 use Rattle.cr_base.specs.Lists.{listed, is_number, at_some}
 use Rattle.cr_base.specs.Pairs.{users_tied_to}
@@ -31,7 +33,7 @@ use Rattle.cr_base.specs.Ties.{authors_in, is_author_in, is_conflicted_in, bid_i
 -- who has registered; the papers;
 -- how many of them are the caller's, and how many bytes she has uploaded; her last bid on each, the ordinal
 -- under which she reviews it, and the forms that she has written of it, in order; how many comments she has
--- written; and which papers are accepted
+-- written; which papers are accepted; and until when what a phase opens may be done
 pub record Facts : Type 0 where
   pub standing : Option ℕ → Standing
   pub accounts : List AccountLine
@@ -43,6 +45,7 @@ pub record Facts : Type 0 where
   pub own_forms : ℕ → List FormTold
   pub own_comments : ℕ
   pub accepted : ℕ → Bool
+  pub deadline : Phase → Option ℕ
 
 -- what pages, contents and some rules tell of a paper beside the standing: its texts, its authors, who is declared in
 -- conflict with it, and whom its authors declared, both by user number; what was uploaded to it, in order; whether it
@@ -102,6 +105,7 @@ facts_of_tables t u = record {
   own_forms = λ p. own_forms_in t u p;
   own_comments = own_comments_in t.talk u;
   accepted = is_accepted_in t;
+  deadline = deadline_in t.stage.deadlines;
 }
 
 abbrev pub shown_in_tables : Tables → Shown
@@ -174,3 +178,7 @@ target_named facts shown caller paper user =
 -- the decision on a paper: to accept it, where it is accepted, as everyone is told; else the last one that is shown
 abbrev pub decision_by : Facts → Shown → ℕ → Option Decision
 decision_by facts shown p = if facts.accepted p then Some Accept else shown.decision p
+
+-- at that moment it is too late for what the phase opens: it has a deadline, and the moment is past it
+abbrev pub is_late : Facts → ℕ → Bool
+is_late facts at = is_past (facts.deadline (facts.standing None).phase) at

@@ -1,23 +1,33 @@
--- The stage of the conference: what an entry makes of its phase (CoCon's phases) and its mode (the HotCRP manual's
--- anonymity).
+-- The stage of the conference: what an entry makes of its phase (CoCon's phases), its mode (the HotCRP manual's
+-- anonymity) and its deadlines.
+use Rattle.std.specs.Prelude.{ℕ, Bool}
+use Rattle.cr_base.specs.declared.deadline.Deadlines.{Deadlines}
 use Rattle.cr_base.specs.declared.words.Phase.{Phase}
 use Rattle.cr_base.specs.declared.words.Phase.TheVariants.{Setup}
 use Rattle.cr_base.specs.declared.words.Mode.{Mode}
 use Rattle.cr_base.specs.declared.words.Mode.TheVariants.{Blind}
 use Rattle.cr_base.specs.declared.entry.Entry.{Entry}
-use Rattle.cr_base.specs.declared.entry.Entry.TheVariants.{PhaseSet, ModeSet}
+use Rattle.cr_base.specs.declared.entry.Entry.TheVariants.{PhaseSet, ModeSet, DeadlineSet}
+use Rattle.cr_base.specs.Deadlines.{no_deadlines, deadline_in, with_deadline, is_past}
 
--- the phase and the mode
+-- the phase, the mode and the deadlines
 pub record StageState : Type 0 where
   pub phase : Phase
   pub mode : Mode
+  pub deadlines : Deadlines
 
 -- where a conference starts
 abbrev pub first_stage : StageState
-first_stage = record { phase = Setup; mode = Blind }
+first_stage = record { phase = Setup; mode = Blind; deadlines = no_deadlines }
 
 -- the stage after one more entry
 abbrev pub stage_after : StageState → Entry → StageState
 stage_after stage (PhaseSet phase) = record stage { phase = phase }
 stage_after stage (ModeSet mode) = record stage { mode = mode }
+stage_after stage (DeadlineSet phase until) =
+    record stage { deadlines = with_deadline phase until stage.deadlines }
 stage_after stage _ = stage
+
+-- the phase that it is has a deadline, and the moment is past it
+abbrev pub is_late_in : StageState → ℕ → Bool
+is_late_in stage at = is_past (deadline_in stage.deadlines stage.phase) at

@@ -17,6 +17,10 @@ pub enum Ask {
     Phase,
     /// Another phase: POST of `/phase`.
     SetPhase,
+    /// The deadlines of phases: GET or HEAD of `/deadlines`.
+    Deadlines,
+    /// Another deadline of a phase, or none: POST of `/deadlines`.
+    SetDeadline,
     /// A new paper: POST of `/papers`.
     Submit,
     /// A paper's page: GET or HEAD of `/papers/{p}`.
@@ -81,8 +85,10 @@ impl Ask {
         ensures { result ≡ ask_wants_login self }
     {
         match self {
-            Ask::Register | Ask::Accounts | Ask::Phase | Ask::AcceptedPapers => false,
-            Ask::Name | Ask::SetMode | Ask::SetPhase | Ask::SetConflict => true,
+            Ask::Register | Ask::Accounts | Ask::AcceptedPapers => false,
+            Ask::Phase | Ask::Deadlines => false,
+            Ask::Name | Ask::SetMode | Ask::SetPhase => true,
+            Ask::SetDeadline | Ask::SetConflict => true,
             Ask::Submit | Ask::Revise | Ask::Upload | Ask::Withdraw => true,
             Ask::Bid | Ask::Assign | Ask::Unassign => true,
             Ask::Review | Ask::Comment | Ask::Tag | Ask::Untag | Ask::Decide => true,

@@ -1,9 +1,14 @@
 //! Bulk assignment: the rows of a file, and what is wrong with them.
 ghost use Rattle.std.specs.Prelude.{◌≡◌, ◌≤◌, [], length, IfOk};
+ghost use Rattle.cr_base.specs.Bulk.{command_of_row};
 
+use crate::command::Command;
 use crate::entry::Stamped;
+use crate::numbers::PaperNo;
 use crate::reply::Rule;
-use crate::texts::Blob;
+use crate::tag::Tag;
+use crate::texts::{Blob, Short};
+use crate::words::Kind;
 use std::alloc::{AllocError, Global};
 use std::marker::Model;
 
@@ -22,6 +27,59 @@ pub struct BulkRow {
     pub user: Blob,
     /// The tag; isn't read where it is done of a user.
     pub tag: Blob,
+}
+
+/// The command of a row: one of the four that a row may tell.
+#[derive(Drop)]
+pub enum RowCommand {
+    /// A [`Command::SetConflict`].
+    Conflict {
+        /// The paper told; None where what was told is no number of a paper.
+        paper: Option<PaperNo>,
+        /// The name told of her; None where what was told is no name.
+        user: Option<Short>,
+        /// Whether she is in conflict from now on.
+        on: bool,
+    },
+    /// A [`Command::Assign`].
+    Assign {
+        /// The paper told; None where what was told is no number of a paper.
+        paper: Option<PaperNo>,
+        /// The name told of her; None where what was told is no name.
+        user: Option<Short>,
+        /// What she is to the paper.
+        kind: Kind,
+    },
+    /// A [`Command::Unassign`].
+    Unassign {
+        /// The paper told; None where what was told is no number of a paper.
+        paper: Option<PaperNo>,
+        /// The name told of her; None where what was told is no name.
+        user: Option<Short>,
+    },
+    /// A [`Command::Tag`].
+    Tag {
+        /// The paper told; None where what was told is no number of a paper.
+        paper: Option<PaperNo>,
+        /// The tag.
+        tag: Tag,
+        /// Whether it is on.
+        on: bool,
+    },
+}
+
+impl RowCommand {
+    /// It, among all commands.
+    pub fn into_command(self) -> Command
+        ensures { result ≡ command_of_row self }
+    {
+        match self {
+            RowCommand::Conflict { paper, user, on } => Command::SetConflict { paper, user, on },
+            RowCommand::Assign { paper, user, kind } => Command::Assign { paper, user, kind },
+            RowCommand::Unassign { paper, user } => Command::Unassign { paper, user },
+            RowCommand::Tag { paper, tag, on } => Command::Tag { paper, tag, on },
+        }
+    }
 }
 
 /// The rows of a bulk in their order, at most 512, with room for an entry each: so judging them takes no memory.

@@ -4,6 +4,7 @@ ghost use Rattle.cr_base.specs.Logins.{command_ask, command_wants_login, query_a
 
 use crate::ask::Ask;
 use crate::bid::Bid;
+use crate::deadline::Deadline;
 use crate::entry::Digest;
 use crate::form::Form;
 use crate::moment::Moment;
@@ -134,6 +135,13 @@ pub enum Command {
         /// What it decides.
         decision: Decision,
     },
+    /// A phase has another deadline, or none any more.
+    SetDeadline {
+        /// The phase told: submission, bidding, reviewing or discussion.
+        phase: Phase,
+        /// Until when what the phase opens may be done; None where it is to have no deadline.
+        until: Option<Deadline>,
+    },
 }
 
 /// A command, who gives it, and when.
@@ -156,6 +164,8 @@ pub enum Query {
     Accounts,
     /// The phase, the mode and the number of papers.
     Phase,
+    /// The phases that have a deadline.
+    Deadlines,
     /// The accepted papers.
     AcceptedPapers,
     /// A paper's page.
@@ -222,6 +232,7 @@ impl Command {
             Command::Tag { on: true, .. } => Ask::Tag,
             Command::Tag { on: false, .. } => Ask::Untag,
             Command::Decide { .. } => Ask::Decide,
+            Command::SetDeadline { .. } => Ask::SetDeadline,
         }
     }
 
@@ -242,6 +253,7 @@ impl Query {
             Query::Me => Ask::Me,
             Query::Accounts => Ask::Accounts,
             Query::Phase => Ask::Phase,
+            Query::Deadlines => Ask::Deadlines,
             Query::AcceptedPapers => Ask::AcceptedPapers,
             Query::Page { .. } => Ask::Page,
             Query::Content { .. } => Ask::Content,
@@ -254,7 +266,8 @@ impl Query {
     }
 
     /// Whether it is a registered user's, as its request tells: every query but the list of accounts, the state of the
-    /// conference and the accepted papers. Nobody may ask for the page and the content of a published paper besides.
+    /// conference, its deadlines and the accepted papers. Nobody may ask for the page and the content of a published
+    /// paper besides.
     pub fn wants_login(&self) -> bool
         ensures { result ≡ query_wants_login self.now }
     {

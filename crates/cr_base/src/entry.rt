@@ -3,6 +3,7 @@ ghost use Rattle.std.specs.Prelude.{◌≡◌, IfOk};
 ghost use Rattle.cr_base.specs.Rows.{kind_of};
 
 use crate::bid::Bid;
+use crate::deadline::Deadline;
 use crate::form::Form;
 use crate::moment::Moment;
 use crate::numbers::{Ordinal, PaperNo, UserNo};
@@ -157,6 +158,13 @@ pub enum Entry {
         /// What was decided.
         decision: Decision,
     },
+    /// A phase has another deadline from here on, or none. The last such entry on a phase counts.
+    DeadlineSet {
+        /// The phase: submission, bidding, reviewing or discussion.
+        phase: Phase,
+        /// Until when what the phase opens may be done; None where it has no deadline any more.
+        until: Option<Deadline>,
+    },
 }
 
 /// The kind of an entry.
@@ -196,6 +204,8 @@ pub enum EntryKind {
     Tagged,
     /// An [`Entry::Decided`].
     Decided,
+    /// An [`Entry::DeadlineSet`].
+    DeadlineSet,
 }
 
 /// What a command's entries have alike, beside what each says: who gave it, and when.
@@ -252,6 +262,7 @@ impl Entry {
             Entry::Commented { .. } => EntryKind::Commented,
             Entry::Tagged { .. } => EntryKind::Tagged,
             Entry::Decided { .. } => EntryKind::Decided,
+            Entry::DeadlineSet { .. } => EntryKind::DeadlineSet,
         }
     }
 
@@ -368,6 +379,10 @@ impl Entry {
             Entry::Decided { paper, decision } => Ok(Entry::Decided {
                 paper: *paper,
                 decision: *decision,
+            }),
+            Entry::DeadlineSet { phase, until } => Ok(Entry::DeadlineSet {
+                phase: *phase,
+                until: *until,
             }),
         }
     }

@@ -2,7 +2,7 @@
 ghost use Rattle.std.specs.Prelude.{◌≡◌, ◌≤◌};
 ghost use Rattle.cr_base.specs.Decisions.{is_published};
 ghost use Rattle.cr_base.specs.Phases.{phase_rank, is_from, is_phase, is_next};
-ghost use Rattle.cr_base.specs.Phases.{mode_may_be_set, accepts_submissions, papers_may_change};
+ghost use Rattle.cr_base.specs.Phases.{may_have_deadline, mode_may_be_set, accepts_submissions, papers_may_change};
 ghost use Rattle.cr_base.specs.Phases.{authors_have_declared, conflicts_are_final, roles_are_final};
 ghost use Rattle.cr_base.specs.Phases.{committee_works, bids_are_taken, reviews_are_written};
 ghost use Rattle.cr_base.specs.Phases.{comments_are_written, decisions_are_made, members_see_papers};
@@ -57,6 +57,13 @@ impl Phase {
 
 /// What is done.
 impl Phase {
+    /// Whether chairs may set a deadline of it: one until which what it opens may be done.
+    pub fn may_have_deadline(self) -> bool
+        ensures { result ≡ may_have_deadline self }
+    {
+        self.is_from(Phase::Submission) && !self.is_from(Phase::Notification)
+    }
+
     /// Whether chairs may choose who sees whose names.
     pub fn mode_may_be_set(self) -> bool
         ensures { result ≡ mode_may_be_set self }

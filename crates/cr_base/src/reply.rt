@@ -3,6 +3,7 @@
 use crate::accepted::AcceptedPapers;
 use crate::bid::Bid;
 use crate::comment::CommentLines;
+use crate::deadline::{Deadline, PhaseDeadlines};
 use crate::found::FoundPapers;
 use crate::items::Items;
 use crate::me::Me;
@@ -23,8 +24,10 @@ pub enum Rule {
     NoUser,
     /// The caller is no chair.
     NotChair,
-    /// The phase is another than the one that is wanted.
+    /// The phase is another than the one that is wanted; or the one whose deadline is to be set is over.
     WrongPhase,
+    /// The phase has a deadline, and the moment of the request is later.
+    Late,
     /// The user has that role, or a greater one.
     AlreadyNamed,
     /// 9,999 papers were submitted.
@@ -134,6 +137,13 @@ pub enum Receipt {
         /// How many rows it has, 0 to 512.
         rows: u64,
     },
+    /// The deadline that a phase has now.
+    Deadline {
+        /// The phase.
+        phase: Phase,
+        /// Its deadline; None where it has none any more.
+        until: Option<Deadline>,
+    },
 }
 
 /// One account, as everyone sees it.
@@ -179,6 +189,8 @@ pub enum Reply {
     Accounts(AccountLines),
     /// The answer to `Query::Phase`.
     Conference(Conference),
+    /// The answer to `Query::Deadlines`: the phases that have a deadline, in the order of phases.
+    Deadlines(PhaseDeadlines),
     /// The answer to `Query::AcceptedPapers`.
     AcceptedPapers(AcceptedPapers),
     /// The answer to `Query::Page`.

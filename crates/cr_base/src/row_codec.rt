@@ -4,19 +4,21 @@ ghost use Rattle.cr_base.specs.Moments.{IsMoment};
 ghost use Rattle.cr_base.specs.TagTexts.{is_tag};
 ghost use Rattle.cr_base.specs.Shapes.{FitsShape, FitsStamp, stamp_in};
 ghost use Rattle.cr_base.specs.Rows.{kind_name, kind_number, shape_of, row_of, fields_of};
-ghost use Rattle.cr_base.specs.Rows.{label_number, label_numbered, built, IsBoundedEntry};
+ghost use Rattle.cr_base.specs.Rows.{label_number, label_numbered, until_number, until_numbered};
+ghost use Rattle.cr_base.specs.Rows.{built, IsBoundedEntry};
 ghost use Rattle.cr_base.specs.declared.entry.EntryKind.{EntryKind};
 ghost use Rattle.cr_base.specs.declared.entry.Stamped.{Stamped};
 
 use crate::bid::Bid;
+use crate::deadline::Deadline;
 use crate::entry::{Digest, Entry, EntryKind, Stamp, Stamped};
 use crate::form::Form;
 use crate::moment::Moment;
 use crate::numbers::{Grade, Ordinal, PaperNo, UserNo};
 use crate::row::Row;
 use crate::shape::{
-    BIDS, BIT, DECISIONS, GRADES, KINDS, MODES, ORDINALS, PAPERS, PHASES, ROLES, SOME_ORDINALS,
-    Shape, TextKind, UNUSED, USERS, VERSIONS,
+    BIDS, BIT, DEADLINE_PHASES, DECISIONS, GRADES, KINDS, MODES, ORDINALS, PAPERS, PHASES, ROLES,
+    SOME_DEADLINES, SOME_ORDINALS, Shape, TextKind, UNUSED, USERS, VERSIONS,
 };
 use crate::tag::Tag;
 use crate::texts::{Blob, Short, Text, TwoTexts};
@@ -46,6 +48,7 @@ impl EntryKind {
             EntryKind::Commented => 15,
             EntryKind::Tagged => 16,
             EntryKind::Decided => 17,
+            EntryKind::DeadlineSet => 18,
         }
     }
 
@@ -73,6 +76,7 @@ impl EntryKind {
             15 => Some(EntryKind::Commented),
             16 => Some(EntryKind::Tagged),
             17 => Some(EntryKind::Decided),
+            18 => Some(EntryKind::DeadlineSet),
             _ => None,
         }
     }
@@ -99,6 +103,7 @@ impl EntryKind {
             EntryKind::Commented => "commented",
             EntryKind::Tagged => "tagged",
             EntryKind::Decided => "decided",
+            EntryKind::DeadlineSet => "deadlineset",
         }
     }
 
@@ -147,6 +152,7 @@ impl EntryKind {
             ),
             EntryKind::Tagged => Shape::of(PAPERS, BIT, UNUSED, TextKind::Tag, TextKind::Nothing),
             EntryKind::Decided => Shape::of_numbers(PAPERS, DECISIONS, UNUSED),
+            EntryKind::DeadlineSet => Shape::of_numbers(DEADLINE_PHASES, SOME_DEADLINES, UNUSED),
         }
     }
 }
@@ -233,6 +239,9 @@ impl Entry {
             Entry::Decided { paper, decision } => {
                 RowNumbers::of(paper.number(), decision.number(), 0)
             }
+            Entry::DeadlineSet { phase, until } => {
+                RowNumbers::of(phase.number(), number_of_until(until), 0)
+            }
         }
     }
 
@@ -267,7 +276,8 @@ impl Entry {
             | Entry::Bid { .. }
             | Entry::Assigned { .. }
             | Entry::Unassigned { .. }
-            | Entry::Decided { .. } => Ok(RowBytes::none()),
+            | Entry::Decided { .. }
+            | Entry::DeadlineSet { .. } => Ok(RowBytes::none()),
         }
     }
 }
@@ -387,6 +397,24 @@ fn label_of_number(number: u64) -> Option<Ordinal>
     } else {
         Some(Ordinal::new(number))
     }
+}
+
+/// The number that rows tell of a deadline that may be none: its seconds, or 0.
+fn number_of_until(until: &Option<Deadline>) -> u64
+    ensures { result ≡ until_number until.now }
+{
+    match until {
+        Some(until) => until.seconds(),
+        None => 0,
+    }
+}
+
+/// The deadline of a number from 0 to 253,402,207,200: none for 0.
+fn until_of_number(number: u64) -> Option<Deadline>
+    requires { number ≤ 253402207200 }
+    ensures { result ≡ until_numbered number }
+{
+    Deadline::new(number)
 }
 
 /// The moment of so many seconds, where there is one.
@@ -521,6 +549,10 @@ fn entry_from(kind: EntryKind, row: &Row) -> Result<Option<Entry>, AllocError>
         EntryKind::Decided => {
             let paper = PaperNo::new(row.n1);
             Ok(Decision::from_number(row.n2).map(|decision| Entry::Decided { paper, decision }))
+        }
+        EntryKind::DeadlineSet => {
+            let until = until_of_number(row.n2);
+            Ok(Phase::from_number(row.n1).map(|phase| Entry::DeadlineSet { phase, until }))
         }
     }
 }

@@ -3,6 +3,7 @@ ghost use Rattle.std.specs.Prelude.{◌≡◌, ◌↔◌, IsTrue};
 ghost use Rattle.cr_base.specs.Shapes.{FitsShape, FitsStamp, stamp_in, HasText, InRange, IsAtMost};
 
 use crate::bid::HIGHEST_RAISED;
+use crate::deadline::LAST_DEADLINE;
 use crate::moment::LAST_MOMENT;
 use crate::numbers::{HIGHEST_GRADE, LAST_NUMBER, MOST_LABELS};
 use crate::row::Row;
@@ -118,6 +119,18 @@ pub(crate) const GRADES: Range = Range {
 pub(crate) const DECISIONS: Range = Range {
     low: 1,
     high: Some(2),
+};
+
+/// The phases that may have a deadline.
+pub(crate) const DEADLINE_PHASES: Range = Range {
+    low: 1,
+    high: Some(4),
+};
+
+/// Deadlines, and 0 where there is none.
+pub(crate) const SOME_DEADLINES: Range = Range {
+    low: 0,
+    high: Some(LAST_DEADLINE),
 };
 
 pub(crate) const BIT: Range = Range {

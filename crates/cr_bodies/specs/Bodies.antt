@@ -9,6 +9,7 @@ use Rattle.cr_bodies.specs.Field.{digest_under, flag_under, grade_under, kind_un
 use Rattle.cr_bodies.specs.Field.{mode_under, name_under, names_under, phase_under}
 use Rattle.cr_bodies.specs.Field.{review_text_under, role_under, title_under, user_under}
 use Rattle.cr_bodies.specs.Json.{json_of}
+use Rattle.cr_bodies.specs.Until.{deadline_phase_under, until_under}
 use Rattle.cr_base.specs.declared.ask.Ask.{Ask}
 use Rattle.cr_base.specs.declared.ask.Ask.TheVariants as asks
 
@@ -29,6 +30,10 @@ command_in asks.SetMode paper d = do
 command_in asks.SetPhase paper d = do
   phase ← phase_under (codes "phase") d
   Some (commands.SetPhase phase)
+command_in asks.SetDeadline paper d = do
+  phase ← deadline_phase_under (codes "phase") d
+  until ← until_under (codes "until") d
+  Some (commands.SetDeadline phase until)
 command_in asks.Submit paper d = do
   title ← title_under (codes "title") d
   abstract ← abstract_under (codes "abstract") d
@@ -64,6 +69,7 @@ command_in asks.Decide paper d = do
   Some (commands.Decide paper decision)
 command_in asks.Accounts paper d = None
 command_in asks.Phase paper d = None
+command_in asks.Deadlines paper d = None
 command_in asks.AcceptedPapers paper d = None
 command_in asks.Page paper d = None
 command_in asks.Withdraw paper d = None

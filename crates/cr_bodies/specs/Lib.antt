@@ -1,5 +1,6 @@
 pub mod Secret
 pub mod Field
+pub mod Until
 pub mod Json
 pub mod Bodies
 pub mod Credentials

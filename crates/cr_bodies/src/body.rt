@@ -12,6 +12,7 @@ ghost use Rattle.cr_bodies.specs.Bodies.{command_in as command_in_text, command_
 use crate::field::{
     Grammar, bid, decision, digest, flag, grade, kind, mode, name, names, phase, role, tested, user,
 };
+use crate::until::{deadline_phase, until};
 use cr_base::{Ask, Command, DecodeError, Form, PaperNo, Text};
 use serde_json::Value;
 use std::alloc::Global;
@@ -45,6 +46,16 @@ fn naming(body: &Value) -> Result<Command, DecodeError>
     let user = user(body, "name")?;
     let role = role(body, "role")?;
     Ok(Command::Name { user, role })
+}
+
+/// The deadline that a JSON value tells.
+fn deadline(body: &Value) -> Result<Command, DecodeError>
+    ensures told { Decodes result (command_in_text Ask.SetDeadline None (view body.now)) }
+    ensures bounded { IfOk result IsBoundedCommand }
+{
+    let phase = deadline_phase(body, "phase")?;
+    let until = until(body, "until")?;
+    Ok(Command::SetDeadline { phase, until })
 }
 
 /// The submission that a JSON value tells.
@@ -163,6 +174,7 @@ fn command_in(
             let phase = phase(body, "phase")?;
             Ok(Command::SetPhase { phase })
         }
+        Ask::SetDeadline => deadline(body),
         Ask::Submit => submission(alloc, body),
         Ask::Revise => revision(alloc, paper, body),
         Ask::SetConflict => conflict(paper, body),
@@ -175,7 +187,7 @@ fn command_in(
             Ok(Command::Decide { paper, decision })
         }
         Ask::Accounts | Ask::Phase | Ask::AcceptedPapers => Err(DecodeError::Malformed),
-        Ask::Page | Ask::Me | Ask::Search => Err(DecodeError::Malformed),
+        Ask::Deadlines | Ask::Page | Ask::Me | Ask::Search => Err(DecodeError::Malformed),
         Ask::Withdraw | Ask::Content | Ask::Upload | Ask::Version => Err(DecodeError::Malformed),
         Ask::Unassign | Ask::Reviews | Ask::Comments => Err(DecodeError::Malformed),
         Ask::Tag | Ask::Untag => Err(DecodeError::Malformed),

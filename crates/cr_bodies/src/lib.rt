@@ -5,8 +5,11 @@ mod body;
 mod bytes;
 mod credentials;
 mod field;
+mod laws;
 mod secret;
+mod until;
 
 pub use body::read_command;
 pub use bytes::{after_first, before_first};
 pub use credentials::{Credentials, read_credentials};
+pub use laws::law_deadlines_read;

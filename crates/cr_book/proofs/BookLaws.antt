@@ -41,6 +41,7 @@ pub record IsOther (query : Query) : Type 0 where
 pub asker-there : (h : History) (caller : Option ℕ) (query : Query) → IsOther query → MayAsk h (needs_login (view None h) query) caller → HasAsker caller query
 asker-there h caller queries.Accounts other may = tt
 asker-there h caller queries.Phase other may = tt
+asker-there h caller queries.Deadlines other may = tt
 asker-there h caller queries.AcceptedPapers other may = tt
 asker-there h caller (queries.Page paper) other may = tt
 asker-there h caller (queries.Content paper) other may = tt

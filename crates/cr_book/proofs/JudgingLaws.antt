@@ -1,5 +1,5 @@
 -- The rows of a bulk, judged one behind another.
-use Rattle.std.proofs.Common.{ℕ, Bool, true, false, ◌≡◌, ◌<◌, ◌≤◌, ◌+◌, ◌-◌, List, [], ◌∷◌, ◌++◌, length, drop, get_or, suc, arith, refl, sym, ap, subst, ◌∙◌, append_assoc, append-nil, IfOk, Some, Ok, Err, Result}
+use Rattle.std.proofs.Common.{ℕ, Bool, true, false, ◌≡◌, ◌<◌, ◌≤◌, ◌+◌, ◌-◌, List, [], ◌∷◌, ◌++◌, length, drop, get_or, suc, arith, refl, sym, ap, subst, ◌∙◌, append_assoc, append-nil, Some, Ok, Err, Result}
 use Rattle.std.specs.Prelude.{map, nat_lt}
 use Rattle.std.proofs.lemmas.Bool.Decides.{nat_tests}
 use Rattle.std.proofs.lemmas.List.{drop_more, length-drop, length-map, drop_all}
@@ -16,10 +16,9 @@ use Rattle.cr_base.specs.Drawn.{Drawn, stamped, grouped}
 use Rattle.cr_base.specs.History.{History}
 use Rattle.cr_base.specs.Tables.{Tables, tables_after, tables_from}
 use Rattle.cr_base.specs.Sources.{facts_of_tables, shown_in_tables}
-use Rattle.cr_base.specs.Bulk.{IsRowCommand}
 use Rattle.cr_judge.specs.Rows.{AreEarlier, group_or_rule, row_group, row_judged_at}
 use Rattle.cr_book.specs.BulkRebuilding.{caller_judged, unfinished, row_judged_behind}
-use Rattle.cr_book.proofs.OpeningBulks.{row_command-of_row, rows-drawn, whole-group, map-more}
+use Rattle.cr_book.proofs.OpeningBulks.{rows-drawn, whole-group, map-more}
 
 -- the entries of rows behind which these are left
 abbrev pub grouped_before : Stamp → List BulkRow → List Entry → History
@@ -168,10 +167,6 @@ pub index-all : (t : Tables) (stamp : Stamp) (i : ℕ) (rows : List BulkRow) (it
 index-all t stamp i rows items all so = so-far-all t stamp (i + 1) rows items (subst (λ (left : List BulkRow). SoFar t stamp rows (i + 1) left items) (drop_all i rows all) so)
 
 -- ---- one row by its command
-
-pub command-of_row : (row : BulkRow) (r : Result Command Rule) → r ≡ row_command row → IfOk r (λ command. IsRowCommand command)
-command-of_row row (Ok command) is = row_command-of_row row command (sym is)
-command-of_row row (Err rule) is = tt
 
 pub judged-command : (t : Tables) (earlier : History) (stamp : Stamp) (row : BulkRow) (command : Command) (result : Result Entry Rule) → Ok command ≡ row_command row
     → row_group stamp result ≡ group_or_rule (row_judged_at (tables_from t earlier) stamp command) → row_group stamp result ≡ group_or_rule (row_judged_behind t earlier stamp row)

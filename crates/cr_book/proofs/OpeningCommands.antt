@@ -12,11 +12,11 @@ use Rattle.cr_base.specs.declared.command.Call.{Call}
 use Rattle.cr_base.specs.declared.command.Command.{Command}
 use Rattle.cr_base.specs.declared.command.Command.TheVariants as commands
 use Rattle.cr_base.specs.declared.command.Command.TheVariants.{Register, SetPhase, Submit, Revise, Upload, Withdraw, Name, SetMode, SetConflict}
-use Rattle.cr_base.specs.declared.command.Command.TheVariants.{Assign, Unassign, Review, Comment, Tag, Decide}
+use Rattle.cr_base.specs.declared.command.Command.TheVariants.{Assign, Unassign, Review, Comment, Tag, Decide, SetDeadline}
 use Rattle.cr_base.specs.declared.entry.Entry.{Entry}
 use Rattle.cr_base.specs.declared.entry.Entry.TheVariants as entries
 use Rattle.cr_base.specs.declared.entry.Entry.TheVariants.{Registered, Named, PhaseSet, ModeSet, Submitted, Revised, Uploaded, Withdrawn, Conflict}
-use Rattle.cr_base.specs.declared.entry.Entry.TheVariants.{Assigned, Unassigned, Reviewed, Commented, Tagged, Decided}
+use Rattle.cr_base.specs.declared.entry.Entry.TheVariants.{Assigned, Unassigned, Reviewed, Commented, Tagged, Decided, DeadlineSet}
 use Rattle.cr_base.specs.declared.entry.Stamp.{Stamp}
 use Rattle.cr_base.specs.declared.entry.Stamped.{Stamped}
 use Rattle.cr_base.specs.declared.form.Form.{Form}
@@ -28,6 +28,7 @@ use Rattle.cr_base.specs.declared.standing.Standing.{Standing}
 use Rattle.cr_base.specs.declared.words.Decision.{Decision}
 use Rattle.cr_base.specs.declared.words.Mode.{Mode}
 use Rattle.cr_base.specs.declared.words.Phase.{Phase}
+use Rattle.cr_base.specs.declared.words.Phase.TheVariants.{Setup, Submission, Bidding, Reviewing, Discussion, Notification, Closed}
 use Rattle.cr_base.specs.declared.words.Role.{Role}
 use Rattle.cr_base.specs.declared.words.Role.TheVariants as roles
 use Rattle.cr_base.specs.Accounts.{lines_of}
@@ -38,26 +39,28 @@ use Rattle.cr_base.specs.History.{History, Registration, all_told, registration_
 use Rattle.cr_base.specs.Judging.{judge_by_role}
 use Rattle.cr_base.specs.Calls.{call_by, stamp_of}
 use Rattle.cr_base.specs.Drawn.{Drawn, besides, stamped, grouped, registration_drawn, phase_drawn, submission_drawn, revision_drawn, upload_drawn, withdrawal_drawn, naming_drawn, mode_drawn}
-use Rattle.cr_base.specs.Drawn.{bid_drawn, review_drawn, comment_drawn, decision_drawn}
+use Rattle.cr_base.specs.Drawn.{bid_drawn, review_drawn, comment_drawn, decision_drawn, deadline_drawn}
 use Rattle.cr_base.specs.Lists.{is_nothing, listed}
 use Rattle.cr_base.specs.Logins.{command_wants_login}
 use Rattle.cr_base.specs.Papers.{own_bytes, uploads_at}
 use Rattle.cr_base.specs.Seats.{ordinal_in}
-use Rattle.cr_base.specs.Sources.{Facts, number_in, paper_named, role_among, shown_in_tables, users_among, facts_of_tables, standing_at}
+use Rattle.cr_base.specs.Sources.{Facts, is_late, number_in, paper_named, role_among, shown_in_tables, users_among, facts_of_tables, standing_at}
 use Rattle.cr_base.specs.Sources.{own_forms_in}
 use Rattle.cr_base.specs.Talk.{comments_in, comment_as_told, own_comments_in}
 use Rattle.cr_base.specs.Checks.{Check, NamedPaper, judged, of_role, register_checks, phase_checks, submit_checks, revise_checks, upload_checks, name_checks, mode_checks}
-use Rattle.cr_base.specs.Checks.{bid_checks, review_checks, comment_checks, decide_checks}
+use Rattle.cr_base.specs.Checks.{bid_checks, review_checks, comment_checks, decide_checks, deadline_checks}
 use Rattle.cr_base.specs.Texts.{IsTitle, IsAbstract}
 use Rattle.cr_base.proofs.CheckLaws.{judged-Ok, judged-none}
 use Rattle.cr_book.proofs.OpeningAuthors.{new-besides, found-back, none-missing, all-listed, coauthors, grouped-cons, numbers, begin-first, told-first, open-rest, same-begin, IsNumber, bounded-numbers, Rebuilt, rebuilt, Become, become}
 use Rattle.cr_book.proofs.OpeningNames.{AreNamedOnce, named, found_by_name}
 use Rattle.cr_book.proofs.OpeningBulks.{none_some, some_is, with-name, row-judges, told-of_row, drawn-of_row, one_is}
 use Rattle.cr_book.proofs.OpeningLegal.{MayAdd}
-use Rattle.cr_base.specs.Rows.{rows_of, IsBoundedEntry}
+use Rattle.cr_base.specs.Rows.{rows_of, until_number, IsBoundedEntry}
+use Rattle.cr_base.specs.Deadlines.{last_deadline, IsDeadline, IsDeadlineOrNone}
+use Rattle.cr_base.specs.Phases.{may_have_deadline}
 use Rattle.cr_base.specs.Shapes.{FitsStamp}
 use Rattle.cr_base.specs.Tables.{Tables, tables_of}
-use Rattle.cr_base.specs.Words.{role_number, is_member}
+use Rattle.cr_base.specs.Words.{phase_number, role_number, is_member}
 use Rattle.cr_base.proofs.AccountLaws.{number_in-lines_of}
 use Rattle.cr_base.proofs.ListLaws.{name_in-lines_of}
 use Rattle.cr_policy.specs.Judge.{judge}
@@ -134,16 +137,16 @@ module _ (t : Tables) (once : AreNamedOnce t.accounts) (stamp : Stamp) (known : 
   -- what is judged of a submission whose co-authors these users are
   abbrev judged_of : List ℕ → List ℕ → List (Option ℕ) → Result Drawn Rule
   judged_of title abstract users =
-      judged (submit_checks (list_any is_none users) (facts.standing None) (length facts.papers) facts.own_papers) (submission_drawn stamp next_paper title abstract (flat_map listed users))
+      judged (submit_checks (list_any is_none users) (facts.standing None) (length facts.papers) facts.own_papers (is_late facts stamp.at)) (submission_drawn stamp next_paper title abstract (flat_map listed users))
 
   -- where it is accepted with some, it is with any who are there
   accepted-with : (title abstract : List ℕ) (users : List (Option ℕ)) (others : List ℕ) → judged_of title abstract users ≡ Ok drawn
       → judged_of title abstract (map (λ (u : ℕ). Some u) others) ≡ Ok (submission_drawn stamp next_paper title abstract others)
   accepted-with title abstract users others accepted =
-      let k = judged-Ok (submit_checks (list_any is_none users) (facts.standing None) (length facts.papers) facts.own_papers) (submission_drawn stamp next_paper title abstract (flat_map listed users)) drawn accepted in
+      let k = judged-Ok (submit_checks (list_any is_none users) (facts.standing None) (length facts.papers) facts.own_papers (is_late facts stamp.at)) (submission_drawn stamp next_paper title abstract (flat_map listed users)) drawn accepted in
       let some : List (Option ℕ) = map (λ (u : ℕ). Some u) others in
-      ap (λ (us : List ℕ). judged (submit_checks (list_any is_none some) (facts.standing None) (length facts.papers) facts.own_papers) (submission_drawn stamp next_paper title abstract us)) (all-listed others)
-      ∙ judged-none (submit_checks (list_any is_none some) (facts.standing None) (length facts.papers) facts.own_papers) (submission_drawn stamp next_paper title abstract others) (none-missing others, k.0.1)
+      ap (λ (us : List ℕ). judged (submit_checks (list_any is_none some) (facts.standing None) (length facts.papers) facts.own_papers (is_late facts stamp.at)) (submission_drawn stamp next_paper title abstract us)) (all-listed others)
+      ∙ judged-none (submit_checks (list_any is_none some) (facts.standing None) (length facts.papers) facts.own_papers (is_late facts stamp.at)) (submission_drawn stamp next_paper title abstract others) (none-missing others, k.0.1)
 
   submission-told : (r : Row) (behind : List Row) (title abstract : List ℕ) (authors : List (Option (List ℕ))) → length authors ≤ 19
       → judge_by_role t (call_by stamp (Submit title abstract authors)) ≡ Ok drawn
@@ -171,7 +174,7 @@ module _ (t : Tables) (once : AreNamedOnce t.accounts) (stamp : Stamp) (known : 
       first = stamped stamp (not (is_nothing (coauthors next_paper users))) e
 
       group : drawn.group ≡ grouped stamp (e ∷ coauthors next_paper users)
-      group = sym (ap (λ (d : Drawn). d.group) (judged-Ok (submit_checks (list_any is_none (users_among (lines_of t.accounts) authors)) (facts.standing None) (length facts.papers) facts.own_papers)
+      group = sym (ap (λ (d : Drawn). d.group) (judged-Ok (submit_checks (list_any is_none (users_among (lines_of t.accounts) authors)) (facts.standing None) (length facts.papers) facts.own_papers (is_late facts stamp.at))
           (submission_drawn stamp next_paper title abstract (flat_map listed (users_among (lines_of t.accounts) authors))) drawn accepted).1)
 
       begun : take (length (r ∷ behind)) (rows_of (grouped stamp (e ∷ coauthors next_paper users))) ≡ r ∷ behind
@@ -301,19 +304,23 @@ module _ (t : Tables) (rows : List Row) (drawn : Drawn) (begins : take (length r
         let one = is p in
         told-single stamp (entry p) (made (Some p)) (draws p) one.1 (judged-Ok (checks p) (draws p) drawn (sym one.0 ∙ accepted)).1 known one.2 accepted
 
+    -- whether it is too late for what the phase opens
+    abbrev late : Bool
+    late = is_late (facts_of_tables t (Some stamp.maker)) stamp.at
+
     -- how the user stands to a paper
     abbrev standing : ℕ → Standing
     standing p = standing_at t (Some stamp.maker) (Some p)
 
     revision-told : (paper : Option ℕ) (title abstract : List ℕ) → judge_by_role t (call_by stamp (Revise paper title abstract)) ≡ Ok drawn → ToldByRows t rows drawn
     revision-told paper title abstract =
-        paper-told paper (λ paper. Revise paper title abstract) (λ p. Revised p title abstract) (λ p. revise_checks (standing p) (named_paper (Some p)))
+        paper-told paper (λ paper. Revise paper title abstract) (λ p. Revised p title abstract) (λ p. revise_checks (standing p) (named_paper (Some p)) late)
         (λ p. revision_drawn stamp p title abstract) refl (λ p. (refl, refl, refl))
 
     upload-told : (paper : Option ℕ) (content : List ℕ) → judge_by_role t (call_by stamp (Upload paper content)) ≡ Ok drawn → ToldByRows t rows drawn
     upload-told paper content =
         paper-told paper (λ paper. Upload paper content) (λ p. Uploaded p (version p) content)
-        (λ p. upload_checks (standing p) (named_paper (Some p)) (own_bytes t.papers (Some stamp.maker)) (length content))
+        (λ p. upload_checks (standing p) (named_paper (Some p)) (own_bytes t.papers (Some stamp.maker)) (length content) late)
         (λ p. upload_drawn stamp p (version p) content) refl (λ p. (refl, refl, refl))
       where
         version : ℕ → ℕ
@@ -321,17 +328,17 @@ module _ (t : Tables) (rows : List Row) (drawn : Drawn) (begins : take (length r
 
     withdrawal-told : (paper : Option ℕ) → judge_by_role t (call_by stamp (Withdraw paper)) ≡ Ok drawn → ToldByRows t rows drawn
     withdrawal-told paper =
-        paper-told paper Withdraw Withdrawn (λ p. revise_checks (standing p) (named_paper (Some p)))
+        paper-told paper Withdraw Withdrawn (λ p. revise_checks (standing p) (named_paper (Some p)) late)
         (withdrawal_drawn stamp) refl (λ p. (refl, refl, refl))
 
     bid-told : (paper : Option ℕ) (value : ℕ) → judge_by_role t (call_by stamp (commands.Bid paper value)) ≡ Ok drawn → ToldByRows t rows drawn
     bid-told paper value =
-        paper-told paper (λ paper. commands.Bid paper value) (λ p. entries.Bid p value) (λ p. bid_checks (standing p) (named_paper (Some p)))
+        paper-told paper (λ paper. commands.Bid paper value) (λ p. entries.Bid p value) (λ p. bid_checks (standing p) (named_paper (Some p)) late)
         (λ p. bid_drawn stamp p value) refl (λ p. (refl, refl, refl))
 
     review-told : (paper : Option ℕ) (form : Form) → judge_by_role t (call_by stamp (Review paper form)) ≡ Ok drawn → ToldByRows t rows drawn
     review-told paper form =
-        paper-told paper (λ paper. Review paper form) (λ p. Reviewed p (ordinal p) (version p) form) (λ p. review_checks (standing p) (named_paper (Some p)))
+        paper-told paper (λ paper. Review paper form) (λ p. Reviewed p (ordinal p) (version p) form) (λ p. review_checks (standing p) (named_paper (Some p)) late)
         (λ p. review_drawn stamp p (ordinal p) (version p) form) refl (λ p. (refl, refl, refl))
       where
         ordinal : ℕ → ℕ
@@ -343,7 +350,7 @@ module _ (t : Tables) (rows : List Row) (drawn : Drawn) (begins : take (length r
     comment-told : (paper : Option ℕ) (text : List ℕ) → judge_by_role t (call_by stamp (Comment paper text)) ≡ Ok drawn → ToldByRows t rows drawn
     comment-told paper text =
         paper-told paper (λ paper. Comment paper text) (λ p. Commented p (n p) (ordinal_in t.seats (Some stamp.maker) p) text)
-        (λ p. comment_checks (standing p) (named_paper (Some p)) (own_comments_in t.talk (Some stamp.maker)))
+        (λ p. comment_checks (standing p) (named_paper (Some p)) (own_comments_in t.talk (Some stamp.maker)) late)
         (λ p. comment_drawn stamp p (n p) (ordinal_in t.seats (Some stamp.maker) p) text) refl (λ p. (refl, refl, refl))
       where
         n : ℕ → ℕ
@@ -363,6 +370,12 @@ module _ (t : Tables) (rows : List Row) (drawn : Drawn) (begins : take (length r
     mode-told to accepted =
         let by = standing_at t (Some stamp.maker) None in
         told-single stamp (ModeSet to) (SetMode to) (mode_drawn stamp to) refl (judged-Ok (mode_checks by by.phase) (mode_drawn stamp to) drawn accepted).1 known refl accepted
+
+    deadline-told : (phase : Phase) (until : Option ℕ) → judge_by_role t (call_by stamp (SetDeadline phase until)) ≡ Ok drawn → ToldByRows t rows drawn
+    deadline-told phase until accepted =
+        let by = standing_at t (Some stamp.maker) None in
+        told-single stamp (DeadlineSet phase until) (SetDeadline phase until) (deadline_drawn stamp phase until) refl
+        (judged-Ok (deadline_checks by by.phase phase) (deadline_drawn stamp phase until) drawn accepted).1 known refl accepted
 
 -- a tag is turned on, and off, by whoever is logged in
 tags-login : (paper : Option ℕ) (tag : List ℕ) (on : Bool) → command_wants_login (Tag paper tag on) ≡ true
@@ -396,6 +409,7 @@ accepted-told H call drawn r behind legal allowed accepted begins bounded = by c
     by None command is within judges = absurd is
     by (Some user) (SetPhase to) is within judges = stage-told t rows drawn begins (stamp user) (registered user is) to judges
     by (Some user) (SetMode to) is within judges = mode-told t rows drawn begins (stamp user) (registered user is) to judges
+    by (Some user) (SetDeadline phase until) is within judges = deadline-told t rows drawn begins (stamp user) (registered user is) phase until judges
     by (Some user) (Submit title abstract authors) is within judges = submission-told t (found_by_name H legal) (stamp user) (registered user is) drawn r behind title abstract authors within.2 judges begins bounded
     by (Some user) (Revise paper title abstract) is within judges = revision-told t rows drawn begins (stamp user) (registered user is) paper title abstract judges
     by (Some user) (Upload paper content) is within judges = upload-told t rows drawn begins (stamp user) (registered user is) paper content judges
@@ -447,6 +461,25 @@ member_named roles.Account h = absurd (omega (arith, h))
 member_named roles.Member h = refl
 member_named roles.Chair h = refl
 
+-- a phase whose number a deadline's row may have is one that may have a deadline
+phase_numbered-may : (phase : Phase) → 1 ≤ phase_number phase → phase_number phase ≤ 4 → may_have_deadline phase ≡ true
+phase_numbered-may Setup low high = absurd (omega (arith, low))
+phase_numbered-may Submission low high = refl
+phase_numbered-may Bidding low high = refl
+phase_numbered-may Reviewing low high = refl
+phase_numbered-may Discussion low high = refl
+phase_numbered-may Notification low high = absurd (omega (arith, high))
+phase_numbered-may Closed low high = absurd (omega (arith, high))
+
+-- and a deadline whose number it may have is within the bounds of one
+until_numbered-within : (until : Option ℕ) → until_number until ≤ last_deadline → IsDeadlineOrNone until
+until_numbered-within None high = tt
+until_numbered-within (Some n) high = by (eqb n 0) refl high
+  where
+    by : (b : Bool) → eqb n 0 ≡ b → cond b 253402207201 n ≤ last_deadline → IsDeadline n
+    by true none high = absurd (omega (arith, high))
+    by false some high = let low : 1 ≤ n = grind (arith, nat_tests, some) in (low, high)
+
 module _ (H : History) (legal : Legal H) where
   abbrev t : Tables
   t = tables_of H
@@ -491,6 +524,9 @@ module _ (H : History) (legal : Legal H) where
       → IsAllowed H (call_by stamp command)
   user-allowed authors stamp more (PhaseSet to) command bounded made told = same-allowed stamp bounded.stamp (SetPhase to) command told made tt
   user-allowed authors stamp more (ModeSet to) command bounded made told = same-allowed stamp bounded.stamp (SetMode to) command told made tt
+  user-allowed authors stamp more (DeadlineSet phase until) command bounded made told =
+      same-allowed stamp bounded.stamp (SetDeadline phase until) command told made
+      (phase_numbered-may phase bounded.n1.0 bounded.n1.1, until_numbered-within until bounded.n2.1)
   user-allowed authors stamp more (Submitted paper title abstract) command bounded made told =
       submission-allowed stamp bounded.stamp title abstract authors command bounded.b1 bounded.b2 made told
   user-allowed authors stamp more (Revised paper title abstract) command bounded made told =

@@ -1,5 +1,5 @@
 -- Whether the entry of a bulk's row is what its command draws, by the tables before the bulk.
-use Rattle.std.proofs.Common.{ℕ, Bool, ◌≡◌, List, [], ◌∷◌, ◌++◌, refl, sym, ap, subst, ◌∙◌, arith, Option, Some, None, Ok, Err}
+use Rattle.std.proofs.Common.{ℕ, Bool, ◌≡◌, List, [], ◌∷◌, ◌++◌, refl, sym, ap, subst, ◌∙◌, arith, Some, None, Ok, Err}
 use Rattle.std.specs.Option.{option_map}
 use Rattle.cr_base.specs.declared.command.Command.{Command}
 use Rattle.cr_base.specs.declared.command.Command.TheVariants.{SetConflict, Assign, Unassign}
@@ -18,11 +18,11 @@ use Rattle.cr_base.specs.Rows.{kind_number, kind_of, row_of, shape_of, IsBounded
 use Rattle.cr_base.specs.Shapes.{FitsShape}
 use Rattle.cr_base.specs.Tables.{Tables, tables_after, tables_from}
 use Rattle.cr_base.proofs.RowLaws.{same_entry}
-use Rattle.cr_base.specs.Bulk.{IsRowCommand, IsRowEntry}
+use Rattle.cr_base.specs.Bulk.{IsRowEntry}
 use Rattle.cr_judge.specs.Rows.{AreEarlier, AreRowEntries, group_or_rule, row_group, row_judged_at}
 use Rattle.cr_book.specs.BulkRebuilding.{row_command_told, IsDrawn, IsTried}
 use Rattle.cr_book.proofs.JudgingLaws.{drawn-group, drawn-rule}
-use Rattle.cr_book.proofs.OpeningBulks.{none_some, some_is, one_is, err_ok, ok_is, drawn-of_row}
+use Rattle.cr_book.proofs.OpeningBulks.{none_some, some_is, one_is, err_ok, ok_is}
 
 -- ---- the tables behind the entries that are begun
 
@@ -50,9 +50,6 @@ same-told s t e same = refl
 
 told-behind : (t : Tables) (begun : History) (e : Entry) → AreEarlier t begun → row_command_told (tables_from t begun) e ≡ row_command_told t e
 told-behind t begun e earlier = same-told (tables_from t begun) t e (accounts-from t begun earlier.rows)
-
-pub told-of-row : (t : Tables) (e : Entry) (o : Option Command) → o ≡ row_command_told t e → (command : Command) → o ≡ Some command → IsRowCommand command
-told-of-row t e o is command some = drawn-of_row t e command (sym is ∙ some)
 
 -- ---- an entry with the same row
 

@@ -30,7 +30,7 @@ use Rattle.cr_base.specs.Phases.{committee_works, authors_have_declared, conflic
 use Rattle.cr_base.specs.Reviews.{is_written_in}
 use Rattle.cr_base.specs.Rows.{IsBoundedEntry}
 use Rattle.cr_base.specs.Seats.{labels_in, ordinal_in}
-use Rattle.cr_base.specs.Sources.{facts_of_tables, shown_in_tables, standing_at, paper_named, target_named, role_among, user_among}
+use Rattle.cr_base.specs.Sources.{facts_of_tables, is_late, shown_in_tables, standing_at, paper_named, target_named, role_among, user_among}
 use Rattle.cr_base.specs.TagTexts.{is_for_chairs}
 use Rattle.cr_base.specs.Tables.{Tables, tables_after}
 use Rattle.cr_base.specs.Ties.{authors_in, is_author_in, is_conflicted_in, pair_of, bare_tie, switched}
@@ -71,10 +71,10 @@ at-work t user may =
     let k = judged-Ok (bulk_checks (standing_at t (Some user) None)) tt tt (may-parts t user may).1 in
     record { chair = k.0.0; phase = k.0.1.0 }
 
-committee : (bidding late : Bool) → not (bidding && not late) ≡ false → (bidding ≡ true) × (late ≡ false)
+committee : (declared final : Bool) → not (declared && not final) ≡ false → (declared ≡ true) × (final ≡ false)
 committee true true h = absurd (true≢false h)
 committee true false h = (refl, refl)
-committee false late h = absurd (true≢false h)
+committee false final h = absurd (true≢false h)
 
 chairs-member : (r : Role) → not (is_chair r) ≡ false → not (is_member r) ≡ false
 chairs-member roles.Account h = h
@@ -89,12 +89,12 @@ not-for false chair h = refl
 -- ---- the paper of a row that is accepted
 
 -- a conflict of another's, turned in the committee's phases, is turned by a clear chair, of a paper that isn't withdrawn
-case-clear : (on bidding late : Bool) (by : Standing) (withdrawn : Bool) (target : Target) → bidding ≡ true → late ≡ false → target.herself ≡ false
-    → NoneBroken (conflict_case on bidding late by withdrawn target) → (by.conflicted ≡ false) × (withdrawn ≡ false)
-case-clear false bidding late by withdrawn target from before other none = (none.1.0, none.1.1.1.0)
-case-clear true false late by withdrawn target from before other none = absurd (true≢false (sym from))
-case-clear true true true by withdrawn target from before other none = absurd (true≢false before)
-case-clear true true false by withdrawn target from before other none =
+case-clear : (on declared final : Bool) (by : Standing) (withdrawn : Bool) (target : Target) (late : Bool) → declared ≡ true → final ≡ false → target.herself ≡ false
+    → NoneBroken (conflict_case on declared final by withdrawn target late) → (by.conflicted ≡ false) × (withdrawn ≡ false)
+case-clear false declared final by withdrawn target late from before other none = (none.1.0, none.1.1.1.0)
+case-clear true false final by withdrawn target late from before other none = absurd (true≢false (sym from))
+case-clear true true true by withdrawn target late from before other none = absurd (true≢false before)
+case-clear true true false by withdrawn target late from before other none =
     let k = subst (λ (b : Bool). NoneBroken (cond b (own_checks by withdrawn) (other_checks by withdrawn target))) other none in
     (k.1.0, k.1.1.0)
 
@@ -105,6 +105,9 @@ module _ (t : Tables) (stamp : Stamp) (work : IsAtWork t stamp.maker) where
   abbrev named : Option ℕ → NamedPaper
   named paper = paper_named (facts_of_tables t (Some stamp.maker)) (shown_in_tables t) paper
 
+  abbrev late : Bool
+  late = is_late (facts_of_tables t (Some stamp.maker)) stamp.at
+
   abbrev target_of : ℕ → Option ℕ → Option Target
   target_of p target = target_named (facts_of_tables t (Some stamp.maker)) (shown_in_tables t) (Some stamp.maker) (Some p) target
 
@@ -112,7 +115,7 @@ module _ (t : Tables) (stamp : Stamp) (work : IsAtWork t stamp.maker) where
       → judge_by_role t (call_by stamp (SetConflict (Some p) (Some name) on)) ≡ Ok drawn → IsClear t stamp.maker p
   conflict-clear p name on drawn other accepted =
       let target : Option ℕ = user_among (lines_of t.accounts) (Some name) in
-      let k = judged-Ok (conflict_checks (stands (Some p)) (named (Some p)) (target_of p target) on) (conflict_drawn stamp p (unwrap_or target 0) on) drawn accepted in
+      let k = judged-Ok (conflict_checks (stands (Some p)) (named (Some p)) (target_of p target) on late) (conflict_drawn stamp p (unwrap_or target 0) on) drawn accepted in
       let both = by (role_among (lines_of t.accounts) target) k.0.1.0 k.0.1.1 in
       record { there = k.0.0; clear = both.0; standing = both.1 }
     where
@@ -127,11 +130,11 @@ module _ (t : Tables) (stamp : Stamp) (work : IsAtWork t stamp.maker) where
       phases = committee (authors_have_declared t.stage.phase) (conflicts_are_final t.stage.phase) work.phase
 
       by : (role : Option Role) → is_none (option_map asked role) ≡ false
-          → NoneBroken (about (option_map asked role) (λ (user : Target). conflict_case on (authors_have_declared t.stage.phase) (conflicts_are_final t.stage.phase) (stands (Some p)) (is_withdrawn_at t.papers p) user))
+          → NoneBroken (about (option_map asked role) (λ (user : Target). conflict_case on (authors_have_declared t.stage.phase) (conflicts_are_final t.stage.phase) (stands (Some p)) (is_withdrawn_at t.papers p) user late))
           → (is_conflicted_in t.ties (Some stamp.maker) p ≡ false) × (is_withdrawn_at t.papers p ≡ false)
       by None there none = absurd (true≢false there)
       by (Some role) there none =
-          case-clear on (authors_have_declared t.stage.phase) (conflicts_are_final t.stage.phase) (stands (Some p)) (is_withdrawn_at t.papers p) (asked role) phases.0 phases.1 other none
+          case-clear on (authors_have_declared t.stage.phase) (conflicts_are_final t.stage.phase) (stands (Some p)) (is_withdrawn_at t.papers p) (asked role) late phases.0 phases.1 other none
 
   assign-clear : (p : ℕ) (name : List ℕ) (kind : Kind) (drawn : Drawn) → judge_by_role t (call_by stamp (Assign (Some p) (Some name) kind)) ≡ Ok drawn → IsClear t stamp.maker p
   assign-clear p name kind drawn accepted =
@@ -188,7 +191,7 @@ drawn-clear t stamp e may bounded d = absurd (none_some d.command d.told)
 
 -- a row's conflict is another user's
 other-user : (t : Tables) (stamp : Stamp) (p v : ℕ) (on : Bool) → IsDrawn t stamp (Conflict p v on) → eqb v stamp.maker ≡ false
-other-user t stamp p v on d = by target refl (judged-Ok (conflict_checks _ _ (target_named (facts_of_tables t (Some stamp.maker)) (shown_in_tables t) (Some stamp.maker) (Some p) target) on) (conflict_drawn stamp p (unwrap_or target 0) on) d.drawn k.1)
+other-user t stamp p v on d = by target refl (judged-Ok (conflict_checks _ _ (target_named (facts_of_tables t (Some stamp.maker)) (shown_in_tables t) (Some stamp.maker) (Some p) target) on _) (conflict_drawn stamp p (unwrap_or target 0) on) d.drawn k.1)
   where
     name : (name : List ℕ) × (name_told t v ≡ Some name) × (SetConflict (Some p) (Some name) on ≡ d.command)
     name = with-name (name_told t v) (λ name. SetConflict (Some p) (Some name) on) d.command d.told
@@ -202,7 +205,7 @@ other-user t stamp p v on d = by target refl (judged-Ok (conflict_checks _ _ (ta
     conflict_is : (w : ℕ) → Conflict p w on ∷ [] ≡ Conflict p v on ∷ [] → w ≡ v
     conflict_is w e = cc (e)
 
-    by : (o : Option ℕ) → target ≡ o → NoneBroken (conflict_checks (standing_at t (Some stamp.maker) (Some p)) (paper_named (facts_of_tables t (Some stamp.maker)) (shown_in_tables t) (Some p)) (target_named (facts_of_tables t (Some stamp.maker)) (shown_in_tables t) (Some stamp.maker) (Some p) target) on)
+    by : (o : Option ℕ) → target ≡ o → NoneBroken (conflict_checks (standing_at t (Some stamp.maker) (Some p)) (paper_named (facts_of_tables t (Some stamp.maker)) (shown_in_tables t) (Some p)) (target_named (facts_of_tables t (Some stamp.maker)) (shown_in_tables t) (Some stamp.maker) (Some p) target) on (is_late (facts_of_tables t (Some stamp.maker)) stamp.at))
         × (conflict_drawn stamp p (unwrap_or target 0) on ≡ d.drawn) → eqb v stamp.maker ≡ false
     by None is kept = absurd (true≢false (ap (λ (o : Option ℕ). is_none (target_named (facts_of_tables t (Some stamp.maker)) (shown_in_tables t) (Some stamp.maker) (Some p) o)) (sym is) ∙ kept.0.1.0))
     by (Some w) is kept =

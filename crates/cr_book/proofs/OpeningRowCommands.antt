@@ -19,7 +19,7 @@ use Rattle.cr_base.specs.Judging.{judge_by_role}
 use Rattle.cr_base.specs.Lists.{at_some}
 use Rattle.cr_base.specs.Reviews.{is_written_in}
 use Rattle.cr_base.specs.Seats.{labels_in, ordinal_in}
-use Rattle.cr_base.specs.Sources.{paper_named, target_named, user_among, facts_of_tables, shown_in_tables, standing_at}
+use Rattle.cr_base.specs.Sources.{is_late, paper_named, target_named, user_among, facts_of_tables, shown_in_tables, standing_at}
 use Rattle.cr_base.specs.TagTexts.{is_for_chairs}
 use Rattle.cr_base.specs.Tables.{Tables}
 use Rattle.cr_base.proofs.AccountLaws.{number_in-lines_of}
@@ -88,7 +88,7 @@ module _ (t : Tables) (stamp : Stamp) where
     conflict on = record {
       made = λ paper name. SetConflict paper name on;
       entry = λ p v. Conflict p v on;
-      checks = λ paper target. conflict_checks (standing_at t (Some stamp.maker) paper) (named_paper paper) (named_user paper target) on;
+      checks = λ paper target. conflict_checks (standing_at t (Some stamp.maker) paper) (named_paper paper) (named_user paper target) on (is_late (facts_of_tables t (Some stamp.maker)) stamp.at);
       draws = λ paper target. conflict_drawn stamp (unwrap_or paper 0) (unwrap_or target 0) on;
       judges = λ paper name. refl;
       no_paper = λ target none. true≢false none.0;

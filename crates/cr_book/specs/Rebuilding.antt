@@ -12,7 +12,7 @@ use Rattle.cr_base.specs.declared.entry.Entry.{Entry}
 use Rattle.cr_base.specs.declared.entry.Entry.TheVariants.{Registered, Named, PhaseSet, ModeSet, Submitted}
 use Rattle.cr_base.specs.declared.entry.Entry.TheVariants.{Revised, Uploaded, Withdrawn}
 use Rattle.cr_base.specs.declared.entry.Entry.TheVariants.{Conflict, Bid, Assigned, Unassigned}
-use Rattle.cr_base.specs.declared.entry.Entry.TheVariants.{Reviewed, Commented, Tagged, Decided}
+use Rattle.cr_base.specs.declared.entry.Entry.TheVariants.{Reviewed, Commented, Tagged, Decided, DeadlineSet}
 use Rattle.cr_base.specs.declared.entry.Stamped.{Stamped}
 use Rattle.cr_base.specs.declared.row.Row.{Row}
 use Rattle.cr_base.specs.Accounts.{account_at}
@@ -98,6 +98,7 @@ paper_command_told t e = target_command_told t e
 abbrev pub user_command_told : Tables → List (Option (List ℕ)) → Entry → Option Command
 user_command_told t authors (PhaseSet phase) = Some (commands.SetPhase phase)
 user_command_told t authors (ModeSet mode) = Some (commands.SetMode mode)
+user_command_told t authors (DeadlineSet phase until) = Some (commands.SetDeadline phase until)
 user_command_told t authors (Submitted paper title abstract) =
     if nat_le (length authors) 19 then Some (commands.Submit title abstract authors) else None
 user_command_told t authors e = paper_command_told t e

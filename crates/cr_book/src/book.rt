@@ -281,7 +281,8 @@ impl<K: Keeper> Book<K> {
     /// there are at most 26, `Query::Comments` a walk over the comments on the paper with a look-up each,
     /// `Query::Content` and `Query::Version` one look-up, `Query::Search` a walk over all papers, which costs each
     /// what `matches` of `cr_search_eval` does, `Query::Report` what `cr_reports` says of each report, `Query::Phase`
-    /// nothing that grows. But for a search and a letter, the length of texts and contents makes no difference.
+    /// and `Query::Deadlines` nothing that grows. But for a search and a letter, the length of texts and contents makes
+    /// no difference.
     pub fn answer(&self, caller: &Option<UserNo>, query: &Query) -> Result<Reply, AnswerError>
         requires { MayAsk self.now.log (needs_login (view None self.now.log) query.now) caller.now }
         ensures answered { AnswersAsDue result (answer caller.now (view caller.now self.now.log) query.now) }

@@ -1,16 +1,17 @@
 //! The rows of a bulk that the entries of its group come of.
-ghost use Rattle.std.specs.Prelude.{◌≡◌, ◌↔◌, ◌++◌, ◌∷◌, [], IfOk, IfSome, IsTrue, length};
+ghost use Rattle.std.specs.Prelude.{◌≡◌, ◌↔◌, ◌++◌, ◌∷◌, [], IfOk, IsTrue};
+ghost use Rattle.std.specs.Option.{option_map};
+ghost use Rattle.cr_base.specs.Bulk.{command_of_row};
 ghost use Rattle.cr_base.specs.Drawn.{stamped};
 ghost use Rattle.cr_base.specs.Rows.{row_of};
 ghost use Rattle.cr_base.specs.Tables.{tables_from};
-ghost use Rattle.cr_base.specs.Bulk.{IsRowCommand};
 ghost use Rattle.cr_judge.specs.Rows.{AreEarlier};
 ghost use Rattle.cr_book.specs.BulkRebuilding.{begins_bulk, has_room, HaveStamp};
 ghost use Rattle.cr_book.specs.BulkRebuilding.{is_of_bulk, is_of_row, may_bulk, may_go_on};
 ghost use Rattle.cr_book.specs.BulkRebuilding.{row_command_told, GoesOn, IsDrawn, IsTried};
 
-use crate::rebuilding::{is_known, paper_command_of};
-use cr_base::{Command, Entry, MOST_ROWS, Row, Stamp, Stamped, UserNo};
+use crate::rebuilding::is_known;
+use cr_base::{Entry, MOST_ROWS, Row, RowCommand, Stamp, Stamped, UserNo};
 use cr_judge::judge_row;
 use cr_view::Live;
 use std::alloc::{AllocError, Global};
@@ -74,15 +75,48 @@ fn may_go_on(live: &Live, begun: &[Stamped], next: &Stamped) -> bool
 }
 
 /// The command of the row that added the entry; none where no row did, or where it names a user who isn't there.
-fn row_command_of(live: &Live, entry: Entry) -> Option<Command>
-    ensures told { result ≡ row_command_told live.now.tables entry }
-    ensures row { IfSome result IsRowCommand }
+fn row_command_of(live: &Live, entry: Entry) -> Option<RowCommand>
+    ensures { option_map command_of_row result ≡ row_command_told live.now.tables entry }
 {
-    if !is_of_row(&entry) {
-        drop(entry);
-        return None;
+    match entry {
+        Entry::Conflict { paper, user, on } => {
+            let name = live.name_of(user)?;
+            Some(RowCommand::Conflict {
+                paper: Some(paper),
+                user: Some(name),
+                on,
+            })
+        }
+        Entry::Assigned {
+            paper,
+            user,
+            kind,
+            ..
+        } => {
+            let name = live.name_of(user)?;
+            Some(RowCommand::Assign {
+                paper: Some(paper),
+                user: Some(name),
+                kind,
+            })
+        }
+        Entry::Unassigned { paper, user, .. } => {
+            let name = live.name_of(user)?;
+            Some(RowCommand::Unassign {
+                paper: Some(paper),
+                user: Some(name),
+            })
+        }
+        Entry::Tagged { paper, tag, on } => Some(RowCommand::Tag {
+            paper: Some(paper),
+            tag,
+            on,
+        }),
+        other => {
+            drop(other);
+            None
+        }
     }
-    paper_command_of(live, entry)
 }
 
 /// Whether this is the entry's row; an error only for want of memory.

@@ -1,24 +1,16 @@
 //! What is judged of a bulk: its caller, and each row behind those before it.
 ghost use Rattle.std.specs.Prelude.{◌≡◌, ◌≤◌, ◌<◌, ◌+◌, ◌++◌, ◌∷◌, Bool, [], IfOk, IfErr, Ok, Err, length};
 ghost use Rattle.cr_base.specs.declared.bulk.Broken.TheVariants as broken;
-ghost use Rattle.cr_base.specs.Bulk.{bulk_by_role, bulk_drawn, entries_of, row_command, rows_judged, tables_basis};
+ghost use Rattle.cr_base.specs.Bulk.{bulk_by_role, bulk_drawn, entries_of, rows_judged, tables_basis};
 ghost use Rattle.cr_base.specs.Drawn.{grouped, stamped};
 ghost use Rattle.cr_base.specs.Tables.{tables_from};
-ghost use Rattle.cr_base.specs.Bulk.{IsRowCommand};
 ghost use Rattle.cr_judge.specs.Rows.{AreEarlier, group_or_rule, row_group};
 ghost use Rattle.cr_book.specs.BulkRebuilding.{row_judged_behind};
 
-use cr_base::{Broken, BulkRow, BulkRows, Command, Entry, Rule, Stamp, Stamped};
+use cr_base::{Broken, BulkRow, BulkRows, Entry, Rule, Stamp, Stamped};
+use cr_bulk::row_command;
 use cr_judge::may_bulk;
 use cr_view::Live;
-
-/// The command that a row tells, or why it tells none.
-fn command_of(row: &BulkRow) -> Result<Command, Rule>
-    ensures told { result ≡ row_command row.now }
-    ensures row { IfOk result IsRowCommand }
-{
-    cr_bulk::row_command(row)
-}
 
 /// The entry that a row draws behind those of the rows before it, or the first broken rule.
 fn judge_row(live: &Live, stamp: &Stamp, row: &BulkRow, earlier: &[Stamped]) -> Result<Entry, Rule>
@@ -28,7 +20,7 @@ fn judge_row(live: &Live, stamp: &Stamp, row: &BulkRow, earlier: &[Stamped]) -> 
     ensures next { IfOk result (λ entry. (more : Bool) → AreEarlier live.now.tables
         (earlier.now ++ stamped stamp.now more entry ∷ [])) }
 {
-    match command_of(row) {
+    match row_command(row) {
         Ok(command) => cr_judge::judge_row(live, stamp, command, earlier),
         Err(rule) => Err(rule),
     }

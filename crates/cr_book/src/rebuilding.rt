@@ -63,6 +63,7 @@ fn user_command_of(live: &Live, first: Entry, authors: ToldNames) -> Option<Comm
     match first {
         Entry::PhaseSet { phase } => Some(Command::SetPhase { phase }),
         Entry::ModeSet { mode } => Some(Command::SetMode { mode }),
+        Entry::DeadlineSet { phase, until } => Some(Command::SetDeadline { phase, until }),
         Entry::Submitted {
             title,
             abstract_,
@@ -73,7 +74,7 @@ fn user_command_of(live: &Live, first: Entry, authors: ToldNames) -> Option<Comm
 }
 
 /// The same, where the command is on a paper and names no user, or where it names one.
-pub(crate) fn paper_command_of(live: &Live, first: Entry) -> Option<Command>
+fn paper_command_of(live: &Live, first: Entry) -> Option<Command>
     ensures { result ≡ paper_command_told live.now.tables first }
 {
     match first {

@@ -5,9 +5,9 @@ ghost use Rattle.cr_base.specs.Checks.{other_checks, on_checks, off_checks};
 
 use cr_base::{Rule, Standing, Target};
 
-/// A clear member bids on a paper that is there, in the bidding.
-pub(crate) fn bid(by: &Standing, withdrawn: bool) -> Result<(), Rule>
-    ensures { result ≡ judged (bid_checks by.now (record { there = true; withdrawn = withdrawn })) tt }
+/// A clear member bids on a paper that is there, in the bidding, until it is too late.
+pub(crate) fn bid(by: &Standing, withdrawn: bool, late: bool) -> Result<(), Rule>
+    ensures { result ≡ judged (bid_checks by.now (record { there = true; withdrawn = withdrawn }) late) tt }
 {
     match by.check_eligible() {
         Ok(()) => {}
@@ -16,18 +16,24 @@ pub(crate) fn bid(by: &Standing, withdrawn: bool) -> Result<(), Rule>
     if !by.phase.bids_are_taken() {
         return Err(Rule::WrongPhase);
     }
+    if late {
+        return Err(Rule::Late);
+    }
     if withdrawn {
         return Err(Rule::Withdrawn);
     }
     Ok(())
 }
 
-/// In setup and submission: an author declares a member.
-fn declared(by: &Standing, withdrawn: bool, target: &Target) -> Result<(), Rule>
-    ensures { result ≡ judged (declare_checks by.now withdrawn target.now) tt }
+/// In setup and submission: an author declares a member, until it is too late.
+fn declared(by: &Standing, withdrawn: bool, target: &Target, late: bool) -> Result<(), Rule>
+    ensures { result ≡ judged (declare_checks by.now withdrawn target.now late) tt }
 {
     if !by.author {
         return Err(Rule::NotAuthor);
+    }
+    if late {
+        return Err(Rule::Late);
     }
     if withdrawn {
         return Err(Rule::Withdrawn);
@@ -71,11 +77,11 @@ fn other(by: &Standing, withdrawn: bool, target: &Target) -> Result<(), Rule>
 }
 
 /// On: by the phase, and whether the caller names herself.
-pub(crate) fn on(by: &Standing, withdrawn: bool, target: &Target) -> Result<(), Rule>
-    ensures { result ≡ judged (on_checks by.now withdrawn target.now) tt }
+pub(crate) fn on(by: &Standing, withdrawn: bool, target: &Target, late: bool) -> Result<(), Rule>
+    ensures { result ≡ judged (on_checks by.now withdrawn target.now late) tt }
 {
     if !by.phase.authors_have_declared() {
-        return declared(by, withdrawn, target);
+        return declared(by, withdrawn, target, late);
     }
     if by.phase.conflicts_are_final() {
         return Err(Rule::WrongPhase);

@@ -285,21 +285,22 @@ impl Ties {
     /// paper; `paper` is none where there is no such paper. Whether it is withdrawn stands in none of
     /// the ties, and no rule asks of her bids. Takes no search.
     ///
-    /// In this order: `NoPaper`, `NotMember`, `Conflict`, `WrongPhase` where it isn't the bidding,
-    /// `Withdrawn`.
+    /// In this order: `NoPaper`, `NotMember`, `Conflict`, `WrongPhase` where it isn't the bidding, `Late`
+    /// where it is too late, `Withdrawn`.
     pub fn judge_bid(
         &self,
         by: &Standing,
         paper: &Option<PaperNo>,
         withdrawn: bool,
+        late: bool,
     ) -> Result<(), Rule>
         ensures { result
-            ≡ judged (bid_checks by.now (record { there = is_some paper.now; withdrawn = withdrawn })) tt }
+            ≡ judged (bid_checks by.now (record { there = is_some paper.now; withdrawn = withdrawn }) late) tt }
     {
         if paper.is_none() {
             return Err(Rule::NoPaper);
         }
-        judging::bid(by, withdrawn)
+        judging::bid(by, withdrawn, late)
     }
 
     /// Whether the caller may turn this user's conflict with this paper on or off, or the first broken
@@ -309,10 +310,10 @@ impl Ties {
     /// paper's authors, a binary search among its conflicts, and two walks over the earlier entries, of
     /// which there are none but in a command of many parts.
     ///
-    /// First come `NoPaper` and `NoUser`. On, before the bidding: `NotAuthor`, `Withdrawn`, `NotAMember`;
-    /// from the bidding to the discussion, of herself: `NotMember`, `Withdrawn`, of another: `NotChair`,
-    /// `Conflict` where she is in conflict with the paper herself, `Withdrawn`, `NotAMember`; later:
-    /// `WrongPhase`. Off: `NotChair`, `Conflict`, `WrongPhase`, `Withdrawn`, `NotAMember`,
+    /// First come `NoPaper` and `NoUser`. On, before the bidding: `NotAuthor`, `Late` where it is too late,
+    /// `Withdrawn`, `NotAMember`; from the bidding to the discussion, of herself: `NotMember`, `Withdrawn`,
+    /// of another: `NotChair`, `Conflict` where she is in conflict with the paper herself, `Withdrawn`,
+    /// `NotAMember`; later: `WrongPhase`. Off: `NotChair`, `Conflict`, `WrongPhase`, `Withdrawn`, `NotAMember`,
     /// `AuthorConflict`.
     pub fn judge_conflict(
         &self,
@@ -323,10 +324,11 @@ impl Ties {
         on: bool,
         withdrawn: bool,
         earlier: &[Stamped],
+        late: bool,
     ) -> Result<(), Rule>
         ensures { let ties = ties_from self.now.ties earlier.now in
             result ≡ judged (conflict_checks by.now (record { there = is_some paper.now; withdrawn = withdrawn })
-            (target_of ties maker paper.now target.now) on) tt }
+            (target_of ties maker paper.now target.now) on late) tt }
     {
         let Some(paper) = paper else {
             return Err(Rule::NoPaper);
@@ -344,7 +346,7 @@ impl Ties {
             reviewer: false,
         };
         if on {
-            judging::on(by, withdrawn, &target)
+            judging::on(by, withdrawn, &target, late)
         } else {
             judging::off(by, withdrawn, &target)
         }

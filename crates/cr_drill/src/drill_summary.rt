@@ -14,7 +14,7 @@ use itoa::Buffer;
 use std::alloc::{AllocError, Global};
 
 /// The kinds of entries in the order of their numbers.
-const EVERY_KIND: [EntryKind; 17] = [
+const EVERY_KIND: [EntryKind; 18] = [
     EntryKind::Registered,
     EntryKind::Named,
     EntryKind::PhaseSet,
@@ -32,6 +32,7 @@ const EVERY_KIND: [EntryKind; 17] = [
     EntryKind::Commented,
     EntryKind::Tagged,
     EntryKind::Decided,
+    EntryKind::DeadlineSet,
 ];
 
 /// Appends a piece; an error only for lack of memory.

@@ -3,14 +3,14 @@
 use Rattle.std.proofs.Common.{ℕ, Bool, true, false, cond, ◌≡◌, ◌≤◌, ◌<◌, ◌+◌, ◌-◌, List, [], ◌∷◌, ◌++◌, length, eqb, refl, sym, ap, ◌∙◌, arith, ◌||◌, ◌&&◌, Option, Some, None}
 use Rattle.std.specs.Prelude.{nat_le, map}
 use Rattle.std.specs.List.{All, AllByRecursion, list_any}
-use Rattle.std.proofs.lemmas.Bool.{eqb-true}
+use Rattle.std.proofs.lemmas.Bool.{eqb-true, true≢false}
 use Rattle.std.proofs.lemmas.Bool.Decides.{nat_tests}
 use Rattle.std.proofs.lemmas.List.{length-map}
 use Rattle.std.proofs.lemmas.List.Elements.{All-from_recursion}
 use Rattle.cr_base.specs.declared.entry.Account.{Account}
 use Rattle.cr_base.specs.declared.entry.Entry.{Entry}
 use Rattle.cr_base.specs.declared.entry.Entry.TheVariants.{Registered, Named, PhaseSet, ModeSet, Submitted, Coauthor, Revised, Uploaded, Withdrawn}
-use Rattle.cr_base.specs.declared.entry.Entry.TheVariants.{Conflict, Bid, Assigned, Unassigned, Reviewed, Commented, Tagged, Decided}
+use Rattle.cr_base.specs.declared.entry.Entry.TheVariants.{Conflict, Bid, Assigned, Unassigned, Reviewed, Commented, Tagged, Decided, DeadlineSet}
 use Rattle.cr_base.specs.declared.entry.Stamp.{Stamp}
 use Rattle.cr_base.specs.declared.entry.Stamped.{Stamped}
 use Rattle.cr_base.specs.declared.reply.AccountLine.{AccountLine}
@@ -25,15 +25,17 @@ use Rattle.cr_base.specs.declared.words.Kind.{Kind}
 use Rattle.cr_base.specs.declared.words.Kind.TheVariants as kind
 use Rattle.cr_base.specs.declared.words.Role.TheVariants as role
 use Rattle.cr_base.specs.Accounts.{lines_from}
+use Rattle.cr_base.specs.Deadlines.{IsDeadlineOrNone, last_deadline}
 use Rattle.cr_base.specs.Drawn.{stamped, grouped, submission}
 use Rattle.cr_base.specs.HistoryFacts.{role_of, accounts_of, ordinal_of}
 use Rattle.cr_base.specs.History.{History, Registration, all_told, registration_told}
 use Rattle.cr_base.specs.Lists.{numbers_from}
 use Rattle.cr_base.specs.Moments.{IsMoment}
 use Rattle.cr_base.specs.Papers.{IsPaper}
+use Rattle.cr_base.specs.Phases.{may_have_deadline}
 use Rattle.cr_base.specs.Reviews.{forms_in, written_told}
-use Rattle.cr_base.specs.Rows.{label_number, IsBoundedEntry}
-use Rattle.cr_base.specs.Shapes.{InRange, FitsStamp, user_range, paper_range, role_range, review_kind_range, decision_range, ordinal_range, some_ordinal_range, unused}
+use Rattle.cr_base.specs.Rows.{label_number, until_number, IsBoundedEntry}
+use Rattle.cr_base.specs.Shapes.{InRange, FitsStamp, user_range, paper_range, role_range, review_kind_range, decision_range, ordinal_range, some_ordinal_range, deadline_phase_range, some_deadline_range, unused}
 use Rattle.cr_base.specs.Tables.{no_tables, tables_of, Fits, FitInTurn}
 use Rattle.cr_base.specs.Talk.{comments_in, comment_as_told}
 use Rattle.cr_base.specs.Words.{phase_number, mode_number, role_number, review_kind_number, decision_number}
@@ -167,6 +169,23 @@ label-few (Some o) drawn = let there = drawn o refl in by (eqb o 0) refl there.0
     by true none low high = let e = eqb-true o 0 none in absurd (omega (arith, e, low))
     by false some low high = (omega arith, high)
 
+-- the phase of a deadline
+deadline_phase-few : (phase : Phase) → may_have_deadline phase ≡ true → InRange deadline_phase_range (phase_number phase)
+deadline_phase-few Submission h = (omega arith, omega arith)
+deadline_phase-few Bidding h = (omega arith, omega arith)
+deadline_phase-few Reviewing h = (omega arith, omega arith)
+deadline_phase-few Discussion h = (omega arith, omega arith)
+deadline_phase-few phase h = absurd (true≢false (sym h))
+
+-- a deadline that may be none
+until-few : (until : Option ℕ) → IsDeadlineOrNone until → InRange some_deadline_range (until_number until)
+until-few None bounded = (omega arith, omega arith)
+until-few (Some n) bounded = by (eqb n 0) refl bounded.0 bounded.1
+  where
+    by : (b : Bool) → eqb n 0 ≡ b → 1 ≤ n → n ≤ last_deadline → InRange some_deadline_range (cond b 253402207201 n)
+    by true none low high = let e = eqb-true n 0 none in absurd (omega (arith, e, low))
+    by false some low high = (omega arith, high)
+
 -- ---- bounds
 
 module _ (H : History) (fits : FitInTurn no_tables H) where
@@ -271,6 +290,18 @@ module _ (H : History) (fits : FitInTurn no_tables H) where
         more = bit_few more;
         n1 = paper_numbered paper fit.papers;
         n2 = decision_number-few decision;
+        n3 = zero_in;
+        n4 = zero_in;
+        n5 = zero_in;
+        b1 = refl;
+        b2 = refl;
+      }
+  bounded-entry stamp more (DeadlineSet phase until) moment made ruled fit =
+      record {
+        stamp = stamp_bounded stamp moment made;
+        more = bit_few more;
+        n1 = deadline_phase-few phase ruled.phase.1;
+        n2 = until-few until ruled.texts;
         n3 = zero_in;
         n4 = zero_in;
         n5 = zero_in;

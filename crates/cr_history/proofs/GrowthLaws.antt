@@ -17,6 +17,7 @@ use Rattle.cr_history.proofs.NumberAgreement.{number_of-tables, caller_of-tables
 use Rattle.cr_history.proofs.PaperAgreement.{papers_of-tables, own_papers_of-tables, own_bytes_of-tables, title_of-tables, abstract_of-tables, uploads_of-tables, is_withdrawn-tables, authors_of-tables}
 use Rattle.cr_history.proofs.ReviewAgreement.{forms_of-tables}
 use Rattle.cr_history.proofs.SeatAgreement.{ordinal_of-tables, seats_of-tables, labels-tables, reviewers_of-tables}
+use Rattle.cr_history.proofs.StageAgreement.{deadline_of-tables}
 use Rattle.cr_history.proofs.Staying.{stay-append}
 use Rattle.cr_history.proofs.TagAgreement.{tags_of-tables}
 use Rattle.cr_history.proofs.TalkAgreement.{comments_of-tables, own_comments_of-tables}
@@ -25,6 +26,7 @@ use Rattle.cr_history.proofs.TableAgreement.{FitInTurn-append, standing_of-table
 pub tables_tell : TablesTell
 tables_tell H fits first = record {
   standing = λ u paper. standing_of-tables u paper H fits;
+  deadline = λ phase. deadline_of-tables phase H;
   accounts = accounts_of-tables H fits;
   number = λ name. number_of-tables name H fits;
   caller = λ name digest. caller_of-tables name digest H fits;

@@ -8,11 +8,11 @@ use Rattle.std.specs.Str.{bytes_eq}
 use Rattle.std.proofs.lemmas.Bool.{eqb-true, eq-eqb, leb-false, true≢false, and_parts, not-true, not-false, or_left, or_right}
 use Rattle.cr_base.specs.declared.command.Command.{Command}
 use Rattle.cr_base.specs.declared.command.Command.TheVariants.{Register, SetPhase, Submit, Revise, Upload, Withdraw, Name, SetMode, SetConflict}
-use Rattle.cr_base.specs.declared.command.Command.TheVariants.{Bid, Assign, Unassign, Review, Comment, Tag, Decide}
+use Rattle.cr_base.specs.declared.command.Command.TheVariants.{Bid, Assign, Unassign, Review, Comment, Tag, Decide, SetDeadline}
 use Rattle.cr_base.specs.declared.entry.Entry.TheVariants as entries
 use Rattle.cr_base.specs.declared.entry.Stamp.{Stamp}
 use Rattle.cr_base.specs.declared.entry.Entry.TheVariants.{Registered, Named, PhaseSet, ModeSet, Revised, Uploaded, Withdrawn, Conflict, Assigned, Unassigned}
-use Rattle.cr_base.specs.declared.entry.Entry.TheVariants.{Reviewed, Commented, Tagged, Decided}
+use Rattle.cr_base.specs.declared.entry.Entry.TheVariants.{Reviewed, Commented, Tagged, Decided, DeadlineSet}
 use Rattle.cr_base.specs.declared.form.Form.{Form}
 use Rattle.cr_base.specs.declared.reply.AccountLine.{AccountLine}
 use Rattle.cr_base.specs.declared.standing.Standing.{Standing}
@@ -26,7 +26,7 @@ use Rattle.cr_base.specs.declared.words.Role.TheVariants.{Account, Chair}
 use Rattle.cr_base.specs.Lists.{at_some, is_number, listed}
 use Rattle.cr_base.specs.Moments.{IsMoment}
 use Rattle.cr_base.specs.History.{History, Registration, all_told, registration_told}
-use Rattle.cr_base.specs.HistoryFacts.{phase_of, role_of, accounts_of, papers_of, own_papers_of, own_bytes_of}
+use Rattle.cr_base.specs.HistoryFacts.{phase_of, deadline_of, role_of, accounts_of, papers_of, own_papers_of, own_bytes_of}
 use Rattle.cr_base.specs.HistoryFacts.{is_author, is_conflicted, bid_of, ordinal_of, seats_of, is_written, own_forms_of, own_comments_of, is_accepted, standing_of}
 use Rattle.cr_base.specs.Page.{gets_conflicts}
 use Rattle.cr_base.specs.Phases.{is_from, is_next, mode_may_be_set, accepts_submissions, authors_have_declared, conflicts_are_final, committee_works, bids_are_taken, reviews_are_written, comments_are_written, decisions_are_made}
@@ -34,14 +34,14 @@ use Rattle.cr_base.specs.Words.{role_number, is_member, is_chair}
 use Rattle.cr_base.specs.Bounds.{IsForm, IsBoundedCommand}
 use Rattle.cr_base.specs.TagTexts.{is_tag, is_for_chairs}
 use Rattle.cr_base.specs.Texts.{IsName, IsCommentText}
-use Rattle.cr_base.specs.Checks.{Check, of_role, target_role, register_checks, phase_checks, submit_checks, revise_checks, upload_checks, name_checks, mode_checks}
+use Rattle.cr_base.specs.Checks.{Check, of_role, target_role, register_checks, phase_checks, deadline_checks, submit_checks, revise_checks, upload_checks, name_checks, mode_checks}
 use Rattle.cr_base.specs.Checks.{chair_checks, conflict_case, conflict_checks, bid_checks, assign_checks, unassign_checks}
 use Rattle.cr_base.specs.Checks.{review_checks, comment_checks, tag_checks, decide_checks}
 use Rattle.cr_base.specs.Drawn.{Drawn, grouped, registration_drawn, phase_drawn, submission_drawn, revision_drawn, upload_drawn}
 use Rattle.cr_base.specs.Drawn.{withdrawal_drawn, naming_drawn, mode_drawn, conflict_drawn, bid_drawn, assignment_drawn, unassignment_drawn}
-use Rattle.cr_base.specs.Drawn.{review_drawn, comment_drawn, tag_drawn, decision_drawn}
+use Rattle.cr_base.specs.Drawn.{review_drawn, comment_drawn, tag_drawn, decision_drawn, deadline_drawn}
 use Rattle.cr_base.specs.Judging.{judge_by}
-use Rattle.cr_base.specs.Sources.{Facts, Shown, number_in, user_among, users_among, role_among, paper_named, target_named}
+use Rattle.cr_base.specs.Sources.{Facts, Shown, number_in, user_among, users_among, role_among, paper_named, target_named, is_late}
 use Rattle.cr_base.proofs.CheckLaws.{NoneBroken, judged-Ok}
 use Rattle.cr_base.proofs.CoauthorLaws.{users-each}
 use Rattle.cr_base.proofs.FitLaws.{none-where, some-where}
@@ -63,6 +63,7 @@ facts_of u H = record {
   own_forms = λ p. own_forms_of u p H;
   own_comments = own_comments_of u H;
   accepted = λ p. is_accepted p H;
+  deadline = λ phase. deadline_of phase H;
 }
 
 -- a user named, if there is one, has registered, and her role is the one that the history tells
@@ -181,22 +182,22 @@ module _ (H : History) (maker paper user : ℕ) where
   abbrev named : Role → Bool → Bool → Bool → Bool → Target
   named role herself author conflicted reviewer = record { role = role; herself = herself; author = author; conflicted = conflicted; reviewer = reviewer }
 
-  case-ruled : (on bidding after withdrawn : Bool) (role : Role) (herself author conflicted reviewer : Bool) → begun ≡ bidding → late ≡ after
+  case-ruled : (on bidding after withdrawn too_late : Bool) (role : Role) (herself author conflicted reviewer : Bool) → begun ≡ bidding → late ≡ after
       → role ≡ role_of (Some user) H → eqb user maker ≡ herself
-      → NoneBroken (conflict_case on bidding after by_maker withdrawn (named role herself author conflicted reviewer))
+      → NoneBroken (conflict_case on bidding after by_maker withdrawn (named role herself author conflicted reviewer) too_late)
       → IsRuled H maker (Conflict paper user on)
-  case-ruled false bidding after withdrawn role herself author conflicted reviewer b l r h none =
+  case-ruled false bidding after withdrawn too_late role herself author conflicted reviewer b l r h none =
       let now = and_parts begun (not late) (not-false (begun && not late) none.1.1.0) in
       conflict-ruled false (not-true late now.1) (ap is_member (sym r) ∙ not-false (is_member role) none.1.1.1.1.0)
       (clear-right begun (eqb user maker) false (is_chair by_maker.role) by_maker.conflicted by_maker.author now.0 (not-false (is_chair by_maker.role) none.0) none.1.0)
-  case-ruled true false after withdrawn role herself author conflicted reviewer b l r h none =
-      conflict-ruled true (not_late (phase_of H) b) (ap is_member (sym r) ∙ not-false (is_member role) none.1.1.0)
+  case-ruled true false after withdrawn too_late role herself author conflicted reviewer b l r h none =
+      conflict-ruled true (not_late (phase_of H) b) (ap is_member (sym r) ∙ not-false (is_member role) none.1.1.1.0)
       (author-right begun (eqb user maker) (is_chair by_maker.role) by_maker.conflicted by_maker.author b (not-false by_maker.author none.0))
-  case-ruled true true true withdrawn role herself author conflicted reviewer b l r h none = absurd (true≢false none.0)
-  case-ruled true true false withdrawn role true author conflicted reviewer b l r h none =
+  case-ruled true true true withdrawn too_late role herself author conflicted reviewer b l r h none = absurd (true≢false none.0)
+  case-ruled true true false withdrawn too_late role true author conflicted reviewer b l r h none =
       conflict-ruled true l (ap (λ n. is_member (role_of (Some n) H)) (eqb-true user maker h) ∙ not-false (is_member by_maker.role) none.0)
       (own-right begun (eqb user maker) (is_chair by_maker.role) by_maker.conflicted by_maker.author b h)
-  case-ruled true true false withdrawn role false author conflicted reviewer b l r h none =
+  case-ruled true true false withdrawn too_late role false author conflicted reviewer b l r h none =
       conflict-ruled true l (ap is_member (sym r) ∙ not-false (is_member role) none.1.1.1.0)
       (clear-right begun (eqb user maker) true (is_chair by_maker.role) by_maker.conflicted by_maker.author b (not-false (is_chair by_maker.role) none.0) none.1.0)
 
@@ -239,8 +240,12 @@ module _ (H : History) (stamp : Stamp) (shown : Shown) (moment : IsMoment stamp.
   abbrev standing : Standing
   standing = standing_of (Some maker) None H
 
+  -- it is too late for what the phase opens
+  abbrev is_too_late : Bool
+  is_too_late = is_late facts stamp.at
+
   abbrev checks : Option ℕ → Option ℕ → Bool → List Check
-  checks paper target on = conflict_checks (standing_of (Some maker) paper H) (paper_named facts shown paper) (target_named facts shown (Some maker) paper target) on
+  checks paper target on = conflict_checks (standing_of (Some maker) paper H) (paper_named facts shown paper) (target_named facts shown (Some maker) paper target) on is_too_late
 
   -- the user named, as the rules ask of her
   abbrev asked : Option ℕ → Option ℕ → Option Target
@@ -282,8 +287,8 @@ module _ (H : History) (stamp : Stamp) (shown : Shown) (moment : IsMoment stamp.
   conflict-ruled_for (Some p) None on none = absurd (true≢false none.1.0)
   conflict-ruled_for (Some p) (Some v) on none =
       let by = standing_of (Some maker) (Some p) H in
-      let k = asked-there (λ target. NoneBroken (conflict_checks by (paper_named facts shown (Some p)) target on)) p v none.1.0 none in
-      case-ruled H maker p v on (authors_have_declared (phase_of H)) (conflicts_are_final (phase_of H)) (shown.withdrawn p) k.role
+      let k = asked-there (λ target. NoneBroken (conflict_checks by (paper_named facts shown (Some p)) target on is_too_late)) p v none.1.0 none in
+      case-ruled H maker p v on (authors_have_declared (phase_of H)) (conflicts_are_final (phase_of H)) (shown.withdrawn p) is_too_late k.role
       (eqb v maker) (wrote p v) (wrote p v || declared p v) (is_some (shown.ordinal (Some v) p)) refl refl k.held refl k.holds.1.1
 
   -- ---- bids and assignments
@@ -292,7 +297,7 @@ module _ (H : History) (stamp : Stamp) (shown : Shown) (moment : IsMoment stamp.
   clear : (member conflicted : Bool) → member ≡ true → conflicted ≡ false → (member && not conflicted) ≡ true
   clear member conflicted hm hf = grind arith
 
-  bid-ruled : (paper : Option ℕ) (value : ℕ) → value ≤ 40 → NoneBroken (bid_checks (standing_of (Some maker) paper H) (paper_named facts shown paper))
+  bid-ruled : (paper : Option ℕ) (value : ℕ) → value ≤ 40 → NoneBroken (bid_checks (standing_of (Some maker) paper H) (paper_named facts shown paper) is_too_late)
       → IsRuled H maker (entries.Bid (unwrap_or paper 0) value)
   bid-ruled None value bounded none = absurd (true≢false none.0)
   bid-ruled (Some p) value bounded none =
@@ -370,7 +375,7 @@ module _ (H : History) (stamp : Stamp) (shown : Shown) (moment : IsMoment stamp.
   -- ---- reviews, comments, tags and decisions
 
   reviewed-ruled : (paper : Option ℕ) (version : ℕ) (form : Form) → IsForm form
-      → NoneBroken (review_checks (standing_of (Some maker) paper H) (paper_named facts shown paper))
+      → NoneBroken (review_checks (standing_of (Some maker) paper H) (paper_named facts shown paper) is_too_late)
       → IsRuled H maker (Reviewed (unwrap_or paper 0) (unwrap_or (facts.own_ordinal (unwrap_or paper 0)) 0) version form)
   reviewed-ruled None version form bounded none = absurd (true≢false none.0)
   reviewed-ruled (Some p) version form bounded none =
@@ -386,7 +391,7 @@ module _ (H : History) (stamp : Stamp) (shown : Shown) (moment : IsMoment stamp.
       }
 
   commented-ruled : (paper : Option ℕ) (n own : ℕ) (text : List ℕ) → IsCommentText text
-      → NoneBroken (comment_checks (standing_of (Some maker) paper H) (paper_named facts shown paper) own)
+      → NoneBroken (comment_checks (standing_of (Some maker) paper H) (paper_named facts shown paper) own is_too_late)
       → IsRuled H maker (Commented (unwrap_or paper 0) n (facts.own_ordinal (unwrap_or paper 0)) text)
   commented-ruled None n own text bounded none = absurd (true≢false none.0)
   commented-ruled (Some p) n own text bounded none =
@@ -443,20 +448,20 @@ module _ (H : History) (stamp : Stamp) (shown : Shown) (moment : IsMoment stamp.
       let n : ℕ = length facts.papers in
       let users : List (Option ℕ) = users_among facts.accounts names in
       let others : List ℕ = flat_map listed users in
-      let k = judged-Ok (submit_checks (list_any is_none users) standing n facts.own_papers) (submission_drawn stamp (n + 1) title abstract others) drawn accepted in
+      let k = judged-Ok (submit_checks (list_any is_none users) standing n facts.own_papers is_too_late) (submission_drawn stamp (n + 1) title abstract others) drawn accepted in
       subst (λ (d : Drawn). Adds H d.group) k.1
       (submitted stamp (n + 1) title abstract others moment registered (record { phase = submitting H maker k.0.1.0; chair = tt; role = tt; member = tt; right = tt; seat = tt; texts = (bounded.0, bounded.1) }) (users-registered H names))
   command-adds (Revise paper title abstract) drawn bounded accepted =
-      let k = judged-Ok (revise_checks (standing_of (Some maker) paper H) (paper_named facts shown paper)) (revision_drawn stamp (unwrap_or paper 0) title abstract) drawn accepted in
+      let k = judged-Ok (revise_checks (standing_of (Some maker) paper H) (paper_named facts shown paper) is_too_late) (revision_drawn stamp (unwrap_or paper 0) title abstract) drawn accepted in
       subst (λ (d : Drawn). Adds H d.group) k.1
       (single stamp (Revised (unwrap_or paper 0) title abstract) moment registered tt (record { phase = submitting H maker k.0.1.1.0; chair = tt; role = tt; member = tt; right = author-named H maker paper k.0.1.0; seat = tt; texts = bounded }))
   command-adds (Upload paper content) drawn bounded accepted =
       let version : ℕ = length (shown.uploads (unwrap_or paper 0)) + 1 in
-      let k = judged-Ok (upload_checks (standing_of (Some maker) paper H) (paper_named facts shown paper) facts.own_bytes (length content)) (upload_drawn stamp (unwrap_or paper 0) version content) drawn accepted in
+      let k = judged-Ok (upload_checks (standing_of (Some maker) paper H) (paper_named facts shown paper) facts.own_bytes (length content) is_too_late) (upload_drawn stamp (unwrap_or paper 0) version content) drawn accepted in
       subst (λ (d : Drawn). Adds H d.group) k.1
       (single stamp (Uploaded (unwrap_or paper 0) version content) moment registered tt (record { phase = submitting H maker k.0.1.1.0; chair = tt; role = tt; member = tt; right = author-named H maker paper k.0.1.0; seat = tt; texts = bounded }))
   command-adds (Withdraw paper) drawn bounded accepted =
-      let k = judged-Ok (revise_checks (standing_of (Some maker) paper H) (paper_named facts shown paper)) (withdrawal_drawn stamp (unwrap_or paper 0)) drawn accepted in
+      let k = judged-Ok (revise_checks (standing_of (Some maker) paper H) (paper_named facts shown paper) is_too_late) (withdrawal_drawn stamp (unwrap_or paper 0)) drawn accepted in
       subst (λ (d : Drawn). Adds H d.group) k.1
       (single stamp (Withdrawn (unwrap_or paper 0)) moment registered tt (record { phase = submitting H maker k.0.1.1.0; chair = tt; role = tt; member = tt; right = author-named H maker paper k.0.1.0; seat = tt; texts = tt }))
   command-adds (Name name role) drawn bounded accepted =
@@ -485,7 +490,7 @@ module _ (H : History) (stamp : Stamp) (shown : Shown) (moment : IsMoment stamp.
       let k = judged-Ok (checks paper target on) (conflict_drawn stamp (unwrap_or paper 0) (unwrap_or target 0) on) drawn accepted in
       subst (λ (d : Drawn). Adds H d.group) k.1 (single stamp (Conflict (unwrap_or paper 0) (unwrap_or target 0) on) moment registered tt (conflict-ruled_for paper target on k.0))
   command-adds (Bid paper value) drawn bounded accepted =
-      let k = judged-Ok (bid_checks (standing_of (Some maker) paper H) (paper_named facts shown paper))
+      let k = judged-Ok (bid_checks (standing_of (Some maker) paper H) (paper_named facts shown paper) is_too_late)
       (bid_drawn stamp (unwrap_or paper 0) value) drawn accepted in
       subst (λ (d : Drawn). Adds H d.group) k.1 (single stamp (entries.Bid (unwrap_or paper 0) value) moment registered tt (bid-ruled paper value bounded k.0))
   command-adds (Assign paper name kind) drawn bounded accepted =
@@ -507,14 +512,14 @@ module _ (H : History) (stamp : Stamp) (shown : Shown) (moment : IsMoment stamp.
       let p : ℕ = unwrap_or paper 0 in
       let ordinal : ℕ = unwrap_or (facts.own_ordinal p) 0 in
       let version : ℕ = length (facts.own_forms p) + 1 in
-      let k = judged-Ok (review_checks (standing_of (Some maker) paper H) (paper_named facts shown paper))
+      let k = judged-Ok (review_checks (standing_of (Some maker) paper H) (paper_named facts shown paper) is_too_late)
       (review_drawn stamp p ordinal version form) drawn accepted in
       subst (λ (d : Drawn). Adds H d.group) k.1
       (single stamp (Reviewed p ordinal version form) moment registered tt (reviewed-ruled paper version form bounded k.0))
   command-adds (Comment paper text) drawn bounded accepted =
       let p : ℕ = unwrap_or paper 0 in
       let n : ℕ = length (shown.comments p) + 1 in
-      let k = judged-Ok (comment_checks (standing_of (Some maker) paper H) (paper_named facts shown paper) facts.own_comments)
+      let k = judged-Ok (comment_checks (standing_of (Some maker) paper H) (paper_named facts shown paper) facts.own_comments is_too_late)
       (comment_drawn stamp p n (facts.own_ordinal p) text) drawn accepted in
       subst (λ (d : Drawn). Adds H d.group) k.1
       (single stamp (Commented p n (facts.own_ordinal p) text) moment registered tt (commented-ruled paper n facts.own_comments text bounded k.0))
@@ -528,3 +533,7 @@ module _ (H : History) (stamp : Stamp) (shown : Shown) (moment : IsMoment stamp.
       (decision_drawn stamp (unwrap_or paper 0) decision) drawn accepted in
       subst (λ (d : Drawn). Adds H d.group) k.1
       (single stamp (Decided (unwrap_or paper 0) decision) moment registered tt (decided-ruled paper decision k.0))
+  command-adds (SetDeadline phase until) drawn bounded accepted =
+      let k = judged-Ok (deadline_checks standing (phase_of H) phase) (deadline_drawn stamp phase until) drawn accepted in
+      subst (λ (d : Drawn). Adds H d.group) k.1
+      (single stamp (DeadlineSet phase until) moment registered tt (record { phase = (not-false (is_from (phase_of H) phase) k.0.1.0, bounded.0); chair = not-false (is_chair standing.role) k.0.0; role = tt; member = tt; right = tt; seat = tt; texts = bounded.1 }))

@@ -1,13 +1,16 @@
--- The phase and the mode that a history tells are those of its tables.
-use Rattle.std.proofs.Common.{◌≡◌, List, ◌++◌, refl}
+-- The phase, the mode and the deadlines that a history tells are those of its tables.
+use Rattle.std.proofs.Common.{◌≡◌, ℕ, List, ◌++◌, refl, ap, ◌∙◌, Option, None}
 use Rattle.cr_base.specs.declared.entry.Entry.{Entry}
-use Rattle.cr_base.specs.declared.entry.Entry.TheVariants.{PhaseSet, ModeSet}
+use Rattle.cr_base.specs.declared.deadline.Deadlines.{Deadlines}
+use Rattle.cr_base.specs.declared.entry.Entry.TheVariants.{PhaseSet, ModeSet, DeadlineSet}
 use Rattle.cr_base.specs.declared.entry.Stamped.{Stamped}
 use Rattle.cr_base.specs.declared.words.Mode.{Mode}
 use Rattle.cr_base.specs.declared.words.Phase.{Phase}
+use Rattle.cr_base.specs.declared.words.Phase.TheVariants.{Setup, Submission, Bidding, Reviewing, Discussion}
+use Rattle.cr_base.specs.Deadlines.{no_deadlines, deadline_in, with_deadline}
 use Rattle.cr_base.specs.Lists.{last_or}
-use Rattle.cr_base.specs.History.{History, phase_told, mode_told}
-use Rattle.cr_base.specs.HistoryFacts.{phase_of, mode_of}
+use Rattle.cr_base.specs.History.{History, all_told, phase_told, mode_told, deadline_given, deadline_told}
+use Rattle.cr_base.specs.HistoryFacts.{phase_of, mode_of, deadline_of}
 use Rattle.cr_base.specs.Stage.{StageState, stage_after}
 use Rattle.cr_base.specs.Tables.{Tables, no_tables, tables_of}
 use Rattle.cr_base.proofs.LastLaws.{last_or-cons}
@@ -32,3 +35,29 @@ mode-entry stage e rest = refl
 -- the mode is the last one set
 pub mode_of-tables : (H : History) → mode_of H ≡ (tables_of H).stage.mode
 mode_of-tables H = told-always last_or (λ _. refl) (λ (t : Tables). t.stage.mode) (λ (s : Stamped). mode_told s.entry) (λ t s. mode-entry t.stage s.entry) no_tables H
+
+-- ---- the deadlines
+
+deadline-set : (deadlines : Deadlines) (set phase : Phase) (until : Option ℕ) (rest : List (Option ℕ))
+    → last_or (deadline_in deadlines phase) (deadline_given phase set until ++ rest) ≡ last_or (deadline_in (with_deadline set until deadlines) phase) rest
+deadline-set deadlines Submission Submission until rest = last_or-cons deadlines.submission until rest
+deadline-set deadlines Bidding Bidding until rest = last_or-cons deadlines.bidding until rest
+deadline-set deadlines Reviewing Reviewing until rest = last_or-cons deadlines.reviewing until rest
+deadline-set deadlines Discussion Discussion until rest = last_or-cons deadlines.discussion until rest
+deadline-set deadlines set phase until rest = refl
+
+deadline-entry : (phase : Phase) (stage : StageState) (e : Entry) (rest : List (Option ℕ))
+    → last_or (deadline_in stage.deadlines phase) (deadline_told phase e ++ rest) ≡ last_or (deadline_in (stage_after stage e).deadlines phase) rest
+deadline-entry phase stage (DeadlineSet set until) rest = deadline-set stage.deadlines set phase until rest
+deadline-entry phase stage e rest = refl
+
+none-first : (phase : Phase) → None ≡ deadline_in no_deadlines phase
+none-first Setup = refl
+none-first phase = refl
+
+-- the deadline of a phase is the last one set, where the phase may have one
+pub deadline_of-tables : (phase : Phase) (H : History) → deadline_of phase H ≡ deadline_in (tables_of H).stage.deadlines phase
+deadline_of-tables phase H =
+    ap (λ (first : Option ℕ). last_or first (all_told (deadline_told phase) H)) (none-first phase)
+    ∙ told-always last_or (λ _. refl) (λ (t : Tables). deadline_in t.stage.deadlines phase) (λ (s : Stamped). deadline_told phase s.entry)
+    (λ t s. deadline-entry phase t.stage s.entry) no_tables H

@@ -4,7 +4,7 @@ use Rattle.std.specs.List.{AllByRecursion}
 use Rattle.cr_base.specs.declared.entry.Entry.{Entry}
 use Rattle.cr_base.specs.declared.entry.Entry.TheVariants.{Registered, Named, Submitted}
 use Rattle.cr_base.specs.declared.entry.Entry.TheVariants.{Coauthor, Revised, Uploaded, Bid}
-use Rattle.cr_base.specs.declared.entry.Entry.TheVariants.{Reviewed, Commented, Tagged}
+use Rattle.cr_base.specs.declared.entry.Entry.TheVariants.{Reviewed, Commented, Tagged, DeadlineSet}
 use Rattle.cr_base.specs.declared.entry.Stamp.{Stamp}
 use Rattle.cr_base.specs.declared.words.Role.TheVariants.{Chair}
 use Rattle.cr_base.specs.History.{History}
@@ -12,12 +12,14 @@ use Rattle.cr_base.specs.Moments.{IsMoment}
 use Rattle.cr_base.specs.Drawn.{stamped, grouped, submission}
 use Rattle.cr_base.specs.Bounds.{IsForm}
 use Rattle.cr_base.specs.Bulk.{IsRowEntry}
+use Rattle.cr_base.specs.Deadlines.{IsDeadlineOrNone}
 use Rattle.cr_base.specs.TagTexts.{is_tag}
 use Rattle.cr_base.specs.Texts.{IsName, IsTitle, IsAbstract, IsContent, IsCommentText}
 use Rattle.cr_history.specs.Invariants.{IsRegistered, IsMadeByUser, IsInPhase, IsByChair}
 use Rattle.cr_history.specs.Invariants.{RaisesRole, IsOfMember, IsByRight, IsSeated}
 
--- the texts of the entry are within their bounds, and so are the grades of a form, and a bid, which is kept plus 20
+-- the texts of the entry are within their bounds, and so are the grades of a form, a bid, which is kept plus 20, and a
+-- deadline
 abbrev pub HasTexts : Entry → Type 0
 HasTexts (Registered user name digest) = IsName name × (length digest ≡ 32)
 HasTexts (Submitted paper title abstract) = IsTitle title × IsAbstract abstract
@@ -27,6 +29,7 @@ HasTexts (Bid paper value) = value ≤ 40
 HasTexts (Reviewed paper ordinal version form) = IsForm form
 HasTexts (Commented paper n ordinal text) = IsCommentText text
 HasTexts (Tagged paper tag on) = IsTrue (is_tag tag)
+HasTexts (DeadlineSet phase until) = IsDeadlineOrNone until
 HasTexts _ = Unit {0}
 
 -- what the rules say of an entry, on the history before it, and the bounds of its texts

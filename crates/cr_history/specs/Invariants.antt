@@ -6,7 +6,7 @@ use Rattle.cr_base.specs.declared.entry.Entry.{Entry}
 use Rattle.cr_base.specs.declared.entry.Entry.TheVariants.{Registered, Named, PhaseSet, ModeSet, Submitted}
 use Rattle.cr_base.specs.declared.entry.Entry.TheVariants.{Coauthor, Revised, Uploaded, Withdrawn, Conflict}
 use Rattle.cr_base.specs.declared.entry.Entry.TheVariants.{Bid, Assigned, Unassigned, Reviewed}
-use Rattle.cr_base.specs.declared.entry.Entry.TheVariants.{Commented, Tagged, Decided}
+use Rattle.cr_base.specs.declared.entry.Entry.TheVariants.{Commented, Tagged, Decided, DeadlineSet}
 use Rattle.cr_base.specs.declared.entry.Stamped.{Stamped}
 use Rattle.cr_base.specs.declared.words.Phase.TheVariants.{Bidding, Discussion}
 use Rattle.cr_base.specs.HistoryFacts.{phase_of, role_of, accounts_of, papers_of, uploads_of}
@@ -15,6 +15,7 @@ use Rattle.cr_base.specs.HistoryFacts.{forms_of, is_written, comments_of}
 use Rattle.cr_base.specs.History.{History, Registration, all_told, registration_told, opens, opens_discussion}
 use Rattle.cr_base.specs.Lists.{until, since}
 use Rattle.cr_base.specs.Phases.{is_from, is_next, mode_may_be_set, accepts_submissions, papers_may_change}
+use Rattle.cr_base.specs.Phases.{may_have_deadline}
 use Rattle.cr_base.specs.Phases.{authors_have_declared, conflicts_are_final, roles_are_final, committee_works}
 use Rattle.cr_base.specs.Phases.{bids_are_taken, reviews_are_written, comments_are_written, decisions_are_made}
 use Rattle.cr_base.specs.Rows.{kind_of, row_of, restored, IsBoundedEntry}
@@ -47,6 +48,7 @@ IsMadeByUser H maker (Reviewed paper ordinal version form) = IsRegistered H make
 IsMadeByUser H maker (Commented paper n ordinal text) = IsRegistered H maker
 IsMadeByUser H maker (Tagged paper tag on) = IsRegistered H maker
 IsMadeByUser H maker (Decided paper decision) = IsRegistered H maker
+IsMadeByUser H maker (DeadlineSet phase until) = IsRegistered H maker
 
 -- of the entries that commands add, the first user's registration has another of its command behind it; a submission,
 -- its co-authors and the entries of a bulk may have one
@@ -101,7 +103,8 @@ IsAboutThose H _ = Unit {0}
 -- the phase goes on by one; the mode is set in setup; papers are submitted, changed and withdrawn in submission; from
 -- the notification on nobody is named a member or a chair, and no conflict is turned on or off; bids are told in
 -- bidding; reviewers are assigned and unassigned, and tags turned on and off, from bidding to discussion; forms are
--- written in reviewing and in the discussion, and comments in the discussion, where the committee decides too
+-- written in reviewing and in the discussion, and comments in the discussion, where the committee decides too; and
+-- deadlines are set of the phase that it is, and of later ones, where the phase may have one
 abbrev pub IsInPhase : History → Entry → Type 0
 IsInPhase H (Registered user name digest) = Unit {0}
 IsInPhase H (Named user role) = IsFalse (roles_are_final (phase_of H))
@@ -120,9 +123,10 @@ IsInPhase H (Reviewed paper ordinal version form) = IsTrue (reviews_are_written 
 IsInPhase H (Commented paper n ordinal text) = IsTrue (comments_are_written (phase_of H))
 IsInPhase H (Tagged paper tag on) = IsTrue (committee_works (phase_of H))
 IsInPhase H (Decided paper decision) = IsTrue (decisions_are_made (phase_of H))
+IsInPhase H (DeadlineSet phase until) = IsTrue (is_from (phase_of H) phase) × IsTrue (may_have_deadline phase)
 
--- chairs set the phase and the mode, name members and chairs, assign and unassign reviewers, and decide; the first
--- user alone is named otherwise, as she registers, by the second entry of all
+-- chairs set the phase, the mode and deadlines, name members and chairs, assign and unassign reviewers, and decide; the
+-- first user alone is named otherwise, as she registers, by the second entry of all
 abbrev pub IsByChair : History → ℕ → Entry → Type 0
 IsByChair H maker (Named user role) = IsTrue (is_chair (role_of (Some maker) H) || length H == 1)
 IsByChair H maker (PhaseSet phase) = IsTrue (is_chair (role_of (Some maker) H))
@@ -130,6 +134,7 @@ IsByChair H maker (ModeSet mode) = IsTrue (is_chair (role_of (Some maker) H))
 IsByChair H maker (Assigned paper user kind ordinal) = IsTrue (is_chair (role_of (Some maker) H))
 IsByChair H maker (Unassigned paper user ordinal) = IsTrue (is_chair (role_of (Some maker) H))
 IsByChair H maker (Decided paper decision) = IsTrue (is_chair (role_of (Some maker) H))
+IsByChair H maker (DeadlineSet phase until) = IsTrue (is_chair (role_of (Some maker) H))
 IsByChair H maker _ = Unit {0}
 
 -- roles only rise

@@ -2,7 +2,8 @@
 use Rattle.std.specs.Prelude.{ℕ, ◌≡◌, ◌==◌, List, [], ◌++◌, length, map, Option}
 use Rattle.std.specs.List.{list_any}
 use Rattle.cr_base.specs.Accounts.{lines_of, number_at, caller_at}
-use Rattle.cr_base.specs.HistoryFacts.{standing_of, accounts_of, number_of, caller_of}
+use Rattle.cr_base.specs.declared.words.Phase.{Phase}
+use Rattle.cr_base.specs.HistoryFacts.{standing_of, deadline_of, accounts_of, number_of, caller_of}
 use Rattle.cr_base.specs.HistoryFacts.{papers_of, own_papers_of, own_bytes_of}
 use Rattle.cr_base.specs.HistoryFacts.{bid_of, ordinal_of, seats_of, reviewers_of, forms_of}
 use Rattle.cr_base.specs.HistoryFacts.{forms_discussed_of, own_forms_of, comments_of, own_comments_of, tags_of}
@@ -10,6 +11,7 @@ use Rattle.cr_base.specs.HistoryFacts.{title_of, abstract_of, uploads_of, is_wit
 use Rattle.cr_base.specs.HistoryFacts.{is_accepted, authors_of, is_conflict_on, declared_by_authors}
 use Rattle.cr_base.specs.declared.entry.Stamped.{Stamped}
 use Rattle.cr_base.specs.History.{History}
+use Rattle.cr_base.specs.Deadlines.{deadline_in}
 use Rattle.cr_base.specs.Decisions.{decision_in}
 use Rattle.cr_base.specs.Filed.{filed_of}
 use Rattle.cr_base.specs.Reviews.{forms_in, forms_discussed_in, written_told}
@@ -27,6 +29,7 @@ use Rattle.cr_history.specs.Invariants.{Invariants, InTurn, ComesFirst, IsWhole}
 -- what a history tells is what its tables have
 pub record AreTold (H : History) : Type 0 where
   pub standing : (u paper : Option ℕ) → standing_of u paper H ≡ standing_at (tables_of H) u paper
+  pub deadline : (phase : Phase) → deadline_of phase H ≡ deadline_in (tables_of H).stage.deadlines phase
   pub accounts : accounts_of H ≡ lines_of (tables_of H).accounts
   pub number : (name : List ℕ) → number_of name H ≡ number_at (tables_of H).accounts name
   pub caller : (name digest : List ℕ) → caller_of name digest H ≡ caller_at (tables_of H).accounts name digest

@@ -1,3 +1,4 @@
 pub mod Lists
 pub mod Objects
 pub mod Plain
+pub mod Calendar

@@ -6,3 +6,5 @@ pub mod Reviewers
 pub mod Reviews
 pub mod Comments
 pub mod Found
+pub mod Times
+pub mod Deadlines

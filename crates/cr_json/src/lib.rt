@@ -11,7 +11,9 @@
 mod accepted;
 mod accounts;
 mod comments;
+mod deadlines;
 mod found;
+mod laws;
 mod list;
 mod object;
 mod put;
@@ -19,7 +21,10 @@ mod quoted;
 mod reviewers;
 mod reviews;
 mod runs;
+mod time;
 mod value;
 
+pub use deadlines::add_deadline;
+pub use laws::law_times_written_out;
 pub use object::{Object, append_list_alone};
 pub use value::Value;

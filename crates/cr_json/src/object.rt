@@ -6,12 +6,14 @@ ghost use Rattle.cr_base.specs.Page.{where_told};
 ghost use Rattle.cr_json.specs.Put.{Appends, Takes};
 ghost use Rattle.cr_json.specs.Json.{AddsMembers, array_text, bid_text, comma, key_text};
 ghost use Rattle.cr_json.specs.Json.{label_text, list_alone, member_of, truth_text};
+ghost use Rattle.cr_json.specs.Times.{until_text};
 
 use crate::list::{append_comma, append_list};
 use crate::put::{append, append_number};
 use crate::quoted::append_quoted;
+use crate::time::append_until;
 use crate::value::{Value, append_bid, append_label};
-use cr_base::{Bid, Ordinal};
+use cr_base::{Bid, Deadline, Ordinal};
 use std::alloc::AllocError;
 
 /// An object that is being written. Its keys need no escape; members are written in the order of the
@@ -98,6 +100,21 @@ impl Object {
     {
         self.key(into, key)?;
         append_label(into, ordinal)
+    }
+
+    /// Writes a member that is a deadline, the time in UTC, or null where there is none.
+    pub fn until(
+        &mut self,
+        into: &mut Vec<u8>,
+        key: &str,
+        until: Option<Deadline>,
+    ) -> Result<(), AllocError>
+        ensures adds { AddsMembers result into.old into.new self.old.is_first self.new.is_first
+            (member_of key.now (Some (until_text until))) }
+        ensures room { Takes result into.old into.new (length key.now + 126) }
+    {
+        self.key(into, key)?;
+        append_until(into, until)
     }
 
     /// Writes a member that is a list.

@@ -30,7 +30,7 @@ use Rattle.cr_assign.specs.Targets as seats
 use Rattle.cr_conflicts.specs.Targets as ties
 use Rattle.cr_view.proofs.JudgeLaws.{made_of, judged-made}
 use Rattle.cr_judge.specs.declared.named.Named.{Named}
-use Rattle.cr_judge.specs.Named.{there_in, named_at, target_with, written_at, asked_at, conflict_at, assignment_at, unassignment_at}
+use Rattle.cr_judge.specs.Named.{there_in, named_at, late_at, target_with, written_at, asked_at, conflict_at, assignment_at, unassignment_at}
 use Rattle.cr_judge.proofs.NamedLaws.{there-judged}
 
 -- ---- the user
@@ -119,40 +119,44 @@ module _ (t : Tables) (stamp : Stamp) where
     mine = target_with t.accounts user
 
     -- a conflict: no rule reads whether she reviews the paper
-    pub conflict-drawn : (on : Bool) (seen : TiesState) → seen ≡ t.ties → (kept : Result (Unit {0}) Rule)
-        → kept ≡ judged (conflict_checks named.by told (ties.target_of seen maker named.paper target) on) tt
+    pub conflict-drawn : (on late : Bool) → late ≡ late_at t stamp → (seen : TiesState) → seen ≡ t.ties → (kept : Result (Unit {0}) Rule)
+        → kept ≡ judged (conflict_checks named.by told (ties.target_of seen maker named.paper target) on late) tt
         → made_of (λ (done : Unit {0}). conflict_drawn stamp (unwrap_or named.paper 0) (unwrap_or user 0) on) kept ≡ conflict_at t stamp paper user on
-    conflict-drawn on seen same kept judges =
-        judged-made (conflict_checks named.by told (ties.target_of seen maker named.paper target) on)
-        (λ (done : Unit {0}). made named.paper) tt kept judges
-        ∙ ap (λ (x : TiesState). judged (conflict_checks named.by told (ties.target_of x maker named.paper target) on) (made named.paper)) same
-        ∙ ap (λ (o : Option (ℕ × Role)). judged (conflict_checks named.by told (ties.target_of t.ties maker named.paper o) on) (made named.paper)) has
-        ∙ ap (λ (n : Named). judged (conflict_checks n.by (record { there = is_some n.paper; withdrawn = n.withdrawn }) (ties.target_of t.ties maker n.paper mine) on) (made n.paper)) given
+    conflict-drawn on late when seen same kept judges =
+        judged-made (conflict_checks named.by told (ties.target_of seen maker named.paper target) on past)
+        (λ (done : Unit {0}). made named.paper) tt kept
+        (judges ∙ ap (λ (b : Bool). judged (conflict_checks named.by told (ties.target_of seen maker named.paper target) on b) tt) when)
+        ∙ ap (λ (x : TiesState). judged (conflict_checks named.by told (ties.target_of x maker named.paper target) on past) (made named.paper)) same
+        ∙ ap (λ (o : Option (ℕ × Role)). judged (conflict_checks named.by told (ties.target_of t.ties maker named.paper o) on past) (made named.paper)) has
+        ∙ ap (λ (n : Named). judged (conflict_checks n.by (record { there = is_some n.paper; withdrawn = n.withdrawn }) (ties.target_of t.ties maker n.paper mine) on past) (made n.paper)) given
         ∙ there-judged t.papers asked due refl (λ (at : Option ℕ). refl) some paper
       where
+        past : Bool
+        past = late_at t stamp
+
         made : Option ℕ → Drawn
         made at = conflict_drawn stamp (unwrap_or at 0) (unwrap_or user 0) on
 
         asked : Option ℕ → Result Drawn Rule
-        asked at = judged (conflict_checks (standing_here at) (paper_told (is_some at) at) (ties.target_of t.ties maker at mine) on) (made at)
+        asked at = judged (conflict_checks (standing_here at) (paper_told (is_some at) at) (ties.target_of t.ties maker at mine) on past) (made at)
 
         due : Bool → Option ℕ → Result Drawn Rule
-        due there at = judged (conflict_checks (standing_here at) (paper_told there at) (asked_at t maker at user) on) (made at)
+        due there at = judged (conflict_checks (standing_here at) (paper_told there at) (asked_at t maker at user) on past) (made at)
 
-        alike : (p v : ℕ) (role : Role) (reviews turned bidding late : Bool)
-            → conflict_case turned bidding late (standing_here (Some p)) (is_withdrawn_at t.papers p) (ties.target_in t.ties maker (Some p) v role)
-            ≡ conflict_case turned bidding late (standing_here (Some p)) (is_withdrawn_at t.papers p)
-            (record (ties.target_in t.ties maker (Some p) v role) { reviewer = reviews })
-        alike p v role reviews false bidding late = refl
-        alike p v role reviews true false late = refl
+        alike : (p v : ℕ) (role : Role) (reviews turned bidding final : Bool)
+            → conflict_case turned bidding final (standing_here (Some p)) (is_withdrawn_at t.papers p) (ties.target_in t.ties maker (Some p) v role) past
+            ≡ conflict_case turned bidding final (standing_here (Some p)) (is_withdrawn_at t.papers p)
+            (record (ties.target_in t.ties maker (Some p) v role) { reviewer = reviews }) past
+        alike p v role reviews false bidding final = refl
+        alike p v role reviews true false final = refl
         alike p v role reviews true true true = refl
         alike p v role reviews true true false = refl
 
         some : (p : ℕ) → asked (Some p) ≡ due true (Some p)
         some p =
             target-judged (Some p) user
-            (λ (o : Option (ℕ × Role)). judged (conflict_checks (standing_here (Some p)) (paper_told true (Some p)) (ties.target_of t.ties maker (Some p) o) on) (made (Some p)))
-            (λ (o : Option Target). judged (conflict_checks (standing_here (Some p)) (paper_told true (Some p)) o on) (made (Some p)))
+            (λ (o : Option (ℕ × Role)). judged (conflict_checks (standing_here (Some p)) (paper_told true (Some p)) (ties.target_of t.ties maker (Some p) o) on past) (made (Some p)))
+            (λ (o : Option Target). judged (conflict_checks (standing_here (Some p)) (paper_told true (Some p)) o on past) (made (Some p)))
             refl
             (λ (v : ℕ) (role : Role) is.
             ap (λ (checks : List Check). judged (false breaks rules.NoPaper ∷ false breaks rules.NoUser ∷ checks) (made (Some p)))

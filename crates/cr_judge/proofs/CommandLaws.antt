@@ -1,7 +1,7 @@
 -- What single commands draw that name no user, by reads of the tables.
 use Rattle.std.proofs.Common.{ℕ, Bool, true, false, cond, ◌≡◌, ◌+◌, ◌==◌, List, [], ◌∷◌, length, refl, ap, ◌∙◌, Option, Some, None, Result, Ok, Err}
 use Rattle.std.specs.Prelude.{is_some, unwrap_or}
-use Rattle.cr_base.specs.declared.command.Command.TheVariants.{SetPhase, SetMode, Upload}
+use Rattle.cr_base.specs.declared.command.Command.TheVariants.{SetPhase, SetMode, SetDeadline, Upload}
 use Rattle.cr_base.specs.declared.entry.Account.{Account}
 use Rattle.cr_base.specs.declared.entry.Entry.{Entry}
 use Rattle.cr_base.specs.declared.entry.Entry.TheVariants.{Registered, Named}
@@ -14,8 +14,8 @@ use Rattle.cr_base.specs.declared.words.Phase.{Phase}
 use Rattle.cr_base.specs.declared.words.Role.TheVariants.{Chair}
 use Rattle.cr_base.specs.Accounts.{number_at}
 use Rattle.cr_base.specs.Calls.{call_by, stamp_by}
-use Rattle.cr_base.specs.Checks.{judged, register_checks, phase_checks, mode_checks, revise_checks, upload_checks}
-use Rattle.cr_base.specs.Drawn.{Drawn, grouped, registration_drawn, phase_drawn, mode_drawn, upload_drawn}
+use Rattle.cr_base.specs.Checks.{judged, register_checks, phase_checks, mode_checks, deadline_checks, revise_checks, upload_checks}
+use Rattle.cr_base.specs.Drawn.{Drawn, grouped, registration_drawn, phase_drawn, mode_drawn, deadline_drawn, upload_drawn}
 use Rattle.cr_base.specs.Judging.{judge_by_role}
 use Rattle.cr_base.specs.Papers.{PapersState, uploads_at, own_bytes}
 use Rattle.cr_base.specs.Sources.{standing_at}
@@ -26,7 +26,7 @@ use Rattle.cr_view.proofs.JudgeLaws.{made_of, judged-made}
 use Rattle.cr_judge.specs.declared.effect.Rest.{Rest}
 use Rattle.cr_judge.specs.declared.effect.Rest.TheVariants as rests
 use Rattle.cr_judge.specs.Effects.{behind, drawn_by}
-use Rattle.cr_judge.specs.Named.{registration_at}
+use Rattle.cr_judge.specs.Named.{registration_at, late_at}
 
 -- a registration; the first user is made a chair
 module _ (t : Tables) (at : ℕ) (name digest : List ℕ) (seen : List Account) (same : seen ≡ t.accounts) where
@@ -57,7 +57,7 @@ module _ (t : Tables) (at : ℕ) (name digest : List ℕ) (seen : List Account) 
       by true = refl
       by false = refl
 
--- the phase and the mode
+-- the phase, the mode and the deadlines
 module _ (t : Tables) (stamp : Stamp) (by : Standing) (stands : by ≡ standing_at t (Some stamp.maker) None) (seen : StageState) (same : seen ≡ t.stage)
     (kept : Result (Unit {0}) Rule) where
   pub phase-drawn : (to : Phase) → kept ≡ judged (phase_checks by seen.phase to) tt
@@ -72,23 +72,29 @@ module _ (t : Tables) (stamp : Stamp) (by : Standing) (stands : by ≡ standing_
       judged-made (mode_checks by seen.phase) (λ (done : Unit {0}). mode_drawn stamp to) tt kept judges
       ∙ (λ i. judged (mode_checks (stands i) (same i).phase) (mode_drawn stamp to))
 
--- what an author does with her paper
+  pub deadline-drawn : (phase : Phase) (until : Option ℕ) → kept ≡ judged (deadline_checks by seen.phase phase) tt
+      → made_of (λ (done : Unit {0}). deadline_drawn stamp phase until) kept ≡ judge_by_role t (call_by stamp (SetDeadline phase until))
+  deadline-drawn phase until judges =
+      judged-made (deadline_checks by seen.phase phase) (λ (done : Unit {0}). deadline_drawn stamp phase until) tt kept judges
+      ∙ (λ i. judged (deadline_checks (stands i) (same i).phase phase) (deadline_drawn stamp phase until))
+
+-- what an author does with her paper, until it is too late
 module _ (t : Tables) (stamp : Stamp) (paper : Option ℕ) (by : Standing) (stands : by ≡ standing_at t (Some stamp.maker) paper)
-    (seen : PapersState) (same : seen ≡ t.papers) where
+    (seen : PapersState) (same : seen ≡ t.papers) (late : Bool) (when : late ≡ late_at t stamp) where
   -- a revision or a withdrawal, of which the same is asked
-  pub revision-drawn : (draw : ℕ → Drawn) (kept : Result (Unit {0}) Rule) → kept ≡ judged (revise_checks by (named_in seen paper)) tt
+  pub revision-drawn : (draw : ℕ → Drawn) (kept : Result (Unit {0}) Rule) → kept ≡ judged (revise_checks by (named_in seen paper) late) tt
       → made_of (λ (done : Unit {0}). draw (unwrap_or paper 0)) kept
-      ≡ judged (revise_checks (standing_at t (Some stamp.maker) paper) (named_in t.papers paper)) (draw (unwrap_or paper 0))
+      ≡ judged (revise_checks (standing_at t (Some stamp.maker) paper) (named_in t.papers paper) (late_at t stamp)) (draw (unwrap_or paper 0))
   revision-drawn draw kept judges =
-      judged-made (revise_checks by (named_in seen paper)) (λ (done : Unit {0}). draw (unwrap_or paper 0)) tt kept judges
-      ∙ (λ i. judged (revise_checks (stands i) (named_in (same i) paper)) (draw (unwrap_or paper 0)))
+      judged-made (revise_checks by (named_in seen paper) late) (λ (done : Unit {0}). draw (unwrap_or paper 0)) tt kept judges
+      ∙ (λ i. judged (revise_checks (stands i) (named_in (same i) paper) (when i)) (draw (unwrap_or paper 0)))
 
   -- an upload, judged by so many bytes
   pub upload-made : (content : List ℕ) (count : ℕ) → count ≡ length content → (r : Result ℕ Rule)
-      → r ≡ judged (upload_checks by (named_in seen paper) (own_bytes seen (Some stamp.maker)) count) (length (uploads_at seen (unwrap_or paper 0)) + 1)
+      → r ≡ judged (upload_checks by (named_in seen paper) (own_bytes seen (Some stamp.maker)) count late) (length (uploads_at seen (unwrap_or paper 0)) + 1)
       → made_of (λ (version : ℕ). upload_drawn stamp (unwrap_or paper 0) version content) r ≡ judge_by_role t (call_by stamp (Upload paper content))
   upload-made content count counted r judges =
-      judged-made (upload_checks by (named_in seen paper) (own_bytes seen (Some stamp.maker)) count) (λ (version : ℕ). upload_drawn stamp (unwrap_or paper 0) version content)
+      judged-made (upload_checks by (named_in seen paper) (own_bytes seen (Some stamp.maker)) count late) (λ (version : ℕ). upload_drawn stamp (unwrap_or paper 0) version content)
       (length (uploads_at seen (unwrap_or paper 0)) + 1) r judges
-      ∙ (λ i. judged (upload_checks (stands i) (named_in (same i) paper) (own_bytes (same i) (Some stamp.maker)) (counted i))
+      ∙ (λ i. judged (upload_checks (stands i) (named_in (same i) paper) (own_bytes (same i) (Some stamp.maker)) (counted i) (when i))
       (upload_drawn stamp (unwrap_or paper 0) (length (uploads_at (same i) (unwrap_or paper 0)) + 1) content))

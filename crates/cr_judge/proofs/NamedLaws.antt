@@ -93,3 +93,13 @@ module _ (t : Tables) (maker : ℕ) (paper : Option ℕ) (named : Named) (given 
   paper-drawn checks missing draw kept judges =
       numbered-drawn checks missing (λ (at : Option ℕ) (done : Unit {0}). draw (unwrap_or at 0)) (λ (at : Option ℕ). tt)
       (λ (at : Option ℕ). draw (unwrap_or at 0)) (λ (p : ℕ). refl) kept judges
+
+  -- and where it may be too late
+  pub late-drawn : (late due : Bool) → late ≡ due → (checks : Standing → NamedPaper → Bool → List Check)
+      → ((s : Standing) (withdrawn b : Bool) (x : Drawn) → judged (checks s (record { there = false; withdrawn = withdrawn }) b) x ≡ Err rules.NoPaper)
+      → (draw : ℕ → Drawn) (kept : Result (Unit {0}) Rule) → kept ≡ judged (checks named.by told late) tt
+      → made_of (λ (done : Unit {0}). draw (unwrap_or named.paper 0)) kept
+      ≡ judged (checks (standing_at t (Some maker) paper) (asked_of t paper) due) (draw (unwrap_or paper 0))
+  late-drawn late due when checks missing draw kept judges =
+      paper-drawn (λ (s : Standing) (p : NamedPaper). checks s p late) (λ (s : Standing) (w : Bool) (x : Drawn). missing s w late x) draw kept judges
+      ∙ ap (λ (b : Bool). judged (checks (standing_at t (Some maker) paper) (asked_of t paper) b) (draw (unwrap_or paper 0))) when

@@ -29,7 +29,7 @@ use Rattle.cr_base.specs.Ties.{AreWithin}
 use Rattle.cr_base.proofs.CheckLaws.{judged-Ok}
 use Rattle.cr_base.proofs.FitLaws.{judged-fits}
 use Rattle.cr_judge.specs.Effects.{alone, drawn_by, entry_or_rule}
-use Rattle.cr_judge.specs.Named.{conflict_at}
+use Rattle.cr_judge.specs.Named.{conflict_at, late_at}
 use Rattle.cr_base.specs.Bulk.{IsRowCommand, IsRowEntry}
 use Rattle.cr_judge.specs.Rows.{AreRowEntries, AreEarlier, row_judged_at, group_or_rule, row_group}
 use Rattle.cr_judge.specs.Targets.{target_at}
@@ -59,7 +59,7 @@ row-drawn t stamp (SetConflict paper name on) is drawn entry accepted told =
     let facts : Facts = facts_of_tables t (Some stamp.maker) in
     let target = user_among facts.accounts name in
     one-drawn stamp
-    (conflict_checks (standing_at t (Some stamp.maker) paper) (paper_named facts (shown_in_tables t) paper) (target_named facts (shown_in_tables t) (Some stamp.maker) paper target) on)
+    (conflict_checks (standing_at t (Some stamp.maker) paper) (paper_named facts (shown_in_tables t) paper) (target_named facts (shown_in_tables t) (Some stamp.maker) paper target) on (late_at t stamp))
     (entries.Conflict (unwrap_or paper 0) (unwrap_or target 0) on) (receipts.Changed (unwrap_or paper 0)) drawn entry accepted tt told
 row-drawn t stamp (Assign paper name kind) is drawn entry accepted told =
     let facts : Facts = facts_of_tables t (Some stamp.maker) in

@@ -6,6 +6,7 @@ use Rattle.std.specs.Option.{option_and_then}
 use Rattle.cr_base.specs.declared.entry.Account.{Account}
 use Rattle.cr_base.specs.declared.entry.Entry.{Entry}
 use Rattle.cr_base.specs.declared.entry.Entry.TheVariants.{Conflict, Assigned, Unassigned, Tagged}
+use Rattle.cr_base.specs.declared.entry.Stamp.{Stamp}
 use Rattle.cr_base.specs.declared.entry.Stamped.{Stamped}
 use Rattle.cr_base.specs.declared.standing.Standing.{Standing}
 use Rattle.cr_base.specs.declared.words.Mode.{Mode}
@@ -20,12 +21,13 @@ use Rattle.cr_base.specs.Papers.{PapersState, paper_count, is_withdrawn_at}
 use Rattle.cr_base.specs.Reviews.{ReviewsState, is_written_in}
 use Rattle.cr_base.specs.Seats.{SeatsState, ordinal_in, seats_after, seats_from, SeatsFitInTurn}
 use Rattle.cr_base.specs.Sources.{standing_at}
+use Rattle.cr_base.specs.Stage.{is_late_in}
 use Rattle.cr_base.specs.Tables.{Tables, tables_after, tables_from, FitInTurn}
 use Rattle.cr_base.specs.Tags.{TagsState, tags_after}
 use Rattle.cr_base.specs.Ties.{BareTies, TiesState, ties_after, ties_from, is_author_in, is_conflicted_in, AreWithin}
 use Rattle.cr_base.proofs.TieLaws.{within-after}
 use Rattle.cr_view.proofs.NobodyLaws.{nobody-seat}
-use Rattle.cr_judge.specs.Named.{there_in, named_at, target_with, user_named, written_at}
+use Rattle.cr_judge.specs.Named.{there_in, named_at, late_at, target_with, user_named, written_at}
 use Rattle.cr_judge.specs.Rows.{AreRowEntries}
 use Rattle.cr_judge.specs.Targets.{target_at}
 use Rattle.cr_judge.proofs.TargetLaws.{target-among}
@@ -106,6 +108,11 @@ module _ (t : Tables) (earlier : History) (are : AreRowEntries earlier) where
   reviews-behind : t.reviews ≡ now.reviews
   reviews-behind = ap (λ (x : Tables). x.reviews) (rows-mark t earlier are)
 
+  -- whether it is too late
+  pub late-behind : (stamp : Stamp) (late : Bool) → late ≡ late_at t stamp → late ≡ late_at now stamp
+  late-behind stamp late is = is ∙ ap (λ (x : Tables). is_late_in x.stage stamp.at) (rows-mark t earlier are)
+
+  -- the ties and the seats
   ties-behind : ties_from t.ties earlier ≡ now.ties
   ties-behind = ap (λ (x : Tables). x.ties) (rows-mark t earlier are)
 

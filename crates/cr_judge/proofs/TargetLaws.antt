@@ -26,7 +26,7 @@ use Rattle.cr_base.proofs.ListLaws.{length-numbers_from, role_among-lines_of}
 use Rattle.cr_view.proofs.JudgeLaws.{made_of, judged-made}
 use Rattle.cr_judge.specs.declared.effect.Rest.TheVariants as rests
 use Rattle.cr_judge.specs.Effects.{alone, drawn_by}
-use Rattle.cr_judge.specs.Named.{submission_of, submission_at, naming_at}
+use Rattle.cr_judge.specs.Named.{submission_of, submission_at, naming_at, late_at}
 use Rattle.cr_judge.specs.Targets.{target_at, users_at, coauthors_of}
 use Rattle.cr_judge.proofs.NameLaws.{name-found}
 
@@ -44,7 +44,7 @@ judge-submit t stamp title abstract authors =
     let users : List (Option ℕ) = users_at t.accounts authors in
     let by : Standing = standing_at t (Some stamp.maker) None in
     let judge : ℕ → Result Drawn Rule = λ n.
-    judged (submit_checks (list_any is_none users) by n (own_count t.papers (Some stamp.maker))) (submission_drawn stamp (n + 1) title abstract (flat_map listed users)) in
+    judged (submit_checks (list_any is_none users) by n (own_count t.papers (Some stamp.maker)) (late_at t stamp)) (submission_drawn stamp (n + 1) title abstract (flat_map listed users)) in
     ap (λ (us : List (Option ℕ)). submission_judged (facts_of_tables t (Some stamp.maker)) stamp us title abstract) (users-among t.accounts authors)
     ∙ ap judge (length-numbers_from 1 t.papers.papers)
 
@@ -67,40 +67,43 @@ module _ (t : Tables) (stamp : Stamp) (users : List (Option ℕ)) (title abstrac
       by false = refl
 
   -- where no rule is broken, all are there
-  pub are-found : (by : Standing) (count own x given : ℕ)
-      → ◌≡◌ {A = Result ℕ Rule} (Ok given) (judged (submit_checks (not (is_some found)) by count own) x) → IsSome found
-  are-found by count own x given h = of found (judged-Ok (submit_checks (not (is_some found)) by count own) x given (sym h)).0.0
+  pub are-found : (by : Standing) (count own : ℕ) (late : Bool) (x given : ℕ)
+      → ◌≡◌ {A = Result ℕ Rule} (Ok given) (judged (submit_checks (not (is_some found)) by count own late) x) → IsSome found
+  are-found by count own late x given h = of found (judged-Ok (submit_checks (not (is_some found)) by count own late) x given (sym h)).0.0
     where
       of : (o : Option (List ℕ)) → not (is_some o) ≡ false → IsSome o
       of None none = absurd (true≢false none)
       of (Some us) none = refl
 
-  submission-made : (by : Standing) → by ≡ standing_at t (Some stamp.maker) None → (seen : PapersState) → seen ≡ t.papers → (r : Result ℕ Rule)
-      → r ≡ judged (submit_checks (not (is_some found)) by (paper_count seen) (own_count seen (Some stamp.maker))) (paper_count seen + 1)
+  submission-made : (by : Standing) → by ≡ standing_at t (Some stamp.maker) None → (seen : PapersState) → seen ≡ t.papers
+      → (late : Bool) → late ≡ late_at t stamp → (r : Result ℕ Rule)
+      → r ≡ judged (submit_checks (not (is_some found)) by (paper_count seen) (own_count seen (Some stamp.maker)) late) (paper_count seen + 1)
       → made_of (λ (paper : ℕ). submission_drawn stamp paper title abstract (flat_map listed users)) r ≡ submission_of t stamp users title abstract
-  submission-made by stands seen same r judges =
-      judged-made (submit_checks (not (is_some found)) by (paper_count seen) (own_count seen (Some stamp.maker))) make (paper_count seen + 1) r judges
-      ∙ ap (λ (x : PapersState). judged (submit_checks (not (is_some found)) by (paper_count x) (own_count x (Some stamp.maker))) (make (paper_count x + 1))) same
-      ∙ (λ i. judged (submit_checks (all-found i) (stands i) (paper_count t.papers) (own_count t.papers (Some stamp.maker))) (make (paper_count t.papers + 1)))
+  submission-made by stands seen same late when r judges =
+      judged-made (submit_checks (not (is_some found)) by (paper_count seen) (own_count seen (Some stamp.maker)) late) make (paper_count seen + 1) r judges
+      ∙ ap (λ (x : PapersState). judged (submit_checks (not (is_some found)) by (paper_count x) (own_count x (Some stamp.maker)) late) (make (paper_count x + 1))) same
+      ∙ (λ i. judged (submit_checks (all-found i) (stands i) (paper_count t.papers) (own_count t.papers (Some stamp.maker)) (when i)) (make (paper_count t.papers + 1)))
     where
       make : ℕ → Drawn
       make paper = submission_drawn stamp paper title abstract (flat_map listed users)
 
-  pub submission-refused : (by : Standing) → by ≡ standing_at t (Some stamp.maker) None → (seen : PapersState) → seen ≡ t.papers → (rule : Rule)
-      → ◌≡◌ {A = Result ℕ Rule} (Err rule) (judged (submit_checks (not (is_some found)) by (paper_count seen) (own_count seen (Some stamp.maker))) (paper_count seen + 1))
+  pub submission-refused : (by : Standing) → by ≡ standing_at t (Some stamp.maker) None → (seen : PapersState) → seen ≡ t.papers
+      → (late : Bool) → late ≡ late_at t stamp → (rule : Rule)
+      → ◌≡◌ {A = Result ℕ Rule} (Err rule) (judged (submit_checks (not (is_some found)) by (paper_count seen) (own_count seen (Some stamp.maker)) late) (paper_count seen + 1))
       → ◌≡◌ {A = Result Drawn Rule} (Err rule) (submission_of t stamp users title abstract)
-  submission-refused by stands seen same rule judges = submission-made by stands seen same (Err rule) judges
+  submission-refused by stands seen same late when rule judges = submission-made by stands seen same late when (Err rule) judges
 
-  pub submission-drawn : (by : Standing) → by ≡ standing_at t (Some stamp.maker) None → (seen : PapersState) → seen ≡ t.papers → (paper : ℕ)
-      → ◌≡◌ {A = Result ℕ Rule} (Ok paper) (judged (submit_checks (not (is_some found)) by (paper_count seen) (own_count seen (Some stamp.maker))) (paper_count seen + 1))
+  pub submission-drawn : (by : Standing) → by ≡ standing_at t (Some stamp.maker) None → (seen : PapersState) → seen ≡ t.papers
+      → (late : Bool) → late ≡ late_at t stamp → (paper : ℕ)
+      → ◌≡◌ {A = Result ℕ Rule} (Ok paper) (judged (submit_checks (not (is_some found)) by (paper_count seen) (own_count seen (Some stamp.maker)) late) (paper_count seen + 1))
       → (given : List ℕ) → found ≡ Some given
       → ◌≡◌ {A = Result Drawn Rule}
       (Ok (drawn_by t.accounts (record { stamp = stamp; first = Submitted paper title abstract; rest = rests.Coauthors paper given })))
       (submission_of t stamp users title abstract)
-  submission-drawn by stands seen same paper judges given is =
+  submission-drawn by stands seen same late when paper judges given is =
       ap (λ (us : List ℕ). Ok (drawn_by t.accounts (record { stamp = stamp; first = Submitted paper title abstract; rest = rests.Coauthors paper us })))
       (sym (among (list_any is_none users) (sym told ∙ is)))
-      ∙ submission-made by stands seen same (Ok paper) judges
+      ∙ submission-made by stands seen same late when (Ok paper) judges
     where
       among : (b : Bool) → cond b None (Some others) ≡ Some given → others ≡ given
       among true e = cc

@@ -19,7 +19,7 @@ use Rattle.cr_base.specs.Lists.{listed, at_some}
 use Rattle.cr_base.specs.Papers.{PapersState, paper_count, paper_numbers, own_count, is_withdrawn_at}
 use Rattle.cr_base.specs.Reviews.{is_written_in}
 use Rattle.cr_base.specs.Seats.{ordinal_in}
-use Rattle.cr_base.specs.Sources.{standing_at, facts_of_tables, shown_in_tables}
+use Rattle.cr_base.specs.Sources.{standing_at, is_late, facts_of_tables, shown_in_tables}
 use Rattle.cr_base.specs.Sources.{paper_named, target_named, user_among}
 use Rattle.cr_base.specs.Tables.{Tables}
 use Rattle.cr_judge.specs.declared.named.Named.{Named}
@@ -59,6 +59,10 @@ asked_at t maker paper user = target_named (facts_of_tables t (Some maker)) (sho
 abbrev pub user_named : Tables → Option (List ℕ) → Option ℕ
 user_named t name = user_among (lines_of t.accounts) name
 
+-- at the moment of this stamp it is too late for what the phase opens
+abbrev pub late_at : Tables → Stamp → Bool
+late_at t stamp = is_late (facts_of_tables t (Some stamp.maker)) stamp.at
+
 -- ---- what is judged
 
 -- a registration at this moment
@@ -74,7 +78,8 @@ submission_of t stamp users title abstract =
     let count = paper_count t.papers in
     let maker = stamp.maker in
     judged
-    (submit_checks (list_any is_none users) (standing_at t (Some maker) None) count (own_count t.papers (Some maker)))
+    (submit_checks (list_any is_none users) (standing_at t (Some maker) None) count (own_count t.papers (Some maker))
+    (late_at t stamp))
     (submission_drawn stamp (count + 1) title abstract (flat_map listed users))
 
 abbrev pub submission_at : Tables → Stamp → List ℕ → List ℕ → List (Option (List ℕ)) → Result Drawn Rule

@@ -9,7 +9,7 @@ ghost use Rattle.cr_judge.specs.Named.{conflict_at, written_at};
 ghost use Rattle.cr_judge.specs.Rows.{AreEarlier};
 
 use crate::effect::{Effect, alone};
-use crate::named::{held, is_conflicted, named_paper, ordinal_of, target_of, user_of};
+use crate::named::{held, is_conflicted, is_late, named_paper, ordinal_of, target_of, user_of};
 use cr_base::{Bid, Entry, Kind, PaperNo, Rule, Short, Stamp, Stamped, Steps, UserNo};
 use cr_view::Live;
 
@@ -23,8 +23,9 @@ pub(crate) fn bid(
         ≡ judge_by_role live.now.tables (call_by stamp.now (commands.Bid paper.now value)) }
 {
     let named = named_paper(live, stamp.maker, paper, &[]);
+    let late = is_late(live, stamp);
     live.tie_table()
-        .judge_bid(&named.by, &named.paper, named.withdrawn)?;
+        .judge_bid(&named.by, &named.paper, named.withdrawn, late)?;
     let paper = held(&named.paper);
     Ok(alone(stamp, Entry::Bid { paper, value }))
 }
@@ -45,6 +46,7 @@ pub(crate) fn conflict(
 {
     let named = named_paper(live, stamp.maker, paper, earlier);
     let target = target_of(live, user);
+    let late = is_late(live, stamp);
     live.tie_table().judge_conflict(
         &named.by,
         stamp.maker,
@@ -53,6 +55,7 @@ pub(crate) fn conflict(
         on,
         named.withdrawn,
         earlier,
+        late,
     )?;
     let paper = held(&named.paper);
     let user = held(user);

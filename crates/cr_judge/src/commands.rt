@@ -13,11 +13,11 @@ ghost use Rattle.cr_judge.specs.declared.effect.Rest.TheVariants as rests;
 use crate::assigning::{assignment, bid, conflict, unassignment};
 use crate::coauthors::coauthors;
 use crate::effect::{Effect, Rest, alone, alone_or_rule};
-use crate::named::{held, user_of};
+use crate::named::{held, is_late, user_of};
 use crate::writing::{comment, decision, review, tag};
 use cr_base::{
-    Blob, Call, Command, Digest, Entry, Mode, Moment, PaperNo, Phase, Role, Rule, Short, Stamp,
-    Text, ToldNames, UserNo,
+    Blob, Call, Command, Deadline, Digest, Entry, Mode, Moment, PaperNo, Phase, Role, Rule, Short,
+    Stamp, Text, ToldNames, UserNo,
 };
 use cr_view::Live;
 
@@ -26,7 +26,7 @@ use cr_view::Live;
 /// turn.
 ///
 /// The rules and their order stand at the table that has each list: `register_check` and `judge_name` of the
-/// accounts, `judge_phase` and `judge_mode` of the phase and the mode, `judge_submit`, `judge_revise`,
+/// accounts, `judge_phase`, `judge_mode` and `judge_deadline` of the stage, `judge_submit`, `judge_revise`,
 /// `judge_upload` and `judge_withdraw` of the papers, `judge_conflict` and `judge_bid` of the ties, `judge_assign`
 /// and `judge_unassign` of the seats, and `judge_review`, `judge_comment`, `judge_tag` and `judge_decide`.
 ///
@@ -47,7 +47,7 @@ pub fn judge(live: &Live, call: Call) -> Result<Effect, Rule>
     effect_of(live, call)
 }
 
-/// The same: nobody's, or a user's.
+/// The same: of a registration, which is nobody's, or of a user's command.
 fn effect_of(live: &Live, call: Call) -> Result<Effect, Rule>
     requires caller { HasCaller call }
     requires few { HasFewAuthors call.command }
@@ -116,6 +116,7 @@ fn user_effect_of(live: &Live, stamp: &Stamp, command: Command) -> Result<Effect
             paper,
             decision: made,
         } => decision(live, stamp, &paper, made),
+        Command::SetDeadline { phase, until } => deadline(live, stamp, phase, until),
     }
 }
 
@@ -163,9 +164,10 @@ fn submission(
 {
     let users = coauthors(live, stamp.maker, authors.as_slice());
     let by = live.standing(&Some(stamp.maker), &None);
+    let late = is_late(live, stamp);
     let paper = live
         .paper_table()
-        .judge_submit(&by, stamp.maker, users.is_some())?;
+        .judge_submit(&by, stamp.maker, users.is_some(), late)?;
     Ok(Effect {
         stamp: *stamp,
         first: Entry::Submitted {
@@ -199,6 +201,20 @@ fn mode(live: &Live, stamp: &Stamp, to: Mode) -> Result<Effect, Rule>
     Ok(alone(stamp, Entry::ModeSet { mode: to }))
 }
 
+fn deadline(
+    live: &Live,
+    stamp: &Stamp,
+    phase: Phase,
+    until: Option<Deadline>,
+) -> Result<Effect, Rule>
+    ensures { drawn_or_rule live.now.tables.accounts result
+        ≡ judge_by_role live.now.tables (call_by stamp.now (commands.SetDeadline phase until)) }
+{
+    let by = live.standing(&Some(stamp.maker), &None);
+    live.stage_table().judge_deadline(&by, phase)?;
+    Ok(alone(stamp, Entry::DeadlineSet { phase, until }))
+}
+
 fn revision(
     live: &Live,
     stamp: &Stamp,
@@ -210,7 +226,8 @@ fn revision(
         ≡ judge_by_role live.now.tables (call_by stamp.now (commands.Revise paper.now title abstract_)) }
 {
     let by = live.standing(&Some(stamp.maker), paper);
-    live.paper_table().judge_revise(&by, paper)?;
+    let late = is_late(live, stamp);
+    live.paper_table().judge_revise(&by, paper, late)?;
     let paper = held(paper);
     Ok(alone(
         stamp,
@@ -233,9 +250,10 @@ fn upload(
 {
     let by = live.standing(&Some(stamp.maker), paper);
     let bytes = content.as_slice().len() as u64;
+    let late = is_late(live, stamp);
     let version = live
         .paper_table()
-        .judge_upload(&by, stamp.maker, paper, bytes)?;
+        .judge_upload(&by, stamp.maker, paper, bytes, late)?;
     let paper = held(paper);
     Ok(alone(
         stamp,
@@ -252,7 +270,8 @@ fn withdrawal(live: &Live, stamp: &Stamp, paper: &Option<PaperNo>) -> Result<Eff
         ≡ judge_by_role live.now.tables (call_by stamp.now (commands.Withdraw paper.now)) }
 {
     let by = live.standing(&Some(stamp.maker), paper);
-    live.paper_table().judge_withdraw(&by, paper)?;
+    let late = is_late(live, stamp);
+    live.paper_table().judge_withdraw(&by, paper, late)?;
     let paper = held(paper);
     Ok(alone(stamp, Entry::Withdrawn { paper }))
 }

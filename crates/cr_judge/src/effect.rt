@@ -161,6 +161,10 @@ pub fn receipt_of(first: &Entry, name: &Option<Short>) -> Receipt
         Entry::Commented { n, .. } => Receipt::Comment { n: *n },
         Entry::Tagged { paper, .. } => Receipt::Changed { paper: *paper },
         Entry::Decided { paper, .. } => Receipt::Changed { paper: *paper },
+        Entry::DeadlineSet { phase, until } => Receipt::Deadline {
+            phase: *phase,
+            until: *until,
+        },
     }
 }
 

@@ -9,11 +9,11 @@ ghost use Rattle.cr_base.specs.Seats.{ordinal_in};
 ghost use Rattle.cr_base.specs.Sources.{standing_at};
 ghost use Rattle.cr_base.specs.Tables.{tables_from};
 ghost use Rattle.cr_base.specs.Ties.{is_conflicted_in};
-ghost use Rattle.cr_judge.specs.Named.{named_at, there_in, target_with};
+ghost use Rattle.cr_judge.specs.Named.{late_at, named_at, there_in, target_with};
 ghost use Rattle.cr_judge.specs.Rows.{AreEarlier};
 ghost use Rattle.cr_judge.specs.Targets.{target_at};
 
-use cr_base::{Ordinal, PaperNo, Role, Short, Stamped, Standing, Steps, UserNo};
+use cr_base::{Ordinal, PaperNo, Role, Short, Stamp, Stamped, Standing, Steps, UserNo};
 use cr_view::Live;
 
 /// What is there, where something is.
@@ -80,6 +80,13 @@ fn is_withdrawn(live: &Live, paper: &Option<PaperNo>) -> bool
             .is_withdrawn(*paper, &mut Steps::uncounted()),
         None => false,
     }
+}
+
+/// Whether it is too late, at the moment of this stamp, for what the phase opens. Takes no memory; two reads.
+pub(crate) fn is_late(live: &Live, stamp: &Stamp) -> bool
+    ensures { result ≡ late_at live.now.tables stamp.now }
+{
+    live.stage_table().is_late(stamp.at)
 }
 
 /// What a user is to the conference and to the paper. Takes no memory; a few reads by number, two walks over the

@@ -1,6 +1,6 @@
 //! What is judged of a bulk: whether its caller may send one, and of each row behind those before it.
 ghost use Rattle.std.specs.Prelude.{◌≡◌, [], ◌∷◌, ◌++◌, Bool, IfOk, Some, None};
-ghost use Rattle.cr_base.specs.Bulk.{bulk_checks, IsRowCommand};
+ghost use Rattle.cr_base.specs.Bulk.{bulk_checks, command_of_row};
 ghost use Rattle.cr_base.specs.Checks.{judged};
 ghost use Rattle.cr_base.specs.Drawn.{grouped, stamped};
 ghost use Rattle.cr_base.specs.Lists.{is_number};
@@ -13,7 +13,7 @@ ghost use Rattle.cr_judge.specs.Rows.{AreEarlier, group_or_rule, row_group, row_
 use crate::assigning::{assignment, conflict, unassignment};
 use crate::named::user_of;
 use crate::writing::tag;
-use cr_base::{Command, Entry, PaperNo, Rule, Short, Stamp, Stamped, UserNo};
+use cr_base::{Entry, PaperNo, RowCommand, Rule, Short, Stamp, Stamped, UserNo};
 use cr_view::Live;
 
 /// Whether a user may send a bulk, or the first broken rule: `NotChair`, else `WrongPhase` before the
@@ -33,7 +33,7 @@ pub fn may_bulk(live: &Live, caller: UserNo) -> Result<(), Rule>
 
 /// The entry that a row of a bulk under this stamp comes to, or the first broken rule, behind the `earlier`
 /// entries of the same bulk, which no table knows yet: each is of a kind that a row adds, and may come next in its
-/// turn. So may this one. The command is one that a row tells. No table is changed.
+/// turn. So may this one. No table is changed.
 ///
 /// First comes `BulkSelf`, where it turns a conflict of the caller's own on or off; then the rules of the
 /// command, as `judge` tells them.
@@ -43,13 +43,12 @@ pub fn may_bulk(live: &Live, caller: UserNo) -> Result<(), Rule>
 pub fn judge_row(
     live: &Live,
     stamp: &Stamp,
-    command: Command,
+    command: RowCommand,
     earlier: &[Stamped],
 ) -> Result<Entry, Rule>
-    requires row { IsRowCommand command }
-    requires earlier { AreEarlier live.now.tables earlier.now }
+    requires { AreEarlier live.now.tables earlier.now }
     ensures judged { row_group stamp.now result
-        ≡ group_or_rule (row_judged_at (tables_from live.now.tables earlier.now) stamp.now command) }
+        ≡ group_or_rule (row_judged_at (tables_from live.now.tables earlier.now) stamp.now (command_of_row command)) }
     ensures fits { IfOk result
         (λ entry. FitInTurn (tables_from live.now.tables earlier.now) (grouped stamp.now (entry ∷ []))) }
     ensures next { IfOk result (λ entry. (more : Bool)
@@ -64,28 +63,26 @@ pub fn judge_row(
 fn row_entry(
     live: &Live,
     stamp: &Stamp,
-    command: Command,
+    command: RowCommand,
     earlier: &[Stamped],
 ) -> Result<Entry, Rule>
-    requires row { IsRowCommand command }
-    requires earlier { AreEarlier live.now.tables earlier.now }
+    requires { AreEarlier live.now.tables earlier.now }
     ensures { entry_or_rule live.now.tables.accounts stamp.now result
-        ≡ row_judged_at (tables_from live.now.tables earlier.now) stamp.now command }
+        ≡ row_judged_at (tables_from live.now.tables earlier.now) stamp.now (command_of_row command) }
 {
     match command {
-        Command::SetConflict { paper, user, on } => {
+        RowCommand::Conflict { paper, user, on } => {
             row_conflict(live, stamp, &paper, &user, on, earlier)
         }
-        Command::Assign { paper, user, kind } => {
+        RowCommand::Assign { paper, user, kind } => {
             assignment(live, stamp, &paper, &user, kind, earlier)
         }
-        Command::Unassign { paper, user } => unassignment(live, stamp, &paper, &user, earlier),
-        Command::Tag {
+        RowCommand::Unassign { paper, user } => unassignment(live, stamp, &paper, &user, earlier),
+        RowCommand::Tag {
             paper,
             tag: text,
             on,
         } => tag(live, stamp, &paper, text, on, earlier),
-        _ => unreachable!(),
     }
 }
 

@@ -8,7 +8,7 @@ ghost use Rattle.cr_judge.specs.Effects.{drawn_or_rule, entry_or_rule};
 ghost use Rattle.cr_judge.specs.Rows.{AreEarlier};
 
 use crate::effect::{Effect, alone};
-use crate::named::{held, named_paper, ordinal_of};
+use crate::named::{held, is_late, named_paper, ordinal_of};
 use cr_base::{Decision, Entry, Form, PaperNo, Rule, Stamp, Stamped, Tag, Text};
 use cr_view::Live;
 
@@ -23,9 +23,10 @@ pub(crate) fn review(
 {
     let named = named_paper(live, stamp.maker, paper, &[]);
     let ordinal = ordinal_of(live, &Some(stamp.maker), &named.paper, &[]);
+    let late = is_late(live, stamp);
     let version = live
         .review_table()
-        .judge_review(&named.by, &named.paper, &ordinal, named.withdrawn)?;
+        .judge_review(&named.by, &named.paper, &ordinal, named.withdrawn, late)?;
     let paper = held(&named.paper);
     let ordinal = held(&ordinal);
     Ok(alone(
@@ -49,9 +50,14 @@ pub(crate) fn comment(
         ≡ judge_by_role live.now.tables (call_by stamp.now (commands.Comment paper.now text)) }
 {
     let named = named_paper(live, stamp.maker, paper, &[]);
-    let n = live
-        .comment_table()
-        .judge_comment(&named.by, stamp.maker, &named.paper, named.withdrawn)?;
+    let late = is_late(live, stamp);
+    let n = live.comment_table().judge_comment(
+        &named.by,
+        stamp.maker,
+        &named.paper,
+        named.withdrawn,
+        late,
+    )?;
     let ordinal = ordinal_of(live, &Some(stamp.maker), &named.paper, &[]);
     let paper = held(&named.paper);
     Ok(alone(

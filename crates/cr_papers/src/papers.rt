@@ -225,17 +225,19 @@ impl Papers {
 impl Papers {
     /// The number that a paper submitted now would have, the count of papers plus 1, or the first
     /// broken rule: `NoUser` where not all of the co-authors named were found, else `WrongPhase` where
-    /// the phase isn't submission, else `FullPapers` where 9,999 papers were submitted, else
-    /// `QuotaPapers` where this maker has submitted 20, withdrawn ones counted. `by` is the maker's
-    /// standing, where no paper is named. One read by number; takes no memory.
+    /// the phase isn't submission, else `Late` where it is too late, else `FullPapers` where 9,999 papers
+    /// were submitted, else `QuotaPapers` where this maker has submitted 20, withdrawn ones counted. `by` is the
+    /// maker's standing, where no paper is named. One read by number; takes no memory.
     pub fn judge_submit(
         &self,
         by: &Standing,
         maker: UserNo,
         users_found: bool,
+        late: bool,
     ) -> Result<PaperNo, Rule>
         ensures { let count = paper_count self.now.papers in
-            result ≡ judged (submit_checks (not users_found) by.now count (own_count self.now.papers (Some maker)))
+            result ≡ judged
+            (submit_checks (not users_found) by.now count (own_count self.now.papers (Some maker)) late)
             (count + 1) }
     {
         if !users_found {
@@ -243,6 +245,9 @@ impl Papers {
         }
         if !by.phase.accepts_submissions() {
             return Err(Rule::WrongPhase);
+        }
+        if late {
+            return Err(Rule::Late);
         }
         if self.count() >= LAST_NUMBER {
             return Err(Rule::FullPapers);
@@ -255,23 +260,33 @@ impl Papers {
 
     /// Whether the caller may give a paper other texts, or the first broken rule: `NoPaper` where no
     /// paper of a number was named or there is none of it, else `NotAuthor` where the caller is none of
-    /// its authors, else `WrongPhase` where the phase isn't submission, else `Withdrawn` where the paper
-    /// was withdrawn. `by` is the caller's standing at the paper. One read by number at most; takes no
-    /// memory.
-    pub fn judge_revise(&self, by: &Standing, paper: &Option<PaperNo>) -> Result<(), Rule>
-        ensures { result ≡ judged (revise_checks by.now (named_in self.now.papers paper.now)) tt }
+    /// its authors, else `WrongPhase` where the phase isn't submission, else `Late` where it is too late,
+    /// else `Withdrawn` where the paper was withdrawn. `by` is the caller's standing at the paper. One read by
+    /// number at most; takes no memory.
+    pub fn judge_revise(
+        &self,
+        by: &Standing,
+        paper: &Option<PaperNo>,
+        late: bool,
+    ) -> Result<(), Rule>
+        ensures { result ≡ judged (revise_checks by.now (named_in self.now.papers paper.now) late) tt }
     {
         let Some(paper) = paper else {
             return Err(Rule::NoPaper);
         };
-        self.may_change(by, *paper)
+        self.may_change(by, *paper, late)
     }
 
     /// Whether the caller may withdraw a paper, or the first broken rule: the same as of revising it.
-    pub fn judge_withdraw(&self, by: &Standing, paper: &Option<PaperNo>) -> Result<(), Rule>
-        ensures { result ≡ judged (revise_checks by.now (named_in self.now.papers paper.now)) tt }
+    pub fn judge_withdraw(
+        &self,
+        by: &Standing,
+        paper: &Option<PaperNo>,
+        late: bool,
+    ) -> Result<(), Rule>
+        ensures { result ≡ judged (revise_checks by.now (named_in self.now.papers paper.now) late) tt }
     {
-        self.judge_revise(by, paper)
+        self.judge_revise(by, paper, late)
     }
 
     /// The number of the version that so many bytes would be, the count of the paper's versions plus 1,
@@ -284,15 +299,17 @@ impl Papers {
         maker: UserNo,
         paper: &Option<PaperNo>,
         bytes: u64,
+        late: bool,
     ) -> Result<u64, Rule>
         ensures { result ≡ judged
-            (upload_checks by.now (named_in self.now.papers paper.now) (own_bytes self.now.papers (Some maker)) bytes)
+            (upload_checks by.now (named_in self.now.papers paper.now) (own_bytes self.now.papers (Some maker)) bytes
+            late)
             (length (uploads_at self.now.papers (unwrap_or paper.now 0)) + 1) }
     {
         let Some(paper) = paper else {
             return Err(Rule::NoPaper);
         };
-        match self.may_change(by, *paper) {
+        match self.may_change(by, *paper, late) {
             Ok(()) => {}
             Err(rule) => return Err(rule),
         }
@@ -303,8 +320,8 @@ impl Papers {
     }
 
     /// Whether the caller may change the paper of a number.
-    fn may_change(&self, by: &Standing, paper: PaperNo) -> Result<(), Rule>
-        ensures { result ≡ judged (revise_checks by.now (named_in self.now.papers (Some paper))) tt }
+    fn may_change(&self, by: &Standing, paper: PaperNo, late: bool) -> Result<(), Rule>
+        ensures { result ≡ judged (revise_checks by.now (named_in self.now.papers (Some paper)) late) tt }
     {
         if !self.has(paper) {
             return Err(Rule::NoPaper);
@@ -314,6 +331,9 @@ impl Papers {
         }
         if !by.phase.papers_may_change() {
             return Err(Rule::WrongPhase);
+        }
+        if late {
+            return Err(Rule::Late);
         }
         if self.is_withdrawn(paper, &mut Steps::uncounted()) {
             return Err(Rule::Withdrawn);

@@ -1,22 +1,30 @@
-//! The phase and the mode of a history.
-ghost use Rattle.std.specs.Prelude.{◌≡◌, ◌∷◌, [], not};
-ghost use Rattle.cr_base.specs.Checks.{judged, ◌breaks◌, phase_checks, mode_checks};
+//! The phase, the mode and the deadlines of a history.
+ghost use Rattle.std.specs.Prelude.{◌≡◌, ◌∷◌, [], ◌++◌, IfOk, OnOk, not};
+ghost use Rattle.std.specs.Option.{option_map};
+ghost use Rattle.cr_base.specs.Checks.{judged, ◌breaks◌, phase_checks, deadline_checks, mode_checks};
+ghost use Rattle.cr_base.specs.Deadlines.{deadline_in, deadlines_told, phase_deadline, with_deadline};
+ghost use Rattle.cr_base.specs.Lists.{listed};
 ghost use Rattle.cr_base.specs.Words.{is_chair};
-ghost use Rattle.cr_base.specs.Stage.{first_stage, stage_after};
+ghost use Rattle.cr_base.specs.Stage.{first_stage, stage_after, is_late_in};
 ghost use Rattle.cr_base.specs.Steps.{Takes};
 
-use cr_base::{Entry, Kept, Mode, Phase, Rule, Stamped, Standing, Steps};
+use cr_base::{
+    Deadline, Deadlines, Entry, Kept, Mode, Moment, Phase, PhaseDeadline, PhaseDeadlines, Rule,
+    Stamped, Standing, Steps,
+};
+use std::alloc::{AllocError, Global};
 use std::marker::Model;
 use std::sync::ledger::Ledger;
 
-/// The phase and the mode of the conference. Of fixed size: no call takes memory, and none fails for
-/// want of it.
+/// The phase and the mode of the conference, and the deadlines of its phases. Of fixed size: but for the list of
+/// deadlines that `deadlines` makes, no call takes memory, and none fails for want of it.
 ///
-/// Contracts see both.
+/// Contracts see all three.
 #[derive(Drop)]
 pub struct Stage {
     phase: Kept<Phase>,
     mode: Kept<Mode>,
+    deadlines: Kept<Deadlines>,
 }
 
 impl Model for Stage {
@@ -24,7 +32,7 @@ impl Model for Stage {
 
     ghost Value = { StageState };
 
-    ghost view = { λ s. record { phase = s.phase; mode = s.mode } };
+    ghost view = { λ s. record { phase = s.phase; mode = s.mode; deadlines = s.deadlines } };
 }
 
 /// `NotChair` where the caller is no chair.
@@ -38,13 +46,14 @@ fn chairs_only(by: &Standing) -> Result<(), Rule>
 }
 
 impl Stage {
-    /// The stage of the empty history: setup, and the mode is blind.
+    /// The stage of the empty history: setup, the mode is blind, and no phase has a deadline.
     pub fn new() -> Stage
         ensures { result ≡ first_stage }
     {
         Stage {
             phase: Kept::new(Phase::Setup),
             mode: Kept::new(Mode::Blind),
+            deadlines: Kept::new(Deadlines::none()),
         }
     }
 
@@ -62,6 +71,47 @@ impl Stage {
         ensures steps { Takes 1 steps.old steps.new }
     {
         *self.mode.get(steps)
+    }
+
+    /// The deadline of a phase, and none where it has none: no such entry has come, or the last one cleared it.
+    pub fn deadline(&self, phase: Phase) -> Option<Deadline>
+        ensures { result ≡ deadline_in self.now.deadlines phase }
+    {
+        self.deadlines.get(&mut Steps::uncounted()).of(phase)
+    }
+
+    /// The phases that have a deadline, in the order of phases, each with it; an error only for lack of memory.
+    pub fn deadlines(&self, alloc: Global) -> Result<PhaseDeadlines, AllocError>
+        ensures { IfOk result (λ told. told ≡ deadlines_told (deadline_in self.now.deadlines)) }
+    {
+        let mut told = Vec::new(alloc);
+        self.push_deadline(&mut told, Phase::Submission)?;
+        self.push_deadline(&mut told, Phase::Bidding)?;
+        self.push_deadline(&mut told, Phase::Reviewing)?;
+        self.push_deadline(&mut told, Phase::Discussion)?;
+        Ok(PhaseDeadlines::from_vec(told))
+    }
+
+    /// Adds the phase with its deadline, where it has one; an error only for lack of memory.
+    fn push_deadline(&self, told: &mut Vec<PhaseDeadline>, phase: Phase) -> Result<(), AllocError>
+        ensures { OnOk result (told.new.items ≡ told.old.items
+            ++ listed (option_map (phase_deadline phase) (deadline_in self.now.deadlines phase))) }
+    {
+        if let Some(until) = self.deadline(phase) {
+            told.push(PhaseDeadline { phase, until })?;
+        }
+        Ok(())
+    }
+
+    /// Whether it is too late, at that moment, for what the phase opens: the phase that the conference is in has a
+    /// deadline, and the moment is later. At the very second of the deadline it isn't.
+    pub fn is_late(&self, at: Moment) -> bool
+        ensures { result ≡ is_late_in self.now at }
+    {
+        match self.deadline(self.phase(&mut Steps::uncounted())) {
+            Some(until) => until.is_past(at),
+            None => false,
+        }
     }
 
     /// Whether the caller may set this phase, or the first broken rule: `NotChair` where she is no
@@ -90,6 +140,18 @@ impl Stage {
         Ok(())
     }
 
+    /// Whether the caller may set a deadline of this phase, or clear it, or the first broken rule: `NotChair` where
+    /// she is no chair, else `WrongPhase` where the phase is over. `by` is her standing, where no paper is named.
+    pub fn judge_deadline(&self, by: &Standing, phase: Phase) -> Result<(), Rule>
+        ensures { result ≡ judged (deadline_checks by.now self.now.phase phase) tt }
+    {
+        chairs_only(by)?;
+        if !phase.is_from(self.phase(&mut Steps::uncounted())) {
+            return Err(Rule::WrongPhase);
+        }
+        Ok(())
+    }
+
     /// One more entry. Needs no room, and any entry fits.
     pub fn apply(&mut self, stamped: &Stamped)
         ensures { self.new ≡ stage_after self.old stamped.now.entry }
@@ -97,7 +159,17 @@ impl Stage {
         match &stamped.entry {
             Entry::PhaseSet { phase } => self.phase.set(*phase),
             Entry::ModeSet { mode } => self.mode.set(*mode),
+            Entry::DeadlineSet { phase, until } => self.set_deadline(*phase, *until),
             _ => {}
         }
+    }
+
+    /// Another deadline of this phase, or none any more.
+    fn set_deadline(&mut self, phase: Phase, until: Option<Deadline>)
+        ensures { self.new ≡ record self.old { deadlines = with_deadline phase until self.old.deadlines } }
+    {
+        let mut deadlines = *self.deadlines.get(&mut Steps::uncounted());
+        deadlines.set(phase, until);
+        self.deadlines.set(deadlines);
     }
 }

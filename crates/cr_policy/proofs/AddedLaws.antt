@@ -25,7 +25,7 @@ use Rattle.cr_base.specs.declared.words.Mode.{Mode}
 use Rattle.cr_base.specs.declared.words.Phase.{Phase}
 use Rattle.cr_base.specs.declared.words.Role.{Role}
 use Rattle.cr_base.specs.declared.words.Role.TheVariants.{Chair}
-use Rattle.cr_base.specs.Checks.{Check, NamedPaper, target_is, register_checks, phase_checks, mode_checks, submit_checks, revise_checks, upload_checks}
+use Rattle.cr_base.specs.Checks.{Check, NamedPaper, target_is, register_checks, phase_checks, deadline_checks, mode_checks, submit_checks, revise_checks, upload_checks}
 use Rattle.cr_base.specs.Calls.{stamp_by, stamp_of, call_of}
 use Rattle.cr_base.specs.Checks.{of_role, name_checks, conflict_checks, bid_checks, assign_checks, unassign_checks, judged}
 use Rattle.cr_base.specs.Checks.{review_checks, comment_checks, tag_checks, decide_checks}
@@ -38,7 +38,7 @@ use Rattle.cr_base.specs.HistoryFacts.{own_papers_of, own_bytes_of, own_comments
 use Rattle.cr_base.specs.Judging.{name_judged, conflict_judged, assignment_judged, unassignment_judged}
 use Rattle.cr_base.specs.Lists.{listed, given, at_some, is_number, is_nothing}
 use Rattle.cr_base.specs.Reviews.{forms_in, written_told}
-use Rattle.cr_base.specs.Sources.{number_in, user_among, users_among, role_among, paper_named, target_named}
+use Rattle.cr_base.specs.Sources.{number_in, user_among, users_among, role_among, paper_named, target_named, is_late}
 use Rattle.cr_base.specs.Tables.{tables_of}
 use Rattle.cr_base.specs.TagTexts.{is_for_chairs}
 use Rattle.cr_base.proofs.CheckLaws.{NoneBroken, judged-Ok}
@@ -206,6 +206,10 @@ module _ (w : ℕ) (H : History) (legal : Legal H) (m : ℕ) where
   abbrev asked : ℕ → Option ℕ → Option Target
   asked p target = target_named (facts_of u H) (shown_of H) u (Some p) target
 
+  -- it is too late for what the phase opens
+  abbrev late : Bool
+  late = is_late (facts_of u H) m
+
   -- one entry
   one : (command : Command) (drawn : Drawn) (checks : List Check) (e : Entry) (receipt : Receipt)
       → judged_on u H legal m command ≡ judged checks (record { group = grouped stamp (e ∷ []); receipt = receipt })
@@ -218,6 +222,12 @@ module _ (w : ℕ) (H : History) (legal : Legal H) (m : ℕ) where
   phases to drawn accepted =
       one (commands.SetPhase to) drawn (phase_checks (standing_of u None H) (phase_of H) to) (entries.PhaseSet to) (receipts.Phase to) refl accepted
 
+  deadlines : (phase : Phase) (until : Option ℕ) (drawn : Drawn) → Accepted (commands.SetDeadline phase until) drawn
+      → Adds (commands.SetDeadline phase until) drawn
+  deadlines phase until drawn accepted =
+      one (commands.SetDeadline phase until) drawn (deadline_checks (standing_of u None H) (phase_of H) phase)
+      (entries.DeadlineSet phase until) (receipts.Deadline phase until) refl accepted
+
   modes : (to : Mode) (drawn : Drawn) → Accepted (commands.SetMode to) drawn → Adds (commands.SetMode to) drawn
   modes to drawn accepted =
       one (commands.SetMode to) drawn (mode_checks (standing_of u None H) (phase_of H)) (entries.ModeSet to) (receipts.Mode to) refl accepted
@@ -226,28 +236,28 @@ module _ (w : ℕ) (H : History) (legal : Legal H) (m : ℕ) where
       → Adds (commands.Revise paper title abstract) drawn
   revisions None title abstract drawn accepted = refused rules.NoPaper drawn (judged-by u H legal m (commands.Revise None title abstract) drawn accepted)
   revisions (Some p) title abstract drawn accepted =
-      one (commands.Revise (Some p) title abstract) drawn (revise_checks (by p) (named p)) (entries.Revised p title abstract) (receipts.Changed p) refl accepted
+      one (commands.Revise (Some p) title abstract) drawn (revise_checks (by p) (named p) late) (entries.Revised p title abstract) (receipts.Changed p) refl accepted
 
   uploads : (paper : Option ℕ) (content : List ℕ) (drawn : Drawn) → Accepted (commands.Upload paper content) drawn → Adds (commands.Upload paper content) drawn
   uploads None content drawn accepted = refused rules.NoPaper drawn (judged-by u H legal m (commands.Upload None content) drawn accepted)
   uploads (Some p) content drawn accepted =
-      one (commands.Upload (Some p) content) drawn (upload_checks (by p) (named p) (own_bytes_of u H) (length content))
+      one (commands.Upload (Some p) content) drawn (upload_checks (by p) (named p) (own_bytes_of u H) (length content) late)
       (entries.Uploaded p (next_version p H) content) (receipts.Version (next_version p H)) refl accepted
 
   withdrawals : (paper : Option ℕ) (drawn : Drawn) → Accepted (commands.Withdraw paper) drawn → Adds (commands.Withdraw paper) drawn
   withdrawals None drawn accepted = refused rules.NoPaper drawn (judged-by u H legal m (commands.Withdraw None) drawn accepted)
   withdrawals (Some p) drawn accepted =
-      one (commands.Withdraw (Some p)) drawn (revise_checks (by p) (named p)) (entries.Withdrawn p) (receipts.Changed p) refl accepted
+      one (commands.Withdraw (Some p)) drawn (revise_checks (by p) (named p) late) (entries.Withdrawn p) (receipts.Changed p) refl accepted
 
   bids : (paper : Option ℕ) (value : ℕ) (drawn : Drawn) → Accepted (commands.Bid paper value) drawn → Adds (commands.Bid paper value) drawn
   bids None value drawn accepted = refused rules.NoPaper drawn (judged-by u H legal m (commands.Bid None value) drawn accepted)
   bids (Some p) value drawn accepted =
-      one (commands.Bid (Some p) value) drawn (bid_checks (by p) (named p)) (entries.Bid p value) (receipts.Bid value) refl accepted
+      one (commands.Bid (Some p) value) drawn (bid_checks (by p) (named p) late) (entries.Bid p value) (receipts.Bid value) refl accepted
 
   comments : (paper : Option ℕ) (text : List ℕ) (drawn : Drawn) → Accepted (commands.Comment paper text) drawn → Adds (commands.Comment paper text) drawn
   comments None text drawn accepted = refused rules.NoPaper drawn (judged-by u H legal m (commands.Comment None text) drawn accepted)
   comments (Some p) text drawn accepted =
-      one (commands.Comment (Some p) text) drawn (comment_checks (by p) (named p) (own_comments_of u H))
+      one (commands.Comment (Some p) text) drawn (comment_checks (by p) (named p) (own_comments_of u H) late)
       (entries.Commented p (next_comment p H) (ordinal_of u p H) text) (receipts.Comment (next_comment p H)) refl accepted
 
   tags : (paper : Option ℕ) (tag : List ℕ) (on : Bool) (drawn : Drawn) → Accepted (commands.Tag paper tag on) drawn → Adds (commands.Tag paper tag on) drawn
@@ -265,7 +275,7 @@ module _ (w : ℕ) (H : History) (legal : Legal H) (m : ℕ) where
   submissions title abstract names drawn accepted =
       let told : List ℕ = flat_map listed (users_among (accounts_of H) names) in
       let k = drawn-by u H legal m (commands.Submit title abstract names)
-      (submit_checks (list_any (λ (o : Option ℕ). is_none o) (users_among (accounts_of H) names)) (standing_of u None H) (length (papers_of H)) (own_papers_of u H))
+      (submit_checks (list_any (λ (o : Option ℕ). is_none o) (users_among (accounts_of H) names)) (standing_of u None H) (length (papers_of H)) (own_papers_of u H) late)
       (submission_drawn stamp (next_paper H) title abstract told) drawn refl accepted in
       subst (Adds (commands.Submit title abstract names)) k.1
       (subst (λ (us : List ℕ). IsAdded stamp (entries.Submitted (next_paper H) title abstract ∷ map (λ (v : ℕ). entries.Coauthor (next_paper H) v) us)
@@ -298,10 +308,10 @@ module _ (w : ℕ) (H : History) (legal : Legal H) (m : ℕ) where
     where
       each : (target : Option ℕ) → conflict_judged (facts_of u H) (shown_of H) stamp (Some p) target on ≡ Ok drawn
           → IsAdded stamp (listed (option_map (λ v. entries.Conflict p v on) target)) (receipts.Changed p ∷ []) drawn
-      each None is = absurd (true≢false (judged-Ok (conflict_checks (by p) (named p) None on) (conflict_drawn stamp p 0 on) drawn is).0.1.0)
+      each None is = absurd (true≢false (judged-Ok (conflict_checks (by p) (named p) None on late) (conflict_drawn stamp p 0 on) drawn is).0.1.0)
       each (Some v) is =
           subst (IsAdded stamp (entries.Conflict p v on ∷ []) (receipts.Changed p ∷ []))
-          (judged-Ok (conflict_checks (by p) (named p) (asked p (Some v)) on) (conflict_drawn stamp p v on) drawn is).1
+          (judged-Ok (conflict_checks (by p) (named p) (asked p (Some v)) on late) (conflict_drawn stamp p v on) drawn is).1
           (group-added stamp (entries.Conflict p v on ∷ []) (receipts.Changed p))
 
   assignments : (paper : Option ℕ) (name : Option (List ℕ)) (kind : Kind) (drawn : Drawn) → Accepted (commands.Assign paper name kind) drawn
@@ -367,7 +377,7 @@ module _ (w : ℕ) (H : History) (legal : Legal H) (m : ℕ) where
   reviewed : (paper : Option ℕ) (form : Form) (drawn : Drawn) → Accepted (commands.Review paper form) drawn → Adds (commands.Review paper form) drawn
   reviewed None form drawn accepted = refused rules.NoPaper drawn (judged-by u H legal m (commands.Review None form) drawn accepted)
   reviewed (Some p) form drawn accepted =
-      let k = drawn-by u H legal m (commands.Review (Some p) form) (review_checks (by p) (named p))
+      let k = drawn-by u H legal m (commands.Review (Some p) form) (review_checks (by p) (named p) late)
       (review_drawn stamp p (unwrap_or (ordinal_of u p H) 0) (length (own_forms_of u p H) + 1) form) drawn refl accepted in
       subst (Adds (commands.Review (Some p) form)) k.1 (under (ordinal_of u p H) refl (was-true (is_some (ordinal_of u p H)) k.0.1.1.1.0))
     where
@@ -403,6 +413,7 @@ adds_as_said H call drawn = by call.caller call.command
     by None (commands.Tag paper tag false) legal calls accepted = absurd calls
     by None _ legal calls accepted = absurd calls
     by (Some w) (commands.SetPhase to) legal calls accepted = phases w H legal call.at to drawn accepted
+    by (Some w) (commands.SetDeadline phase until) legal calls accepted = deadlines w H legal call.at phase until drawn accepted
     by (Some w) (commands.Submit title abstract names) legal calls accepted = submissions w H legal call.at title abstract names drawn accepted
     by (Some w) (commands.Revise paper title abstract) legal calls accepted = revisions w H legal call.at paper title abstract drawn accepted
     by (Some w) (commands.Upload paper content) legal calls accepted = uploads w H legal call.at paper content drawn accepted

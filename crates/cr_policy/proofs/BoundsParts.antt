@@ -37,7 +37,7 @@ use Rattle.cr_policy.specs.ShownTo.{hides_authors, hides_reviewers, names_review
 use Rattle.cr_policy.specs.ShownTo.{is_notified, knows_writers, is_discussion, begins_discussion, gives_form, is_reviewed, is_discussed}
 use Rattle.cr_policy.specs.ShownTo.{reads_form, learns_form, counts_form, reads_review, is_committees, is_chairs}
 use Rattle.cr_policy.specs.ShownTo.{gives_texts, is_replaced, gives_content, is_superseded, owns, is_party, is_told, where_known}
-use Rattle.cr_policy.specs.ShownTo.{kind_for, mark_for, moment_for, paper_for, reviewer_for, user_for, name_for, digest_for, role_for, phase_for, mode_for, maker_for}
+use Rattle.cr_policy.specs.ShownTo.{kind_for, mark_for, moment_for, paper_for, reviewer_for, user_for, name_for, digest_for, role_for, phase_for, until_for, mode_for, maker_for}
 use Rattle.cr_policy.specs.ShownTo.{title_for, abstract_for, version_for, content_for, switch_for, value_for, review_kind_for, ordinal_for}
 use Rattle.cr_policy.specs.ShownTo.{score_for, confidence_for, to_authors_for, to_pc_for, done_for, n_for, text_for, tag_for, decision_for, outcome_for, accepted_for}
 
@@ -514,11 +514,12 @@ module _ (u : Option ℕ) (H : History) (at : Around) (stamp : Stamp) (more : Bo
     pub name : (seen e).name ≡ name_for u H at.before at.after stamp e
     pub role : (seen e).role ≡ role_for u H at.before at.after stamp e
     pub phase : (seen e).phase ≡ phase_for u H at.before at.after stamp e
+    pub until : (seen e).until ≡ until_for u H at.before at.after stamp e
     pub mode : (seen e).mode ≡ mode_for u H at.before at.after stamp e
 
   pub shown-one : (e : Entry) → AreShown e
-  shown-one (Registered user name digest) = record { kind = refl; paper = refl; name = refl; role = refl; phase = refl; mode = refl }
-  shown-one e = record { kind = refl; paper = refl; name = refl; role = refl; phase = refl; mode = refl }
+  shown-one (Registered user name digest) = record { kind = refl; paper = refl; name = refl; role = refl; phase = refl; until = refl; mode = refl }
+  shown-one e = record { kind = refl; paper = refl; name = refl; role = refl; phase = refl; until = refl; mode = refl }
 
   pub mark-one : (e : Entry) → (seen e).mine ≡ mark_for u H at.before at.after stamp e
   mark-one e = refl

@@ -22,7 +22,7 @@ use Rattle.cr_base.specs.History.{History}
 use Rattle.cr_base.specs.Judging.{judge_by}
 use Rattle.cr_base.specs.Lists.{at_some, is_number}
 use Rattle.cr_base.specs.Parse.{parse_paper}
-use Rattle.cr_base.specs.Sources.{Facts, Shown, user_among, paper_named, target_named, facts_of_tables, shown_in_tables}
+use Rattle.cr_base.specs.Sources.{Facts, Shown, user_among, paper_named, target_named, is_late, facts_of_tables, shown_in_tables}
 use Rattle.cr_base.specs.Tables.{Tables, tables_of, tables_from, Fits, FitInTurn}
 use Rattle.cr_base.specs.TagTexts.{is_tag, is_for_chairs}
 use Rattle.cr_base.specs.Moments.{IsMoment}
@@ -38,7 +38,7 @@ use Rattle.cr_policy.specs.Legal.{IsCaller}
 use Rattle.cr_policy.specs.View.{View, view}
 use Rattle.cr_policy.specs.ViewFacts.{facts_in_view, shown_in_view}
 use Rattle.cr_policy.proofs.AcceptedLaws.{Kept-told, accepted-adds, accepted-fits}
-use Rattle.cr_policy.proofs.BulkViews.{IsOfRow, row-goes, registered-behind, view-behind}
+use Rattle.cr_policy.proofs.BulkViews.{LeavesStanding, row-goes, registered-behind, view-behind}
 use Rattle.cr_policy.proofs.FactAgreement.{facts_in_view-tables}
 use Rattle.cr_policy.proofs.JudgeAgreement.{judge-tables}
 
@@ -66,7 +66,7 @@ command-told (Some (turns_tag on)) row command is = by (is_tag row.tag) refl is
     by true is_one is = told_as tagged command (record { of_row = tt; bounded = is_one }) is
     by false none is = cc
 
-row-told : (row : BulkRow) (command : Command) → row_command row ≡ Ok command → IsTold command
+pub row-told : (row : BulkRow) (command : Command) → row_command row ≡ Ok command → IsTold command
 unfolding row_command
 row-told row command is = command-told (action_of row.action) row command is
 
@@ -82,13 +82,13 @@ row-caller H user command told registered = absurd told
 
 -- ---- what it draws
 
-record RowDraws (stamp : Stamp) (drawn : Drawn) : Type 0 where
-  entry : Entry
-  group : drawn.group ≡ grouped stamp (entry ∷ [])
-  of_row : IsOfRow stamp.maker entry
+pub record RowDraws (stamp : Stamp) (drawn : Drawn) : Type 0 where
+  pub entry : Entry
+  pub group : drawn.group ≡ grouped stamp (entry ∷ [])
+  pub of_row : LeavesStanding stamp.maker entry
 
 module _ (facts : Facts) (shown : Shown) (stamp : Stamp) where
-  drawn-alone : (e : Entry) (draws drawn : Drawn) → draws.group ≡ grouped stamp (e ∷ []) → IsOfRow stamp.maker e → draws ≡ drawn → RowDraws stamp drawn
+  drawn-alone : (e : Entry) (draws drawn : Drawn) → draws.group ≡ grouped stamp (e ∷ []) → LeavesStanding stamp.maker e → draws ≡ drawn → RowDraws stamp drawn
   drawn-alone e draws drawn group of_row is = record { entry = e; group = ap (λ (d : Drawn). d.group) (sym is) ∙ group; of_row = of_row }
 
   -- a stamp.maker is named, and she isn't the caller
@@ -97,12 +97,13 @@ module _ (facts : Facts) (shown : Shown) (stamp : Stamp) where
   other-named paper None there other = absurd (true≢false there)
   other-named paper (Some v) there other = other
 
-  row-draws : (command : Command) (drawn : Drawn) → IsRowCommand command → turns_own_conflict facts stamp.maker command ≡ false
+  pub row-draws : (command : Command) (drawn : Drawn) → IsRowCommand command → turns_own_conflict facts stamp.maker command ≡ false
       → judge_by facts shown stamp command ≡ Ok drawn → RowDraws stamp drawn
   row-draws (SetConflict paper name on) drawn told other accepted =
       let target : Option ℕ = user_among facts.accounts name in
       let draws : Drawn = conflict_drawn stamp (unwrap_or paper 0) (unwrap_or target 0) on in
-      let k = judged-Ok (conflict_checks (facts.standing paper) (paper_named facts shown paper) (target_named facts shown (Some stamp.maker) paper target) on)
+      let k = judged-Ok
+      (conflict_checks (facts.standing paper) (paper_named facts shown paper) (target_named facts shown (Some stamp.maker) paper target) on (is_late facts stamp.at))
       draws drawn accepted in
       drawn-alone (entries.Conflict (unwrap_or paper 0) (unwrap_or target 0) on) draws drawn refl (other-named paper target k.0.1.0 other) k.1
   row-draws (Assign paper name kind) drawn told other accepted =
@@ -143,7 +144,7 @@ added-ruled H g (submitted stamp paper title abstract users moment made ruled re
 added-ruled H g (first_user stamp name digest moment is texts) =
     (refl, record { phase = tt; chair = tt; role = tt; member = tt; right = tt; seat = tt; texts = texts })
 
-row-alone : (user : ℕ) (e : Entry) → IsOfRow user e → StandsAlone e
+row-alone : (user : ℕ) (e : Entry) → LeavesStanding user e → StandsAlone e
 row-alone user (entries.Conflict paper other on) row = tt
 row-alone user (entries.Assigned paper other kind ordinal) row = tt
 row-alone user (entries.Unassigned paper other ordinal) row = tt
@@ -224,7 +225,7 @@ module _ (stamp : Stamp) where
   pub record RowAdds (H : History) (drawn : Drawn) : Type 0 where
     pub entry : Entry
     pub group : drawn.group ≡ grouped stamp (entry ∷ [])
-    pub of_row : IsOfRow user entry
+    pub of_row : LeavesStanding user entry
     pub grows : (more : Bool) → Grows H (stamped stamp more entry ∷ [])
     pub fit : Fits (tables_of H) (stamped stamp false entry)
 
@@ -246,7 +247,7 @@ module _ (stamp : Stamp) where
         fit = fits.0;
       }
     where
-      grown : (e : Entry) → IsOfRow user e → IsMadeByUser H user e → IsRuled H user e → (more : Bool) → Grows H (stamped stamp more e ∷ [])
+      grown : (e : Entry) → LeavesStanding user e → IsMadeByUser H user e → IsRuled H user e → (more : Bool) → Grows H (stamped stamp more e ∷ [])
       grown e row made ruled true = goes_on stamp e ready.moment made (row-goes user e row) ruled
       grown e row made ruled false = adds _ (single stamp e ready.moment made (row-alone user e row) ruled)
 

@@ -28,16 +28,16 @@ use Rattle.cr_policy.specs.View.{sight, sights, view}
 
 -- ---- the entries of rows
 
--- the row of a bulk may add the entry, and it turns no conflict of this user's on or off
-abbrev pub IsOfRow : ℕ → Entry → Type 0
-IsOfRow user (Conflict paper other on) = IsFalse (eqb other user)
-IsOfRow user (Assigned paper other kind ordinal) = Unit {0}
-IsOfRow user (Unassigned paper other ordinal) = Unit {0}
-IsOfRow user (Tagged paper tag on) = Unit {0}
-IsOfRow user _ = ⊥
+-- the row of a bulk may add the entry, which leaves how this user stands as it was: it turns no conflict of hers on or off
+abbrev pub LeavesStanding : ℕ → Entry → Type 0
+LeavesStanding user (Conflict paper other on) = IsFalse (eqb other user)
+LeavesStanding user (Assigned paper other kind ordinal) = Unit {0}
+LeavesStanding user (Unassigned paper other ordinal) = Unit {0}
+LeavesStanding user (Tagged paper tag on) = Unit {0}
+LeavesStanding user _ = ⊥
 
 module _ (user : ℕ) where
-  pub row-goes : (e : Entry) → IsOfRow user e → IsRowEntry e
+  pub row-goes : (e : Entry) → LeavesStanding user e → IsRowEntry e
   row-goes (Conflict paper other on) row = tt
   row-goes (Assigned paper other kind ordinal) row = tt
   row-goes (Unassigned paper other ordinal) row = tt
@@ -45,24 +45,24 @@ module _ (user : ℕ) where
   row-goes e row = absurd row
 
   -- it tells nothing of what the table asks, and is of the series of no other entry
-  no_phase : (e : Entry) → IsOfRow user e → phase_told e ≡ []
+  no_phase : (e : Entry) → LeavesStanding user e → phase_told e ≡ []
   no_phase (PhaseSet phase) row = absurd row
   no_phase e row = refl
 
-  no_mode : (e : Entry) → IsOfRow user e → mode_told e ≡ []
+  no_mode : (e : Entry) → LeavesStanding user e → mode_told e ≡ []
   no_mode (ModeSet mode) row = absurd row
   no_mode e row = refl
 
-  no_role : (e : Entry) → IsOfRow user e → role_told (Some user) e ≡ []
+  no_role : (e : Entry) → LeavesStanding user e → role_told (Some user) e ≡ []
   no_role (Named other role) row = absurd row
   no_role e row = refl
 
-  no_author : (e : Entry) → IsOfRow user e → (p : ℕ) → author_told p user e ≡ []
+  no_author : (e : Entry) → LeavesStanding user e → (p : ℕ) → author_told p user e ≡ []
   no_author (Submitted paper title abstract) row p = absurd row
   no_author (Coauthor paper other) row p = absurd row
   no_author e row p = refl
 
-  no_own_conflict : (e : Entry) → IsOfRow user e → (p : ℕ) → conflict_told (Some user) p e ≡ []
+  no_own_conflict : (e : Entry) → LeavesStanding user e → (p : ℕ) → conflict_told (Some user) p e ≡ []
   no_own_conflict (Conflict paper other on) row p = by (eqb paper p) (eqb user other) (turned user other ∙ row)
     where
       by : (b own : Bool) → own ≡ false → given (b && own) on ≡ []
@@ -70,32 +70,32 @@ module _ (user : ℕ) where
       by false own h = refl
   no_own_conflict e row p = refl
 
-  no_withdrawal : (e : Entry) → IsOfRow user e → (p : ℕ) → withdrawal_told p e ≡ []
+  no_withdrawal : (e : Entry) → LeavesStanding user e → (p : ℕ) → withdrawal_told p e ≡ []
   no_withdrawal (Withdrawn paper) row p = absurd row
   no_withdrawal e row p = refl
 
-  no_decision : (e : Entry) → IsOfRow user e → (p : ℕ) → decision_told p e ≡ []
+  no_decision : (e : Entry) → LeavesStanding user e → (p : ℕ) → decision_told p e ≡ []
   no_decision (Decided paper decision) row p = absurd row
   no_decision e row p = refl
 
-  no_registration : (e : Entry) → IsOfRow user e → registration_told e ≡ []
+  no_registration : (e : Entry) → LeavesStanding user e → registration_told e ≡ []
   no_registration (Registered other name digest) row = absurd row
   no_registration e row = refl
 
-  no_title : (e : Entry) → IsOfRow user e → (p : ℕ) → title_told p e ≡ []
+  no_title : (e : Entry) → LeavesStanding user e → (p : ℕ) → title_told p e ≡ []
   no_title (Submitted paper title abstract) row p = absurd row
   no_title (Revised paper title abstract) row p = absurd row
   no_title e row p = refl
 
-  no_upload : (e : Entry) → IsOfRow user e → (p : ℕ) → upload_told p e ≡ []
+  no_upload : (e : Entry) → LeavesStanding user e → (p : ℕ) → upload_told p e ≡ []
   no_upload (Uploaded paper version content) row p = absurd row
   no_upload e row p = refl
 
-  no_form : (e : Entry) → IsOfRow user e → (p o : ℕ) → form_told p o e ≡ []
+  no_form : (e : Entry) → LeavesStanding user e → (p o : ℕ) → form_told p o e ≡ []
   no_form (Reviewed paper ordinal version form) row p o = absurd row
   no_form e row p o = refl
 
-  no_opening : (e : Entry) → IsOfRow user e → opens Discussion e ≡ false
+  no_opening : (e : Entry) → LeavesStanding user e → opens Discussion e ≡ false
   no_opening (PhaseSet phase) row = absurd row
   no_opening e row = refl
 
@@ -125,7 +125,7 @@ module _ (stamp : Stamp) (f : Part → Bool) (all : (p : Part) → own_parts p �
       by p false is = refl
 
   -- an entry of a row has no others
-  own-masked : (e : Entry) → IsOfRow stamp.maker e → masked f true (entire stamp e) ≡ masked own_parts true (entire stamp e)
+  own-masked : (e : Entry) → LeavesStanding stamp.maker e → masked f true (entire stamp e) ≡ masked own_parts true (entire stamp e)
   own-masked (Conflict paper other on) row = ap (λ (g : Part → Bool). masked g true (entire stamp (Conflict paper other on))) only-whole
   own-masked (Assigned paper other kind ordinal) row = ap (λ (g : Part → Bool). masked g true (entire stamp (Assigned paper other kind ordinal))) only-whole
   own-masked (Unassigned paper other ordinal) row = ap (λ (g : Part → Bool). masked g true (entire stamp (Unassigned paper other ordinal))) only-whole
@@ -134,7 +134,7 @@ module _ (stamp : Stamp) (f : Part → Bool) (all : (p : Part) → own_parts p �
 
 -- ---- behind such an entry
 
-module _ (stamp : Stamp) (more : Bool) (e : Entry) (row : IsOfRow stamp.maker e) where
+module _ (stamp : Stamp) (more : Bool) (e : Entry) (row : LeavesStanding stamp.maker e) where
   abbrev user : ℕ
   user = stamp.maker
 

@@ -18,7 +18,7 @@ use Rattle.cr_policy.specs.View.{view}
 use Rattle.cr_policy.specs.ViewFacts.{title_in_view, abstract_in_view, authors_in_view, uploads_in_view, is_withdrawn_in_view, decision_in_view}
 use Rattle.cr_policy.specs.ViewFacts.{ordinal_in_view, seats_in_view, facts_in_view, shown_in_view}
 use Rattle.cr_policy.proofs.DecisionTells.{accepted-seen, decision-seen}
-use Rattle.cr_policy.proofs.StandingLaws.{standing_from_view, accounts-seen, papers-seen, own_papers-seen, own_bytes-seen, own_comments-seen, own_bid-seen, seat-seen}
+use Rattle.cr_policy.proofs.StandingLaws.{standing_from_view, deadline-seen, accounts-seen, papers-seen, own_papers-seen, own_bytes-seen, own_comments-seen, own_bid-seen, seat-seen}
 use Rattle.cr_policy.proofs.ReviewerTells.{seat-seen_by_chair, labels-seen}
 use Rattle.cr_policy.proofs.ReviewTells.{own_forms-seen}
 use Rattle.cr_policy.proofs.PageTells.{title-seen, abstract-seen, authors-seen, uploads-seen_by_author, uploads-seen, withdrawn-seen}
@@ -42,6 +42,7 @@ facts_in_view-tables u H told forms =
       own_forms = λ p. (own_forms-seen u p H ∙ forms.own u p) i;
       own_comments = comments i;
       accepted = λ p. (accepted-seen u p H ∙ told.accepted p) i;
+      deadline = λ phase. (deadline-seen u phase H ∙ told.deadline phase) i;
     }
 
 module _ (u : Option ℕ) (H : History) (told : AreTold H) (p : ℕ) where

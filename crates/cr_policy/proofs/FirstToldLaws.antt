@@ -1,14 +1,21 @@
 -- Which rule is told in each case of the small conference: by computing.
-use Rattle.std.proofs.Common.{true, [], ◌∷◌, refl, Some}
+use Rattle.std.proofs.Common.{true, [], ◌∷◌, refl, arith, Some}
 use Rattle.std.specs.Prelude.{codes}
-use Rattle.cr_base.specs.declared.command.Command.TheVariants.{Name, SetConflict}
+use Rattle.cr_base.specs.declared.command.Command.TheVariants.{Name, SetConflict, SetDeadline}
 use Rattle.cr_base.specs.declared.words.Mode.TheVariants.{Blind}
+use Rattle.cr_base.specs.declared.words.Phase.TheVariants.{Submission, Bidding, Discussion}
 use Rattle.cr_base.specs.declared.words.Role.TheVariants.{Chair}
 use Rattle.cr_base.specs.Bulk.{row_command}
+use Rattle.cr_base.specs.Deadlines.{IsDeadline}
 use Rattle.cr_policy.specs.Conference.{alice, dave, Digests, AreDigests, Asides, AreAsides}
-use Rattle.cr_policy.specs.FirstTold.{bidding, gus_a_chair, dave_in_conflict, AreStagesLegal, FirstTold}
+use Rattle.cr_policy.specs.FirstTold.{submission, bidding, discussion, gus_a_chair, dave_in_conflict}
+use Rattle.cr_policy.specs.FirstTold.{submission_due, bidding_due, discussion_due, AreStagesLegal, FirstTold}
 use Rattle.cr_policy.specs.FirstTold.{OfTheConference, OfPapers, OfConflicts, OfReviewers, OfTheDiscussion, OfQueries, OfBulks}
+use Rattle.cr_policy.specs.Witness.{morning}
 use Rattle.cr_policy.proofs.ConferenceProofs.{conference-legal, goes_on, by}
+
+in_range : IsDeadline morning
+in_range = (omega arith, omega arith)
 
 stages-legal : (d : Digests) (a : Asides) → AreDigests d → AreAsides a → AreStagesLegal d a
 stages-legal d a digests asides =
@@ -22,6 +29,12 @@ stages-legal d a digests asides =
       gus_a_chair = goes_on (bidding d a) (gus_a_chair d a) (by alice (Name (Some (codes "gus")) Chair) refl ∷ []) refl legal.reviewed.bidding.legal;
       dave_in_conflict =
           goes_on (bidding d a) (dave_in_conflict d a) (by dave (SetConflict (Some 1) (Some (codes "dave")) true) tt ∷ []) refl legal.reviewed.bidding.legal;
+      submission_due =
+          goes_on (submission d a) (submission_due d a) (by alice (SetDeadline Submission (Some morning)) (refl, in_range) ∷ []) refl legal.before.legal;
+      bidding_due =
+          goes_on (bidding d a) (bidding_due d a) (by alice (SetDeadline Bidding (Some morning)) (refl, in_range) ∷ []) refl legal.reviewed.bidding.legal;
+      discussion_due =
+          goes_on (discussion d a) (discussion_due d a) (by alice (SetDeadline Discussion (Some morning)) (refl, in_range) ∷ []) refl legal.reviewed.discussion.legal;
     }
 
 conference-told : (d : Digests) (a : Asides) → OfTheConference d a
@@ -31,20 +44,28 @@ conference-told d a = record {
   name_late = refl;
   mode_by_account = refl;
   phase_by_account = refl;
+  deadline_by_account = refl;
 }
 
 papers-told : (d : Digests) (a : Asides) → OfPapers d a
 papers-told d a = record {
   submit_with_nobody = refl;
+  submit_behind = refl;
   revise_none = refl;
   revise_others = refl;
   revise_late = refl;
+  revise_behind = refl;
+  revise_past = refl;
   withdraw_none = refl;
   withdraw_others = refl;
   withdraw_late = refl;
+  withdraw_behind = refl;
+  withdraw_past = refl;
   upload_none = refl;
   upload_others = refl;
   upload_late = refl;
+  upload_behind = refl;
+  upload_past = refl;
   upload_withdrawn = λ content. refl;
 }
 
@@ -53,6 +74,8 @@ conflicts-told d a = record {
   declare_none = refl;
   declare_nobody = refl;
   declare_others = refl;
+  declare_others_past = refl;
+  declare_past = refl;
   declare_withdrawn = refl;
   declare_oneself = refl;
   other_nobody = refl;
@@ -75,6 +98,8 @@ reviewers-told d a = record {
   bid_by_account = refl;
   bid_in_conflict = refl;
   bid_early = refl;
+  bid_behind = refl;
+  bid_past = refl;
   assign_none = refl;
   assign_nobody = refl;
   assign_by_member = refl;
@@ -98,10 +123,13 @@ discussion-told d a = record {
   review_in_conflict = refl;
   review_others = refl;
   review_withdrawn = refl;
+  review_behind = refl;
   comment_none = refl;
   comment_by_author = refl;
   comment_in_conflict = refl;
   comment_early = refl;
+  comment_behind = refl;
+  comment_past = refl;
   tag_none = refl;
   tag_for_chairs = refl;
   tag_by_author = refl;

@@ -8,7 +8,7 @@ use Rattle.std.proofs.lemmas.List.Folds.{list_any-append}
 use Rattle.cr_base.specs.declared.entry.Entry.{Entry}
 use Rattle.cr_base.specs.declared.entry.Entry.TheVariants.{Registered, Named, PhaseSet, ModeSet, Submitted}
 use Rattle.cr_base.specs.declared.entry.Entry.TheVariants.{Coauthor, Revised, Uploaded, Withdrawn, Conflict}
-use Rattle.cr_base.specs.declared.entry.Entry.TheVariants.{Bid, Assigned, Unassigned, Reviewed, Commented, Tagged, Decided}
+use Rattle.cr_base.specs.declared.entry.Entry.TheVariants.{Bid, Assigned, Unassigned, Reviewed, Commented, Tagged, Decided, DeadlineSet}
 use Rattle.cr_base.specs.declared.entry.EntryKind.{EntryKind}
 use Rattle.cr_base.specs.declared.entry.EntryKind.TheVariants as kinds
 use Rattle.cr_base.specs.declared.entry.Stamp.{Stamp}
@@ -85,6 +85,7 @@ blank_entry o user = of_kind o.kind
     of_kind kinds.Commented = Commented (number_in o.paper) 0 None []
     of_kind kinds.Tagged = Tagged (number_in o.paper) (unwrap_or o.tag []) false
     of_kind kinds.Decided = Decided (number_in o.paper) Reject
+    of_kind kinds.DeadlineSet = DeadlineSet Setup None
 
 -- the same, where it is told of the reader alone whether she is named
 abbrev plain : Option ℕ → Stamped → Entry
@@ -223,12 +224,21 @@ none_alike-same u e other alike H H' same =
     ∙ (λ i. none_alike (blank_entry (alike i) 0) H')
     ∙ sym (none_alike-outlined other H')
 
+-- the phase that an entry of this outline opens, where its kind does
+abbrev opened_by : Outline → Option Phase → List Phase
+opened_by o phase = of_kind o.kind
+  where
+    of_kind : EntryKind → List Phase
+    of_kind kinds.PhaseSet = listed phase
+    of_kind _ = []
+
 -- the discussion is opened in the same place
-opens-phase : (e : Stamped) → opens_discussion e ≡ list_any (λ (phase : Phase). is_phase phase Discussion) (listed (all_of e).phase)
+opens-phase : (e : Stamped) → opens_discussion e ≡ list_any (λ (phase : Phase). is_phase phase Discussion) (opened_by (outline e) (all_of e).phase)
 opens-phase e = of e.entry
   where
     of : (entry : Entry) → opens_discussion (record { stamp = e.stamp; more = e.more; entry = entry })
-        ≡ list_any (λ (phase : Phase). is_phase phase Discussion) (listed (all_of (record { stamp = e.stamp; more = e.more; entry = entry })).phase)
+        ≡ list_any (λ (phase : Phase). is_phase phase Discussion)
+        (opened_by (outline (record { stamp = e.stamp; more = e.more; entry = entry })) (all_of (record { stamp = e.stamp; more = e.more; entry = entry })).phase)
     of (PhaseSet phase) = by (is_phase phase Discussion)
       where
         by : (b : Bool) → b ≡ (b || false)
@@ -238,7 +248,7 @@ opens-phase e = of e.entry
 
 opens-same : (u : Option ℕ) (e other : Stamped) → SamePlace u e other → opens_discussion e ≡ opens_discussion other
 opens-same u e other same =
-    opens-phase e ∙ ap (λ shown. list_any (λ (phase : Phase). is_phase phase Discussion) (listed shown)) same.phase ∙ sym (opens-phase other)
+    opens-phase e ∙ (λ i. list_any (λ (phase : Phase). is_phase phase Discussion) (opened_by (same.alike i) (same.phase i))) ∙ sym (opens-phase other)
 
 opened-same : (u : Option ℕ) (H H' : History) → SamePlaces u H H' → list_any opens_discussion H ≡ list_any opens_discussion H'
 opened-same u [] [] same = refl
@@ -281,10 +291,11 @@ position-same u at at' e other around alike = λ i. record {
 -- ---- who reads
 
 -- the phase, the mode and the role that an entry tells stand in it
-phase-part : (e : Stamped) → phase_told e.entry ≡ listed (all_of e).phase
+phase-part : (e : Stamped) → phase_told e.entry ≡ opened_by (outline e) (all_of e).phase
 phase-part e = of e.entry
   where
-    of : (entry : Entry) → phase_told entry ≡ listed (all_of (record { stamp = e.stamp; more = e.more; entry = entry })).phase
+    of : (entry : Entry) → phase_told entry
+        ≡ opened_by (outline (record { stamp = e.stamp; more = e.more; entry = entry })) (all_of (record { stamp = e.stamp; more = e.more; entry = entry })).phase
     of (PhaseSet phase) = refl
     of entry = refl
 
@@ -332,7 +343,7 @@ conflict-part u p e = of e.entry
 phase-same : (u : Option ℕ) (H H' : History) → SamePlaces u H H' → phase_of H ≡ phase_of H'
 phase-same u H H' same =
     ap (last_or Setup)
-    (told-same u (λ (e : Stamped). phase_told e.entry) (λ e other here. phase-part e ∙ ap listed here.phase ∙ sym (phase-part other)) H H' same)
+    (told-same u (λ (e : Stamped). phase_told e.entry) (λ e other here. phase-part e ∙ (λ i. opened_by (here.alike i) (here.phase i)) ∙ sym (phase-part other)) H H' same)
 
 mode-same : (u : Option ℕ) (H H' : History) → SamePlaces u H H' → mode_of H ≡ mode_of H'
 mode-same u H H' same =

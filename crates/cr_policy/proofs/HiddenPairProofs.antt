@@ -6,7 +6,7 @@ use Rattle.std.specs.List.{flat_map, list_any}
 use Rattle.std.proofs.Math.Bool.{and-false}
 use Rattle.std.proofs.lemmas.Bool.{true≢false}
 use Rattle.cr_base.specs.declared.command.Command.TheVariants.{SetPhase, Submit, Revise, Upload, Withdraw, Name, SetMode, SetConflict}
-use Rattle.cr_base.specs.declared.command.Command.TheVariants.{Bid, Assign, Unassign, Review, Comment, Tag, Decide}
+use Rattle.cr_base.specs.declared.command.Command.TheVariants.{Bid, Assign, Unassign, Review, Comment, Tag, Decide, SetDeadline}
 use Rattle.cr_base.specs.declared.entry.Entry.TheVariants as entry
 use Rattle.cr_base.specs.declared.entry.EntryKind.{EntryKind}
 use Rattle.cr_base.specs.declared.entry.EntryKind.TheVariants as kinds
@@ -18,7 +18,7 @@ use Rattle.cr_base.specs.declared.words.Kind.TheVariants.{Primary, Secondary}
 use Rattle.cr_base.specs.declared.words.Mode.{Mode}
 use Rattle.cr_base.specs.declared.words.Mode.TheVariants.{Blind, Anonymous}
 use Rattle.cr_base.specs.declared.words.Phase.{Phase}
-use Rattle.cr_base.specs.declared.words.Phase.TheVariants.{Bidding, Reviewing, Discussion, Notification}
+use Rattle.cr_base.specs.declared.words.Phase.TheVariants.{Submission, Bidding, Reviewing, Discussion, Notification}
 use Rattle.cr_base.specs.declared.words.Role.TheVariants.{Member, Chair}
 use Rattle.cr_base.specs.Bounds.{IsForm}
 use Rattle.cr_base.specs.Lists.{given, listed, last_or, is_number}
@@ -191,6 +191,13 @@ mode_setter-hidden d are =
 
 pub phase_setter-hidden : pairs.PhaseSetterHidden
 phase_setter-hidden d are = once (papers-so d are) (opens Bidding alice) (opens Bidding fay) [] last_mine refl refl refl refl refl
+
+-- a deadline of the submission
+abbrev sets_deadline : ℕ → Turn
+sets_deadline chair = by chair (SetDeadline Submission (Some (morning + 60))) (refl, (omega arith, omega arith))
+
+pub deadline_setter-hidden : pairs.DeadlineSetterHidden
+deadline_setter-hidden d are = once (papers-so d are) (sets_deadline alice) (sets_deadline fay) [] last_mine refl refl refl refl refl
 
 pub moment-hidden : pairs.MomentHidden
 moment-hidden d are =

@@ -33,7 +33,7 @@ use Rattle.cr_base.specs.Words.{is_anonymous, is_member, is_chair}
 use Rattle.cr_base.specs.Drawn.{Drawn, revision_drawn, upload_drawn, withdrawal_drawn, conflict_drawn}
 use Rattle.cr_base.specs.Drawn.{bid_drawn, assignment_drawn, unassignment_drawn, review_drawn, comment_drawn, tag_drawn, decision_drawn}
 use Rattle.cr_base.specs.Judging.{conflict_judged, assignment_judged, unassignment_judged, judge_by, judge_by_role}
-use Rattle.cr_base.specs.Sources.{Facts, Shown, user_among, role_among, has_paper, paper_named, standing_at, is_accepted_in}
+use Rattle.cr_base.specs.Sources.{Facts, Shown, user_among, role_among, has_paper, paper_named, standing_at, is_accepted_in, is_late}
 use Rattle.cr_base.specs.Sources.{facts_of_tables, shown_in_tables}
 use Rattle.cr_base.proofs.CheckLaws.{NoneBroken, judged-behind, asked-behind}
 use Rattle.cr_history.specs.Invariants.{Invariants}
@@ -89,10 +89,11 @@ module _ (by : Standing) (drawn : Drawn) where
   in_committee h = (and_parts begun still (not-false (begun && still) h)).0
 
   -- Of each list it is asked only behind rules that have let through one whom the page tells it.
-  declare-withdrawn : (v w : Bool) (user : Target) → (gets_withdrawn by ≡ true → v ≡ w) → Alike (declare_checks by v user) (declare_checks by w user)
-  declare-withdrawn v w user same =
+  declare-withdrawn : (v w past : Bool) (user : Target) → (gets_withdrawn by ≡ true → v ≡ w)
+      → Alike (declare_checks by v user past) (declare_checks by w user past)
+  declare-withdrawn v w past user same =
       asked-behind
-      (not by.author breaks rules.NotAuthor ∷ [])
+      (not by.author breaks rules.NotAuthor ∷ past breaks rules.Late ∷ [])
       v w rules.Withdrawn
       (not (is_member user.role) breaks rules.NotAMember ∷ []) drawn
       (λ none. same (told-author none.0))
@@ -121,12 +122,12 @@ module _ (by : Standing) (drawn : Drawn) where
       (not (is_member user.role) breaks rules.NotAMember ∷ user.author breaks rules.AuthorConflict ∷ []) drawn
       (λ none. same (told-chair none.0 (in_committee none.1.1.0)))
 
-  case-withdrawn : (on bidding late : Bool) (user : Target) (v w : Bool) → begun ≡ bidding → (gets_withdrawn by ≡ true → v ≡ w)
-      → Alike (conflict_case on bidding late by v user) (conflict_case on bidding late by w user)
-  case-withdrawn false bidding late user v w b same = off-withdrawn v w user same
-  case-withdrawn true false late user v w b same = declare-withdrawn v w user same
-  case-withdrawn true true true user v w b same = refl
-  case-withdrawn true true false user v w b same = by_user user.herself
+  case-withdrawn : (on bidding late past : Bool) (user : Target) (v w : Bool) → begun ≡ bidding → (gets_withdrawn by ≡ true → v ≡ w)
+      → Alike (conflict_case on bidding late by v user past) (conflict_case on bidding late by w user past)
+  case-withdrawn false bidding late past user v w b same = off-withdrawn v w user same
+  case-withdrawn true false late past user v w b same = declare-withdrawn v w past user same
+  case-withdrawn true true true past user v w b same = refl
+  case-withdrawn true true false past user v w b same = by_user user.herself
     where
       by_user : (herself : Bool) → Alike (cond herself (own_checks by v) (other_checks by v user)) (cond herself (own_checks by w) (other_checks by w user))
       by_user true = own-withdrawn v w b same
@@ -154,14 +155,14 @@ module _ (by : Standing) (drawn : Drawn) where
       (λ none. same (told-clear_chair none.0 none.1.0 (in_committee none.1.1.0)))
 
   -- and it is all that a conflict's rules ask of her ties
-  case-author : (on bidding late withdrawn herself : Bool) (role : Role) (x y clash clash' reviews reviews' : Bool) → (shows_author by false ≡ true → x ≡ y)
-      → Alike (conflict_case on bidding late by withdrawn (named role herself x clash reviews))
-      (conflict_case on bidding late by withdrawn (named role herself y clash' reviews'))
-  case-author false bidding late withdrawn herself role x y clash clash' reviews reviews' same =
+  case-author : (on bidding late past withdrawn herself : Bool) (role : Role) (x y clash clash' reviews reviews' : Bool) → (shows_author by false ≡ true → x ≡ y)
+      → Alike (conflict_case on bidding late by withdrawn (named role herself x clash reviews) past)
+      (conflict_case on bidding late by withdrawn (named role herself y clash' reviews') past)
+  case-author false bidding late past withdrawn herself role x y clash clash' reviews reviews' same =
       off-author withdrawn herself role x y clash clash' reviews reviews' same
-  case-author true false late withdrawn herself role x y clash clash' reviews reviews' same = refl
-  case-author true true true withdrawn herself role x y clash clash' reviews reviews' same = refl
-  case-author true true false withdrawn herself role x y clash clash' reviews reviews' same = refl
+  case-author true false late past withdrawn herself role x y clash clash' reviews reviews' same = refl
+  case-author true true true past withdrawn herself role x y clash clash' reviews reviews' same = refl
+  case-author true true false past withdrawn herself role x y clash clash' reviews reviews' same = refl
 
 -- what two sources show of papers is the same as far as a caller is told it
 record Agree (facts : Facts) (shown tabled : Shown) : Type 0 where
@@ -184,17 +185,18 @@ module _ (facts : Facts) (shown tabled : Shown) (same : Agree facts shown tabled
   abbrev before : List Check
   before = not (has_paper facts (Some p)) breaks rules.NoPaper ∷ not by_author.author breaks rules.NotAuthor ∷ []
 
-  abbrev behind : Bool → List Check → List Check
-  behind withdrawn more = not (papers_may_change by_author.phase) breaks rules.WrongPhase ∷ withdrawn breaks rules.Withdrawn ∷ more
+  abbrev behind : Bool → Bool → List Check → List Check
+  behind past withdrawn more =
+      not (papers_may_change by_author.phase) breaks rules.WrongPhase ∷ past breaks rules.Late ∷ withdrawn breaks rules.Withdrawn ∷ more
 
-  author-same : (more : List Check) (drawn : List Upload → Drawn)
-      → judged (before ++ behind (shown.withdrawn p) more) (drawn (shown.uploads p))
-      ≡ judged (before ++ behind (tabled.withdrawn p) more) (drawn (tabled.uploads p))
-  author-same more drawn =
-      judged-behind before (behind (shown.withdrawn p) more) (behind (tabled.withdrawn p) more) (drawn (shown.uploads p)) (drawn (tabled.uploads p))
+  author-same : (past : Bool) (more : List Check) (drawn : List Upload → Drawn)
+      → judged (before ++ behind past (shown.withdrawn p) more) (drawn (shown.uploads p))
+      ≡ judged (before ++ behind past (tabled.withdrawn p) more) (drawn (tabled.uploads p))
+  author-same past more drawn =
+      judged-behind before (behind past (shown.withdrawn p) more) (behind past (tabled.withdrawn p) more) (drawn (shown.uploads p)) (drawn (tabled.uploads p))
       (λ none.
-      ap (λ (withdrawn : Bool). judged (behind withdrawn more) (drawn (shown.uploads p))) (same.withdrawn p (told-author by_author (drawn []) none.1.0))
-      ∙ ap (λ (uploads : List Upload). judged (behind (tabled.withdrawn p) more) (drawn uploads)) (same.uploads p (not-false by_author.author none.1.0)))
+      ap (λ (withdrawn : Bool). judged (behind past withdrawn more) (drawn (shown.uploads p))) (same.withdrawn p (told-author by_author (drawn []) none.1.0))
+      ∙ ap (λ (uploads : List Upload). judged (behind past (tabled.withdrawn p) more) (drawn uploads)) (same.uploads p (not-false by_author.author none.1.0)))
 
 -- and matters to a conflict's judgement no further
 conflict-same : (facts : Facts) (shown tabled : Shown) (stamp : Stamp) (paper target : Option ℕ) (on : Bool) → Agree facts shown tabled
@@ -214,6 +216,9 @@ conflict-same facts shown tabled stamp (Some p) target on same = by (role_among 
     late : Bool
     late = conflicts_are_final standing.phase
 
+    past : Bool
+    past = is_late facts stamp.at
+
     herself : Bool
     herself = is_number target stamp.maker
 
@@ -230,16 +235,16 @@ conflict-same facts shown tabled stamp (Some p) target on same = by (role_among 
     judged_by source role =
         judged
         (conflict_checks standing (paper_named facts source (Some p))
-        (option_map (λ (r : Role). named r herself (wrote source) (clash source) (reviews source)) role) on)
+        (option_map (λ (r : Role). named r herself (wrote source) (clash source) (reviews source)) role) on past)
         drawn
 
     by : (role : Option Role) → judged_by shown role ≡ judged_by tabled role
     by None = refl
     by (Some role) =
         ap (λ (row : Result Drawn Rule). cond (not (has_paper facts (Some p))) (Err rules.NoPaper) row)
-        (case-withdrawn standing drawn on bidding late (named role herself (wrote shown) (clash shown) (reviews shown)) (shown.withdrawn p)
+        (case-withdrawn standing drawn on bidding late past (named role herself (wrote shown) (clash shown) (reviews shown)) (shown.withdrawn p)
         (tabled.withdrawn p) refl (same.withdrawn p)
-        ∙ case-author standing drawn on bidding late (tabled.withdrawn p) herself role (wrote shown) (wrote tabled) (clash shown) (clash tabled)
+        ∙ case-author standing drawn on bidding late past (tabled.withdrawn p) herself role (wrote shown) (wrote tabled) (clash shown) (clash tabled)
         (reviews shown) (reviews tabled)
         (λ told. ap (list_any (is_number target)) (same.authors p told)))
 
@@ -269,18 +274,20 @@ module _ (facts : Facts) (shown tabled : Shown) (same : Agree facts shown tabled
       asked-behind before (shown.withdrawn p) (tabled.withdrawn p) rules.Withdrawn [] drawn
       (λ none. let is = may none in same.withdrawn p (told-member by_member drawn is.0 is.1))
 
-  bid-same : (drawn : Drawn)
-      → judged (bid_checks by_member (paper_named facts shown (Some p))) drawn ≡ judged (bid_checks by_member (paper_named facts tabled (Some p))) drawn
-  bid-same drawn =
-      withdrawn-same (for_members (not (bids_are_taken by_member.phase) breaks rules.WrongPhase ∷ [])) drawn
+  bid-same : (past : Bool) (drawn : Drawn)
+      → judged (bid_checks by_member (paper_named facts shown (Some p)) past) drawn
+      ≡ judged (bid_checks by_member (paper_named facts tabled (Some p)) past) drawn
+  bid-same past drawn =
+      withdrawn-same (for_members (not (bids_are_taken by_member.phase) breaks rules.WrongPhase ∷ past breaks rules.Late ∷ [])) drawn
       (λ none. (none.1.0, at_phase Bidding refl (not-false (bids_are_taken by_member.phase) none.1.1.1.0)))
 
-  review-same : (drawn : Drawn)
-      → judged (review_checks by_member (paper_named facts shown (Some p))) drawn ≡ judged (review_checks by_member (paper_named facts tabled (Some p))) drawn
-  review-same drawn =
+  review-same : (past : Bool) (drawn : Drawn)
+      → judged (review_checks by_member (paper_named facts shown (Some p)) past) drawn
+      ≡ judged (review_checks by_member (paper_named facts tabled (Some p)) past) drawn
+  review-same past drawn =
       withdrawn-same
       (for_members (not by_member.reviewer breaks rules.NotReviewer
-      ∷ not (reviews_are_written by_member.phase) breaks rules.WrongPhase ∷ [])) drawn
+      ∷ not (reviews_are_written by_member.phase) breaks rules.WrongPhase ∷ past breaks rules.Late ∷ [])) drawn
       (λ none. (none.1.0, begun (is_phase by_member.phase Reviewing) (is_phase by_member.phase Discussion) refl refl none.1.1.1.1.0))
     where
       begun : (r d : Bool) → is_phase by_member.phase Reviewing ≡ r → is_phase by_member.phase Discussion ≡ d → not (r || d) ≡ false
@@ -313,11 +320,11 @@ module _ (facts : Facts) (shown tabled : Shown) (same : Agree facts shown tabled
       same.withdrawn p (told-chair by_member drawn none.1.0 begun))
 
   -- so it is of a comment, and how many there are is counted only behind those that let through members from the discussion on
-  comment-same : (own : ℕ) (drawn : ℕ → Drawn)
-      → judged (comment_checks by_member (paper_named facts shown (Some p)) own) (drawn (length (shown.comments p)))
-      ≡ judged (comment_checks by_member (paper_named facts tabled (Some p)) own) (drawn (length (tabled.comments p)))
-  comment-same own drawn =
-      judged-behind (for_members (not (comments_are_written by_member.phase) breaks rules.WrongPhase ∷ []))
+  comment-same : (own : ℕ) (past : Bool) (drawn : ℕ → Drawn)
+      → judged (comment_checks by_member (paper_named facts shown (Some p)) own past) (drawn (length (shown.comments p)))
+      ≡ judged (comment_checks by_member (paper_named facts tabled (Some p)) own past) (drawn (length (tabled.comments p)))
+  comment-same own past drawn =
+      judged-behind (for_members (not (comments_are_written by_member.phase) breaks rules.WrongPhase ∷ past breaks rules.Late ∷ []))
       (behind (shown.withdrawn p)) (behind (tabled.withdrawn p))
       (drawn (length (shown.comments p))) (drawn (length (tabled.comments p)))
       (λ none.
@@ -439,19 +446,22 @@ module _ (facts : Facts) (shown tabled : Shown) (same : Agree facts shown tabled
 -- so what is shown makes no other judgement than what the tables hold
 command-same : (facts : Facts) (shown tabled : Shown) (stamp : Stamp) (command : Command) → Agree facts shown tabled → judge_by facts shown stamp command
     ≡ judge_by facts tabled stamp command
-command-same facts shown tabled stamp (commands.Revise (Some p) title abstract) same = author-same facts shown tabled same p [] (λ _. revision_drawn stamp p title abstract)
+command-same facts shown tabled stamp (commands.Revise (Some p) title abstract) same =
+    author-same facts shown tabled same p (is_late facts stamp.at) [] (λ _. revision_drawn stamp p title abstract)
 command-same facts shown tabled stamp (commands.Upload (Some p) content) same =
-    author-same facts shown tabled same p (nat_lt 67108864 (facts.own_bytes + length content) breaks rules.QuotaBytes ∷ [])
+    author-same facts shown tabled same p (is_late facts stamp.at) (nat_lt 67108864 (facts.own_bytes + length content) breaks rules.QuotaBytes ∷ [])
     (λ uploads. upload_drawn stamp p (length uploads + 1) content)
-command-same facts shown tabled stamp (commands.Withdraw (Some p)) same = author-same facts shown tabled same p [] (λ _. withdrawal_drawn stamp p)
+command-same facts shown tabled stamp (commands.Withdraw (Some p)) same =
+    author-same facts shown tabled same p (is_late facts stamp.at) [] (λ _. withdrawal_drawn stamp p)
 command-same facts shown tabled stamp (commands.SetConflict paper name on) same = conflict-same facts shown tabled stamp paper (user_among facts.accounts name) on same
-command-same facts shown tabled stamp (commands.Bid (Some p) value) same = bid-same facts shown tabled same p (bid_drawn stamp p value)
+command-same facts shown tabled stamp (commands.Bid (Some p) value) same =
+    bid-same facts shown tabled same p (is_late facts stamp.at) (bid_drawn stamp p value)
 command-same facts shown tabled stamp (commands.Assign (Some p) name kind) same = assign-same facts shown tabled same stamp p (user_among facts.accounts name) kind
 command-same facts shown tabled stamp (commands.Unassign (Some p) name) same = unassign-same facts shown tabled same stamp p (user_among facts.accounts name)
 command-same facts shown tabled stamp (commands.Review (Some p) form) same =
-    review-same facts shown tabled same p (review_drawn stamp p (unwrap_or (facts.own_ordinal p) 0) (length (facts.own_forms p) + 1) form)
+    review-same facts shown tabled same p (is_late facts stamp.at) (review_drawn stamp p (unwrap_or (facts.own_ordinal p) 0) (length (facts.own_forms p) + 1) form)
 command-same facts shown tabled stamp (commands.Comment (Some p) text) same =
-    comment-same facts shown tabled same p facts.own_comments (λ n. comment_drawn stamp p (n + 1) (facts.own_ordinal p) text)
+    comment-same facts shown tabled same p facts.own_comments (is_late facts stamp.at) (λ n. comment_drawn stamp p (n + 1) (facts.own_ordinal p) text)
 command-same facts shown tabled stamp (commands.Tag (Some p) tag on) same = tag-same facts shown tabled same p (is_for_chairs tag) (tag_drawn stamp p tag on)
 command-same facts shown tabled stamp (commands.Decide (Some p) decision) same =
     decide-same facts shown tabled same p (decision_drawn stamp p decision)

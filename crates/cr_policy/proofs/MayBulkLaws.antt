@@ -107,14 +107,14 @@ module _ (stamp : Stamp) where
   herself-same H legal _ = refl
 
   -- a row is accepted where she may do what it asks for, and it is no conflict of her own
-  row-ok : (H : History) → Legal H → (row : BulkRow) → is_ok (row_seen stamp H row) ≡ may_row user H (row_command row)
+  row-ok : (H : History) → Legal H → (row : BulkRow) → is_ok (row_seen stamp H row) ≡ may_row stamp H (row_command row)
   row-ok H legal row = by (row_command row)
     where
       not-ok : (b : Bool) (r : Result Drawn Rule) → is_ok {T = Drawn} {E = Rule} (cond b (Err rules.BulkSelf) r) ≡ (not b && is_ok r)
       not-ok true r = refl
       not-ok false r = refl
 
-      by : (asked : Result Command Rule) → is_ok (row_told_judged (seen_facts H) (seen_shown H) stamp asked) ≡ may_row user H asked
+      by : (asked : Result Command Rule) → is_ok (row_told_judged (seen_facts H) (seen_shown H) stamp asked) ≡ may_row stamp H asked
       by (Err rule) = refl
       by (Ok command) =
           not-ok (turns_own_conflict (seen_facts H) user command) (judge (view u H) (call_by stamp command))
@@ -138,7 +138,7 @@ module _ (stamp : Stamp) where
       behind = may_rows stamp (with_row stamp H (row_command row)) rows
 
       by : (r : Result Drawn Rule) → row_seen stamp H row ≡ r → ((G : History) → Legal G → IsReady stamp G → is_ok (seen stamp G (n + 1) rows) ≡ may_rows stamp G rows)
-          → is_ok (and_behind n r view_goes) ≡ (may_row user H (row_command row) && behind)
+          → is_ok (and_behind n r view_goes) ≡ (may_row stamp H (row_command row) && behind)
       by (Err rule) is rest = ap (λ (b : Bool). b && behind) (sym (ap (λ (r : Result Drawn Rule). is_ok r) is) ∙ row-ok H legal row)
       by (Ok drawn) is rest =
           and_rows-ok (entries_of drawn.group) (view_goes drawn.group)

@@ -20,17 +20,17 @@ use Rattle.cr_base.specs.declared.words.Phase.TheVariants.{Setup, Submission, Bi
 use Rattle.cr_base.specs.declared.words.Role.{Role}
 use Rattle.cr_base.specs.declared.words.Role.TheVariants.{Account}
 use Rattle.cr_base.specs.Calls.{stamp_by, call_of}
-use Rattle.cr_base.specs.Checks.{Check, ◌breaks◌, judged, NamedPaper, phase_checks, mode_checks, submit_checks, revise_checks, upload_checks}
+use Rattle.cr_base.specs.Checks.{Check, ◌breaks◌, judged, NamedPaper, phase_checks, deadline_checks, mode_checks, submit_checks, revise_checks, upload_checks}
 use Rattle.cr_base.specs.Checks.{of_role, register_checks, name_checks, own_checks, other_checks, conflict_case, conflict_checks, assign_checks, unassign_checks}
 use Rattle.cr_base.specs.Checks.{bid_checks, review_checks, comment_checks, tag_checks, decide_checks}
 use Rattle.cr_base.specs.Drawn.{Drawn, naming_drawn, conflict_drawn, assignment_drawn, unassignment_drawn}
 use Rattle.cr_base.specs.Judging.{name_judged, conflict_judged, assignment_judged, unassignment_judged}
 use Rattle.cr_base.specs.Lists.{at_some, is_number}
 use Rattle.cr_base.specs.History.{History}
-use Rattle.cr_base.specs.HistoryFacts.{standing_of, phase_of, role_of, is_conflicted, is_withdrawn, is_author, is_reviewer, authors_of, papers_of, ordinal_of, seats_of}
+use Rattle.cr_base.specs.HistoryFacts.{standing_of, phase_of, deadline_of, role_of, is_conflicted, is_withdrawn, is_author, is_reviewer, authors_of, papers_of, ordinal_of, seats_of}
 use Rattle.cr_base.specs.HistoryFacts.{accounts_of, number_of, is_written, own_comments_of, own_bytes_of, own_papers_of}
-use Rattle.cr_base.specs.Phases.{is_phase, is_next, mode_may_be_set, accepts_submissions, papers_may_change, authors_have_declared, conflicts_are_final, roles_are_final, committee_works, bids_are_taken, comments_are_written, decisions_are_made}
-use Rattle.cr_base.specs.Sources.{number_in, users_among, role_among, paper_named}
+use Rattle.cr_base.specs.Phases.{is_phase, is_from, is_next, mode_may_be_set, accepts_submissions, papers_may_change, authors_have_declared, conflicts_are_final, roles_are_final, committee_works, bids_are_taken, comments_are_written, decisions_are_made}
+use Rattle.cr_base.specs.Sources.{number_in, users_among, role_among, paper_named, is_late}
 use Rattle.cr_base.specs.Tables.{tables_of}
 use Rattle.cr_base.specs.TagTexts.{is_for_chairs}
 use Rattle.cr_base.specs.Words.{is_member, is_chair, role_number}
@@ -40,18 +40,19 @@ use Rattle.cr_policy.specs.Judge.{judge}
 use Rattle.cr_policy.specs.Legal.{Legal}
 use Rattle.cr_policy.specs.View.{view}
 use Rattle.cr_policy.proofs.LegalLaws.{Legal-told}
-use Rattle.cr_policy.specs.MayDo.{may_register, may_name, may_set_mode, may_open, may_submit, may_change, may_upload, may_declare, may_take_back, may_bid, may_assign}
+use Rattle.cr_policy.specs.MayDo.{may_register, may_name, may_set_mode, may_open, may_set_deadline, may_submit, may_change, may_upload, may_declare, may_take_back, may_bid, may_assign}
 use Rattle.cr_policy.specs.MayDo.{has_written, may_unassign, may_review, may_comment, may_tag, may_decide, may_do, is_accepted_from, PermissionsAsSaid}
-use Rattle.cr_policy.specs.Sentences.{now, comes_behind, committee_at_work, is_over, is_members, is_chairs, is_above, is_paper, stands}
+use Rattle.cr_policy.specs.Sentences.{now, comes_behind, in_time, isnt_over, committee_at_work, is_over, is_members, is_chairs, is_above, is_paper, stands}
 use Rattle.cr_policy.specs.Sentences.{administers, of_some, user_named, is_somebody, is_for_chairs_alone}
-use Rattle.cr_policy.proofs.SentenceLaws.{none_broken, judged-none_broken, phase-same, next-same, member-same, chair-same, in_committee-same, above-same, over-same, early-same, none-same, at-same, fewer, up_to}
+use Rattle.cr_policy.proofs.SentenceLaws.{none_broken, judged-none_broken, phase-same, next-same, ahead-same, time-same, member-same, chair-same, in_committee-same, above-same, over-same, early-same, none-same, at-same, fewer, up_to}
 use Rattle.cr_policy.proofs.SentenceLaws.{shown_of, accepted-as, accepted-checks, number-same, by_name, all_somebody}
 
 -- ---- conflicts
 
 -- an author's, before the bidding
-early-said : (t a w m m' x : Bool) → m ≡ m' → (not (not t) && (not (not a) && (not w && (not (not m) && true)))) ≡ ((t && not w) && m' && (a || (false && x)))
-early-said t a w m m' x hm = grind arith
+early-said : (t a p w m m' x : Bool) → m ≡ m'
+    → (not (not t) && (not (not a) && (not p && (not w && (not (not m) && true))))) ≡ ((t && not w) && m' && ((not p && a) || (false && x)))
+early-said t a p w m m' x hm = grind arith
 
 -- never, behind the discussion
 late-said : (t w m x y : Bool) → (not (not t) && false) ≡ ((t && not w) && m && ((false && x) || (false && y)))
@@ -65,24 +66,24 @@ other-said : (t w k k' c m m' x : Bool) → k ≡ k' → m ≡ m'
 other-said t w k k' c m m' x hk hm = grind arith
 
 -- all of them: by whether it is the bidding or later, and whether it is later than the discussion
-declared-said : (b l t w : Bool) (by : Standing) (user : Target) → (user.herself ≡ true → by.role ≡ user.role)
-    → (not (not t) && none_broken (conflict_case true b l by w user))
+declared-said : (b l t w p : Bool) (by : Standing) (user : Target) → (user.herself ≡ true → by.role ≡ user.role)
+    → (not (not t) && none_broken (conflict_case true b l by w user p))
     ≡ ((t && not w) && is_members user.role
-    && ((not b && by.author) || ((b && not l) && (user.herself || (is_chairs by.role && not by.conflicted)))))
-declared-said false l t w by user same =
-    early-said t by.author w (is_member user.role) (is_members user.role) (user.herself || (is_chairs by.role && not by.conflicted)) (member-same user.role)
-declared-said true true t w by user same =
-    late-said t w (is_members user.role) by.author (user.herself || (is_chairs by.role && not by.conflicted))
-declared-said true false t w by user same = by_user user.herself same
+    && ((not b && not p && by.author) || ((b && not l) && (user.herself || (is_chairs by.role && not by.conflicted)))))
+declared-said false l t w p by user same =
+    early-said t by.author p w (is_member user.role) (is_members user.role) (user.herself || (is_chairs by.role && not by.conflicted)) (member-same user.role)
+declared-said true true t w p by user same =
+    late-said t w (is_members user.role) (not p && by.author) (user.herself || (is_chairs by.role && not by.conflicted))
+declared-said true false t w p by user same = by_user user.herself same
   where
     by_user : (h : Bool) → (h ≡ true → by.role ≡ user.role)
         → (not (not t) && none_broken (cond h (own_checks by w) (other_checks by w user)))
-        ≡ ((t && not w) && is_members user.role && ((false && by.author) || (h || (is_chairs by.role && not by.conflicted))))
+        ≡ ((t && not w) && is_members user.role && ((false && (not p && by.author)) || (h || (is_chairs by.role && not by.conflicted))))
     by_user true same =
-        own-said t w (is_member by.role) (is_members user.role) by.author (is_chairs by.role && not by.conflicted)
+        own-said t w (is_member by.role) (is_members user.role) (not p && by.author) (is_chairs by.role && not by.conflicted)
         (member-same by.role ∙ ap is_members (same refl))
     by_user false same =
-        other-said t w (is_chair by.role) (is_chairs by.role) by.conflicted (is_member user.role) (is_members user.role) by.author
+        other-said t w (is_chair by.role) (is_chairs by.role) by.conflicted (is_member user.role) (is_members user.role) (not p && by.author)
         (chair-same by.role) (member-same user.role)
 
 -- ---- tags for chairs
@@ -116,6 +117,23 @@ module _ (w : ℕ) (H : History) (legal : Legal H) (m : ℕ) where
   abbrev stamp : Stamp
   stamp = stamp_by w m
 
+  -- it is too late for what the phase opens, or in time
+  abbrev late : Bool
+  late = is_late (facts_of u H) m
+
+  time : not late ≡ in_time m H
+  time = time-same (deadline_of (phase_of H) H) m
+
+  deadlines : (phase : Phase) (until : Option ℕ)
+      → is_ok (judge (view u H) (call_of u m (commands.SetDeadline phase until))) ≡ may_set_deadline w H phase
+  deadlines phase until =
+      accepted-checks u H legal m (commands.SetDeadline phase until) (deadline_checks (standing_of u None H) (phase_of H) phase) _ refl
+      ∙ said (is_chair (role_of u H)) (is_from (phase_of H) phase) (is_chairs (role_of u H)) (isnt_over phase H)
+      (chair-same (role_of u H)) (ahead-same phase (phase_of H))
+    where
+      said : (c n c' n' : Bool) → c ≡ c' → n ≡ n' → (not (not c) && (not (not n) && true)) ≡ (c' && n')
+      said c n c' n' hc hn = grind arith
+
   phases : (to : Phase) → is_ok (judge (view u H) (call_of u m (commands.SetPhase to))) ≡ may_open w H to
   phases to =
       accepted-checks u H legal m (commands.SetPhase to) (phase_checks (standing_of u None H) (phase_of H) to) _ refl
@@ -125,16 +143,16 @@ module _ (w : ℕ) (H : History) (legal : Legal H) (m : ℕ) where
       said : (c n c' n' : Bool) → c ≡ c' → n ≡ n' → (not (not c) && (not (not n) && true)) ≡ (c' && n')
       said c n c' n' hc hn = grind arith
 
-  bids : (paper : Option ℕ) (value : ℕ) → is_ok (judge (view u H) (call_of u m (commands.Bid paper value))) ≡ of_some paper (may_bid w H)
+  bids : (paper : Option ℕ) (value : ℕ) → is_ok (judge (view u H) (call_of u m (commands.Bid paper value))) ≡ of_some paper (may_bid w m H)
   bids None value = accepted-as u H legal m (commands.Bid None value)
   bids (Some p) value =
-      accepted-checks u H legal m (commands.Bid (Some p) value) (bid_checks (standing_of u (Some p) H) (paper_named (facts_of u H) (shown_of H) (Some p))) _ refl
-      ∙ said (is_paper p H) (is_member (role_of u H)) (is_conflicted u p H) (bids_are_taken (phase_of H)) (is_withdrawn p H)
-      (is_members (role_of u H)) (now Bidding H) (member-same (role_of u H)) (phase-same Bidding (phase_of H))
+      accepted-checks u H legal m (commands.Bid (Some p) value) (bid_checks (standing_of u (Some p) H) (paper_named (facts_of u H) (shown_of H) (Some p)) late) _ refl
+      ∙ said (is_paper p H) (is_member (role_of u H)) (is_conflicted u p H) (bids_are_taken (phase_of H)) late (is_withdrawn p H)
+      (is_members (role_of u H)) (now Bidding H) (in_time m H) (member-same (role_of u H)) (phase-same Bidding (phase_of H)) time
     where
-      said : (t m c n w m' n' : Bool) → m ≡ m' → n ≡ n'
-          → (not (not t) && (not (not m) && (not c && (not (not n) && (not w && true))))) ≡ ((t && not w) && (m' && not c) && n')
-      said t m c n w m' n' hm hn = grind arith
+      said : (t m c n l w m' n' l' : Bool) → m ≡ m' → n ≡ n' → not l ≡ l'
+          → (not (not t) && (not (not m) && (not c && (not (not n) && (not l && (not w && true)))))) ≡ ((t && not w) && (m' && not c) && n' && l')
+      said t m c n l w m' n' l' hm hn hl = grind arith
 
   modes : (to : Mode) → is_ok (judge (view u H) (call_of u m (commands.SetMode to))) ≡ may_set_mode w H
   modes to =
@@ -147,65 +165,67 @@ module _ (w : ℕ) (H : History) (legal : Legal H) (m : ℕ) where
 
   -- what an author does with a paper
   by_author : (p : ℕ)
-      → none_broken (revise_checks (standing_of u (Some p) H) (paper_named (facts_of u H) (shown_of H) (Some p))) ≡ may_change w H p
+      → none_broken (revise_checks (standing_of u (Some p) H) (paper_named (facts_of u H) (shown_of H) (Some p)) late) ≡ may_change w m H p
   by_author p =
-      said (is_paper p H) (is_author u p H) (papers_may_change (phase_of H)) (is_withdrawn p H) (now Submission H)
-      (phase-same Submission (phase_of H))
+      said (is_paper p H) (is_author u p H) (papers_may_change (phase_of H)) late (is_withdrawn p H) (now Submission H) (in_time m H)
+      (phase-same Submission (phase_of H)) time
     where
-      said : (t a n w n' : Bool) → n ≡ n' → (not (not t) && (not (not a) && (not (not n) && (not w && true)))) ≡ ((t && not w) && a && n')
-      said t a n w n' hn = grind arith
+      said : (t a n l w n' l' : Bool) → n ≡ n' → not l ≡ l'
+          → (not (not t) && (not (not a) && (not (not n) && (not l && (not w && true))))) ≡ ((t && not w) && a && n' && l')
+      said t a n l w n' l' hn hl = grind arith
 
-  revisions : (paper : Option ℕ) (title abstract : List ℕ) → is_ok (judge (view u H) (call_of u m (commands.Revise paper title abstract))) ≡ of_some paper (may_change w H)
+  revisions : (paper : Option ℕ) (title abstract : List ℕ) → is_ok (judge (view u H) (call_of u m (commands.Revise paper title abstract))) ≡ of_some paper (may_change w m H)
   revisions None title abstract = accepted-as u H legal m (commands.Revise None title abstract)
   revisions (Some p) title abstract =
-      accepted-checks u H legal m (commands.Revise (Some p) title abstract) (revise_checks (standing_of u (Some p) H) (paper_named (facts_of u H) (shown_of H) (Some p))) _ refl
+      accepted-checks u H legal m (commands.Revise (Some p) title abstract) (revise_checks (standing_of u (Some p) H) (paper_named (facts_of u H) (shown_of H) (Some p)) late) _ refl
       ∙ by_author p
 
-  withdrawals : (paper : Option ℕ) → is_ok (judge (view u H) (call_of u m (commands.Withdraw paper))) ≡ of_some paper (may_change w H)
+  withdrawals : (paper : Option ℕ) → is_ok (judge (view u H) (call_of u m (commands.Withdraw paper))) ≡ of_some paper (may_change w m H)
   withdrawals None = accepted-as u H legal m (commands.Withdraw None)
   withdrawals (Some p) =
-      accepted-checks u H legal m (commands.Withdraw (Some p)) (revise_checks (standing_of u (Some p) H) (paper_named (facts_of u H) (shown_of H) (Some p))) _ refl
+      accepted-checks u H legal m (commands.Withdraw (Some p)) (revise_checks (standing_of u (Some p) H) (paper_named (facts_of u H) (shown_of H) (Some p)) late) _ refl
       ∙ by_author p
 
-  uploads : (paper : Option ℕ) (content : List ℕ) → is_ok (judge (view u H) (call_of u m (commands.Upload paper content))) ≡ of_some paper (may_upload w H (length content))
+  uploads : (paper : Option ℕ) (content : List ℕ) → is_ok (judge (view u H) (call_of u m (commands.Upload paper content))) ≡ of_some paper (may_upload w m H (length content))
   uploads None content = accepted-as u H legal m (commands.Upload None content)
   uploads (Some p) content =
       accepted-checks u H legal m (commands.Upload (Some p) content)
-      (upload_checks (standing_of u (Some p) H) (paper_named (facts_of u H) (shown_of H) (Some p)) (own_bytes_of u H) (length content)) _ refl
-      ∙ said (is_paper p H) (is_author u p H) (papers_may_change (phase_of H)) (is_withdrawn p H) (now Submission H)
+      (upload_checks (standing_of u (Some p) H) (paper_named (facts_of u H) (shown_of H) (Some p)) (own_bytes_of u H) (length content) late) _ refl
+      ∙ said (is_paper p H) (is_author u p H) (papers_may_change (phase_of H)) late (is_withdrawn p H) (now Submission H) (in_time m H)
       (nat_lt 67108864 (own_bytes_of u H + length content)) (nat_le (own_bytes_of u H + length content) 67108864)
-      (phase-same Submission (phase_of H)) (up_to 67108864 (own_bytes_of u H + length content))
+      (phase-same Submission (phase_of H)) time (up_to 67108864 (own_bytes_of u H + length content))
     where
-      said : (t a n w n' q q' : Bool) → n ≡ n' → not q ≡ q'
-          → (not (not t) && (not (not a) && (not (not n) && (not w && (not q && true))))) ≡ (((t && not w) && a && n') && q')
-      said t a n w n' q q' hn hq = grind arith
+      said : (t a n l w n' l' q q' : Bool) → n ≡ n' → not l ≡ l' → not q ≡ q'
+          → (not (not t) && (not (not a) && (not (not n) && (not l && (not w && (not q && true)))))) ≡ (((t && not w) && a && n' && l') && q')
+      said t a n l w n' l' q q' hn hl hq = grind arith
 
-  reviewing : (paper : Option ℕ) (form : Form) → is_ok (judge (view u H) (call_of u m (commands.Review paper form))) ≡ of_some paper (may_review w H)
+  reviewing : (paper : Option ℕ) (form : Form) → is_ok (judge (view u H) (call_of u m (commands.Review paper form))) ≡ of_some paper (may_review w m H)
   reviewing None form = accepted-as u H legal m (commands.Review None form)
   reviewing (Some p) form =
-      accepted-checks u H legal m (commands.Review (Some p) form) (review_checks (standing_of u (Some p) H) (paper_named (facts_of u H) (shown_of H) (Some p))) _ refl
+      accepted-checks u H legal m (commands.Review (Some p) form) (review_checks (standing_of u (Some p) H) (paper_named (facts_of u H) (shown_of H) (Some p)) late) _ refl
       ∙ said (is_paper p H) (is_member (role_of u H)) (is_conflicted u p H) (is_reviewer u p H) (is_phase (phase_of H) Reviewing)
-      (is_phase (phase_of H) Discussion) (is_withdrawn p H)
-      (is_members (role_of u H)) (now Reviewing H) (now Discussion H)
-      (member-same (role_of u H)) (phase-same Reviewing (phase_of H)) (phase-same Discussion (phase_of H))
+      (is_phase (phase_of H) Discussion) late (is_withdrawn p H)
+      (is_members (role_of u H)) (now Reviewing H) (now Discussion H) (in_time m H)
+      (member-same (role_of u H)) (phase-same Reviewing (phase_of H)) (phase-same Discussion (phase_of H)) time
     where
-      said : (t m c r x y w m' x' y' : Bool) → m ≡ m' → x ≡ x' → y ≡ y'
-          → (not (not t) && (not (not m) && (not c && (not (not r) && (not (not (x || y)) && (not w && true))))))
-          ≡ ((t && not w) && (m' && not c) && r && (x' || y'))
-      said t m c r x y w m' x' y' hm hx hy = grind arith
+      said : (t m c r x y l w m' x' y' l' : Bool) → m ≡ m' → x ≡ x' → y ≡ y' → not l ≡ l'
+          → (not (not t) && (not (not m) && (not c && (not (not r) && (not (not (x || y)) && (not l && (not w && true)))))))
+          ≡ ((t && not w) && (m' && not c) && r && (x' || y') && l')
+      said t m c r x y l w m' x' y' l' hm hx hy hl = grind arith
 
-  comments : (paper : Option ℕ) (text : List ℕ) → is_ok (judge (view u H) (call_of u m (commands.Comment paper text))) ≡ of_some paper (may_comment w H)
+  comments : (paper : Option ℕ) (text : List ℕ) → is_ok (judge (view u H) (call_of u m (commands.Comment paper text))) ≡ of_some paper (may_comment w m H)
   comments None text = accepted-as u H legal m (commands.Comment None text)
   comments (Some p) text =
       accepted-checks u H legal m (commands.Comment (Some p) text)
-      (comment_checks (standing_of u (Some p) H) (paper_named (facts_of u H) (shown_of H) (Some p)) (own_comments_of u H)) _ refl
-      ∙ said (is_paper p H) (is_member (role_of u H)) (is_conflicted u p H) (comments_are_written (phase_of H)) (is_withdrawn p H)
-      (nat_le 1000 (own_comments_of u H)) (is_members (role_of u H)) (now Discussion H) (nat_lt (own_comments_of u H) 1000)
-      (member-same (role_of u H)) (phase-same Discussion (phase_of H)) (fewer 1000 (own_comments_of u H))
+      (comment_checks (standing_of u (Some p) H) (paper_named (facts_of u H) (shown_of H) (Some p)) (own_comments_of u H) late) _ refl
+      ∙ said (is_paper p H) (is_member (role_of u H)) (is_conflicted u p H) (comments_are_written (phase_of H)) late (is_withdrawn p H)
+      (nat_le 1000 (own_comments_of u H)) (is_members (role_of u H)) (now Discussion H) (in_time m H) (nat_lt (own_comments_of u H) 1000)
+      (member-same (role_of u H)) (phase-same Discussion (phase_of H)) time (fewer 1000 (own_comments_of u H))
     where
-      said : (t m c n w q m' n' q' : Bool) → m ≡ m' → n ≡ n' → not q ≡ q'
-          → (not (not t) && (not (not m) && (not c && (not (not n) && (not w && (not q && true)))))) ≡ ((t && not w) && (m' && not c) && n' && q')
-      said t m c n w q m' n' q' hm hn hq = grind arith
+      said : (t m c n l w q m' n' l' q' : Bool) → m ≡ m' → n ≡ n' → not l ≡ l' → not q ≡ q'
+          → (not (not t) && (not (not m) && (not c && (not (not n) && (not l && (not w && (not q && true)))))))
+          ≡ ((t && not w) && (m' && not c) && n' && l' && q')
+      said t m c n l w q m' n' l' q' hm hn hl hq = grind arith
 
   tags : (paper : Option ℕ) (tag : List ℕ) (on : Bool) → is_ok (judge (view u H) (call_of u m (commands.Tag paper tag on))) ≡ of_some paper (may_tag w H tag)
   tags None tag on = accepted-as u H legal m (commands.Tag None tag on)
@@ -232,18 +252,18 @@ module _ (w : ℕ) (H : History) (legal : Legal H) (m : ℕ) where
           → (not (not t) && (not (not m) && (not c && (not (not n) && (not w && true))))) ≡ ((t && not w) && (m' && not c) && n')
       said t m c n w m' n' hm hn = grind arith
 
-  submissions : (title abstract : List ℕ) (names : List (Option (List ℕ))) → is_ok (judge (view u H) (call_of u m (commands.Submit title abstract names))) ≡ may_submit w H names
+  submissions : (title abstract : List ℕ) (names : List (Option (List ℕ))) → is_ok (judge (view u H) (call_of u m (commands.Submit title abstract names))) ≡ may_submit w m H names
   submissions title abstract names =
       accepted-checks u H legal m (commands.Submit title abstract names)
-      (submit_checks (list_any is_none (users_among (accounts_of H) names)) (standing_of u None H) (length (papers_of H)) (own_papers_of u H)) _ refl
+      (submit_checks (list_any is_none (users_among (accounts_of H) names)) (standing_of u None H) (length (papers_of H)) (own_papers_of u H) late) _ refl
       ∙ said (list_any is_none (users_among (accounts_of H) names)) (list_all (λ name. is_somebody name H) names)
-      (accepts_submissions (phase_of H)) (now Submission H) (nat_le 9999 (length (papers_of H))) (nat_lt (length (papers_of H)) 9999)
+      (accepts_submissions (phase_of H)) (now Submission H) late (in_time m H) (nat_le 9999 (length (papers_of H))) (nat_lt (length (papers_of H)) 9999)
       (nat_le 20 (own_papers_of u H)) (nat_lt (own_papers_of u H) 20)
-      (all_somebody u H legal names) (phase-same Submission (phase_of H)) (fewer 9999 (length (papers_of H))) (fewer 20 (own_papers_of u H))
+      (all_somebody u H legal names) (phase-same Submission (phase_of H)) time (fewer 9999 (length (papers_of H))) (fewer 20 (own_papers_of u H))
     where
-      said : (x x' n n' q q' o o' : Bool) → not x ≡ x' → n ≡ n' → not q ≡ q' → not o ≡ o'
-          → (not x && (not (not n) && (not q && (not o && true)))) ≡ (n' && x' && q' && o')
-      said x x' n n' q q' o o' hx hn hq ho = grind arith
+      said : (x x' n n' l l' q q' o o' : Bool) → not x ≡ x' → n ≡ n' → not l ≡ l' → not q ≡ q' → not o ≡ o'
+          → (not x && (not (not n) && (not l && (not q && (not o && true))))) ≡ (n' && l' && x' && q' && o')
+      said x x' n n' l l' q q' o o' hx hn hl hq ho = grind arith
 
   namings : (name : Option (List ℕ)) (role : Role) → is_ok (judge (view u H) (call_of u m (commands.Name name role))) ≡ of_some (user_named name H) (may_name w H role)
   namings name role =
@@ -300,22 +320,23 @@ module _ (w : ℕ) (H : History) (legal : Legal H) (m : ℕ) where
   same_user v h = ap (λ (n : ℕ). role_of (Some n) H) (sym (eqb-true v w h))
 
   declarations : (paper : Option ℕ) (name : Option (List ℕ))
-      → is_ok (judge (view (Some w) H) (call_of (Some w) m (commands.SetConflict paper name true))) ≡ of_some paper (λ p. of_some (user_named name H) (may_declare w H p))
+      → is_ok (judge (view (Some w) H) (call_of (Some w) m (commands.SetConflict paper name true)))
+      ≡ of_some paper (λ p. of_some (user_named name H) (may_declare w m H p))
   declarations None name = accepted-as (Some w) H legal m (commands.SetConflict None name true)
   declarations (Some p) name =
       accepted-as (Some w) H legal m (commands.SetConflict (Some p) name true)
       ∙ by_name (Some w) H legal (λ (target : Option ℕ). is_ok (conflict_judged (facts_of (Some w) H) (shown_of H) stamp (Some p) target true))
-      (may_declare w H p) name (nobody p [] (conflict_drawn stamp p 0 true)) each
+      (may_declare w m H p) name (nobody p [] (conflict_drawn stamp p 0 true)) each
     where
       each : (v : ℕ) → role_among (accounts_of H) (Some v) ≡ Some (role_of (Some v) H)
-          → is_ok (conflict_judged (facts_of (Some w) H) (shown_of H) stamp (Some p) (Some v) true) ≡ may_declare w H p v
+          → is_ok (conflict_judged (facts_of (Some w) H) (shown_of H) stamp (Some p) (Some v) true) ≡ may_declare w m H p v
       each v is =
-          ap (λ (o : Option Role). is_ok (judged (conflict_checks (by p) (named p) (option_map (user_at p v) o) true) (conflict_drawn stamp p v true))) is
-          ∙ judged-none_broken (conflict_checks (by p) (named p) (Some (user_at p v (role_of (Some v) H))) true) (conflict_drawn stamp p v true)
-          ∙ declared-said (authors_have_declared (phase_of H)) (conflicts_are_final (phase_of H)) (is_paper p H) (is_withdrawn p H) (by p)
+          ap (λ (o : Option Role). is_ok (judged (conflict_checks (by p) (named p) (option_map (user_at p v) o) true late) (conflict_drawn stamp p v true))) is
+          ∙ judged-none_broken (conflict_checks (by p) (named p) (Some (user_at p v (role_of (Some v) H))) true late) (conflict_drawn stamp p v true)
+          ∙ declared-said (authors_have_declared (phase_of H)) (conflicts_are_final (phase_of H)) (is_paper p H) (is_withdrawn p H) late (by p)
           (user_at p v (role_of (Some v) H)) (same_user v)
           ∙ (λ i. stands p H && is_members (role_of (Some v) H)
-          && ((early-same (phase_of H) i && is_author (Some w) p H) || (in_committee-same (phase_of H) i && (eqb v w || administers w p H))))
+          && ((early-same (phase_of H) i && time i && is_author (Some w) p H) || (in_committee-same (phase_of H) i && (eqb v w || administers w p H))))
 
   -- what a chair does while the committee works
   chair-said : (t k c n w k' n' rest : Bool) → k ≡ k' → n ≡ n'
@@ -344,8 +365,8 @@ module _ (w : ℕ) (H : History) (legal : Legal H) (m : ℕ) where
       each : (v : ℕ) → role_among (accounts_of H) (Some v) ≡ Some (role_of (Some v) H)
           → is_ok (conflict_judged (facts_of (Some w) H) (shown_of H) stamp (Some p) (Some v) false) ≡ may_take_back w H p v
       each v is =
-          ap (λ (o : Option Role). is_ok (judged (conflict_checks (by p) (named p) (option_map (user_at p v) o) false) (conflict_drawn stamp p v false))) is
-          ∙ judged-none_broken (conflict_checks (by p) (named p) (Some (user_at p v (role_of (Some v) H))) false) (conflict_drawn stamp p v false)
+          ap (λ (o : Option Role). is_ok (judged (conflict_checks (by p) (named p) (option_map (user_at p v) o) false late) (conflict_drawn stamp p v false))) is
+          ∙ judged-none_broken (conflict_checks (by p) (named p) (Some (user_at p v (role_of (Some v) H))) false late) (conflict_drawn stamp p v false)
           ∙ chair-checks p (not (not (is_member (role_of (Some v) H))) && (not (is_author (Some v) p H) && true))
           ∙ said (stands p H && administers w p H && committee_at_work H) (is_member (role_of (Some v) H)) (is_members (role_of (Some v) H))
           (is_author (Some v) p H) (member-same (role_of (Some v) H))
@@ -401,7 +422,7 @@ module _ (w : ℕ) (H : History) (legal : Legal H) (m : ℕ) where
 pub permissions_as_said : PermissionsAsSaid
 permissions_as_said H call legal = by call.caller call.command
   where
-    by : (caller : Option ℕ) (command : Command) → is_accepted_from H (call_of caller call.at command) ≡ may_do caller H command
+    by : (caller : Option ℕ) (command : Command) → is_accepted_from H (call_of caller call.at command) ≡ may_do caller call.at H command
     by None (commands.Register name digest) = registrations None H legal call.at name digest
     by None (commands.SetConflict paper name true) = refl
     by None (commands.SetConflict paper name false) = refl
@@ -410,6 +431,7 @@ permissions_as_said H call legal = by call.caller call.command
     by None _ = refl
     by (Some w) (commands.Register name digest) = registrations (Some w) H legal call.at name digest
     by (Some w) (commands.SetPhase to) = phases w H legal call.at to
+    by (Some w) (commands.SetDeadline phase until) = deadlines w H legal call.at phase until
     by (Some w) (commands.Submit title abstract names) = submissions w H legal call.at title abstract names
     by (Some w) (commands.Revise paper title abstract) = revisions w H legal call.at paper title abstract
     by (Some w) (commands.Upload paper content) = uploads w H legal call.at paper content

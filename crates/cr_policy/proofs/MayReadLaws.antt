@@ -258,6 +258,7 @@ pub reading_as_said : ReadingAsSaid
 reading_as_said None H queries.Me legal = never H legal queries.Me refl
 reading_as_said None H queries.Accounts legal = sometimes H legal queries.Accounts true true refl (answered-as None H legal queries.Accounts)
 reading_as_said None H queries.Phase legal = sometimes H legal queries.Phase true true refl (answered-as None H legal queries.Phase)
+reading_as_said None H queries.Deadlines legal = sometimes H legal queries.Deadlines true true refl (answered-as None H legal queries.Deadlines)
 reading_as_said None H queries.AcceptedPapers legal =
     sometimes H legal queries.AcceptedPapers true true refl (answered-as None H legal queries.AcceptedPapers)
 reading_as_said None H (queries.Page None) legal = never H legal (queries.Page None) (never_some H)
@@ -279,6 +280,7 @@ reading_as_said None H (queries.Report (reports.Letter paper)) legal = never H l
 reading_as_said (Some w) H queries.Me legal = answered-as (Some w) H legal queries.Me
 reading_as_said (Some w) H queries.Accounts legal = answered-as (Some w) H legal queries.Accounts
 reading_as_said (Some w) H queries.Phase legal = answered-as (Some w) H legal queries.Phase
+reading_as_said (Some w) H queries.Deadlines legal = answered-as (Some w) H legal queries.Deadlines
 reading_as_said (Some w) H queries.AcceptedPapers legal = answered-as (Some w) H legal queries.AcceptedPapers
 reading_as_said (Some w) H (queries.Page None) legal = answered-as (Some w) H legal (queries.Page None)
 reading_as_said (Some w) H (queries.Page (Some p)) legal =

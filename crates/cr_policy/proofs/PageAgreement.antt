@@ -281,6 +281,7 @@ module _ (u : Option ℕ) (H : History) (kept : Invariants H) (told : AreTold H)
   answer-shown queries.Me = refl
   answer-shown queries.Accounts = refl
   answer-shown queries.Phase = refl
+  answer-shown queries.Deadlines = refl
   answer-shown queries.AcceptedPapers = ap (λ (papers : List AcceptedPaper). replies.AcceptedPapers papers) accepted-tables
   answer-shown (queries.Page paper) = ap (λ (page : Page). reply_or_rule (judged (query_checks facts shown (queries.Page paper)) (replies.Page page))) (page-tables (unwrap_or paper 0))
   answer-shown (queries.Content paper) = ap reply_or_rule (content-tables paper None)

@@ -20,6 +20,7 @@ use Rattle.cr_base.specs.declared.words.Role.TheVariants.{Account, Member, Chair
 use Rattle.cr_base.specs.Answering.{query_checks, reply_or_rule, told_by, answer_by}
 use Rattle.cr_base.specs.Calls.{stamp_of, call_of}
 use Rattle.cr_base.specs.Checks.{Check, judged}
+use Rattle.cr_base.specs.Deadlines.{is_past}
 use Rattle.cr_base.specs.Drawn.{Drawn}
 use Rattle.cr_base.specs.Judging.{judge_by}
 use Rattle.cr_base.specs.Lists.{at_some}
@@ -41,7 +42,7 @@ use Rattle.cr_policy.specs.View.{view}
 use Rattle.cr_policy.proofs.LegalLaws.{Legal-judge, Legal-answer, Legal-told, legal_invariants}
 use Rattle.cr_policy.specs.Judge.{answer}
 use Rattle.cr_policy.specs.MayRead.{is_told}
-use Rattle.cr_policy.specs.Sentences.{is_it, comes_behind, is_members, is_chairs, is_above}
+use Rattle.cr_policy.specs.Sentences.{is_it, comes_behind, meets, isnt_over_in, is_members, is_chairs, is_above}
 use Rattle.cr_policy.specs.Sentences.{of_some, user_named, is_somebody}
 
 -- ---- lists of checks
@@ -92,6 +93,16 @@ next-same Discussion Notification = refl
 next-same Notification Closed = refl
 next-same Closed Setup = refl
 next-same _ _ = refl
+
+pub ahead-same : (phase a : Phase) → is_from a phase ≡ isnt_over_in phase a
+ahead-same Setup Setup = refl
+ahead-same Submission Submission = refl
+ahead-same Bidding Bidding = refl
+ahead-same Reviewing Reviewing = refl
+ahead-same Discussion Discussion = refl
+ahead-same Notification Notification = refl
+ahead-same Closed Closed = refl
+ahead-same _ _ = refl
 
 pub member-same : (r : Role) → is_member r ≡ is_members r
 member-same Account = refl
@@ -179,6 +190,11 @@ fewer m n = grind (arith, nat_tests)
 pub up_to : (m n : ℕ) → not (nat_lt m n) ≡ nat_le n m
 up_to m n = grind (arith, nat_tests)
 
+-- what isn't past the deadline meets it
+pub time-same : (deadline : Option ℕ) (at : ℕ) → not (is_past deadline at) ≡ meets at deadline
+time-same None at = refl
+time-same (Some deadline) at = up_to deadline at
+
 -- ---- who registered a name
 
 module _ (H : History) where
@@ -249,6 +265,7 @@ module _ (u : Option ℕ) (H : History) (legal : Legal H) where
     own_forms = λ p. forms.own u p i;
     own_comments = told.own_comments u i;
     accepted = λ p. told.accepted p i;
+    deadline = λ phase. told.deadline phase i;
   }
 
   pub shown-same : shown_of H ≡ shown_in_tables (tables_of H)

@@ -6,6 +6,7 @@ use Rattle.std.specs.List.{list_any}
 use Rattle.cr_base.specs.declared.entry.Entry.TheVariants.{Conflict}
 use Rattle.cr_base.specs.declared.entry.Stamp.{Stamp}
 use Rattle.cr_base.specs.declared.entry.Stamped.{Stamped}
+use Rattle.cr_base.specs.declared.words.Phase.{Phase}
 use Rattle.cr_base.specs.declared.words.Phase.TheVariants.{Setup}
 use Rattle.cr_base.specs.declared.words.Mode.TheVariants.{Blind}
 use Rattle.cr_base.specs.declared.words.Role.{Role}
@@ -13,23 +14,23 @@ use Rattle.cr_base.specs.declared.words.Role.TheVariants.{Account}
 use Rattle.cr_base.specs.declared.reply.AccountLine.{AccountLine}
 use Rattle.cr_base.specs.Lists.{last, last_or, total, is_number, at_some}
 use Rattle.cr_base.specs.Drawn.{stamped}
-use Rattle.cr_base.specs.History.{History, Registration, all_told, phase_told, mode_told, paper_told, own_paper_told, own_bytes_told, own_comment_told, author_told}
+use Rattle.cr_base.specs.History.{History, Registration, all_told, phase_told, mode_told, deadline_told, paper_told, own_paper_told, own_bytes_told, own_comment_told, author_told}
 use Rattle.cr_base.specs.History.{conflict_told, registration_told, role_told, number_told, bid_told, ordinal_told}
-use Rattle.cr_base.specs.HistoryFacts.{phase_of, mode_of, role_of, papers_of, own_papers_of, own_bytes_of, own_comments_of, accounts_of, number_of, authors_of}
+use Rattle.cr_base.specs.HistoryFacts.{phase_of, mode_of, deadline_of, role_of, papers_of, own_papers_of, own_bytes_of, own_comments_of, accounts_of, number_of, authors_of}
 use Rattle.cr_base.specs.HistoryFacts.{is_author, is_conflict_on, is_conflicted, bid_of, ordinal_of, is_reviewer}
 use Rattle.cr_policy.specs.Part as part
 use Rattle.cr_policy.specs.Triggers.{reader, Around}
 use Rattle.cr_policy.specs.View.{view}
-use Rattle.cr_policy.specs.ViewFacts.{phase_seen, mode_seen, paper_seen, own_paper_seen, own_bytes_seen, own_comment_seen, author_seen, conflict_seen}
+use Rattle.cr_policy.specs.ViewFacts.{phase_seen, mode_seen, deadline_seen, paper_seen, own_paper_seen, own_bytes_seen, own_comment_seen, author_seen, conflict_seen}
 use Rattle.cr_policy.specs.ViewFacts.{registration_seen, role_seen, number_seen, own_bid_seen, ordinal_seen, own_bid_in_view, ordinal_in_view}
-use Rattle.cr_policy.specs.ViewFacts.{phase_in_view, mode_in_view, role_in_view, papers_in_view, own_papers_in_view, own_bytes_in_view, own_comments_in_view}
+use Rattle.cr_policy.specs.ViewFacts.{phase_in_view, mode_in_view, deadline_in_view, role_in_view, papers_in_view, own_papers_in_view, own_bytes_in_view, own_comments_in_view}
 use Rattle.cr_policy.specs.ViewFacts.{accounts_in_view, number_in_view, authors_in_view, is_author_in_view, is_conflict_on_in_view}
 use Rattle.cr_policy.specs.ViewFacts.{is_conflicted_in_view}
 use Rattle.cr_policy.specs.Laws.{StandingFromView, PublicFactsFromView}
 use Rattle.cr_policy.proofs.DecisionTells.{accepted-seen}
 use Rattle.cr_policy.proofs.Walk.{sights-all, sights-kept, fold_all, list_any-kept}
 use Rattle.cr_policy.proofs.SeatTells.{ShowsSeat, own_bid_tells, seat_tells, seat_value}
-use Rattle.cr_policy.proofs.Tells.{passes, passes_both, names_author, phase_tells, mode_tells, paper_tells, own_paper_tells, own_bytes_tells, own_comment_tells}
+use Rattle.cr_policy.proofs.Tells.{passes, passes_both, names_author, phase_tells, mode_tells, deadline_tells, paper_tells, own_paper_tells, own_bytes_tells, own_comment_tells}
 use Rattle.cr_policy.proofs.Tells.{author_tells, author_value, conflict_tells, conflict_value, registration_tells, role_tells, number_tells}
 
 -- ---- the conference
@@ -39,6 +40,10 @@ phase-seen u H = ap (last_or Setup) (sights-all (reader u H) phase_seen (λ (e :
 
 mode-seen : (u : Option ℕ) (H : History) → mode_in_view (view u H) ≡ mode_of H
 mode-seen u H = ap (last_or Blind) (sights-all (reader u H) mode_seen (λ (e : Stamped). mode_told e.entry) (mode_tells (reader u H)) [] H)
+
+pub deadline-seen : (u : Option ℕ) (phase : Phase) (H : History) → deadline_in_view phase (view u H) ≡ deadline_of phase H
+deadline-seen u phase H =
+    ap (last_or None) (sights-all (reader u H) (deadline_seen phase) (λ (e : Stamped). deadline_told phase e.entry) (deadline_tells (reader u H) phase) [] H)
 
 -- the role of any user, not of the reader alone
 role-seen : (u v : Option ℕ) (H : History) → role_in_view v (view u H) ≡ role_of v H
@@ -147,6 +152,7 @@ standing_from_view u paper H = λ i. record {
 
 pub public_from_view : (u : Option ℕ) (H : History) → PublicFactsFromView u H
 public_from_view u H = record {
+  deadlines = λ phase. deadline-seen u phase H;
   accounts = accounts-seen u H;
   papers = papers-seen u H;
   accepted = λ p. accepted-seen u p H;

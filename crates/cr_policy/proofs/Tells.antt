@@ -7,19 +7,20 @@ use Rattle.std.proofs.lemmas.Bool.{eqb-true, or_parts, and_parts, or_left, or_ri
 use Rattle.std.proofs.lemmas.List.Folds.{list_any-append}
 use Rattle.cr_base.specs.declared.entry.Entry.{Entry}
 use Rattle.cr_base.specs.declared.entry.Entry.TheVariants.{Registered, Named, PhaseSet, ModeSet, Submitted}
-use Rattle.cr_base.specs.declared.entry.Entry.TheVariants.{Coauthor, Revised, Uploaded, Withdrawn, Conflict, Commented}
+use Rattle.cr_base.specs.declared.entry.Entry.TheVariants.{Coauthor, Revised, Uploaded, Withdrawn, Conflict, Commented, DeadlineSet}
 use Rattle.cr_base.specs.declared.entry.Stamp.{Stamp}
 use Rattle.cr_base.specs.declared.entry.Stamped.{Stamped}
 use Rattle.cr_base.specs.Lists.{given, listed, is_number}
 use Rattle.cr_base.specs.Drawn.{stamped}
-use Rattle.cr_base.specs.History.{phase_told, mode_told, paper_told, own_paper_told, own_bytes_told, own_comment_told, author_told, conflict_told}
+use Rattle.cr_base.specs.declared.words.Phase.{Phase}
+use Rattle.cr_base.specs.History.{phase_told, mode_told, deadline_given, deadline_told, paper_told, own_paper_told, own_bytes_told, own_comment_told, author_told, conflict_told}
 use Rattle.cr_base.specs.History.{title_told, abstract_told, upload_told, withdrawal_told, registration_told, role_told, number_told}
 use Rattle.cr_policy.specs.Part as part
 use Rattle.cr_policy.specs.Part.{Part, own_parts}
 use Rattle.cr_policy.specs.Sighting.{Sighting, where_shown}
 use Rattle.cr_policy.specs.Triggers.{Reader, Around, TriggerRow, position_of, rows, ◌see◌, applies_any, shows}
 use Rattle.cr_policy.specs.View.{sight, is_seen, joined, rows_at}
-use Rattle.cr_policy.specs.ViewFacts.{only, is_user, phase_seen, mode_seen, paper_seen, own_paper_seen, author_seen, conflict_seen, title_seen, abstract_seen, upload_shown, upload_seen, own_bytes_seen, own_comment_seen, withdrawal_seen, registration_seen, role_seen, number_seen}
+use Rattle.cr_policy.specs.ViewFacts.{only, is_user, phase_seen, mode_seen, deadline_seen, paper_seen, own_paper_seen, author_seen, conflict_seen, title_seen, abstract_seen, upload_shown, upload_seen, own_bytes_seen, own_comment_seen, withdrawal_seen, registration_seen, role_seen, number_seen}
 use Rattle.cr_policy.proofs.Walk.{only-true, only-false, flat_map-given, Tells, TellsAll}
 
 -- whether a part of an entry is shown
@@ -157,6 +158,10 @@ module _ (r : Reader) (at : Around) (stamp : Stamp) (more : Bool) where
   mode_at (ModeSet mode) = refl
   mode_at e = silent mode_seen e refl
 
+  deadline_at : (phase : Phase) (e : Entry) → flat_map (deadline_seen phase) (sight r at (stamped stamp more e)) ≡ deadline_told phase e
+  deadline_at phase (DeadlineSet set until) = append-nil (deadline_given phase set until)
+  deadline_at phase e = silent (deadline_seen phase) e refl
+
   paper_at : (e : Entry) → flat_map paper_seen (sight r at (stamped stamp more e)) ≡ paper_told e
   paper_at (Submitted paper title abstract) = refl
   paper_at e = silent paper_seen e refl
@@ -251,6 +256,9 @@ phase_tells r at e = phase_at r at e.stamp e.more e.entry
 
 pub mode_tells : (r : Reader) → TellsAll r mode_seen (λ (e : Stamped). mode_told e.entry)
 mode_tells r at e = mode_at r at e.stamp e.more e.entry
+
+pub deadline_tells : (r : Reader) (phase : Phase) → TellsAll r (deadline_seen phase) (λ (e : Stamped). deadline_told phase e.entry)
+deadline_tells r phase at e = deadline_at r at e.stamp e.more phase e.entry
 
 pub paper_tells : (r : Reader) → TellsAll r paper_seen (λ (e : Stamped). paper_told e.entry)
 paper_tells r at e = paper_at r at e.stamp e.more e.entry

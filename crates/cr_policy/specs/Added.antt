@@ -11,7 +11,7 @@ use Rattle.cr_base.specs.declared.entry.Entry.{Entry}
 use Rattle.cr_base.specs.declared.entry.Entry.TheVariants.{Registered, Named, PhaseSet, ModeSet, Submitted}
 use Rattle.cr_base.specs.declared.entry.Entry.TheVariants.{Coauthor, Revised, Uploaded, Withdrawn, Conflict}
 use Rattle.cr_base.specs.declared.entry.Entry.TheVariants.{Bid, Assigned, Unassigned, Reviewed, Commented, Tagged}
-use Rattle.cr_base.specs.declared.entry.Entry.TheVariants.{Decided}
+use Rattle.cr_base.specs.declared.entry.Entry.TheVariants.{Decided, DeadlineSet}
 use Rattle.cr_base.specs.declared.entry.Stamp.{Stamp}
 use Rattle.cr_base.specs.declared.entry.Stamped.{Stamped}
 use Rattle.cr_base.specs.declared.reply.Receipt.{Receipt}
@@ -84,6 +84,7 @@ added caller H (commands.Register name digest) =
 added (Some u) H (commands.Name name role) = for_user name H (λ v. Named v role)
 added (Some u) H (commands.SetMode to) = ModeSet to ∷ []
 added (Some u) H (commands.SetPhase to) = PhaseSet to ∷ []
+added (Some u) H (commands.SetDeadline phase until) = DeadlineSet phase until ∷ []
 added (Some u) H (commands.Submit title abstract names) =
     Submitted (next_paper H) title abstract ∷ map (λ (v : ℕ). Coauthor (next_paper H) v) (coauthors u names H)
 added (Some u) H (commands.Revise (Some p) title abstract) = Revised p title abstract ∷ []
@@ -117,6 +118,7 @@ answered caller H (commands.Register name digest) = receipts.User (next_user H) 
 answered caller H (commands.Name (Some name) role) = receipts.Named name role ∷ []
 answered caller H (commands.SetMode to) = receipts.Mode to ∷ []
 answered caller H (commands.SetPhase to) = receipts.Phase to ∷ []
+answered caller H (commands.SetDeadline phase until) = receipts.Deadline phase until ∷ []
 answered caller H (commands.Submit title abstract names) = receipts.Paper (next_paper H) ∷ []
 answered caller H (commands.Revise (Some p) title abstract) = receipts.Changed p ∷ []
 answered caller H (commands.Upload (Some p) content) = receipts.Version (next_version p H) ∷ []

@@ -1,7 +1,7 @@
 -- Which rule is told, where more than one is broken: for each two that stand next to one another in what a command
 -- or a query asks, and that can be broken at once, a case of the small conference in which both are. Beside each
 -- case stands the rule that isn't told.
-use Rattle.std.specs.Prelude.{ℕ, ◌≡◌, true, false, List, [], ◌∷◌, ◌++◌, Option, Some, codes, Err}
+use Rattle.std.specs.Prelude.{ℕ, ◌≡◌, ◌+◌, true, false, List, [], ◌∷◌, ◌++◌, Option, Some, codes, Err}
 use Rattle.cr_base.specs.declared.bulk.Broken.{Broken}
 use Rattle.cr_base.specs.declared.bulk.Broken.TheVariants as broken
 use Rattle.cr_base.specs.declared.bulk.BulkRow.{BulkRow}
@@ -9,7 +9,7 @@ use Rattle.cr_base.specs.declared.command.Command.{Command}
 use Rattle.cr_base.specs.declared.command.Command.TheVariants as commands
 use Rattle.cr_base.specs.declared.command.Query.{Query}
 use Rattle.cr_base.specs.declared.command.Query.TheVariants as queries
-use Rattle.cr_base.specs.declared.entry.Entry.TheVariants.{Named, Conflict}
+use Rattle.cr_base.specs.declared.entry.Entry.TheVariants.{Named, Conflict, DeadlineSet}
 use Rattle.cr_base.specs.declared.reply.Reply.TheVariants as replies
 use Rattle.cr_base.specs.declared.reply.Rule.{Rule}
 use Rattle.cr_base.specs.declared.reply.Rule.TheVariants as rules
@@ -17,7 +17,8 @@ use Rattle.cr_base.specs.declared.report.Report.TheVariants as reports
 use Rattle.cr_base.specs.declared.words.Decision.TheVariants.{Accept}
 use Rattle.cr_base.specs.declared.words.Kind.TheVariants.{Primary}
 use Rattle.cr_base.specs.declared.words.Mode.TheVariants.{Overt, Blind}
-use Rattle.cr_base.specs.declared.words.Phase.TheVariants.{Closed}
+use Rattle.cr_base.specs.declared.words.Phase.{Phase}
+use Rattle.cr_base.specs.declared.words.Phase.TheVariants.{Submission, Bidding, Discussion, Closed}
 use Rattle.cr_base.specs.declared.words.Role.TheVariants.{Member, Chair}
 use Rattle.cr_base.specs.Calls.{call_of, bulk_by}
 use Rattle.cr_base.specs.History.{History}
@@ -59,6 +60,22 @@ gus_a_chair d a = bidding d a ++ alice adds Named gus Chair ∷ []
 abbrev pub dave_in_conflict : Digests → Asides → History
 dave_in_conflict d a = bidding d a ++ dave adds Conflict 1 dave true ∷ []
 
+-- and in others the phase that it is has a deadline, which is past by noon
+abbrev pub noon : ℕ
+noon = morning + 10800
+
+abbrev pub with_deadline : Phase → History → History
+with_deadline phase H = H ++ alice adds DeadlineSet phase (Some morning) ∷ []
+
+abbrev pub submission_due : Digests → Asides → History
+submission_due d a = with_deadline Submission (submission d a)
+
+abbrev pub bidding_due : Digests → Asides → History
+bidding_due d a = with_deadline Bidding (bidding d a)
+
+abbrev pub discussion_due : Digests → Asides → History
+discussion_due d a = with_deadline Discussion (discussion d a)
+
 -- all of these are legal
 pub record AreStagesLegal (d : Digests) (a : Asides) : Type 0 where
   pub submission : Legal (submission d a)
@@ -68,11 +85,18 @@ pub record AreStagesLegal (d : Digests) (a : Asides) : Type 0 where
   pub notification : Legal (notification d a)
   pub gus_a_chair : Legal (gus_a_chair d a)
   pub dave_in_conflict : Legal (dave_in_conflict d a)
+  pub submission_due : Legal (submission_due d a)
+  pub bidding_due : Legal (bidding_due d a)
+  pub discussion_due : Legal (discussion_due d a)
 
 -- ---- who asks, where, for what, and what she is told
 
 abbrev pub Refused : ℕ → History → Command → Rule → Type 0
 Refused u H command rule = judge (view (Some u) H) (call_of (Some u) morning command) ≡ Err rule
+
+-- the same, by noon
+abbrev pub RefusedByNoon : ℕ → History → Command → Rule → Type 0
+RefusedByNoon u H command rule = judge (view (Some u) H) (call_of (Some u) noon command) ≡ Err rule
 
 abbrev pub Unanswered : ℕ → History → Query → Rule → Type 0
 Unanswered u H query rule = answer (Some u) (view (Some u) H) query ≡ replies.Refused rule
@@ -93,37 +117,51 @@ pub record OfTheConference (d : Digests) (a : Asides) : Type 0 where
   pub name_nobody : Refused erin (submission d a) (commands.Name zoe Member) rules.NoUser
   pub name_by_account : Refused erin (notification d a) (commands.Name (named (codes "bob")) Member) rules.NotChair
   pub name_late : Refused alice (notification d a) (commands.Name (named (codes "carol")) Member) rules.WrongPhase
-  -- the mode and the phase: not_chair, wrong_phase
+  -- the mode, the phase and deadlines: not_chair, wrong_phase
   pub mode_by_account : Refused erin (submission d a) (commands.SetMode Overt) rules.NotChair
   pub phase_by_account : Refused erin (submission d a) (commands.SetPhase Closed) rules.NotChair
+  pub deadline_by_account :
+      Refused erin (bidding d a) (commands.SetDeadline Submission (Some noon)) rules.NotChair
 
 -- ---- papers
 
 pub record OfPapers (d : Digests) (a : Asides) : Type 0 where
-  -- submitting: no_user, wrong_phase
+  -- submitting: no_user, wrong_phase, late
   pub submit_with_nobody : Refused erin (bidding d a) (commands.Submit types we_type (zoe ∷ [])) rules.NoUser
-  -- revising and withdrawing: no_paper, not_author, wrong_phase, withdrawn
+  pub submit_behind : RefusedByNoon erin (bidding_due d a) (commands.Submit types we_type []) rules.WrongPhase
+  -- revising and withdrawing: no_paper, not_author, wrong_phase, late, withdrawn
   pub revise_none : Refused erin (submission d a) (commands.Revise (Some 9) types we_type) rules.NoPaper
   pub revise_others : Refused dave (bidding d a) (commands.Revise (Some 1) types we_type) rules.NotAuthor
   pub revise_late : Refused gus (bidding d a) (commands.Revise (Some 3) types we_type) rules.WrongPhase
+  pub revise_behind : RefusedByNoon gus (bidding_due d a) (commands.Revise (Some 2) types we_type) rules.WrongPhase
+  pub revise_past : RefusedByNoon gus (submission_due d a) (commands.Revise (Some 3) types we_type) rules.Late
   pub withdraw_none : Refused erin (submission d a) (commands.Withdraw (Some 9)) rules.NoPaper
   pub withdraw_others : Refused dave (bidding d a) (commands.Withdraw (Some 1)) rules.NotAuthor
   pub withdraw_late : Refused gus (bidding d a) (commands.Withdraw (Some 3)) rules.WrongPhase
+  pub withdraw_behind : RefusedByNoon gus (bidding_due d a) (commands.Withdraw (Some 2)) rules.WrongPhase
+  pub withdraw_past : RefusedByNoon gus (submission_due d a) (commands.Withdraw (Some 3)) rules.Late
   -- uploading: the same, and then quota_bytes, however much it is
   pub upload_none : Refused erin (submission d a) (commands.Upload (Some 9) []) rules.NoPaper
   pub upload_others : Refused dave (bidding d a) (commands.Upload (Some 1) []) rules.NotAuthor
   pub upload_late : Refused gus (bidding d a) (commands.Upload (Some 3) []) rules.WrongPhase
+  pub upload_behind : RefusedByNoon gus (bidding_due d a) (commands.Upload (Some 2) []) rules.WrongPhase
+  pub upload_past : RefusedByNoon gus (submission_due d a) (commands.Upload (Some 3) []) rules.Late
   pub upload_withdrawn :
       (content : List ℕ) → Refused gus (submission d a) (commands.Upload (Some 3) content) rules.Withdrawn
 
 -- ---- conflicts
 
 pub record OfConflicts (d : Digests) (a : Asides) : Type 0 where
-  -- on, before the bidding: no_paper, no_user, not_author, withdrawn, not_a_member
+  -- on, before the bidding: no_paper, no_user, not_author, late, withdrawn, not_a_member
   pub declare_none : Refused erin (submission d a) (commands.SetConflict (Some 9) zoe true) rules.NoPaper
   pub declare_nobody : Refused erin (submission d a) (commands.SetConflict (Some 1) zoe true) rules.NoUser
   pub declare_others :
       Refused dave (submission d a) (commands.SetConflict (Some 3) (named (codes "carol")) true) rules.NotAuthor
+  pub declare_others_past :
+      RefusedByNoon dave (submission_due d a) (commands.SetConflict (Some 2) (named (codes "carol")) true)
+      rules.NotAuthor
+  pub declare_past :
+      RefusedByNoon gus (submission_due d a) (commands.SetConflict (Some 3) (named (codes "carol")) true) rules.Late
   pub declare_withdrawn :
       Refused gus (submission d a) (commands.SetConflict (Some 3) (named (codes "erin")) true) rules.Withdrawn
   -- on, by the user named: not_member, withdrawn
@@ -156,11 +194,13 @@ pub record OfConflicts (d : Digests) (a : Asides) : Type 0 where
 -- ---- bids, and who reviews
 
 pub record OfReviewers (d : Digests) (a : Asides) : Type 0 where
-  -- bidding: no_paper, not_member, conflict, wrong_phase, withdrawn
+  -- bidding: no_paper, not_member, conflict, wrong_phase, late, withdrawn
   pub bid_none : Refused erin (bidding d a) (commands.Bid (Some 9) 20) rules.NoPaper
   pub bid_by_account : Refused bob (bidding d a) (commands.Bid (Some 1) 20) rules.NotMember
   pub bid_in_conflict : Refused carol (submission d a) (commands.Bid (Some 1) 20) rules.Conflict
   pub bid_early : Refused dave (submission d a) (commands.Bid (Some 3) 20) rules.WrongPhase
+  pub bid_behind : RefusedByNoon dave (discussion_due d a) (commands.Bid (Some 1) 20) rules.WrongPhase
+  pub bid_past : RefusedByNoon dave (bidding_due d a) (commands.Bid (Some 3) 20) rules.Late
   -- assigning: no_paper, no_user, not_chair, conflict, wrong_phase, withdrawn, not_a_member, target_conflict,
   -- already_assigned
   pub assign_none : Refused erin (bidding d a) (commands.Assign (Some 9) zoe Primary) rules.NoPaper
@@ -193,17 +233,20 @@ pub record OfReviewers (d : Digests) (a : Asides) : Type 0 where
 -- ---- reviews, comments, tags and decisions
 
 pub record OfTheDiscussion (d : Digests) (a : Asides) : Type 0 where
-  -- reviewing: no_paper, not_member, conflict, not_reviewer, wrong_phase; no withdrawn paper has a reviewer
+  -- reviewing: no_paper, not_member, conflict, not_reviewer, wrong_phase, late; no withdrawn paper has a reviewer
   pub review_none : Refused erin (reviewing d a) (commands.Review (Some 9) first_form) rules.NoPaper
   pub review_by_author : Refused bob (reviewing d a) (commands.Review (Some 1) first_form) rules.NotMember
   pub review_in_conflict : Refused carol (reviewing d a) (commands.Review (Some 1) first_form) rules.Conflict
   pub review_others : Refused hal (bidding d a) (commands.Review (Some 1) first_form) rules.NotReviewer
   pub review_withdrawn : Refused hal (reviewing d a) (commands.Review (Some 3) first_form) rules.NotReviewer
-  -- commenting: no_paper, not_member, conflict, wrong_phase, withdrawn
+  pub review_behind : RefusedByNoon dave (bidding_due d a) (commands.Review (Some 1) first_form) rules.WrongPhase
+  -- commenting: no_paper, not_member, conflict, wrong_phase, late, withdrawn
   pub comment_none : Refused erin (discussion d a) (commands.Comment (Some 9) agreed) rules.NoPaper
   pub comment_by_author : Refused bob (discussion d a) (commands.Comment (Some 1) agreed) rules.NotMember
   pub comment_in_conflict : Refused carol (bidding d a) (commands.Comment (Some 1) agreed) rules.Conflict
   pub comment_early : Refused dave (bidding d a) (commands.Comment (Some 3) agreed) rules.WrongPhase
+  pub comment_behind : RefusedByNoon dave (bidding_due d a) (commands.Comment (Some 1) agreed) rules.WrongPhase
+  pub comment_past : RefusedByNoon dave (discussion_due d a) (commands.Comment (Some 3) agreed) rules.Late
   -- tagging: no_paper, not_chair, not_member, conflict, wrong_phase, withdrawn
   pub tag_none : Refused erin (bidding d a) (commands.Tag (Some 9) chairs_tag true) rules.NoPaper
   pub tag_for_chairs : Refused erin (bidding d a) (commands.Tag (Some 1) chairs_tag true) rules.NotChair

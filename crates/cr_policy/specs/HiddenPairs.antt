@@ -4,14 +4,14 @@ use Rattle.std.specs.Prelude.{ℕ, ◌≡◌, ◌+◌, true, false, List, [], �
 use Rattle.cr_base.specs.declared.entry.Entry.TheVariants.{Registered, Named, PhaseSet, ModeSet, Submitted}
 use Rattle.cr_base.specs.declared.entry.Entry.TheVariants.{Coauthor, Revised, Uploaded, Withdrawn, Conflict}
 use Rattle.cr_base.specs.declared.entry.Entry.TheVariants.{Bid, Assigned, Unassigned, Reviewed}
-use Rattle.cr_base.specs.declared.entry.Entry.TheVariants.{Commented, Tagged, Decided}
+use Rattle.cr_base.specs.declared.entry.Entry.TheVariants.{Commented, Tagged, Decided, DeadlineSet}
 use Rattle.cr_base.specs.declared.entry.Stamped.{Stamped}
 use Rattle.cr_base.specs.declared.form.Form.{Form}
 use Rattle.cr_base.specs.declared.words.Decision.TheVariants.{Accept, Reject}
 use Rattle.cr_base.specs.declared.words.Kind.TheVariants.{Primary, Secondary}
 use Rattle.cr_base.specs.declared.words.Mode.{Mode}
 use Rattle.cr_base.specs.declared.words.Mode.TheVariants.{Blind, Anonymous}
-use Rattle.cr_base.specs.declared.words.Phase.TheVariants.{Bidding, Reviewing, Discussion, Notification}
+use Rattle.cr_base.specs.declared.words.Phase.TheVariants.{Submission, Bidding, Reviewing, Discussion, Notification}
 use Rattle.cr_base.specs.declared.words.Role.TheVariants.{Member, Chair}
 use Rattle.cr_base.specs.Calls.{stamp_by}
 use Rattle.cr_base.specs.Drawn.{stamped}
@@ -99,7 +99,13 @@ ModeSetterHidden = AlikeTo bob alice having_chairs (alice adds ModeSet Anonymous
 abbrev pub PhaseSetterHidden : Type 0
 PhaseSetterHidden = AlikeTo bob alice in_papers (alice adds PhaseSet Bidding) (fay adds PhaseSet Bidding) []
 
--- when she opens it
+-- which chair sets a deadline
+abbrev pub DeadlineSetterHidden : Type 0
+DeadlineSetterHidden =
+    AlikeTo bob alice in_papers (alice adds DeadlineSet Submission (Some (morning + 60)))
+    (fay adds DeadlineSet Submission (Some (morning + 60))) []
+
+-- when a chair opens the bidding
 abbrev pub MomentHidden : Type 0
 MomentHidden =
     AlikeTo bob alice in_papers (alice adds PhaseSet Bidding)

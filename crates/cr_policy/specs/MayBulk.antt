@@ -77,9 +77,10 @@ is_of_herself u H (commands.SetConflict paper name on) = of_some (user_named nam
 is_of_herself u H _ = false
 
 -- she may do what the row asks for, and it is no conflict of her own
-abbrev pub may_row : ℕ → History → Result Command Rule → Bool
-may_row u H (Err rule) = false
-may_row u H (Ok command) = not (is_of_herself u H command) && may_do (Some u) H command
+abbrev pub may_row : Stamp → History → Result Command Rule → Bool
+may_row stamp H (Err rule) = false
+may_row stamp H (Ok command) =
+    not (is_of_herself stamp.maker H command) && may_do (Some stamp.maker) stamp.at H command
 
 -- the history with what she asks for behind it
 abbrev pub with_row : Stamp → History → Result Command Rule → History
@@ -90,7 +91,7 @@ with_row stamp H (Ok command) = H ++ map (λ (e : Entry). stamped stamp false e)
 abbrev pub may_rows : Stamp → History → List BulkRow → Bool
 may_rows stamp H [] = true
 may_rows stamp H (row ∷ rows) =
-    may_row stamp.maker H (row_command row) && may_rows stamp (with_row stamp H (row_command row)) rows
+    may_row stamp H (row_command row) && may_rows stamp (with_row stamp H (row_command row)) rows
 
 -- a chair sends a bulk while the committee works, where she may do each of its rows in its turn
 abbrev pub may_bulk : History → BulkCall → Bool

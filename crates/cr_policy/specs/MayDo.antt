@@ -16,6 +16,7 @@ use Rattle.cr_base.specs.Logins.{command_wants_login}
 use Rattle.cr_policy.specs.Judge.{judge}
 use Rattle.cr_policy.specs.Legal.{Legal}
 use Rattle.cr_policy.specs.Sentences.{now, comes_behind, before_bidding, committee_at_work, is_over, is_above}
+use Rattle.cr_policy.specs.Sentences.{in_time, isnt_over}
 use Rattle.cr_policy.specs.Sentences.{on_committee, chairs, stands}
 use Rattle.cr_policy.specs.Sentences.{wrote, is_eligible, administers, reviews, of_some, user_named, is_somebody}
 use Rattle.cr_policy.specs.Sentences.{is_for_chairs_alone}
@@ -39,31 +40,38 @@ may_set_mode u H = chairs u H && now Setup H
 abbrev pub may_open : ℕ → History → Phase → Bool
 may_open u H to = chairs u H && comes_behind (phase_of H) to
 
+-- a chair sets the deadline of a phase that isn't over, or takes it away
+abbrev pub may_set_deadline : ℕ → History → Phase → Bool
+may_set_deadline u H phase = chairs u H && isnt_over phase H
+
+-- What is done in a phase until its deadline: whoever does it says so at a moment.
+
 -- ---- what authors do
 
--- whoever has an account submits a paper, with co-authors who have one, in the submission, while fewer than 9,999
--- were submitted, and fewer than 20 by herself
-abbrev pub may_submit : ℕ → History → List (Option (List ℕ)) → Bool
-may_submit u H names =
-    now Submission H && list_all (λ name. is_somebody name H) names
+-- whoever has an account submits a paper, with co-authors who have one, in the submission until its deadline, while
+-- fewer than 9,999 were submitted, and fewer than 20 by herself
+abbrev pub may_submit : ℕ → ℕ → History → List (Option (List ℕ)) → Bool
+may_submit u at H names =
+    now Submission H && in_time at H && list_all (λ name. is_somebody name H) names
     && nat_lt (length (papers_of H)) 9999 && nat_lt (own_papers_of (Some u) H) 20
 
--- an author changes her paper, or withdraws it, in the submission, until it is withdrawn
-abbrev pub may_change : ℕ → History → ℕ → Bool
-may_change u H p = stands p H && wrote u p H && now Submission H
+-- an author changes her paper, or withdraws it, in the submission until its deadline, until it is withdrawn
+abbrev pub may_change : ℕ → ℕ → History → ℕ → Bool
+may_change u at H p = stands p H && wrote u p H && now Submission H && in_time at H
 
 -- and uploads a version of its content, as long as all that she has uploaded is no more than 64 MiB with it
-abbrev pub may_upload : ℕ → History → ℕ → ℕ → Bool
-may_upload u H bytes p = may_change u H p && nat_le (own_bytes_of (Some u) H + bytes) 67108864
+abbrev pub may_upload : ℕ → ℕ → History → ℕ → ℕ → Bool
+may_upload u at H bytes p = may_change u at H p && nat_le (own_bytes_of (Some u) H + bytes) 67108864
 
 -- ---- conflicts
 
--- a paper that isn't withdrawn and a member are declared in conflict: before the bidding by an author of the paper;
--- while the committee works by the member herself, and by a chair who is in no conflict with the paper
-abbrev pub may_declare : ℕ → History → ℕ → ℕ → Bool
-may_declare u H p v =
+-- a paper that isn't withdrawn and a member are declared in conflict: before the bidding by an author of the paper,
+-- until the deadline of the submission; while the committee works by the member herself, and by a chair who is in no
+-- conflict with the paper, at any time
+abbrev pub may_declare : ℕ → ℕ → History → ℕ → ℕ → Bool
+may_declare u at H p v =
     stands p H && on_committee v H
-    && ((before_bidding H && wrote u p H) || (committee_at_work H && (v == u || administers u p H)))
+    && ((before_bidding H && in_time at H && wrote u p H) || (committee_at_work H && (v == u || administers u p H)))
 
 -- while the committee works, a chair in no conflict with a paper that isn't withdrawn takes back that a member is,
 -- who is no author of it
@@ -72,9 +80,9 @@ may_take_back u H p v = stands p H && administers u p H && committee_at_work H &
 
 -- ---- bids, and who reviews
 
--- a member in no conflict with a paper that isn't withdrawn bids on it, in the bidding
-abbrev pub may_bid : ℕ → History → ℕ → Bool
-may_bid u H p = stands p H && is_eligible u p H && now Bidding H
+-- a member in no conflict with a paper that isn't withdrawn bids on it, in the bidding until its deadline
+abbrev pub may_bid : ℕ → ℕ → History → ℕ → Bool
+may_bid u at H p = stands p H && is_eligible u p H && now Bidding H && in_time at H
 
 -- while the committee works, a chair in no conflict with a paper that isn't withdrawn assigns it to a member in none
 -- who doesn't review it, while fewer than 26 of its labels are given
@@ -95,14 +103,16 @@ may_unassign u H p v =
 -- ---- reviews, comments, tags and decisions
 
 -- a member in no conflict with a paper that isn't withdrawn, who reviews it, writes a form, in the reviewing and in
--- the discussion
-abbrev pub may_review : ℕ → History → ℕ → Bool
-may_review u H p = stands p H && is_eligible u p H && reviews u p H && (now Reviewing H || now Discussion H)
+-- the discussion, in each until its deadline
+abbrev pub may_review : ℕ → ℕ → History → ℕ → Bool
+may_review u at H p =
+    stands p H && is_eligible u p H && reviews u p H && (now Reviewing H || now Discussion H) && in_time at H
 
--- a member in no conflict with a paper that isn't withdrawn comments on it, in the discussion, while she has written
--- fewer than 1,000 comments
-abbrev pub may_comment : ℕ → History → ℕ → Bool
-may_comment u H p = stands p H && is_eligible u p H && now Discussion H && nat_lt (own_comments_of (Some u) H) 1000
+-- a member in no conflict with a paper that isn't withdrawn comments on it, in the discussion until its deadline, while
+-- she has written fewer than 1,000 comments
+abbrev pub may_comment : ℕ → ℕ → History → ℕ → Bool
+may_comment u at H p =
+    stands p H && is_eligible u p H && now Discussion H && in_time at H && nat_lt (own_comments_of (Some u) H) 1000
 
 -- while the committee works, a member in no conflict with a paper that isn't withdrawn turns its tags on and off;
 -- those for chairs only where she is one
@@ -116,30 +126,32 @@ may_decide u H p = stands p H && administers u p H && now Discussion H
 
 -- ---- all of them
 
--- by command: whoever calls registers, and all else is done by a user who calls, on a paper that is told, and to a
--- user who is named
-abbrev pub may_do : Option ℕ → History → Command → Bool
-may_do caller H (commands.Register name digest) = may_register H name
-may_do caller H (commands.SetPhase to) = of_some caller (λ u. may_open u H to)
-may_do caller H (commands.Submit title abstract names) = of_some caller (λ u. may_submit u H names)
-may_do caller H (commands.Revise paper title abstract) = of_some caller (λ u. of_some paper (may_change u H))
-may_do caller H (commands.Upload paper content) = of_some caller (λ u. of_some paper (may_upload u H (length content)))
-may_do caller H (commands.Withdraw paper) = of_some caller (λ u. of_some paper (may_change u H))
-may_do caller H (commands.Name name role) = of_some caller (λ u. of_some (user_named name H) (may_name u H role))
-may_do caller H (commands.SetMode to) = of_some caller (λ u. may_set_mode u H)
-may_do caller H (commands.SetConflict paper name true) =
-    of_some caller (λ u. of_some paper (λ p. of_some (user_named name H) (may_declare u H p)))
-may_do caller H (commands.SetConflict paper name false) =
+-- by command, at a moment: whoever calls registers, and all else is done by a user who calls, on a paper that is told,
+-- and to a user who is named
+abbrev pub may_do : Option ℕ → ℕ → History → Command → Bool
+may_do caller at H (commands.Register name digest) = may_register H name
+may_do caller at H (commands.SetPhase to) = of_some caller (λ u. may_open u H to)
+may_do caller at H (commands.SetDeadline phase until) = of_some caller (λ u. may_set_deadline u H phase)
+may_do caller at H (commands.Submit title abstract names) = of_some caller (λ u. may_submit u at H names)
+may_do caller at H (commands.Revise paper title abstract) = of_some caller (λ u. of_some paper (may_change u at H))
+may_do caller at H (commands.Upload paper content) =
+    of_some caller (λ u. of_some paper (may_upload u at H (length content)))
+may_do caller at H (commands.Withdraw paper) = of_some caller (λ u. of_some paper (may_change u at H))
+may_do caller at H (commands.Name name role) = of_some caller (λ u. of_some (user_named name H) (may_name u H role))
+may_do caller at H (commands.SetMode to) = of_some caller (λ u. may_set_mode u H)
+may_do caller at H (commands.SetConflict paper name true) =
+    of_some caller (λ u. of_some paper (λ p. of_some (user_named name H) (may_declare u at H p)))
+may_do caller at H (commands.SetConflict paper name false) =
     of_some caller (λ u. of_some paper (λ p. of_some (user_named name H) (may_take_back u H p)))
-may_do caller H (commands.Bid paper value) = of_some caller (λ u. of_some paper (may_bid u H))
-may_do caller H (commands.Assign paper name kind) =
+may_do caller at H (commands.Bid paper value) = of_some caller (λ u. of_some paper (may_bid u at H))
+may_do caller at H (commands.Assign paper name kind) =
     of_some caller (λ u. of_some paper (λ p. of_some (user_named name H) (may_assign u H p)))
-may_do caller H (commands.Unassign paper name) =
+may_do caller at H (commands.Unassign paper name) =
     of_some caller (λ u. of_some paper (λ p. of_some (user_named name H) (may_unassign u H p)))
-may_do caller H (commands.Review paper form) = of_some caller (λ u. of_some paper (may_review u H))
-may_do caller H (commands.Comment paper text) = of_some caller (λ u. of_some paper (may_comment u H))
-may_do caller H (commands.Tag paper tag on) = of_some caller (λ u. of_some paper (may_tag u H tag))
-may_do caller H (commands.Decide paper decision) = of_some caller (λ u. of_some paper (may_decide u H))
+may_do caller at H (commands.Review paper form) = of_some caller (λ u. of_some paper (may_review u at H))
+may_do caller at H (commands.Comment paper text) = of_some caller (λ u. of_some paper (may_comment u at H))
+may_do caller at H (commands.Tag paper tag on) = of_some caller (λ u. of_some paper (may_tag u H tag))
+may_do caller at H (commands.Decide paper decision) = of_some caller (λ u. of_some paper (may_decide u H))
 
 -- ---- the law
 
@@ -148,7 +160,7 @@ abbrev pub is_accepted_from : History → Call → Bool
 is_accepted_from H call =
     (is_some call.caller || not (command_wants_login call.command)) && is_ok (judge (view call.caller H) call)
 
--- PermissionsAsSaid: on a legal history a command is accepted, whoever calls, exactly where its sentence holds
+-- PermissionsAsSaid: on a legal history a command is accepted, whoever calls and when, exactly where its sentence holds
 abbrev pub PermissionsAsSaid : Type 0
 PermissionsAsSaid =
-    (H : History) (call : Call) → Legal H → is_accepted_from H call ≡ may_do call.caller H call.command
+    (H : History) (call : Call) → Legal H → is_accepted_from H call ≡ may_do call.caller call.at H call.command

@@ -34,6 +34,7 @@ pub data Part : Type 0 where
   outcome : Part
   accepted : Part
   at : Part
+  until : Part
 
 -- a number of its own for each part
 abbrev pub part_number : Part → ℕ
@@ -64,6 +65,7 @@ part_number decision = 23
 part_number outcome = 24
 part_number accepted = 25
 part_number at = 26
+part_number until = 27
 
 -- the part is one of these
 abbrev pub these : List Part → Part → Bool
@@ -99,6 +101,7 @@ whole decision = true
 whole outcome = false
 whole accepted = false
 whole at = false
+whole until = true
 
 -- it does, or is one of these besides
 abbrev pub whole_and : List Part → Part → Bool

@@ -1,6 +1,6 @@
 -- The words in which it is said who may do what: of a history and of nothing else, as a committee says them. No list
 -- of checks is read here, nor what these lists read of phases, of roles, and of when a paper is accepted.
-use Rattle.std.specs.Prelude.{ℕ, Bool, true, false, not, ◌&&◌, ◌||◌, ◌==◌, List, [], ◌∷◌, Option, Some, None}
+use Rattle.std.specs.Prelude.{ℕ, Bool, true, false, not, ◌&&◌, ◌||◌, ◌==◌, nat_le, List, [], ◌∷◌, Option, Some, None}
 use Rattle.std.specs.List.{list_any}
 use Rattle.cr_base.specs.declared.words.Decision.{Decision}
 use Rattle.cr_base.specs.declared.words.Decision.TheVariants.{Accept, Reject}
@@ -10,7 +10,8 @@ use Rattle.cr_base.specs.declared.words.Phase.TheVariants.{Notification, Closed}
 use Rattle.cr_base.specs.declared.words.Role.{Role}
 use Rattle.cr_base.specs.declared.words.Role.TheVariants.{Account, Member, Chair}
 use Rattle.cr_base.specs.History.{History}
-use Rattle.cr_base.specs.HistoryFacts.{phase_of, role_of, papers_of, number_of, is_author, is_conflict_on}
+use Rattle.cr_base.specs.HistoryFacts.{phase_of, deadline_of, role_of, papers_of, number_of}
+use Rattle.cr_base.specs.HistoryFacts.{is_author, is_conflict_on}
 use Rattle.cr_base.specs.HistoryFacts.{is_reviewer, is_withdrawn, decision_of}
 
 -- ---- phases
@@ -55,6 +56,30 @@ is_over H = now Notification H || now Closed H
 -- the committee discusses, or has done so
 abbrev pub from_discussion : History → Bool
 from_discussion H = now Discussion H || is_over H
+
+-- ---- deadlines
+
+-- the moment is that of the deadline or an earlier one; where there is none, every moment is in time
+abbrev pub meets : ℕ → Option ℕ → Bool
+meets at None = true
+meets at (Some deadline) = nat_le at deadline
+
+-- it isn't too late for what is done in the phase that it is
+abbrev pub in_time : ℕ → History → Bool
+in_time at H = meets at (deadline_of (phase_of H) H)
+
+-- the phase isn't over: it is that phase, or an earlier one
+abbrev pub isnt_over_in : Phase → Phase → Bool
+isnt_over_in Setup at = is_it Setup at
+isnt_over_in Submission at = is_it Setup at || is_it Submission at
+isnt_over_in Bidding at = is_it Setup at || is_it Submission at || is_it Bidding at
+isnt_over_in Reviewing at = is_it Setup at || is_it Submission at || is_it Bidding at || is_it Reviewing at
+isnt_over_in Discussion at = not (is_it Notification at || is_it Closed at)
+isnt_over_in Notification at = not (is_it Closed at)
+isnt_over_in Closed at = true
+
+abbrev pub isnt_over : Phase → History → Bool
+isnt_over phase H = isnt_over_in phase (phase_of H)
 
 -- ---- roles
 

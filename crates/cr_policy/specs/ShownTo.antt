@@ -12,7 +12,7 @@ use Rattle.cr_base.specs.declared.entry.Entry.{Entry}
 use Rattle.cr_base.specs.declared.entry.Entry.TheVariants.{Registered, Named, PhaseSet, ModeSet, Submitted}
 use Rattle.cr_base.specs.declared.entry.Entry.TheVariants.{Coauthor, Revised, Uploaded, Withdrawn, Conflict}
 use Rattle.cr_base.specs.declared.entry.Entry.TheVariants.{Bid, Assigned, Unassigned, Reviewed}
-use Rattle.cr_base.specs.declared.entry.Entry.TheVariants.{Commented, Tagged, Decided}
+use Rattle.cr_base.specs.declared.entry.Entry.TheVariants.{Commented, Tagged, Decided, DeadlineSet}
 use Rattle.cr_base.specs.declared.entry.EntryKind.{EntryKind}
 use Rattle.cr_base.specs.declared.entry.Stamped.{Stamped}
 use Rattle.cr_base.specs.declared.entry.Stamp.{Stamp}
@@ -233,11 +233,11 @@ owns u H maker paper = is_number u maker || is_author u paper H
 abbrev pub is_party : Option ℕ → History → ℕ → ℕ → ℕ → Bool
 is_party u H maker paper user = is_number u user || is_number u maker || administers u paper H
 
--- accounts, roles, phases, modes and submissions, all of them. Of a paper's other entries her own and, as an author,
--- all but conflicts that no author made; co-authors where she oversees the paper, where she is eligible for it unless
--- authors are hidden, and where it is in the programme; a revision that none has replaced where she serves, or the
--- paper is in the programme; an upload that none has superseded where she is eligible for the paper, or it appears; a
--- withdrawal where she serves; of conflicts the ones that name her, and all where she oversees the paper; of bids her
+-- accounts, roles, phases, modes, deadlines and submissions, all of them. Of a paper's other entries her own and, as an
+-- author, all but conflicts that no author made; co-authors where she oversees the paper, where she is eligible for it
+-- unless authors are hidden, and where it is in the programme; a revision that none has replaced where she serves, or
+-- the paper is in the programme; an upload that none has superseded where she is eligible for the paper, or it appears;
+-- a withdrawal where she serves; of conflicts the ones that name her, and all where she oversees the paper; of bids her
 -- own, and all where she oversees the paper; of assignments those that she is a party to, all where she discusses the
 -- paper, and those to her own paper where she is named its reviewers; of forms her own, the first of each label where
 -- she administers the paper, those that are discussed where she discusses it, and of her own paper the last of each
@@ -278,6 +278,7 @@ is_told u H before later maker (Commented paper n ordinal text) = is_number u ma
 is_told u H before later maker (Tagged paper tag on) = is_number u maker || reads_tag u H paper tag
 is_told u H before later maker (Decided paper decision) =
     reads_decision u H maker paper || learns_outcome u H later paper || is_announced H later paper
+is_told u H before later maker (DeadlineSet phase until) = true
 
 -- ---- the parts of an entry that she is told of
 
@@ -351,10 +352,16 @@ abbrev pub role_for : PartFor (Option Role)
 role_for u H before later stamp (Named user role) = Some role
 role_for u H before later stamp _ = None
 
--- a phase: always
+-- a phase, and one whose deadline is set: always
 abbrev pub phase_for : PartFor (Option Phase)
 phase_for u H before later stamp (PhaseSet phase) = Some phase
+phase_for u H before later stamp (DeadlineSet phase until) = Some phase
 phase_for u H before later stamp _ = None
+
+-- a deadline, or that there is none any more: always
+abbrev pub until_for : PartFor (Option (Option ℕ))
+until_for u H before later stamp (DeadlineSet phase until) = Some until
+until_for u H before later stamp _ = None
 
 -- a mode: always
 abbrev pub mode_for : PartFor (Option Mode)

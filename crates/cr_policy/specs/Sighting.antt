@@ -6,7 +6,7 @@ use Rattle.cr_base.specs.declared.entry.Entry.{Entry}
 use Rattle.cr_base.specs.declared.entry.Entry.TheVariants.{Registered, Named, PhaseSet, ModeSet, Submitted}
 use Rattle.cr_base.specs.declared.entry.Entry.TheVariants.{Coauthor, Revised, Uploaded, Withdrawn, Conflict}
 use Rattle.cr_base.specs.declared.entry.Entry.TheVariants.{Bid, Assigned, Unassigned, Reviewed}
-use Rattle.cr_base.specs.declared.entry.Entry.TheVariants.{Commented, Tagged, Decided}
+use Rattle.cr_base.specs.declared.entry.Entry.TheVariants.{Commented, Tagged, Decided, DeadlineSet}
 use Rattle.cr_base.specs.declared.entry.Stamp.{Stamp}
 use Rattle.cr_base.specs.declared.entry.Stamped.{Stamped}
 use Rattle.cr_base.specs.declared.words.Decision.{Decision}
@@ -50,6 +50,7 @@ pub record Sighting : Type 0 where
   pub outcome : Option Bool
   pub accepted : Option Bool
   pub at : Option ℕ
+  pub until : Option (Option ℕ)
 
 -- ---- an entry with all its parts
 
@@ -86,13 +87,15 @@ blank kind = record {
   outcome = None;
   accepted = None;
   at = None;
+  until = None;
 }
 
 -- one of this kind with the moment of its request, which every entry has
 abbrev pub dated : Stamp → EntryKind → Sighting
 dated stamp kind = record (blank kind) { at = Some stamp.at }
 
--- The other parts that each kind of entry has; `by` is who made it, and the ordinal of a comment without a label is 0.
+-- The other parts that each kind of entry has; `by` is who made it, the ordinal of a comment without a label is 0, and
+-- `until` is a phase's deadline, or that it has none any more.
 -- Every form has its mark (`done`), and every decision both of its own (`outcome`, `accepted`), whatever it
 -- decides: a mark tells by being shown, and when that is, the rows of the trigger table say. Of a decision to
 -- reject, or of one that isn't the last on its paper, none of them shows `accepted`.
@@ -154,6 +157,8 @@ entire stamp (Decided paper decision) =
       outcome = Some true;
       accepted = Some true;
     }
+entire stamp (DeadlineSet phase until) =
+    record (dated stamp kinds.DeadlineSet) { phase = Some phase; until = Some until }
 
 -- ---- the parts that are shown
 
@@ -195,6 +200,7 @@ masked shows mine s = record {
   outcome = where_shown (shows part.outcome) s.outcome;
   accepted = where_shown (shows part.accepted) s.accepted;
   at = where_shown (shows part.at) s.at;
+  until = where_shown (shows part.until) s.until;
 }
 
 -- the entry with those parts alone

@@ -6,7 +6,7 @@ use Rattle.cr_base.specs.declared.entry.Entry.{Entry}
 use Rattle.cr_base.specs.declared.entry.Entry.TheVariants.{Registered, Named, PhaseSet, ModeSet, Submitted}
 use Rattle.cr_base.specs.declared.entry.Entry.TheVariants.{Coauthor, Revised, Uploaded, Withdrawn, Conflict}
 use Rattle.cr_base.specs.declared.entry.Entry.TheVariants.{Bid, Assigned, Unassigned, Reviewed}
-use Rattle.cr_base.specs.declared.entry.Entry.TheVariants.{Commented, Tagged, Decided}
+use Rattle.cr_base.specs.declared.entry.Entry.TheVariants.{Commented, Tagged, Decided, DeadlineSet}
 use Rattle.cr_base.specs.declared.words.Phase.{Phase}
 use Rattle.cr_base.specs.declared.standing.Standing.{Standing}
 use Rattle.cr_base.specs.declared.words.Mode.{Mode}
@@ -118,6 +118,7 @@ none_alike (Reviewed paper ordinal version form) H = none_in (form_told paper or
 none_alike (Commented paper n ordinal text) H = true
 none_alike (Tagged paper tag on) H = true
 none_alike (Decided paper decision) H = none_in (decision_told paper) H
+none_alike (DeadlineSet phase until) H = true
 
 -- What a row may ask of where an entry stands: whether it is the first of its series; the last; the last of those
 -- before the discussion was opened; and whether it was made when the discussion was opened already. To an entry of
@@ -262,6 +263,9 @@ rows r at by (Decided paper decision) =
     reads_decisions r paper see whole
     ∷ (at.last && authors r paper && authors_read_decisions r.now) see these (part.outcome ∷ part.decision ∷ [])
     ∷ (at.last && r.accepted paper) see these (part.accepted ∷ [])
+    ∷ []
+rows r at by (DeadlineSet phase until) =
+    everyone see whole
     ∷ []
 
 -- whether a row applies

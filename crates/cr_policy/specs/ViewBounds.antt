@@ -20,7 +20,7 @@ use Rattle.cr_policy.specs.ShownTo.{is_past_discussion, hides_reviewers, names_r
 use Rattle.cr_policy.specs.ShownTo.{serves, is_eligible, oversees, administers, discusses, is_in_programme, appears}
 use Rattle.cr_policy.specs.ShownTo.{is_chairs, is_setters, kind_for, mark_for, moment_for, paper_for}
 use Rattle.cr_policy.specs.ShownTo.{user_for, name_for}
-use Rattle.cr_policy.specs.ShownTo.{digest_for, role_for, phase_for, mode_for, maker_for}
+use Rattle.cr_policy.specs.ShownTo.{digest_for, role_for, phase_for, until_for, mode_for, maker_for}
 use Rattle.cr_policy.specs.ShownTo.{title_for, abstract_for, version_for, content_for}
 use Rattle.cr_policy.specs.ShownTo.{switch_for, value_for, review_kind_for, ordinal_for}
 use Rattle.cr_policy.specs.ShownTo.{score_for, confidence_for, to_authors_for, to_pc_for, done_for}
@@ -61,6 +61,9 @@ RolesShown = Shows (λ (s : Sighting). s.role) role_for
 
 abbrev pub PhasesShown : Type 0
 PhasesShown = Shows (λ (s : Sighting). s.phase) phase_for
+
+abbrev pub DeadlinesShown : Type 0
+DeadlinesShown = Shows (λ (s : Sighting). s.until) until_for
 
 abbrev pub ModesShown : Type 0
 ModesShown = Shows (λ (s : Sighting). s.mode) mode_for
@@ -283,6 +286,7 @@ IsLeft u is kinds.Registered s = ⊥
 IsLeft u is kinds.Named s = ⊥
 IsLeft u is kinds.PhaseSet s = ⊥
 IsLeft u is kinds.ModeSet s = ⊥
+IsLeft u is kinds.DeadlineSet s = ⊥
 IsLeft u is kinds.Submitted s =
     s ≡ record (blank kinds.Submitted) {
       paper = s.paper;
@@ -356,7 +360,7 @@ OutsidersShown =
 
 -- ---- strangers, and nobody
 
--- all that is public of an entry: accounts with their names and roles, phases, modes, and the papers'
+-- all that is public of an entry: accounts with their names and roles, phases, modes, deadlines, and the papers'
 -- numbers; of a paper in the programme that it is accepted, its authors and its last title; and of one that
 -- appears its last abstract and content
 abbrev pub IsPublic : Bool → Bool → EntryKind → Sighting → Type 0
@@ -364,6 +368,8 @@ IsPublic announced appearing kinds.Registered s = s ≡ record (blank kinds.Regi
 IsPublic announced appearing kinds.Named s = s ≡ record (blank kinds.Named) { user = s.user; role = s.role }
 IsPublic announced appearing kinds.PhaseSet s = s ≡ record (blank kinds.PhaseSet) { phase = s.phase }
 IsPublic announced appearing kinds.ModeSet s = s ≡ record (blank kinds.ModeSet) { mode = s.mode }
+IsPublic announced appearing kinds.DeadlineSet s =
+    s ≡ record (blank kinds.DeadlineSet) { phase = s.phase; until = s.until }
 IsPublic announced appearing kinds.Submitted s =
     s ≡ record (blank kinds.Submitted) {
       paper = s.paper;

@@ -19,6 +19,7 @@ use Rattle.cr_base.specs.Lists.{listed, last, last_or, total, is_number, at_some
 use Rattle.cr_base.specs.Phases.{is_phase}
 use Rattle.cr_base.specs.Rows.{kind_number}
 use Rattle.cr_base.specs.History.{Registration, Upload, BidTold, SeatTold, FormTold, CommentTold, TagTold}
+use Rattle.cr_base.specs.History.{deadline_given}
 use Rattle.cr_base.specs.HistoryFacts.{seats_left, assigned_under, tags_left}
 use Rattle.cr_base.specs.Sources.{Facts, Shown}
 use Rattle.cr_base.specs.TagTexts.{is_private}
@@ -45,6 +46,11 @@ is_text text (Some shown) = bytes_eq shown text
 abbrev pub opens_phase : Phase → Option Phase → Bool
 opens_phase first None = false
 opens_phase first (Some phase) = is_phase phase first
+
+-- the deadline that is shown, of a phase that is
+abbrev pub deadline_shown : Phase → Option Phase → Option (Option ℕ) → List (Option ℕ)
+deadline_shown phase (Some set) (Some until) = deadline_given phase set until
+deadline_shown phase _ _ = []
 
 -- the account whose user and name are shown
 abbrev pub registration_shown : Option ℕ → Option (List ℕ) → List Registration
@@ -115,6 +121,10 @@ phase_seen s = of_kind kinds.PhaseSet s (listed s.phase)
 
 abbrev pub mode_seen : Sighting → List Mode
 mode_seen s = of_kind kinds.ModeSet s (listed s.mode)
+
+-- the deadline of the phase that it sets, or that it has none any more
+abbrev pub deadline_seen : Phase → Sighting → List (Option ℕ)
+deadline_seen phase s = of_kind kinds.DeadlineSet s (deadline_shown phase s.phase s.until)
 
 -- the paper that it makes
 abbrev pub paper_seen : Sighting → List ℕ
@@ -242,6 +252,10 @@ phase_in_view V = last_or Setup (flat_map phase_seen V)
 -- the last mode that was set, else blind
 abbrev pub mode_in_view : View → Mode
 mode_in_view V = last_or Blind (flat_map mode_seen V)
+
+-- the deadline of a phase that was set last: none where none was, or it was taken away
+abbrev pub deadline_in_view : Phase → View → Option ℕ
+deadline_in_view phase V = last_or None (flat_map (deadline_seen phase) V)
 
 -- the last role that the user was named to, else account
 abbrev pub role_in_view : Option ℕ → View → Role
@@ -403,6 +417,7 @@ facts_in_view u V = record {
   own_forms = λ p. own_forms_in_view p V;
   own_comments = own_comments_in_view V;
   accepted = λ p. is_accepted_in_view p V;
+  deadline = λ phase. deadline_in_view phase V;
 }
 
 -- of the users who have registered, those of whom this holds, by number

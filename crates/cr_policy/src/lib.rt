@@ -17,7 +17,8 @@ ghost use Rattle.cr_policy.specs.HiddenPayload.{HiddenPayload, MomentsUnseen, Re
 ghost use Rattle.cr_policy.specs.Migration.{Migrates};
 ghost use Rattle.cr_policy.specs.HiddenPairs.{CommentRemovable, VersionRemovable};
 ghost use Rattle.cr_policy.specs.HiddenPairs.{DigestHidden, NamerHidden, ModeSetterHidden};
-ghost use Rattle.cr_policy.specs.HiddenPairs.{PhaseSetterHidden, MomentHidden, TitleHidden, AbstractHidden};
+ghost use Rattle.cr_policy.specs.HiddenPairs.{PhaseSetterHidden, DeadlineSetterHidden, MomentHidden};
+ghost use Rattle.cr_policy.specs.HiddenPairs.{TitleHidden, AbstractHidden};
 ghost use Rattle.cr_policy.specs.HiddenPairs.{SubmitterHidden, CoauthorHidden, RevisionHidden};
 ghost use Rattle.cr_policy.specs.HiddenPairs.{ReviserHidden, ContentHidden, UploaderHidden};
 ghost use Rattle.cr_policy.specs.HiddenPairs.{WithdrawerHidden, DeclaredHidden, SwitchHidden};
@@ -40,7 +41,7 @@ ghost use Rattle.cr_policy.specs.Laws.{DigestsAreOwn};
 ghost use Rattle.cr_policy.specs.WitnessLaws.{TwoRegistrations, DigestsHidden, OneSubmission, OneConflict, OneBulk};
 ghost use Rattle.cr_policy.specs.ViewBounds.{EntriesShown, MarksShown, MomentsShown, PapersShown};
 ghost use Rattle.cr_policy.specs.ViewBounds.{UsersShown, NamesShown, DigestsShown};
-ghost use Rattle.cr_policy.specs.ViewBounds.{RolesShown, PhasesShown, ModesShown};
+ghost use Rattle.cr_policy.specs.ViewBounds.{RolesShown, PhasesShown, DeadlinesShown, ModesShown};
 ghost use Rattle.cr_policy.specs.ViewBounds.{MakersShown, TitlesShown, AbstractsShown};
 ghost use Rattle.cr_policy.specs.ViewBounds.{VersionsShown, ContentsShown, SwitchesShown};
 ghost use Rattle.cr_policy.specs.ViewBounds.{ValuesShown, SeatsShown, OrdinalsShown};
@@ -58,7 +59,7 @@ ghost use Rattle.cr_policy.specs.ViewBounds.{OutsidersShown, StrangersShown, Nob
 /// every history and for every user, nobody among them. An author sees all authors of her paper, and
 /// whoever is none is told so by what she sees; each entry on a conflict of hers is shown her, and each by
 /// which she is assigned or unassigned, so she is told whether she is in conflict and whether she
-/// reviews. What is public can be read off any view, the accounts, their names and roles, the papers,
+/// reviews. What is public can be read off any view, the deadlines, the accounts, their names and roles, the papers,
 /// and which of them are accepted; and so can how many of the papers are the reader's own, how many
 /// bytes she has uploaded, and how many comments she has written.
 pub fn law_standing()
@@ -88,7 +89,7 @@ pub fn law_bulk()
 {}
 
 /// Who may do what, and what comes of it, said a second time and in a committee's words: a sentence for each command,
-/// each query and each bulk, over the facts of a history. On every legal history, whoever calls: a command is
+/// each query and each bulk, over the facts of a history. On every legal history, whoever calls, and when: a command is
 /// accepted, and a query answered, exactly where its sentence holds; and a bulk exactly where its caller is a chair,
 /// the committee works, and she may do what each row asks for when its turn comes, of which none is a conflict of her
 /// own. An accepted command adds the entries that its line says, by its maker and at its moment, all but the last
@@ -204,6 +205,7 @@ pub fn law_bounds()
     ensures digests { DigestsShown }
     ensures roles { RolesShown }
     ensures phases { PhasesShown }
+    ensures deadlines { DeadlinesShown }
     ensures modes { ModesShown }
     ensures makers { MakersShown }
     ensures titles { TitlesShown }
@@ -272,21 +274,21 @@ pub fn law_migrated()
     ensures { Migrates }
 {}
 
-/// For each kind of entry, and each part of it that is hidden from some, two legal histories that differ there and
-/// meet the conditions of [`law_hidden_payload`] for one user, who sees the same of both, while another user doesn't:
-/// the digest of a registration; who named a member, and who set a mode or a phase, and when; a paper's title and
-/// abstract, and
-/// in the anonymous mode its authors; a revision's texts and an upload's content, where others follow, and who made
-/// them; who withdrew; whom an author declares in conflict, whether a chair turns that off, and which author declared;
-/// a bid and whose it is; whether a private tag is on and whose it is; who is assigned, as what and by whom, and who
-/// is unassigned and by whom; a form before it is read, what it tells the committee alone, and in the anonymous mode
-/// who wrote it; a comment and who wrote it; and a decision and who made it. The last two clauses are of
-/// [`law_removed`]: a comment, and the last version of a content, whose place another takes.
+/// For each kind of entry, and each part of it that is hidden from some, two legal histories that differ there and meet
+/// the conditions of [`law_hidden_payload`] for one user, who sees the same of both, while another user doesn't: the
+/// digest of a registration; who named a member, and who set a mode, a phase or a deadline, and when; a paper's title
+/// and abstract, and in the anonymous mode its authors; a revision's texts and an upload's content, where others
+/// follow, and who made them; who withdrew; whom an author declares in conflict, whether a chair turns that off, and
+/// which author declared; a bid and whose it is; whether a private tag is on and whose it is; who is assigned, as what
+/// and by whom, and who is unassigned and by whom; a form before it is read, what it tells the committee alone, and in
+/// the anonymous mode who wrote it; a comment and who wrote it; and a decision and who made it. The last two clauses
+/// are of [`law_removed`]: a comment, and the last version of a content, whose place another takes.
 pub fn law_hidden_pairs()
     ensures digests { DigestHidden }
     ensures namers { NamerHidden }
     ensures mode_setters { ModeSetterHidden }
     ensures phase_setters { PhaseSetterHidden }
+    ensures deadline_setters { DeadlineSetterHidden }
     ensures moments { MomentHidden }
     ensures titles { TitleHidden }
     ensures abstracts { AbstractHidden }

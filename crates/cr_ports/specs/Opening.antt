@@ -21,7 +21,7 @@ abbrev pub and_asked : Option (List (List ℕ)) → List ℕ → Option (List (L
 and_asked None addr = None
 and_asked (Some asked) addr = Some (asked ++ addr ∷ [])
 
--- No address but this one was asked for any more, and it at most once.
+-- No further address but this one was asked for, and it at most once.
 abbrev pub AsksAtMost : List ℕ → Option (List (List ℕ)) → Option (List (List ℕ)) → Type 0
 AsksAtMost addr before now = (now ≡ and_asked before addr) ⊎ (now ≡ before)
 

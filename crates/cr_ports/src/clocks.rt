@@ -16,6 +16,7 @@ fn step_at(moment: Moment) -> ClockStep
     ensures step { result ≡ ClockStep.Now moment }
     ensures range { IsGiven result }
 {
+    // That it is within the range is a clause of this call.
     let _ = moment.seconds();
     ClockStep::Now(moment)
 }

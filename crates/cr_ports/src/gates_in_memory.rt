@@ -225,8 +225,8 @@ impl Gates for MemGates {
 
     /// Gives the connections out in their order, each door's share behind that of the doors before it,
     /// and silent ones, which send and take nothing, where there are fewer than asked for. After want
-    /// of memory it may have fewer left, and an opening that is listed fails though there be none to note the address.
-    /// That isn't looked at.
+    /// of memory it may have fewer left. The address is noted and not looked at; an opening that is listed fails
+    /// also where there is no memory to note it.
     fn open(&mut self, alloc: Global, addr: &str, workers: u32, connections: u32) -> Opened<MemDoor>
         requires { 0 < workers }
         ensures shares { OnDoors result (λ doors. map (λ door. length door.coming) doors

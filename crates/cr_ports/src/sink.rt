@@ -14,8 +14,8 @@ pub enum WriteStep {
 
 /// Takes bytes in pieces.
 pub trait Sink {
-    /// The bytes that were taken, how many answers were begun, and behind how many of the bytes the last was, where
-    /// the sink tells them.
+    /// The bytes that were taken, how many answers were begun, and how many of the bytes stood there when the last of
+    /// these was, where the sink tells them.
     ghost taken: { Self → Option Taken };
 
     /// How often a write has failed.

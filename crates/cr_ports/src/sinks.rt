@@ -13,8 +13,8 @@ use std::marker::Model;
 /// Takes bytes up to its room, at most as many a call as are listed, and fails exactly at the
 /// calls that are listed and where its room is used up.
 ///
-/// Contracts see the bytes that were taken, how many answers were begun, as far as 64 bits count, and behind how many
-/// bytes the last was; the room that is left, and the lists.
+/// Contracts see the bytes that were taken, how many answers were begun, as far as 64 bits count, and how many of the
+/// bytes stood there when the last of these was; the room that is left, and the lists.
 pub struct MemSink {
     bytes: Vec<u8>,
     begun: u64,

@@ -28,8 +28,8 @@ impl<R: time::Clock> Model for SystemClock<R> {
     ghost view = { λ c. record { stream = c.rt; faults = c.faults } };
 }
 
-/// What the system's time is told as: its whole seconds since 1970-01-01T00:00:00Z. A time before that, which std
-/// gives as an error, one past the last moment, and each other `Err` are faults.
+/// What the system's time is told as: its whole seconds since 1970-01-01T00:00:00Z. A fault where it can't be read,
+/// where it is before that, which std gives as an error too, and where it is past the last moment.
 fn system_step(read: &io::Result<SystemTime>) -> ClockStep
     ensures step { result ≡ system_step read.now }
     ensures range { IsGiven result }

@@ -1,6 +1,5 @@
 -- The date of a moment is a date of the calendar, and it is of that moment.
-use Rattle.std.proofs.Common.{◌≡◌, ℕ, zero, suc, ◌+◌, ◌-◌, ◌*◌, ◌/◌, ◌%◌, ◌<◌, ◌≤◌, nat_lt, Bool, true, false, if◌then◌else◌, refl, arith, ap, sym, ◌∙◌}
-use Rattle.std.proofs.lemmas.Bool.Decides.{nat_tests}
+use Rattle.std.proofs.Common.{◌≡◌, ℕ, suc, ◌+◌, ◌-◌, ◌*◌, ◌/◌, ◌%◌, ◌<◌, ◌≤◌, refl, arith, ap, sym, ◌∙◌}
 use Rattle.httpdate.specs.declared.date.HttpDate.{HttpDate}
 use Rattle.httpdate.specs.Calendar.{days_in_year, days_in_month, days_of_years, days_of_months, weekday}
 use Rattle.httpdate.specs.Date.{unix_secs, date_text as text_of}
@@ -9,39 +8,9 @@ use Rattle.httpdate.proofs.CalendarLemmas.{days_of_years_closed, days_of_months_
 use Rattle.httpdate.proofs.ValidLemmas.{is_valid_complete}
 use Rattle.httpdate.proofs.Theorems.{date_text_is}
 use Rattle.cr_base.specs.Moments.{IsMoment}
-use Rattle.cr_print.specs.Dates.{falls_in, year_of, month_of, date_of, date_text}
-
--- the day that has so many days before it falls into that span of those up to the last one looked at
-abbrev pub FallsIn : (ℕ → ℕ) → (ℕ → ℕ) → ℕ → ℕ → ℕ → ℕ × ℕ → Type 0
-FallsIn total days_of first last days found =
-    (total found.0 + found.1 ≡ days) × (first ≤ found.0) × (found.0 ≤ last)
-    × (days < total (suc last) → found.1 < days_of found.0)
-
-found-here : (total days_of : ℕ → ℕ) (n last days : ℕ) → n ≤ last → days < days_of n → FallsIn total days_of n last (total n + days) (n, days)
-found-here total days_of n last days h lt = (refl, omega arith, h, λ below. lt)
-
--- where the totals are the sums of the spans
-pub falls : (total days_of : ℕ → ℕ) (sums : (n : ℕ) → total (suc n) ≡ total n + days_of n) (more n days : ℕ) → FallsIn total days_of n (n + more) (total n + days) (falls_in days_of more n days)
-unfolding falls_in
-falls total days_of sums zero n days =
-    let last : n + 0 ≡ n = omega arith in
-    let inside : total n + days < total (suc n) → days < days_of n = λ below. omega (arith, sums n, below) in
-    (refl, omega arith, omega arith, λ below. inside (rw last at below))
-falls total days_of sums (suc more) n days =
-    by_test (nat_lt days (days_of n)) refl (falls total days_of sums more (n + 1) (days - days_of n))
-  where
-    later : ℕ × ℕ
-    later = falls_in days_of more (n + 1) (days - days_of n)
-
-    by_test : (b : Bool) → nat_lt days (days_of n) ≡ b → FallsIn total days_of (n + 1) (n + 1 + more) (total (n + 1) + (days - days_of n)) later
-        → FallsIn total days_of n (n + suc more) (total n + days) (if b then (n, days) else later)
-    by_test true is rest = (refl, omega arith, omega arith, λ below. grind (arith, nat_tests, is))
-    by_test false is rest =
-        let high : days_of n ≤ days = grind (arith, nat_tests, is) in
-        let next : suc n ≡ n + 1 = omega arith in
-        let sum : total (n + 1) + (days - days_of n) ≡ total n + days = omega (arith, ap total next, sums n) in
-        let last : n + 1 + more ≡ n + suc more = omega arith in
-        (rest.0 ∙ sum, omega (arith, rest.1), omega (arith, rest.2), λ below. rest.3 (rw (sum, last) below))
+use Rattle.cr_json.specs.Times.{year_of, month_of, civil_of}
+use Rattle.cr_json.proofs.Calendar.{falls}
+use Rattle.cr_print.specs.Dates.{date_of, date_text}
 
 pub year-falls : (days : ℕ) → days < 2932897 → (days_of_years (year_of days).0 + (year_of days).1 ≡ days) × ((year_of days).0 ≤ 8029) × ((year_of days).1 < days_in_year (1970 + (year_of days).0))
 unfolding days_of_years
@@ -62,7 +31,7 @@ together : (days at : ℕ) → days ≡ at / 86400 → days * 86400 + (at % 8640
 together days at is = omega arith
 
 pub date-holds : (at : ℕ) → IsMoment at → IsValid (date_of at) × (parts_secs (date_of at) ≡ at)
-unfolding date_of
+unfolding date_of civil_of
 date-holds at h =
     let y = year_of (at / 86400) in
     let m = month_of (1970 + y.0) y.1 in

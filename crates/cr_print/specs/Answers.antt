@@ -2,6 +2,7 @@
 use Rattle.std.specs.Prelude.{ℕ, List, [], ◌++◌, Bool, true, if◌then◌else◌, codes, length, map}
 use Rattle.cr_base.specs.declared.accepted.AcceptedPaper.{AcceptedPaper}
 use Rattle.cr_base.specs.declared.comment.CommentLine.{CommentLine}
+use Rattle.cr_base.specs.declared.deadline.PhaseDeadline.{PhaseDeadline}
 use Rattle.cr_base.specs.declared.found.FoundPaper.{FoundPaper}
 use Rattle.cr_base.specs.declared.me.Me.{Me}
 use Rattle.cr_base.specs.declared.page.Page.{Page}
@@ -30,6 +31,7 @@ use Rattle.cr_json.specs.Accounts.{account_text}
 use Rattle.cr_json.specs.Accepted.{accepted_text}
 use Rattle.cr_json.specs.Reviews.{review_text}
 use Rattle.cr_json.specs.Comments.{comment_text}
+use Rattle.cr_json.specs.Deadlines.{phase_deadline_text}
 use Rattle.cr_print.specs.Found.{found_content, count_content}
 use Rattle.cr_print.specs.Page.{page_content}
 use Rattle.cr_print.specs.Me.{me_content}
@@ -77,9 +79,12 @@ conference_text conference sending = served_text (conference_content conference)
 unfoldable pub list_text : List ℕ → List (List ℕ) → Sending → List ℕ
 list_text key texts sending = served_text (list_alone key texts) sending
 
--- the list of accounts, the accepted papers, the reviews of a paper and the comments on it
+-- the list of accounts, the deadlines of phases, the accepted papers, the reviews of a paper and the comments on it
 unfoldable pub accounts_text : List AccountLine → Sending → List ℕ
 accounts_text accounts sending = list_text (codes "accounts") (map account_text accounts) sending
+
+unfoldable pub deadlines_text : List PhaseDeadline → Sending → List ℕ
+deadlines_text deadlines sending = list_text (codes "deadlines") (map phase_deadline_text deadlines) sending
 
 unfoldable pub papers_text : List AcceptedPaper → Sending → List ℕ
 papers_text papers sending = list_text (codes "papers") (map accepted_text papers) sending
@@ -127,6 +132,7 @@ front_text sending (replies.Accepted receipt) = receipt_text receipt sending
 front_text sending (replies.Refused rule) = refusal_text (Rule rule) sending
 front_text sending (replies.RowRefused row rule) = refusal_text (Row row rule) sending
 front_text sending (replies.Accounts accounts) = accounts_text accounts sending
+front_text sending (replies.Deadlines deadlines) = deadlines_text deadlines sending
 front_text sending (replies.AcceptedPapers papers) = papers_text papers sending
 front_text sending (replies.Reviews reviews) = reviews_text reviews sending
 front_text sending (replies.Comments comments) = comments_text comments sending
@@ -158,6 +164,7 @@ IsBrief (replies.Accepted receipt) = Unit {0}
 IsBrief (replies.Refused rule) = Unit {0}
 IsBrief (replies.RowRefused row rule) = Unit {0}
 IsBrief (replies.Accounts accounts) = ⊥
+IsBrief (replies.Deadlines deadlines) = ⊥
 IsBrief (replies.AcceptedPapers papers) = ⊥
 IsBrief (replies.Reviews reviews) = ⊥
 IsBrief (replies.Comments comments) = ⊥

@@ -4,9 +4,10 @@ use Rattle.json.specs.Print.{quoted}
 use Rattle.cr_base.specs.Words.{phase_name, mode_name, role_name}
 use Rattle.cr_base.specs.declared.reply.Receipt.{Receipt}
 use Rattle.cr_base.specs.declared.reply.Receipt.TheVariants.{User, Phase, Paper, Named, Mode, Changed}
-use Rattle.cr_base.specs.declared.reply.Receipt.TheVariants.{Version, Bid, Label, Comment, Rows}
+use Rattle.cr_base.specs.declared.reply.Receipt.TheVariants.{Version, Bid, Label, Comment, Rows, Deadline}
 use Rattle.cr_print.specs.declared.status.Status.{Status}
 use Rattle.cr_print.specs.declared.status.Status.TheVariants.{Okay, Created}
+use Rattle.cr_json.specs.Deadlines.{deadline_members}
 use Rattle.cr_json.specs.Json.{Member, bid_text, label_text, member_of, object_text}
 
 unfoldable pub receipt_status : Receipt → Status
@@ -21,6 +22,7 @@ receipt_status (Bid bid) = Okay
 receipt_status (Label ordinal) = Created
 receipt_status (Comment n) = Created
 receipt_status (Rows n) = Okay
+receipt_status (Deadline phase until) = Okay
 
 -- the keys in the order of their bytes
 unfoldable pub receipt_members : Receipt → List Member
@@ -36,6 +38,7 @@ receipt_members (Bid bid) = member_of (codes "bid") (Some (bid_text bid))
 receipt_members (Label ordinal) = member_of (codes "label") (Some (label_text ordinal))
 receipt_members (Comment n) = member_of (codes "comment") (Some (decimal n))
 receipt_members (Rows n) = member_of (codes "rows") (Some (decimal n))
+receipt_members (Deadline phase until) = deadline_members phase until
 
 abbrev pub receipt_content : Receipt → List ℕ
 receipt_content receipt = object_text (receipt_members receipt)

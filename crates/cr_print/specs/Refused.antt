@@ -9,7 +9,7 @@ use Rattle.cr_base.specs.declared.reply.Rule.TheVariants.{NotAMember, Conflict, 
 use Rattle.cr_base.specs.declared.reply.Rule.TheVariants.{NoContent, AuthorConflict, TargetConflict}
 use Rattle.cr_base.specs.declared.reply.Rule.TheVariants.{AlreadyAssigned, LabelsSpent, NotAssigned}
 use Rattle.cr_base.specs.declared.reply.Rule.TheVariants.{HasReview, NotReviewer, QuotaComments}
-use Rattle.cr_base.specs.declared.reply.Rule.TheVariants.{BadAction, BadTag, BulkSelf}
+use Rattle.cr_base.specs.declared.reply.Rule.TheVariants.{BadAction, BadTag, BulkSelf, Late}
 use Rattle.cr_http.specs.declared.refusal.Refusal.{Refusal}
 use Rattle.cr_http.specs.declared.refusal.Refusal.TheVariants.{HeadTooLarge, BadHttp, NoHost}
 use Rattle.cr_http.specs.declared.refusal.Refusal.TheVariants.{LengthRequired, BadLength, TooLarge}
@@ -58,6 +58,7 @@ rule_name QuotaComments = codes "quota_comments"
 rule_name BadAction = codes "bad_action"
 rule_name BadTag = codes "bad_tag"
 rule_name BulkSelf = codes "bulk_self"
+rule_name Late = codes "late"
 
 unfoldable pub refused_name : Refused → List ℕ
 refused_name (Closing refusal) = closing_name refusal
@@ -107,6 +108,7 @@ rule_status QuotaComments = statuses.Conflict
 rule_status BadAction = statuses.Conflict
 rule_status BadTag = statuses.Conflict
 rule_status BulkSelf = statuses.Conflict
+rule_status Late = statuses.Conflict
 
 unfoldable pub refused_status : Refused → Status
 refused_status (Closing refusal) = closing_status refusal

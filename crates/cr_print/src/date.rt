@@ -6,7 +6,7 @@ use cr_base::Moment;
 use httpdate::HttpDate;
 use std::marker::Model;
 
-/// The bytes of a date's text.
+/// How many bytes a date's text has.
 pub(crate) const DATE_TEXT: usize = 29;
 
 /// A moment with its text as an IMF-fixdate (RFC 9110, section 5.6.7), like `Sun, 06 Nov 1994 08:49:37 GMT`, so that

@@ -11,7 +11,7 @@ use crate::head::{Extra, json};
 use crate::sending::Sending;
 use crate::status::Status;
 use cr_base::{Receipt, Role, Short};
-use cr_json::Object;
+use cr_json::{Object, add_deadline};
 use std::alloc::AllocError;
 
 #[tactic(auto, unfolding(crate::specs::Receipt::receipt_status))]
@@ -29,7 +29,8 @@ fn receipt_status(receipt: &Receipt) -> Status
         | Receipt::Changed { .. }
         | Receipt::Version { .. }
         | Receipt::Bid { .. }
-        | Receipt::Rows { .. } => Status::Okay,
+        | Receipt::Rows { .. }
+        | Receipt::Deadline { .. } => Status::Okay,
     }
 }
 
@@ -68,6 +69,7 @@ fn add_receipt(object: &mut Object, into: &mut Vec<u8>, receipt: &Receipt) -> Re
         Receipt::Label { ordinal } => object.label(into, "label", *ordinal),
         Receipt::Comment { n } => object.number(into, "comment", *n),
         Receipt::Rows { rows } => object.number(into, "rows", *rows),
+        Receipt::Deadline { phase, until } => add_deadline(object, into, *phase, *until),
     }
 }
 

@@ -85,6 +85,7 @@ fn rule_name(rule: Rule) -> &'static str
         Rule::BadAction => "bad_action",
         Rule::BadTag => "bad_tag",
         Rule::BulkSelf => "bulk_self",
+        Rule::Late => "late",
     }
 }
 
@@ -148,7 +149,8 @@ fn rule_status(rule: Rule) -> Status
         | Rule::QuotaComments
         | Rule::BadAction
         | Rule::BadTag
-        | Rule::BulkSelf => Status::Conflict,
+        | Rule::BulkSelf
+        | Rule::Late => Status::Conflict,
     }
 }
 

@@ -139,7 +139,7 @@ fn print_report_front(into: &mut Vec<u8>, length: usize, sending: Sending)
 /// have grown. It never comes for a receipt, a refusal, the conference, a count, a content or a report where room for
 /// 512 bytes is there. The content of a list, a page, what was found or what one is told of oneself is made in a
 /// vector of its own, to HEAD too, and copied once.
-#[tactic(auto, unfolding(crate::specs::Answers::accounts_text, crate::specs::Answers::reviews_text, crate::specs::Answers::comments_text))]
+#[tactic(auto, unfolding(crate::specs::Answers::accounts_text, crate::specs::Answers::deadlines_text, crate::specs::Answers::reviews_text, crate::specs::Answers::comments_text))]
 pub fn print_reply(into: &mut Vec<u8>, reply: &Reply, sending: Sending) -> Result<(), AllocError>
     ensures prints { Prints result into.old into.new (front_text sending reply.now) }
     ensures sure { OnErr result (IsBrief reply.now → HasRoom into.old 512 → ⊥) }
@@ -165,6 +165,7 @@ pub fn print_reply(into: &mut Vec<u8>, reply: &Reply, sending: Sending) -> Resul
             Ok(())
         }
         Reply::Accounts(accounts) => print_list(into, "accounts", accounts.as_slice(), sending),
+        Reply::Deadlines(deadlines) => print_list(into, "deadlines", deadlines.as_slice(), sending),
         Reply::AcceptedPapers(papers) => print_accepted(into, papers, sending),
         Reply::Reviews(reviews) => print_list(into, "reviews", reviews.as_slice(), sending),
         Reply::Comments(comments) => print_list(into, "comments", comments.as_slice(), sending),

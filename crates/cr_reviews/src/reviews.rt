@@ -138,16 +138,17 @@ impl Reviews {
     /// forms; takes no memory.
     ///
     /// In this order: `NoPaper`, `NotMember`, `Conflict`, `NotReviewer` where she doesn't review the paper,
-    /// `WrongPhase` where it is neither the reviewing nor the discussion, `Withdrawn`.
+    /// `WrongPhase` where it is neither the reviewing nor the discussion, `Late` where it is too late, `Withdrawn`.
     pub fn judge_review(
         &self,
         by: &Standing,
         paper: &Option<PaperNo>,
         ordinal: &Option<Ordinal>,
         withdrawn: bool,
+        late: bool,
     ) -> Result<u64, Rule>
         ensures { result ≡ judged
-            (review_checks by.now (record { there = is_some paper.now; withdrawn = withdrawn }))
+            (review_checks by.now (record { there = is_some paper.now; withdrawn = withdrawn }) late)
             (length (forms_by self.now.reviews (unwrap_or paper.now 0) ordinal.now) + 1) }
     {
         let Some(paper) = paper else {
@@ -162,6 +163,9 @@ impl Reviews {
         }
         if !by.phase.reviews_are_written() {
             return Err(Rule::WrongPhase);
+        }
+        if late {
+            return Err(Rule::Late);
         }
         if withdrawn {
             return Err(Rule::Withdrawn);

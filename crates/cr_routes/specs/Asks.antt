@@ -14,6 +14,8 @@ abbrev pub route_at : Resource → Method → Option Ask
 route_at at.Register Post = Some asks.Register
 route_at at.Accepted Get = Some asks.AcceptedPapers
 route_at at.Accounts Get = Some asks.Accounts
+route_at at.Deadlines Get = Some asks.Deadlines
+route_at at.Deadlines Post = Some asks.SetDeadline
 route_at at.Members Post = Some asks.Name
 route_at at.Mode Post = Some asks.SetMode
 route_at at.Phase Get = Some asks.Phase

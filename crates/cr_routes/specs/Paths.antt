@@ -1,7 +1,7 @@
 -- The paths of the server, which are its own (docs/API.md, section 5).
 use Rattle.std.specs.Prelude.{ℕ, List, [], ◌∷◌, codes}
 use Rattle.cr_routes.specs.declared.resource.Resource.{Resource}
-use Rattle.cr_routes.specs.declared.resource.Resource.TheVariants.{Register, Accepted, Accounts}
+use Rattle.cr_routes.specs.declared.resource.Resource.TheVariants.{Register, Accepted, Accounts, Deadlines}
 use Rattle.cr_routes.specs.declared.resource.Resource.TheVariants.{Members, Mode, Phase, Me, Search}
 use Rattle.cr_routes.specs.declared.resource.Resource.TheVariants.{Papers, Paper, Content, Version}
 use Rattle.cr_routes.specs.declared.resource.Resource.TheVariants.{Conflicts, Bid, Reviewers, Reviewer}
@@ -16,6 +16,7 @@ paths =
     (codes "/accepted", Accepted) ∷
     (codes "/accounts", Accounts) ∷
     (codes "/assign", Bulk) ∷
+    (codes "/deadlines", Deadlines) ∷
     (codes "/members", Members) ∷
     (codes "/me", Me) ∷
     (codes "/mode", Mode) ∷

@@ -13,6 +13,8 @@ pub enum Resource {
     Accepted,
     /// `/accounts`
     Accounts,
+    /// `/deadlines`
+    Deadlines,
     /// `/members`
     Members,
     /// `/mode`
@@ -74,6 +76,8 @@ impl Resource {
             (Resource::Register, Method::Post) => Some(Ask::Register),
             (Resource::Accepted, Method::Get | Method::Head) => Some(Ask::AcceptedPapers),
             (Resource::Accounts, Method::Get | Method::Head) => Some(Ask::Accounts),
+            (Resource::Deadlines, Method::Get | Method::Head) => Some(Ask::Deadlines),
+            (Resource::Deadlines, Method::Post) => Some(Ask::SetDeadline),
             (Resource::Members, Method::Post) => Some(Ask::Name),
             (Resource::Mode, Method::Post) => Some(Ask::SetMode),
             (Resource::Phase, Method::Get | Method::Head) => Some(Ask::Phase),
@@ -126,7 +130,7 @@ impl Resource {
             Resource::DecisionsReport | Resource::Letter => "GET, HEAD",
             Resource::Paper => "DELETE, GET, HEAD, PUT",
             Resource::Content => "GET, HEAD, PUT",
-            Resource::Phase | Resource::Comments => "GET, HEAD, POST",
+            Resource::Phase | Resource::Deadlines | Resource::Comments => "GET, HEAD, POST",
         }
     }
 }

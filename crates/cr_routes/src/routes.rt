@@ -9,10 +9,11 @@ use matchit::{InsertError, Router};
 use std::alloc::{AllocError, Global};
 
 /// As `paths` lists them.
-static PATHS: [(&str, Resource); 27] = [
+static PATHS: [(&str, Resource); 28] = [
     ("/accepted", Resource::Accepted),
     ("/accounts", Resource::Accounts),
     ("/assign", Resource::Bulk),
+    ("/deadlines", Resource::Deadlines),
     ("/members", Resource::Members),
     ("/me", Resource::Me),
     ("/mode", Resource::Mode),

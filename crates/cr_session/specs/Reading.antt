@@ -81,12 +81,12 @@ IsWishedAt reads.Cut at request = ⊥
 IsWishedAt reads.ReadFault at request = ⊥
 IsWishedAt reads.ClockFault at request = ⊥
 
--- the same at the moment that the clock gave, or the clock failed
+-- the same at some moment, or the clock failed; that it is the clock's, `ReadsClock` says
 abbrev pub IsWishedNow : WishRead → Option RequestText → Type 0
 IsWishedNow reads.ClockFault request = Unit {0}
 IsWishedNow answer request = (at : ℕ) × IsWishedAt answer at request
 
--- this refusal at the moment that the clock gave, or the clock failed
+-- this refusal, at whatever moment, or the clock failed; that it is the clock's, `ReadsClock` says
 abbrev pub IsRefusedNow : WishRead → Refusal → Bool → Type 0
 IsRefusedNow (reads.Malformed said to_head at) why head = (said ≡ why) × (to_head ≡ head)
 IsRefusedNow reads.ClockFault why head = Unit {0}

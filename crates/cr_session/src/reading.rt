@@ -112,7 +112,7 @@ pub fn read_wish<S: Source, C: Clock>(
     wish_now(alloc, &inbox.routes, &inbox.requests, clock)
 }
 
-/// The refusal, at the moment that it is.
+/// The refusal, at the moment that the clock gives; `ClockFault` where it fails.
 fn refusal_now<C: Clock>(why: Refusal, is_head: bool, clock: &mut C) -> WishRead
     ensures refusal { IsRefusedNow result why is_head }
     ensures bounded { IsBoundedRead result }
@@ -125,7 +125,7 @@ fn refusal_now<C: Clock>(why: Refusal, is_head: bool, clock: &mut C) -> WishRead
     }
 }
 
-/// The wish of the request that the inbox lends, at the moment that it is.
+/// The wish of the request that the inbox lends, at the moment that the clock gives; `ClockFault` where it fails.
 fn wish_now<C: Clock>(alloc: Global, routes: &Routes, requests: &Inbox, clock: &mut C) -> WishRead
     requires { IsSome requests.now.request }
     ensures wish { IsWishedNow result requests.now.request }

@@ -269,7 +269,8 @@ fn serve_next_request<R: Wait, K: Keeper, S: Source, O: Sink, C: Clock>(
 ///
 /// For each answer the clock is asked once, outside of the turns, when its request is whole or refused: that moment is
 /// the answer's date, and what an accepted command adds is of it. Where no request is answered, and for a connection
-/// that ends between requests or inside one, the clock isn't asked. A clock that goes back is no fault.
+/// that ends between requests or inside one, the clock isn't asked. It may go back: no moment is compared with another
+/// answer's.
 ///
 /// Each ending's cause is in the contract: `Clean`, `Cut` and `Closed` exactly by what the bytes spell,
 /// `ReadFault`, `WriteFault` and `ClockFault` only where that count of faults rose, or stands at its last value, and no

@@ -1,5 +1,5 @@
 -- The lines of a view: an object of JSON (RFC 8259, section 4), with no spaces, and a line feed for each sighting.
-use Rattle.std.specs.Prelude.{ℕ, List, ◌++◌, length, Option, Some, None, codes, decimal}
+use Rattle.std.specs.Prelude.{ℕ, List, ◌++◌, length, Option, Some, None, unwrap_or, codes, decimal}
 use Rattle.std.specs.List.{flat_map}
 use Rattle.std.specs.Option.{option_map}
 use Rattle.hex.specs.Hex.{encode_lower}
@@ -25,6 +25,10 @@ digest_text digest = quoted (encode_lower digest)
 -- a content by its length in bytes
 abbrev pub content_text : List ℕ → List ℕ
 content_text content = decimal (length content)
+
+-- a deadline by its seconds, and that there is none by 0
+abbrev pub until_text : Option ℕ → List ℕ
+until_text until = decimal (unwrap_or until 0)
 
 -- a phase, a mode and a role by their words
 abbrev pub phase_text : Phase → List ℕ
@@ -96,11 +100,12 @@ fifth_members s =
     ++ member_of (codes "tag") (option_map quoted s.tag)
     ++ member_of (codes "text") (option_map quoted s.text)
     ++ member_of (codes "title") (option_map quoted s.title)
+    ++ member_of (codes "to_authors") (option_map quoted s.to_authors)
 
 unfoldable pub last_members : Sighting → List Member
 last_members s =
-    member_of (codes "to_authors") (option_map quoted s.to_authors)
-    ++ member_of (codes "to_pc") (option_map quoted s.to_pc)
+    member_of (codes "to_pc") (option_map quoted s.to_pc)
+    ++ member_of (codes "until") (option_map until_text s.until)
     ++ member_of (codes "user") (option_map decimal (user_told s.kind s.by s.user))
     ++ member_of (codes "value") (option_map bid_text s.value)
     ++ member_of (codes "version") (option_map decimal s.version)

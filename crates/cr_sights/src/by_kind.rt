@@ -8,7 +8,7 @@ ghost use Rattle.cr_sights.specs.Readers.{reader_in};
 use crate::decisions::decision;
 use crate::papers::{coauthor, revision, submission, upload, withdrawal};
 use crate::position::Position;
-use crate::public::{mode_set, naming, phase_set, registration};
+use crate::public::{deadline_set, mode_set, naming, phase_set, registration};
 use crate::reviews::review;
 use crate::seats::{assignment, unassignment};
 use crate::sighting::Sighting;
@@ -47,5 +47,6 @@ pub fn sight<'a>(
         Entry::Commented { .. } => comment(live, reader, stamped),
         Entry::Tagged { .. } => tagging(live, reader, stamped),
         Entry::Decided { .. } => decision(live, reader, stamped, position.last),
+        Entry::DeadlineSet { .. } => deadline_set(reader, stamped),
     }
 }

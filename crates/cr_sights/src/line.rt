@@ -104,7 +104,7 @@ fn add_fourth(
     Ok(())
 }
 
-/// Writes the members from `score` to `title`.
+/// Writes the members from `score` to `to_authors`.
 fn add_fifth(object: &mut Object, into: &mut Vec<u8>, sighting: &Sighting) -> Result<(), AllocError>
     ensures { AddsMembers result into.old into.new object.old.is_first object.new.is_first
         (fifth_members sighting.now) }
@@ -114,16 +114,17 @@ fn add_fifth(object: &mut Object, into: &mut Vec<u8>, sighting: &Sighting) -> Re
     add(object, into, "tag", sighting.tag)?;
     add(object, into, "text", sighting.text)?;
     add(object, into, "title", sighting.title)?;
+    add(object, into, "to_authors", sighting.to_authors)?;
     Ok(())
 }
 
-/// Writes the members from `to_authors` on.
+/// Writes the members from `to_pc` on.
 fn add_last(object: &mut Object, into: &mut Vec<u8>, sighting: &Sighting) -> Result<(), AllocError>
     ensures { AddsMembers result into.old into.new object.old.is_first object.new.is_first
         (last_members sighting.now) }
 {
-    add(object, into, "to_authors", sighting.to_authors)?;
     add(object, into, "to_pc", sighting.to_pc)?;
+    add(object, into, "until", sighting.until.as_ref())?;
     add(object, into, "user", user_told(sighting))?;
     add(object, into, "value", sighting.value.as_ref())?;
     add(object, into, "version", sighting.version.as_ref())?;

@@ -4,11 +4,11 @@ ghost use Rattle.std.specs.Option.{option_copied};
 ghost use Rattle.hex.specs.Hex.{encode_lower};
 ghost use Rattle.json.specs.Print.{quoted};
 ghost use Rattle.cr_json.specs.Json.{AddsMembers, bid_text, decision_text, member_of, review_kind_text};
-ghost use Rattle.cr_sights.specs.Lines.{content_text, digest_text, mode_text, phase_text, role_text};
+ghost use Rattle.cr_sights.specs.Lines.{content_text, digest_text, mode_text, phase_text, role_text, until_text};
 
 use cr_base::{
-    Bid, Blob, Decision, Digest, Grade, Kind, Mode, Moment, PaperNo, Phase, Role, Short, Tag, Text,
-    UserNo,
+    Bid, Blob, Deadline, Decision, Digest, Grade, Kind, Mode, Moment, PaperNo, Phase, Role, Short,
+    Tag, Text, UserNo,
 };
 use cr_json::Object;
 use std::alloc::AllocError;
@@ -73,6 +73,18 @@ impl Part for Moment {
 
     fn write(&self, object: &mut Object, into: &mut Vec<u8>, key: &str) -> Result<(), AllocError> {
         object.number(into, key, self.seconds())
+    }
+}
+
+/// A deadline by its seconds, or that there is none by 0.
+impl Part for Option<Deadline> {
+    ghost text = { until_text };
+
+    fn write(&self, object: &mut Object, into: &mut Vec<u8>, key: &str) -> Result<(), AllocError> {
+        match self {
+            Some(until) => object.number(into, key, until.seconds()),
+            None => object.number(into, key, 0),
+        }
     }
 }
 

@@ -1,4 +1,4 @@
-//! What entries of which everyone is told, on accounts, roles, the phase and the mode, show a reader.
+//! What entries of which everyone is told, on accounts, roles, the phase, the mode and deadlines, show a reader.
 ghost use Rattle.std.specs.Prelude.{◌≡◌, Some};
 ghost use Rattle.cr_base.specs.declared.entry.EntryKind.TheVariants as kinds;
 ghost use Rattle.cr_base.specs.Lists.{listed};
@@ -64,5 +64,19 @@ pub(crate) fn mode_set<'a>(reader: UserNo, stamped: &'a Stamped) -> Option<Sight
     };
     let mut sighting = of_stamp(EntryKind::ModeSet, reader, &stamped.stamp);
     sighting.mode = Some(*mode);
+    Some(sighting)
+}
+
+/// What a deadline that is set, or taken away, shows her: all of it.
+pub(crate) fn deadline_set<'a>(reader: UserNo, stamped: &'a Stamped) -> Option<Sighting<'a>>
+    requires { kind_of stamped.now.entry ≡ kinds.DeadlineSet }
+    ensures { (t : Tables) (at : Around) → listed result ≡ sight_at (reader_in t (Some reader)) at stamped.now }
+{
+    let Entry::DeadlineSet { phase, until } = &stamped.entry else {
+        return None;
+    };
+    let mut sighting = of_stamp(EntryKind::DeadlineSet, reader, &stamped.stamp);
+    sighting.phase = Some(*phase);
+    sighting.until = Some(*until);
     Some(sighting)
 }

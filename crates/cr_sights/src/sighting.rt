@@ -3,8 +3,8 @@ ghost use Rattle.std.specs.Prelude.{◌≡◌};
 ghost use Rattle.cr_sights.specs.Stamps.{stamp_shown};
 
 use cr_base::{
-    Bid, Blob, Decision, Digest, EntryKind, Grade, Kind, Mode, Moment, PaperNo, Phase, Role, Short,
-    Stamp, Tag, Text, UserNo,
+    Bid, Blob, Deadline, Decision, Digest, EntryKind, Grade, Kind, Mode, Moment, PaperNo, Phase,
+    Role, Short, Stamp, Tag, Text, UserNo,
 };
 use std::marker::Model;
 
@@ -28,7 +28,7 @@ pub struct Sighting<'a> {
     pub digest: Option<&'a Digest>,
     /// The role that a user was named to.
     pub role: Option<Role>,
-    /// The phase that was set.
+    /// The phase that was set, or whose deadline was.
     pub phase: Option<Phase>,
     /// The mode that was set.
     pub mode: Option<Mode>,
@@ -75,6 +75,8 @@ pub struct Sighting<'a> {
     pub accepted: Option<bool>,
     /// The moment of its command's request, where the reader made it.
     pub at: Option<Moment>,
+    /// The deadline that a phase has from then on, or that it has none any more.
+    pub until: Option<Option<Deadline>>,
 }
 
 impl<'a> Model for Sighting<'a> {
@@ -114,6 +116,7 @@ impl<'a> Model for Sighting<'a> {
       outcome = s.outcome;
       accepted = s.accepted;
       at = s.at;
+      until = s.until;
     } };
 }
 
@@ -153,5 +156,6 @@ pub(crate) fn of_stamp<'a>(kind: EntryKind, reader: UserNo, stamp: &Stamp) -> Si
         outcome: None,
         accepted: None,
         at: mine.then_some(stamp.at),
+        until: None,
     }
 }

@@ -6,7 +6,7 @@ use crate::migrate::migrate;
 use crate::reason::{Reason, StoreError};
 use sqlite::{Alter, Connection, Error, Row, Transaction};
 
-/// The text that makes a table of rows; of version 2, `$at` is the column that version 1 hasn't.
+/// The text that makes a table of rows; `$at` is the column that version 2 has and version 1 hasn't.
 macro_rules! table_of_rows {
     ($name:literal, $at:literal) => {
         concat!(
@@ -20,6 +20,7 @@ macro_rules! table_of_rows {
     };
 }
 
+/// What makes each of the four tables of rows.
 pub(crate) const PEOPLE: &str = table_of_rows!("people_v2", " at INTEGER NOT NULL,");
 
 pub(crate) const PAPERS: &str = table_of_rows!("papers_v2", " at INTEGER NOT NULL,");

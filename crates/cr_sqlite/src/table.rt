@@ -26,7 +26,7 @@ macro_rules! page {
 /// A table of rows, by the kinds of entry that it has.
 #[derive(Clone, Copy, PartialEq, Eq)]
 pub(crate) enum Table {
-    /// Kinds 1 to 4.
+    /// Kinds 1 to 4, and 18.
     People,
     /// Kinds 5 to 9, contents among them.
     Papers,
@@ -40,7 +40,7 @@ impl Table {
     /// The table of a kind; none where no table is for it.
     pub fn of_kind(kind: u64) -> Option<Table> {
         match kind {
-            1..=4 => Some(Table::People),
+            1..=4 | 18 => Some(Table::People),
             5..=9 => Some(Table::Papers),
             10..=13 => Some(Table::Ties),
             14..=17 => Some(Table::Talk),

@@ -75,18 +75,19 @@ impl Talk {
     /// is no such paper. Whether it is withdrawn stands in none of the comments. Two reads by number at most;
     /// takes no memory.
     ///
-    /// In this order: `NoPaper`, `NotMember`, `Conflict`, `WrongPhase` where it isn't the discussion,
-    /// `Withdrawn`, `QuotaComments` where she has written 1,000 comments.
+    /// In this order: `NoPaper`, `NotMember`, `Conflict`, `WrongPhase` where it isn't the discussion, `Late`
+    /// where it is too late, `Withdrawn`, `QuotaComments` where she has written 1,000 comments.
     pub fn judge_comment(
         &self,
         by: &Standing,
         maker: UserNo,
         paper: &Option<PaperNo>,
         withdrawn: bool,
+        late: bool,
     ) -> Result<u64, Rule>
         ensures { result ≡ judged
             (comment_checks by.now (record { there = is_some paper.now; withdrawn = withdrawn })
-            (own_comments_in self.now.talk (Some maker)))
+            (own_comments_in self.now.talk (Some maker)) late)
             (length (comments_in self.now.talk (unwrap_or paper.now 0)) + 1) }
     {
         let Some(paper) = paper else {
@@ -98,6 +99,9 @@ impl Talk {
         }
         if !by.phase.comments_are_written() {
             return Err(Rule::WrongPhase);
+        }
+        if late {
+            return Err(Rule::Late);
         }
         if withdrawn {
             return Err(Rule::Withdrawn);

@@ -10,7 +10,7 @@ use Rattle.cr_told.proofs.ToldPartsBids.{bid-all}
 use Rattle.cr_told.proofs.ToldPartsConflicts.{conflict-all}
 use Rattle.cr_told.proofs.ToldPartsContents.{uploaded-all}
 use Rattle.cr_told.proofs.ToldPartsForms.{reviewed-all}
-use Rattle.cr_told.proofs.ToldPartsPublic.{registered-all, named-all, phase-set-all, mode-set-all, submitted-all, coauthor-all, revised-all, withdrawn-all}
+use Rattle.cr_told.proofs.ToldPartsPublic.{registered-all, named-all, phase-set-all, mode-set-all, deadline-set-all, submitted-all, coauthor-all, revised-all, withdrawn-all}
 use Rattle.cr_told.proofs.ToldPartsSeats.{assigned-all, unassigned-all}
 use Rattle.cr_told.proofs.ToldPartsTags.{tagged-all}
 use Rattle.cr_told.proofs.ToldPartsTalk.{commented-all, decided-all}
@@ -33,6 +33,7 @@ all-kinds kinds.Reviewed = reviewed-all
 all-kinds kinds.Commented = commented-all
 all-kinds kinds.Tagged = tagged-all
 all-kinds kinds.Decided = decided-all
+all-kinds kinds.DeadlineSet = deadline-set-all
 
 pub parts_told : PartsTold
 parts_told u H before s after what legal is shown =

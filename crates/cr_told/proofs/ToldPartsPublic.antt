@@ -1,23 +1,27 @@
--- Of accounts, roles, phases, modes, submissions and texts each part that is shown is told, or another follows it.
-use Rattle.std.proofs.Common.{◌≡◌, ℕ, Bool, true, false, List, [], ◌∷◌, ◌++◌, refl, sym, ap, ◌∙◌, ◌||◌, ◌&&◌, Option, Some, eqb}
-use Rattle.std.specs.Prelude.{not, IsTrue}
+-- Of accounts, roles, phases, modes, deadlines, submissions and texts each part that is shown is told, or another follows it.
+use Rattle.std.proofs.Common.{◌≡◌, ℕ, Bool, true, false, List, [], ◌∷◌, ◌++◌, refl, sym, ap, ◌∙◌, ◌||◌, ◌&&◌, Option, Some, None, eqb}
+use Rattle.std.specs.Prelude.{not, unwrap_or, IsTrue}
+use Rattle.std.specs.Option.{option_map}
 use Rattle.std.specs.Str.{bytes_eq}
 use Rattle.std.specs.List.{flat_map, list_any}
 use Rattle.std.proofs.lemmas.Bool.{true≢false, eq-eqb, eqb-true, or_left, or_right}
-use Rattle.cr_base.specs.declared.entry.Entry.TheVariants.{Registered, Named, PhaseSet, ModeSet, Submitted, Coauthor, Revised, Withdrawn}
+use Rattle.std.proofs.lemmas.List.Folds.{list_any-append}
+use Rattle.cr_base.specs.declared.entry.Entry.TheVariants.{Registered, Named, PhaseSet, ModeSet, Submitted, Coauthor, Revised, Withdrawn, DeadlineSet}
 use Rattle.cr_base.specs.declared.entry.EntryKind.TheVariants as kinds
 use Rattle.cr_base.specs.declared.entry.Stamp.{Stamp}
 use Rattle.cr_base.specs.declared.reply.AccountLine.{AccountLine}
 use Rattle.cr_base.specs.declared.words.Mode.{Mode}
 use Rattle.cr_base.specs.declared.words.Mode.TheVariants.{Blind}
 use Rattle.cr_base.specs.declared.words.Phase.{Phase}
-use Rattle.cr_base.specs.declared.words.Phase.TheVariants.{Setup}
+use Rattle.cr_base.specs.declared.deadline.PhaseDeadline.{PhaseDeadline}
+use Rattle.cr_base.specs.declared.words.Phase.TheVariants.{Setup, Submission, Bidding, Reviewing, Discussion}
 use Rattle.cr_base.specs.declared.words.Role.{Role}
 use Rattle.cr_base.specs.declared.words.Role.TheVariants.{Account}
 use Rattle.cr_base.specs.Lists.{is_nothing, is_number, last, last_or, listed}
 use Rattle.cr_base.specs.History.{History}
 use Rattle.cr_base.specs.HistoryFacts.{role_of}
-use Rattle.cr_base.specs.Phases.{phase_rank, is_phase}
+use Rattle.cr_base.specs.Deadlines.{phase_deadline, deadlines_told}
+use Rattle.cr_base.specs.Phases.{phase_rank, is_phase, may_have_deadline}
 use Rattle.cr_base.specs.Words.{mode_number, role_number}
 use Rattle.cr_history.specs.Invariants.{IsRegistered, IsSubmitted}
 use Rattle.cr_policy.specs.Legal.{Legal}
@@ -26,16 +30,49 @@ use Rattle.cr_policy.specs.Part.{Part}
 use Rattle.cr_policy.specs.ShownTo.{maker_for}
 use Rattle.cr_policy.specs.Sighting.{Sighting}
 use Rattle.cr_policy.specs.View.{View, view}
-use Rattle.cr_policy.specs.ViewFacts.{only, is_user, phase_in_view, mode_in_view}
+use Rattle.cr_policy.specs.ViewFacts.{only, is_user, is_kind, opens_phase, phase_in_view, mode_in_view}
 use Rattle.cr_policy.proofs.BoundsWalk.{shown_to}
 use Rattle.cr_told.specs.ToldPages.{shown_on, writers_shown, writer_by, page_told}
-use Rattle.cr_told.specs.ToldParts.{is_name_of, has, accounts_answered, accounts_given, agree, lists, same_mode, same_role, is_told as is_part_told, is_left_untold}
-use Rattle.cr_told.specs.ToldPublic.{account_shown, all_shown}
-use Rattle.cr_told.proofs.ToldEach.{last-told, last-or-told, listed-here, known}
+use Rattle.cr_told.specs.ToldParts.{is_name_of, has, accounts_answered, accounts_given, deadlines_answered, has_deadline, agree, lists, same_mode, same_role, is_told as is_part_told, is_left_untold}
+use Rattle.cr_told.specs.ToldPublic.{account_shown, all_shown, phases_shown, deadlines_shown}
+use Rattle.cr_told.proofs.ToldEach.{last-here, last-told, last-or-told, listed-here, known}
 use Rattle.cr_told.proofs.ToldKnown.{AllOf, Each, all-of, known-own}
 use Rattle.cr_told.proofs.ToldNames.{role-seen, same-bytes, swap, account-listed, some-named}
 use Rattle.cr_told.proofs.ToldPages.{pages_told}
 use Rattle.cr_told.proofs.ToldPublic as conference
+
+-- a deadline of a phase that may have one is listed
+module _ (D : Phase → Option ℕ) (set : Phase) (n : ℕ) (test : ℕ → Bool) where
+  abbrev line_passes : PhaseDeadline → Bool
+  line_passes line = is_phase set line.phase && test line.until
+
+  abbrev lines_at : Phase → List PhaseDeadline
+  lines_at phase = listed (option_map (phase_deadline phase) (D phase))
+
+  first-line : (phases : List Phase) → D set ≡ Some n → test n ≡ true → list_any line_passes (flat_map lines_at (set ∷ phases)) ≡ true
+  first-line phases is passes =
+      ap (λ (o : Option ℕ). list_any line_passes (listed (option_map (phase_deadline set) o) ++ flat_map lines_at phases)) is
+      ∙ ap (λ b. (b && test n) || list_any line_passes (flat_map lines_at phases)) (eq-eqb (phase_rank set) (phase_rank set) refl)
+      ∙ or_left (test n) (list_any line_passes (flat_map lines_at phases)) passes
+
+  later-line : (phase : Phase) (phases : List Phase) → list_any line_passes (flat_map lines_at phases) ≡ true
+      → list_any line_passes (flat_map lines_at (phase ∷ phases)) ≡ true
+  later-line phase phases rest =
+      list_any-append line_passes (lines_at phase) (flat_map lines_at phases) ∙ or_right (list_any line_passes (lines_at phase)) _ rest
+
+deadline-listed : (D : Phase → Option ℕ) (set : Phase) (n : ℕ) (test : ℕ → Bool) → may_have_deadline set ≡ true → D set ≡ Some n → test n ≡ true
+    → list_any (line_passes D set n test) (deadlines_told D) ≡ true
+deadline-listed D Submission n test may is passes = first-line D Submission n test (Bidding ∷ Reviewing ∷ Discussion ∷ []) is passes
+deadline-listed D Bidding n test may is passes =
+    later-line D Bidding n test Submission (Bidding ∷ Reviewing ∷ Discussion ∷ []) (first-line D Bidding n test (Reviewing ∷ Discussion ∷ []) is passes)
+deadline-listed D Reviewing n test may is passes =
+    later-line D Reviewing n test Submission (Bidding ∷ Reviewing ∷ Discussion ∷ [])
+    (later-line D Reviewing n test Bidding (Reviewing ∷ Discussion ∷ []) (first-line D Reviewing n test (Discussion ∷ []) is passes))
+deadline-listed D Discussion n test may is passes =
+    later-line D Discussion n test Submission (Bidding ∷ Reviewing ∷ Discussion ∷ [])
+    (later-line D Discussion n test Bidding (Reviewing ∷ Discussion ∷ [])
+    (later-line D Discussion n test Reviewing (Discussion ∷ []) (first-line D Discussion n test [] is passes)))
+deadline-listed D set n test may is passes = absurd (true≢false (sym may))
 
 module _ (u : Option ℕ) (H : History) (legal : Legal H) (before after : View) where
   -- what is to be shown of a sighting in a part
@@ -89,11 +126,52 @@ module _ (u : Option ℕ) (H : History) (legal : Legal H) (before after : View) 
 
     phase-set : (phase : Phase) (what : Part) → Whole what (shown_to u H earlier later stamp (PhaseSet phase))
     phase-set phase part.phase is shown =
-        last-or-told is_phase (λ (s : Sighting). listed s.phase) before after
+        last-or-told is_phase (λ (s : Sighting). only (is_kind kinds.PhaseSet s) (listed s.phase)) before after
         (shown_to u H earlier later stamp (PhaseSet phase)) phase Setup (eq-eqb (phase_rank phase) (phase_rank phase) refl) refl (phase_in_view V)
-        (ap (last_or Setup) (conference.phases u H) ∙ ap (λ (W : View). last_or Setup (all_shown (λ (s : Sighting). s.phase) W)) is)
+        (ap (last_or Setup) (conference.phases u H) ∙ ap (λ (W : View). last_or Setup (phases_shown W)) is)
     phase-set phase part.at is shown = known-own (is_number u stamp.maker) stamp.at shown
     phase-set phase _ is shown = absurd (true≢false (sym shown))
+
+    -- a deadline that no later one of its phase follows stands among the deadlines
+    deadline-told : (set : Phase) (n : ℕ) (test : ℕ → Bool) → may_have_deadline set ≡ true → test n ≡ true
+        → (let s : Sighting = shown_to u H earlier later stamp (DeadlineSet set (Some n)) in
+        V ≡ before ++ s ∷ after → (has_deadline u H s test || not (is_nothing (deadlines_shown set after))) ≡ true)
+    deadline-told set n test may passes is = by (is_nothing (deadlines_shown set after)) refl
+      where
+        s : Sighting
+        s = shown_to u H earlier later stamp (DeadlineSet set (Some n))
+
+        shown_in : Sighting → List (Option ℕ)
+        shown_in t = only (opens_phase set t.phase) (listed t.until)
+
+        lasts : Phase → Option ℕ
+        lasts phase = last_or None (deadlines_shown phase V)
+
+        stands : is_nothing (deadlines_shown set after) ≡ true → lasts set ≡ Some n
+        stands none =
+            ap (λ (W : View). last_or None (deadlines_shown set W)) is
+            ∙ ap (λ (o : Option (Option ℕ)). unwrap_or o None)
+            (last-here shown_in before after s (Some n) (ap (λ b. only b (Some n ∷ [])) (eq-eqb (phase_rank set) (phase_rank set) refl)) none)
+
+        by : (b : Bool) → is_nothing (deadlines_shown set after) ≡ b → (has_deadline u H s test || not b) ≡ true
+        by true none =
+            ap (λ b. b || false)
+            (ap (λ reply. lists (deadlines_answered reply) (λ line. is_phase set line.phase && test line.until)) (conference.deadlines_told u H)
+            ∙ deadline-listed lasts set n test may (stands none) passes)
+        by false some = or_right (has_deadline u H s test) true refl
+
+    deadline-set : (set : Phase) (until : Option ℕ) (what : Part) → may_have_deadline set ≡ true
+        → Whole what (shown_to u H earlier later stamp (DeadlineSet set until))
+    deadline-set set None part.phase may is shown =
+        or_right (has_deadline u H (shown_to u H earlier later stamp (DeadlineSet set None)) (λ n. true)) true refl
+    deadline-set set None part.until may is shown =
+        or_right (has_deadline u H (shown_to u H earlier later stamp (DeadlineSet set None)) (is_number None)) true refl
+    deadline-set set None part.at may is shown = known-own (is_number u stamp.maker) stamp.at shown
+    deadline-set set None _ may is shown = absurd (true≢false (sym shown))
+    deadline-set set (Some n) part.phase may is shown = deadline-told set n (λ n. true) may refl is
+    deadline-set set (Some n) part.until may is shown = deadline-told set n (is_number (Some n)) may (eq-eqb n n refl) is
+    deadline-set set (Some n) part.at may is shown = known-own (is_number u stamp.maker) stamp.at shown
+    deadline-set set (Some n) _ may is shown = absurd (true≢false (sym shown))
 
     mode-set : (mode : Mode) (what : Part) → Whole what (shown_to u H earlier later stamp (ModeSet mode))
     mode-set mode part.mode is shown =
@@ -196,6 +274,14 @@ mode-set-all = all-of kinds.ModeSet each
     each : Each kinds.ModeSet
     each u H legal before after what earlier later stamp more (ModeSet mode) whole there told is kind shown =
         mode-set u H legal before after earlier later stamp more mode what is shown
+    each u H legal before after what earlier later stamp more e whole there told is kind shown = absurd (true≢false (sym kind))
+
+pub deadline-set-all : AllOf kinds.DeadlineSet
+deadline-set-all = all-of kinds.DeadlineSet each
+  where
+    each : Each kinds.DeadlineSet
+    each u H legal before after what earlier later stamp more (DeadlineSet phase until) whole there told is kind shown =
+        deadline-set u H legal before after earlier later stamp more phase until what there.there is shown
     each u H legal before after what earlier later stamp more e whole there told is kind shown = absurd (true≢false (sym kind))
 
 pub submitted-all : AllOf kinds.Submitted

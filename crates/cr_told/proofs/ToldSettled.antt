@@ -7,16 +7,18 @@ use Rattle.std.proofs.lemmas.List.Concat.{flat_map-append}
 use Rattle.std.proofs.lemmas.List.Folds.{list_any-append}
 use Rattle.cr_base.specs.declared.entry.Entry.{Entry}
 use Rattle.cr_base.specs.declared.entry.Entry.TheVariants.{Registered, Named, PhaseSet, ModeSet, Submitted, Coauthor, Revised, Uploaded, Withdrawn, Conflict}
-use Rattle.cr_base.specs.declared.entry.Entry.TheVariants.{Bid, Assigned, Unassigned, Reviewed, Commented, Tagged, Decided}
+use Rattle.cr_base.specs.declared.entry.Entry.TheVariants.{Bid, Assigned, Unassigned, Reviewed, Commented, Tagged, Decided, DeadlineSet}
 use Rattle.cr_base.specs.declared.entry.Stamp.{Stamp}
 use Rattle.cr_base.specs.declared.entry.Stamped.{Stamped}
 use Rattle.cr_base.specs.Drawn.{stamped}
 use Rattle.cr_base.specs.History.{History, all_told, paper_told, registration_told}
 use Rattle.cr_base.specs.HistoryFacts.{papers_of}
+use Rattle.cr_base.specs.Phases.{may_have_deadline}
 use Rattle.cr_history.specs.Invariants.{IsInOrder, InTurn, IsSubmitted, IsRegistered}
 use Rattle.cr_history.proofs.SubmissionLaws.{registered-append}
 
--- who made it, or the user whom it names, has registered, and its paper is there
+-- who made it, or the user whom it names, has registered, and its paper is there; and a phase whose deadline it sets may
+-- have one
 abbrev pub IsThere : History → ℕ → Entry → Type 0
 IsThere H maker (Registered user name digest) = Unit {0}
 IsThere H maker (Named user role) = IsRegistered H user
@@ -35,6 +37,7 @@ IsThere H maker (Reviewed paper ordinal version form) = IsSubmitted H paper × I
 IsThere H maker (Commented paper n ordinal text) = IsSubmitted H paper × IsRegistered H maker
 IsThere H maker (Tagged paper tag on) = IsSubmitted H paper
 IsThere H maker (Decided paper decision) = IsSubmitted H paper
+IsThere H maker (DeadlineSet phase until) = may_have_deadline phase ≡ true
 
 module _ (H : History) where
   module _ (before : History) (e : Stamped) (after : History) (whole : before ++ e ∷ after ≡ H) where
@@ -79,6 +82,7 @@ module _ (H : History) where
   there-one before stamp more (Commented p n ordinal text) after whole is = (paper before _ after whole p is.about, user before _ after whole stamp.maker is.maker)
   there-one before stamp more (Tagged p tag on) after whole is = paper before _ after whole p is.about
   there-one before stamp more (Decided p decision) after whole is = paper before _ after whole p is.about
+  there-one before stamp more (DeadlineSet phase until) after whole is = is.phase.1
 
   abbrev pub There : Stamped → Type 0
   There e = IsThere H e.stamp.maker e.entry

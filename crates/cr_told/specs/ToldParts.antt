@@ -1,13 +1,14 @@
 -- Told of every part: of each sighting of a view, and each part that it shows, an answer tells it, or it is left out
 -- under a name. First when an answer tells a part, kind by kind, then what is left out.
 use Rattle.std.specs.Prelude.{ℕ, Bool, true, false, not, ◌≡◌, ◌==◌, ◌&&◌, ◌||◌, List, ◌∷◌}
-use Rattle.std.specs.Prelude.{◌++◌, Option, Some, None, is_some, unwrap_or, IsTrue, nat_eq, if◌then◌else◌}
+use Rattle.std.specs.Prelude.{◌++◌, Option, Some, None, is_some, is_none, unwrap_or, IsTrue, nat_eq, if◌then◌else◌}
 use Rattle.std.specs.Option.{option_map, option_and_then}
 use Rattle.std.specs.List.{flat_map, list_any}
 use Rattle.std.specs.Str.{bytes_eq}
 use Rattle.cr_base.specs.declared.accepted.AcceptedPaper.{AcceptedPaper}
 use Rattle.cr_base.specs.declared.command.Query.TheVariants as queries
 use Rattle.cr_base.specs.declared.comment.CommentLine.{CommentLine}
+use Rattle.cr_base.specs.declared.deadline.PhaseDeadline.{PhaseDeadline}
 use Rattle.cr_base.specs.declared.entry.EntryKind.{EntryKind}
 use Rattle.cr_base.specs.declared.entry.EntryKind.TheVariants as kinds
 use Rattle.cr_base.specs.declared.me.Me.{Me}
@@ -20,6 +21,7 @@ use Rattle.cr_base.specs.declared.review.ReviewLine.{ReviewLine}
 use Rattle.cr_base.specs.declared.words.Decision.{Decision}
 use Rattle.cr_base.specs.declared.words.Kind.{Kind}
 use Rattle.cr_base.specs.declared.words.Mode.{Mode}
+use Rattle.cr_base.specs.declared.words.Phase.TheVariants.{Setup}
 use Rattle.cr_base.specs.declared.words.Role.{Role}
 use Rattle.cr_base.specs.Lists.{listed, is_nothing, is_number, until}
 use Rattle.cr_base.specs.History.{History}
@@ -40,7 +42,7 @@ use Rattle.cr_told.specs.ToldLists.{name_shown, is_left, comments_answered}
 use Rattle.cr_told.specs.ToldLists.{content_answered, accepted_answered, me_answered}
 use Rattle.cr_told.specs.ToldPlaces.{is_left_behind}
 use Rattle.cr_told.specs.ToldReviews.{reviews_answered}
-use Rattle.cr_told.specs.ToldPublic.{all_shown, roles_shown}
+use Rattle.cr_told.specs.ToldPublic.{all_shown, phases_shown, deadlines_shown, roles_shown}
 
 -- the sighting shows this part
 abbrev pub has : Part → Sighting → Bool
@@ -71,6 +73,7 @@ has part.decision s = is_some s.decision
 has part.outcome s = is_some s.outcome
 has part.accepted s = is_some s.accepted
 has part.at s = is_some s.at
+has part.until s = is_some s.until
 
 -- ---- when an answer tells a part
 
@@ -104,6 +107,13 @@ conference_answered _ = None
 
 abbrev pub conference_given : Option ℕ → History → Option Conference
 conference_given u H = conference_answered (answer u (view u H) queries.Phase)
+
+abbrev pub deadlines_answered : Reply → Option (List PhaseDeadline)
+deadlines_answered (replies.Deadlines lines) = Some lines
+deadlines_answered _ = None
+
+abbrev pub deadlines_given : Option ℕ → History → Option (List PhaseDeadline)
+deadlines_given u H = deadlines_answered (answer u (view u H) queries.Deadlines)
 
 abbrev pub same_decision : Decision → Decision → Bool
 same_decision d e = decision_number d == decision_number e
@@ -164,11 +174,17 @@ abbrev pub is_tag_told : Option ℕ → History → Sighting → Bool
 is_tag_told u H s =
     unwrap_or s.on false && lists (key (λ page. page.tags) u H s) (λ tag. agree bytes_eq s.tag (Some tag))
 
+-- a line of the deadlines has the phase that the sighting shows, and passes
+abbrev pub has_deadline : Option ℕ → History → Sighting → (ℕ → Bool) → Bool
+has_deadline u H s test =
+    lists (deadlines_given u H) (λ line. agree is_phase s.phase (Some line.phase) && test line.until)
+
 -- an answer tells this part of a sighting of this kind: the accounts who registered, under which name, and in which
--- role; the conference its phase and mode; the paper's page its title, abstract, authors, versions, conflicts, bids,
--- reviewers, tags and decision, and the reader's own bid and label; the content of a version; the reviews and the
--- comments their lines; the accepted papers that it is one; and what she is told of herself with which papers she is
--- in conflict, and which she reviews. A line for each part that a kind has, and nothing else is told
+-- role; the conference its phase and mode; the deadlines each phase that has one, and it; the paper's page its title,
+-- abstract, authors, versions, conflicts, bids, reviewers, tags and decision, and the reader's own bid and label; the
+-- content of a version; the reviews and the comments their lines; the accepted papers that it is one; and what she is
+-- told of herself with which papers she is in conflict, and which she reviews. A line for each part that a kind has,
+-- and nothing else is told
 abbrev pub is_told : Option ℕ → History → Sighting → EntryKind → Part → Bool
 is_told u H s kinds.Registered part.user = lists (accounts_given u H) (λ line. is_number s.user line.user)
 is_told u H s kinds.Registered part.name =
@@ -180,6 +196,8 @@ is_told u H s kinds.PhaseSet part.phase =
     agree is_phase s.phase (option_map (λ (c : Conference). c.phase) (conference_given u H))
 is_told u H s kinds.ModeSet part.mode =
     agree same_mode s.mode (option_map (λ (c : Conference). c.mode) (conference_given u H))
+is_told u H s kinds.DeadlineSet part.phase = has_deadline u H s (λ until. true)
+is_told u H s kinds.DeadlineSet part.until = has_deadline u H s (is_number (unwrap_or s.until None))
 is_told u H s kinds.Submitted part.by = lists (key (λ page. page.authors) u H s) (is_name_of s.by u H)
 is_told u H s kinds.Submitted part.title = agree bytes_eq s.title (key (λ page. page.title) u H s)
 is_told u H s kinds.Submitted part.abstract = agree bytes_eq s.abstract (key (λ page. page.abstract_) u H s)
@@ -288,18 +306,25 @@ is_tag_left u H s after =
     (λ (t : Sighting). is_kind kinds.Tagged t && is_number t.paper (paper_of s) && agree bytes_eq s.tag t.tag) after
     || is_left_behind u (paper_of s) H s
 
--- what no answer tells of a sighting of this kind: the digest of a secret; a role, a phase, a mode, a title, an
--- abstract, a bid, a form, a decision, a conflict or a tag turned on, that a later sighting follows; a conflict and a
--- tag that are turned off; a reviewer who is taken off, and who it was; the reader's own seat, where she is seated
--- anew, and what she is to the paper, before the discussion; her conflict with a paper of her own; the label with a
--- comment whose writer is named, and that she has none; a decision before the one by which the paper was accepted; and
--- the reader's own entries on a paper that she isn't eligible for, and being assigned to it, since she came into
--- conflict with it; and when she made her own entries
+-- the phase's deadline is taken away, and no list has it any more; or a later sighting sets it, or takes it away
+abbrev pub is_deadline_left : Sighting → View → Bool
+is_deadline_left s after =
+    is_none (unwrap_or s.until None) || not (is_nothing (deadlines_shown (unwrap_or s.phase Setup) after))
+
+-- what no answer tells of a sighting of this kind: the digest of a secret; a role, a phase, a mode, a deadline, a
+-- title, an abstract, a bid, a form, a decision, a conflict or a tag turned on, that a later sighting follows; a
+-- deadline that is taken away; a conflict and a tag that are turned off; a reviewer who is taken off, and who it was;
+-- the reader's own seat, where she is seated anew, and what she is to the paper, before the discussion; her conflict
+-- with a paper of her own; the label with a comment whose writer is named, and that she has none; a decision before the
+-- one by which the paper was accepted; and the reader's own entries on a paper that she isn't eligible for, and being
+-- assigned to it, since she came into conflict with it; and when she made her own entries
 abbrev pub is_left_untold : Option ℕ → History → Sighting → View → EntryKind → Part → Bool
 is_left_untold u H s after kinds.Registered part.digest = true
 is_left_untold u H s after kinds.Named part.role = not (is_nothing (roles_shown s.user after))
-is_left_untold u H s after kinds.PhaseSet part.phase = not (is_nothing (all_shown (λ (t : Sighting). t.phase) after))
+is_left_untold u H s after kinds.PhaseSet part.phase = not (is_nothing (phases_shown after))
 is_left_untold u H s after kinds.ModeSet part.mode = not (is_nothing (all_shown (λ (t : Sighting). t.mode) after))
+is_left_untold u H s after kinds.DeadlineSet part.phase = is_deadline_left s after
+is_left_untold u H s after kinds.DeadlineSet part.until = is_deadline_left s after
 is_left_untold u H s after kinds.Submitted part.title = is_again (λ (t : Sighting). t.title) s after
 is_left_untold u H s after kinds.Submitted part.abstract = is_again (λ (t : Sighting). t.abstract) s after
 is_left_untold u H s after kinds.Revised part.title = is_again (λ (t : Sighting). t.title) s after

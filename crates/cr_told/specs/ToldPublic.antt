@@ -1,24 +1,35 @@
--- Told of the conference: what everyone is shown of accounts, of the phase and of the mode, the answers tell.
-use Rattle.std.specs.Prelude.{ℕ, ◌≡◌, List, length, map, Option, unwrap_or}
+-- Told of the conference: what everyone is shown of accounts, of the phase, of the mode and of deadlines, the answers
+-- tell.
+use Rattle.std.specs.Prelude.{ℕ, ◌≡◌, List, length, map, Option, None, unwrap_or}
 use Rattle.std.specs.List.{flat_map}
 use Rattle.cr_base.specs.declared.command.Query.TheVariants as queries
 use Rattle.cr_base.specs.declared.entry.EntryKind.TheVariants as kinds
 use Rattle.cr_base.specs.declared.reply.AccountLine.{AccountLine}
 use Rattle.cr_base.specs.declared.reply.Reply.TheVariants as replies
 use Rattle.cr_base.specs.declared.words.Mode.TheVariants.{Blind}
+use Rattle.cr_base.specs.declared.words.Phase.{Phase}
 use Rattle.cr_base.specs.declared.words.Phase.TheVariants.{Setup}
 use Rattle.cr_base.specs.declared.words.Role.{Role}
 use Rattle.cr_base.specs.declared.words.Role.TheVariants.{Account}
+use Rattle.cr_base.specs.Deadlines.{deadlines_told}
 use Rattle.cr_base.specs.Lists.{listed, last_or}
 use Rattle.cr_base.specs.History.{History}
 use Rattle.cr_policy.specs.Judge.{answer}
 use Rattle.cr_policy.specs.Sighting.{Sighting}
 use Rattle.cr_policy.specs.View.{View, view}
-use Rattle.cr_policy.specs.ViewFacts.{only, is_user, is_kind}
+use Rattle.cr_policy.specs.ViewFacts.{only, is_user, is_kind, opens_phase}
 
 -- what the sightings show in this part, in order
 abbrev pub all_shown : {A : Type 0} → (Sighting → Option A) → View → List A
 all_shown part V = flat_map (λ (s : Sighting). listed (part s)) V
+
+-- the phases that are shown to be opened, in order
+abbrev pub phases_shown : View → List Phase
+phases_shown V = flat_map (λ (s : Sighting). only (is_kind kinds.PhaseSet s) (listed s.phase)) V
+
+-- what is shown of the deadline of this phase, in order: each time that it is set, or taken away
+abbrev pub deadlines_shown : Phase → View → List (Option ℕ)
+deadlines_shown phase V = flat_map (λ (s : Sighting). only (opens_phase phase s.phase) (listed s.until)) V
 
 -- the roles to which the user is shown to be named, in order; and the last, else that of an account
 abbrev pub roles_shown : Option ℕ → View → List Role
@@ -47,5 +58,12 @@ ConferenceTold =
     ≡ replies.Conference (record {
       mode = last_or Blind (all_shown (λ (s : Sighting). s.mode) (view u H));
       papers = length (flat_map (λ (s : Sighting). only (is_kind kinds.Submitted s) (listed s.paper)) (view u H));
-      phase = last_or Setup (all_shown (λ (s : Sighting). s.phase) (view u H));
+      phase = last_or Setup (phases_shown (view u H));
     })
+
+-- the deadlines are the last that are shown, of each phase that may have one, where it isn't taken away
+abbrev pub DeadlinesTold : Type 0
+DeadlinesTold =
+    (u : Option ℕ) (H : History)
+    → answer u (view u H) queries.Deadlines
+    ≡ replies.Deadlines (deadlines_told (λ (phase : Phase). last_or None (deadlines_shown phase (view u H))))

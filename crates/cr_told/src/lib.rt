@@ -8,17 +8,17 @@ ghost use Rattle.cr_told.specs.ToldPages.{PagesTold};
 ghost use Rattle.cr_told.specs.ToldLists.{PageListsTold, ContentsTold, CommentsTold, AcceptedTold, MeTold};
 ghost use Rattle.cr_told.specs.ToldParts.{PartsTold};
 ghost use Rattle.cr_told.specs.ToldPlaces.{PlacesTold};
-ghost use Rattle.cr_told.specs.ToldPublic.{AccountsTold, ConferenceTold};
+ghost use Rattle.cr_told.specs.ToldPublic.{AccountsTold, ConferenceTold, DeadlinesTold};
 ghost use Rattle.cr_told.specs.ToldReports.{ReportsTold, LettersTold};
 ghost use Rattle.cr_told.specs.ToldReviews.{ReviewsTold};
 ghost use Rattle.cr_told.specs.ToldSearches.{SearchesTold};
 
 /// What a view shows, some answer tells, and no more, on a legal history, for every user and for nobody. Each clause
-/// says of an answer when it is given and what it holds, by the parts that the sightings of the caller's view show,
-/// and not by what the answer is made of: each key of a paper's page, contents, reviews, comments, accepted papers,
-/// accounts, the conference, and what the caller is told of herself; the reports, of which the load reads who reviews,
-/// and the letter the forms, as facts of the view; and searches, which find a paper exactly where their terms hold of
-/// what its page, its reviews and its comments tell.
+/// says of an answer when it is given and what it holds, by the parts that the sightings of the caller's view show, and
+/// not by what the answer is made of: each key of a paper's page, contents, reviews, comments, accepted papers,
+/// accounts, the conference, its deadlines, and what the caller is told of herself; the reports, of which the load
+/// reads who reviews, and the letter the forms, as facts of the view; and searches, which find a paper exactly where
+/// their terms hold of what its page, its reviews and its comments tell.
 ///
 /// The last two say that this is all. Each sighting on a paper has its place: the key or the list that tells it is
 /// there, or it is the caller's own on a paper that she isn't eligible for. And each part of each sighting, of every
@@ -34,6 +34,7 @@ pub fn law_told()
     ensures me { MeTold }
     ensures accounts { AccountsTold }
     ensures conference { ConferenceTold }
+    ensures deadlines { DeadlinesTold }
     ensures reports { ReportsTold }
     ensures letters { LettersTold }
     ensures searches { SearchesTold }

@@ -138,8 +138,8 @@ IsWhyClosed exits.ListenFault g g' = Rises g.faults g'.faults
 IsWhyClosed exits.OutOfMemory g g' = Unit {0}
 IsWhyClosed _ g g' = ⊥
 
--- The store was opened and shut again, with its rows as they were. The gates were asked to listen at the address, and
--- at no other.
+-- The store was opened and shut again, with its rows as they were. The gates were asked to listen at no address but
+-- this one.
 pub record StaysClosed {I O C : Type 0} (listen : List ℕ) (exit : Exit) (s s' : ShelfState)
     (g g' : GatesState I O C) : Type 0 where
   pub refused : IsWhyClosed exit g g'

@@ -9,6 +9,7 @@ abbrev pub HasAsker : Option ℕ → Query → Type 0
 HasAsker caller queries.Me = IsSome caller
 HasAsker caller queries.Accounts = Unit {0}
 HasAsker caller queries.Phase = Unit {0}
+HasAsker caller queries.Deadlines = Unit {0}
 HasAsker caller queries.AcceptedPapers = Unit {0}
 HasAsker caller (queries.Page paper) = Unit {0}
 HasAsker caller (queries.Content paper) = Unit {0}

@@ -19,6 +19,7 @@ use Rattle.cr_base.specs.Accounts.{lines_of}
 use Rattle.cr_base.specs.Answering.{query_checks, page_by, uploads_told, upload_of, content_by}
 use Rattle.cr_base.specs.Answering.{content_asked, reply_or_rule, bidder_told, reviewer_told}
 use Rattle.cr_base.specs.Checks.{judged, of_there, content_checks}
+use Rattle.cr_base.specs.Deadlines.{deadline_in}
 use Rattle.cr_base.specs.History.{Upload, BidTold, SeatTold}
 use Rattle.cr_base.specs.Lists.{listed, at_some}
 use Rattle.cr_base.specs.Page.{is_clear_chair, is_clear_member, shows_reviewer, where_told}
@@ -79,6 +80,7 @@ facts_at t user by = record {
   own_forms = λ p. own_forms_in t user p;
   own_comments = 0;
   accepted = is_accepted_in t;
+  deadline = deadline_in t.stage.deadlines;
 }
 
 -- the page that is due to a user, or the first broken rule

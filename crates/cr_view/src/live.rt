@@ -209,7 +209,7 @@ impl Live {
 
 /// The tables, lent to whoever judges by them.
 impl Live {
-    /// The table of the phase and the mode.
+    /// The table of the phase, the mode and the deadlines.
     pub fn stage_table(&self) -> &Stage
         ensures { result.now ≡ self.now.tables.stage }
     {

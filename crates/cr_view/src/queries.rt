@@ -4,6 +4,7 @@ ghost use Rattle.std.specs.Option.{option_copied, option_map};
 ghost use Rattle.cr_base.specs.Accounts.{lines_of};
 ghost use Rattle.cr_base.specs.Answering.{query_checks, answer_by_role};
 ghost use Rattle.cr_base.specs.Checks.{judged};
+ghost use Rattle.cr_base.specs.Deadlines.{deadline_in, deadlines_told};
 ghost use Rattle.cr_base.specs.Filed.{filed_of};
 ghost use Rattle.cr_base.specs.Page.{gets_tags, gets_versions, where_told};
 ghost use Rattle.cr_base.specs.Sources.{facts_of_tables, shown_in_tables, has_paper};
@@ -24,8 +25,8 @@ use crate::live::Live;
 use crate::page::{gets_tags, gets_versions, last_alone, shared};
 use crate::page_lists::PageLists;
 use cr_base::{
-    AccountLines, Conference, Names, Page, PaperNo, Query, Reply, Rule, Steps, TagList, Tie,
-    UserNo, Versions,
+    AccountLines, Conference, Names, Page, PaperNo, PhaseDeadlines, Query, Reply, Rule, Steps,
+    TagList, Tie, UserNo, Versions,
 };
 use std::alloc::{AllocError, Global};
 use std::sync::ledger::Ledger;
@@ -61,8 +62,8 @@ impl Live {
             (shown_in_tables self.now.tables) query.now) tt }
     {
         match query {
-            Query::Me | Query::Accounts | Query::Phase | Query::AcceptedPapers => Ok(()),
-            Query::Search { .. } => Ok(()),
+            Query::Me | Query::Accounts | Query::Phase => Ok(()),
+            Query::Deadlines | Query::AcceptedPapers | Query::Search { .. } => Ok(()),
             Query::Page { paper } => self.may_see(user, paper),
             Query::Content { paper } => self.may_read(user, paper, None),
             Query::Version { paper, version } => self.may_read(user, paper, Some(*version)),
@@ -165,6 +166,7 @@ impl Live {
             Query::Me => Ok(Reply::Me(self.me(alloc, maker(caller))?)),
             Query::Accounts => Ok(Reply::Accounts(self.accounts(alloc)?)),
             Query::Phase => Ok(Reply::Conference(self.conference())),
+            Query::Deadlines => Ok(Reply::Deadlines(self.deadlines(alloc)?)),
             Query::AcceptedPapers => Ok(Reply::AcceptedPapers(self.accepted_papers(alloc)?)),
             Query::Page { paper } => self.page_reply(alloc, caller, paper),
             Query::Content { paper } => self.content_reply(caller, paper, None),
@@ -181,6 +183,13 @@ impl Live {
         ensures { IfOk result (λ lines. lines ≡ lines_of self.now.tables.accounts) }
     {
         self.accounts.lines(alloc)
+    }
+
+    /// The phases that have a deadline, in the order of phases, each with it; an error only for lack of memory.
+    pub fn deadlines(&self, alloc: Global) -> Result<PhaseDeadlines, AllocError>
+        ensures { IfOk result (λ told. told ≡ deadlines_told (deadline_in self.now.tables.stage.deadlines)) }
+    {
+        self.stage.deadlines(alloc)
     }
 
     /// The phase, the mode and the number of papers. Takes no memory and reads no account.

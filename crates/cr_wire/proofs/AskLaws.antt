@@ -12,6 +12,7 @@ use Rattle.cr_bodies.specs.Bodies.{command_in, command_read}
 use Rattle.cr_bodies.specs.Field.{◌>>=◌, abstract_under, bid_under, comment_under, decision_under, digest_under, flag_under, grade_under, kind_under}
 use Rattle.cr_bodies.specs.Field.{mode_under, name_under, names_under, phase_under, review_text_under, role_under, title_under, user_under}
 use Rattle.cr_bodies.specs.Json.{json_of}
+use Rattle.cr_bodies.specs.Until.{deadline_phase_under, until_under}
 use Rattle.cr_bulk.specs.Rows.{parse_rows}
 use Rattle.cr_routes.specs.Parts.{FoundPath}
 use Rattle.cr_wire.specs.Asked.{LooksBehindPath, ask_has_body, asked, bulk_of, command_of, commanded, tagged}
@@ -44,6 +45,10 @@ given asks.SetMode paper body =
 given asks.SetPhase paper body =
     of_each asks.SetPhase (json_of body) (command_in asks.SetPhase paper) (λ d.
     of_each asks.SetPhase (phase_under (codes "phase") d) _ (λ phase. refl))
+given asks.SetDeadline paper body =
+    of_each asks.SetDeadline (json_of body) (command_in asks.SetDeadline paper) (λ d.
+    of_each asks.SetDeadline (deadline_phase_under (codes "phase") d) _ (λ phase.
+    of_each asks.SetDeadline (until_under (codes "until") d) _ (λ until. refl)))
 given asks.Submit paper body =
     of_each asks.Submit (json_of body) (command_in asks.Submit paper) (λ d.
     of_each asks.Submit (title_under (codes "title") d) _ (λ title.
@@ -109,6 +114,7 @@ ask_by_ask asks.Register found query body = by_body asks.Register found body
 ask_by_ask asks.Name found query body = by_body asks.Name found body
 ask_by_ask asks.SetMode found query body = by_body asks.SetMode found body
 ask_by_ask asks.SetPhase found query body = by_body asks.SetPhase found body
+ask_by_ask asks.SetDeadline found query body = by_body asks.SetDeadline found body
 ask_by_ask asks.Submit found query body = by_body asks.Submit found body
 ask_by_ask asks.Revise found query body = by_body asks.Revise found body
 ask_by_ask asks.SetConflict found query body = by_body asks.SetConflict found body

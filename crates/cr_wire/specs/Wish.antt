@@ -48,6 +48,6 @@ wish_with h what at = record {
   what = what;
 }
 
--- what a request wishes, who tells so, and in which form the answer comes, where the clock gave this moment for that
+-- what a request wishes, who tells so, and in which form the answer comes, where this is its moment
 abbrev pub wish_text : RequestText → ℕ → Wish
 wish_text r at = wish_with r.head (what_of r.head.method r.head.target r.body) at

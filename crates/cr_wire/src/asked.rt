@@ -113,6 +113,7 @@ fn asked(
     match ask {
         Ask::Accounts => Ok(What::Query(Query::Accounts)),
         Ask::Phase => Ok(What::Query(Query::Phase)),
+        Ask::Deadlines => Ok(What::Query(Query::Deadlines)),
         Ask::AcceptedPapers => Ok(What::Query(Query::AcceptedPapers)),
         Ask::Page => Ok(What::Query(Query::Page { paper })),
         Ask::Content => Ok(What::Query(Query::Content { paper })),
@@ -141,7 +142,7 @@ fn asked(
         Ask::Register | Ask::Name | Ask::SetMode | Ask::SetPhase => {
             command(alloc, ask, found, body.as_slice())
         }
-        Ask::Submit | Ask::Revise | Ask::SetConflict | Ask::Bid => {
+        Ask::SetDeadline | Ask::Submit | Ask::Revise | Ask::SetConflict | Ask::Bid => {
             command(alloc, ask, found, body.as_slice())
         }
         Ask::Assign | Ask::Review | Ask::Comment | Ask::Decide => {

@@ -38,7 +38,7 @@ pub struct Wish {
     pub is_head: bool,
     /// The request asks that the connection be closed behind its answer.
     pub asks_close: bool,
-    /// The moment that the clock gave for its answer.
+    /// When its request was whole, by the clock: its answer has the date of that, and what it adds keeps it.
     pub at: Moment,
     /// What is wished.
     pub what: What,
@@ -64,9 +64,9 @@ impl What {
     /// Whether a login is wanted, so that nobody is answered `unauthorized`: by each command but a registration and by
     /// a bulk, also where its body is a bad one, by a paper's page, content, reviews and comments, by searches, also
     /// by bad ones, by reports, and by what the caller is told of herself. Registration, the list of accounts, the
-    /// state of the conference and the accepted papers want none, and what is no request of these is refused alike to
-    /// everybody. That a published paper's page and content are served to nobody too isn't looked at here: the request
-    /// doesn't tell which papers are.
+    /// state of the conference, its deadlines and the accepted papers want none, and what is no request of these is
+    /// refused alike to everybody. That a published paper's page and content are served to nobody too isn't looked at
+    /// here: the request doesn't tell which papers are.
     pub fn wants_login(&self) -> bool
         ensures { result ≡ wants_login self.now }
     {
@@ -74,8 +74,8 @@ impl What {
     }
 
     /// Whether its request reads the field Authorization. POST of `/register`, GET and HEAD of `/accounts`, of
-    /// `/phase` and of `/accepted` don't: their caller is nobody. Nor does what is no request of the server's, which
-    /// is refused alike to everybody.
+    /// `/phase`, of `/deadlines` and of `/accepted` don't: their caller is nobody. Nor does what is no request of the
+    /// server's, which is refused alike to everybody.
     pub fn reads_credentials(&self) -> bool
         ensures { result ≡ reads_credentials self.now }
     {

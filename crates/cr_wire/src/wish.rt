@@ -59,8 +59,8 @@ fn asks_close(head: &Head<'_>) -> bool
     head.version() == Version::Http10 || field_asks_close(head)
 }
 
-/// The wish of a request, by its head, its body and the moment that the clock gave for its answer. Fails only for lack
-/// of memory, which the reading of a JSON body, of the rows of a bulk or of a search and the keeping of an upload alone
+/// The wish of a request, by its head, its body and the moment at which the clock was asked. Fails only for lack of
+/// memory, which the reading of a JSON body, of the rows of a bulk or of a search and the keeping of an upload alone
 /// take. Reads the target's path, the fields' names and the field Connection once, the body and the query string only
 /// where the method and the path want them, and the field Authorization only where `reads_credentials` says so. A
 /// command that is wished is within the bounds on commands, and a bulk has at most 512 rows.

@@ -144,7 +144,7 @@ fn migrated(alloc: Global, rows: &[Row]) -> Result<Vec<Row>, AllocError> {
 
 #[test]
 fn rows_get_the_first_moment(rt: HostRuntime) -> Result<(), Fail> {
-    let rows = of_each_kind(rt.alloc())?;
+    let rows = of_each_kind(rt.alloc(), 18)?;
     let found = migrated(rt.alloc(), rows.as_slice())?;
     let told = found_twice(rt.alloc(), rows.as_slice(), found.as_slice());
     assert_eq!(rt; told, Some((2, 5)));

@@ -77,19 +77,20 @@ fn moment_for(kind: u64) -> u64 {
     }
 }
 
-/// Adds the rows of a first registration, and a row of each kind that a store takes, the last one first.
-fn add_each_kind(alloc: Global, rows: &mut Vec<Row>) -> Result<(), AllocError> {
+/// Adds the rows of a first registration, and a row of each kind before `end`, the last one first.
+fn add_each_kind(alloc: Global, rows: &mut Vec<Row>, end: u64) -> Result<(), AllocError> {
     rows.push(registered(alloc)?)?;
     rows.push(named())?;
-    for kind in (1..18).rev() {
+    for kind in (1..end).rev() {
         rows.push(of_kind(kind))?;
     }
     Ok(())
 }
 
-/// The rows of a first registration, and a row of each kind that a store takes, the last one first.
-pub(crate) fn of_each_kind(alloc: Global) -> Result<Vec<Row>, AllocError> {
+/// The rows of a first registration, and a row of each kind before `end`, the last one first. A store takes the kinds
+/// before 19; one of version 1 took those before 18.
+pub(crate) fn of_each_kind(alloc: Global, end: u64) -> Result<Vec<Row>, AllocError> {
     let mut rows = Vec::new(alloc);
-    add_each_kind(alloc, &mut rows)?;
+    add_each_kind(alloc, &mut rows, end)?;
     Ok(rows)
 }

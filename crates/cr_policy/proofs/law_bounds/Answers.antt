@@ -1,5 +1,5 @@
 use Rattle.cr_policy.proofs.BoundsWalk.{entries-shown, marks-shown, moments-shown, papers-shown, users-shown, names-shown, digests-shown, roles-shown}
-use Rattle.cr_policy.proofs.BoundsWalk.{phases-shown, modes-shown, makers-shown, titles-shown, abstracts-shown, versions-shown}
+use Rattle.cr_policy.proofs.BoundsWalk.{phases-shown, deadlines-shown, modes-shown, makers-shown, titles-shown, abstracts-shown, versions-shown}
 use Rattle.cr_policy.proofs.BoundsWalk.{contents-shown, switches-shown, values-shown, seats-shown, ordinals-shown}
 use Rattle.cr_policy.proofs.BoundsWalk.{scores-shown, confidences-shown, texts-to-authors-shown, texts-to-pc-shown, done-shown, numbers-shown}
 use Rattle.cr_policy.proofs.BoundsWalk.{comments-shown, tags-shown, decisions-shown, outcomes-shown, accepted-shown}
@@ -21,6 +21,7 @@ returns c = record {
   digests = digests-shown;
   roles = roles-shown;
   phases = phases-shown;
+  deadlines = deadlines-shown;
   modes = modes-shown;
   makers = makers-shown;
   titles = titles-shown;

@@ -2,7 +2,7 @@ use Rattle.cr_told.proofs.ToldLists.{page_lists_told, contents_told, comments_to
 use Rattle.cr_told.proofs.ToldPages.{pages_told}
 use Rattle.cr_told.proofs.ToldPartsAll.{parts_told}
 use Rattle.cr_told.proofs.ToldPlaces.{places_told}
-use Rattle.cr_told.proofs.ToldPublic.{accounts_told, conference_told}
+use Rattle.cr_told.proofs.ToldPublic.{accounts_told, conference_told, deadlines_told}
 use Rattle.cr_told.proofs.ToldReports.{reports_told, letters_told}
 use Rattle.cr_told.proofs.ToldReviews.{reviews_told}
 use Rattle.cr_told.proofs.ToldSearches.{searches_told}
@@ -19,6 +19,7 @@ returns c = record {
   me = me_told;
   accounts = accounts_told;
   conference = conference_told;
+  deadlines = deadlines_told;
   reports = reports_told;
   letters = letters_told;
   searches = searches_told;
