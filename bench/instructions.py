@@ -65,6 +65,13 @@ def taken(program, requests, store=None):
     return int(re.search(rb"Collected : (\d+)", ran.stderr)[1])
 
 
+def made(program, store):
+    """A store of the version that this program makes, with 2,000 bids."""
+    rows = b"".join(conference() + [bid(n) for n in range(2000)])
+    subprocess.run([program, "pipe", "--store", store], input=rows, stdout=subprocess.DEVNULL, check=True)
+    return store
+
+
 def counts(program, store):
     """What is measured, by name."""
     begun = conference()
@@ -82,10 +89,8 @@ def counts(program, store):
 def main():
     programs = sys.argv[1:]
     with tempfile.TemporaryDirectory() as folder:
-        store = os.path.join(folder, "store")
-        rows = b"".join(conference() + [bid(n) for n in range(2000)])
-        subprocess.run([programs[0], "pipe", "--store", store], input=rows, stdout=subprocess.DEVNULL, check=True)
-        told = [counts(program, store) for program in programs]
+        stores = [made(program, os.path.join(folder, f"store-{n}")) for n, program in enumerate(programs)]
+        told = [counts(program, store) for program, store in zip(programs, stores)]
     for name in told[0]:
         print(f"{name}: " + ", ".join(f"{found[name]:,}" for found in told) + " instructions")
 

@@ -190,6 +190,20 @@ def jumps(program, folder):
     expect([bytes(row[5]) for row in rows(store) if row[1] == 1] == [b"carol"], "names in the file")
 
 
+def until_a_deadline(program, folder):
+    """In `serve` papers are taken up to the very second of a deadline, by the time of day at each request."""
+    orders = Orders(os.path.join(folder, "orders"), moment=MOMENT)
+    steps = (register("alice"), post("/phase", "alice", phase="submission"))
+    steps += (post("/deadlines", "alice", phase="submission", until="1994-11-06T08:49:37Z"),)
+    with serving(program, os.path.join(folder, "store"), env=shim.environment(orders)) as server, Client(server) as client:
+        codes = [client.ask(text)[0] for text in steps]
+        expect(codes == [201, 200, 200], f"{codes}")
+        for moment, code in ((MOMENT, 201), (MOMENT + 1, 409), (MOMENT, 201), (LAST, 409), (1, 201)):
+            orders.tell(moment=moment)
+            came, _, content = client.ask(submit("alice", "Proofs"))
+            expect(came == code and (content == b'{"error":"late"}') == (code == 409), f"at {moment}: {came} {content}")
+
+
 # ---- pieces
 
 
@@ -342,7 +356,7 @@ def addresses(program, folder):
             process.communicate()
 
 
-CHECKS = (deadlines, an_hour, time_of_day, jumps, pieces, contended, many_rows, growth, addresses)
+CHECKS = (deadlines, an_hour, time_of_day, jumps, until_a_deadline, pieces, contended, many_rows, growth, addresses)
 
 
 def main():

@@ -279,7 +279,7 @@ BAD_FIRST_STORES = (
     ("DELETE FROM people WHERE place = 1", 6, "no row stands at place 1"),
     ("INSERT INTO talk SELECT * FROM people WHERE place = 1", 6, "two rows stand at place 1"),
     ("UPDATE people SET n1 = -1 WHERE place = 0", 6, "the row at place 0 has a value that no row has"),
-    ("UPDATE people SET kind = 18 WHERE place = 1", 3, "row 1, of kind 18, is bad or ends inside a command"),
+    ("UPDATE people SET kind = 19 WHERE place = 1", 3, "row 1, of kind 19, is bad or ends inside a command"),
     ("UPDATE papers SET n1 = 2", 3, "row 6, of kind 5, is bad or ends inside a command"),
 )
 

@@ -2,10 +2,11 @@
 
 A conference is a list of entries; each answer, each rule and each line of a view is read off that list anew, with no table
 beside it. It is slow and short, and stands against the program in `random_runs.py`. It answers requests whose bodies are
-well formed; what is wrong with a body or a head stands in cases. Below, `u` and `v` are users' numbers, `p` is a paper's, and
-`t` is the user whom a command names; nobody's number is None.
+well formed; what is wrong with a body or a head stands in cases. Whoever asks it sets the moment of the request. Below, `u` and
+`v` are users' numbers, `p` is a paper's, and `t` is the user whom a command names; nobody's number is None.
 """
 import csv
+import datetime
 import hashlib
 import io
 import json
@@ -21,6 +22,11 @@ def dump(x):
     return json.dumps(x, separators=(",", ":"), sort_keys=True, ensure_ascii=False)
 
 
+def spelled(moment):
+    """The date and time of a moment, in UTC."""
+    return (datetime.datetime(1970, 1, 1) + datetime.timedelta(seconds=moment)).isoformat() + "Z"
+
+
 def err(code, name):
     return code, dump({"error": name})
 
@@ -33,6 +39,7 @@ class Conference:
     def __init__(self):
         self.history = []  # (maker, kind, fields)
         self.moments = {}  # when an entry's request came, by the entry's place; 0 of those that a drill makes up
+        self.now = 0  # when the request at hand came, in seconds since 1970
 
     # ---- facts
     def entries_of(self, kind):
@@ -50,6 +57,14 @@ class Conference:
 
     def is_from(self, phase):
         return PHASES.index(self.phase) >= PHASES.index(phase)
+
+    def deadline(self, phase):
+        """The last that was set of a phase; 0 where there is none, or none any more."""
+        return next((until for m, (of, until) in reversed(self.entries_of("deadline")) if of == phase), 0)
+
+    def late(self):
+        """The rule that the phase that it is has a deadline, and now is later."""
+        return 0 < self.deadline(self.phase) < self.now, "late"
 
     def users(self):
         return [f for m, f in self.entries_of("registered")]
@@ -185,12 +200,17 @@ class Conference:
             return 200, dump({"accounts": [{"name": n, "role": self.role_of(v), "user": v} for v, n in self.users()]})
         if path == "/phase" and method == "GET":
             return 200, dump({"mode": self.mode, "papers": len(self.papers()), "phase": self.phase})
+        if path == "/deadlines" and method == "GET":
+            told = [(phase, self.deadline(phase)) for phase in PHASES]
+            return 200, dump({"deadlines": [{"phase": phase, "until": spelled(until)} for phase, until in told if until]})
         if path == "/accepted":
             return self.accepted_papers()
         if u is None and not (method == "GET" and self.is_public(parts)):
             return err(401, "unauthorized")
         if path == "/phase":
             return self.set_phase(u, body["phase"])
+        if path == "/deadlines":
+            return self.set_deadline(u, body["phase"], body["until"])
         if path == "/mode":
             return self.set_mode(u, body["mode"])
         if path == "/members":
@@ -269,6 +289,14 @@ class Conference:
         self.history.append((u, "phase", to))
         return 200, dump({"phase": to})
 
+    def set_deadline(self, u, phase, until):
+        r = self.first((self.role_of(u) != "chair", "not_chair"), (PHASES.index(phase) < PHASES.index(self.phase), "wrong_phase"))
+        if r:
+            return r
+        until = 0 if until is None else round(datetime.datetime.fromisoformat(until.upper().replace("Z", "+00:00")).timestamp())
+        self.history.append((u, "deadline", (phase, until)))
+        return 200, dump({"phase": phase, "until": spelled(until) if until else None})
+
     def set_mode(self, u, to):
         r = self.first((self.role_of(u) != "chair", "not_chair"), (self.phase != "setup", "wrong_phase"))
         if r:
@@ -288,7 +316,8 @@ class Conference:
 
     def submit(self, u, body):
         co = [self.number_of(n) for n in body.get("authors", [])]
-        r = self.first((None in co, "no_user"), (self.phase != "submission", "wrong_phase"), (self.own_papers(u) >= 20, "quota_papers"))
+        r = self.first((None in co, "no_user"), (self.phase != "submission", "wrong_phase"), self.late(),
+                       (self.own_papers(u) >= 20, "quota_papers"))
         if r:
             return r
         p = len(self.papers()) + 1
@@ -305,7 +334,7 @@ class Conference:
 
     def own(self, u, p):
         return ((not self.is_there(p), "no_paper"), (u not in self.authors(p), "not_author"), (self.phase != "submission", "wrong_phase"),
-                (self.withdrawn(p), "withdrawn"))
+                self.late(), (self.withdrawn(p), "withdrawn"))
 
     def revise(self, u, p, body):
         r = self.first(*self.own(u, p))
@@ -353,7 +382,7 @@ class Conference:
         chair, wd = self.role_of(u) == "chair", (self.withdrawn(p), "withdrawn")
         nam = (self.role_of(t) == "account", "not_a_member")
         if on and not self.is_from("bidding"):
-            rules = [(u not in self.authors(p), "not_author"), wd, nam]
+            rules = [(u not in self.authors(p), "not_author"), self.late(), wd, nam]
         elif on and self.committee() and t == u:
             rules = [(self.role_of(u) == "account", "not_member"), wd]
         elif on and self.committee():
@@ -371,7 +400,7 @@ class Conference:
 
     def set_bid(self, u, p, body):
         r = self.first((not self.is_there(p), "no_paper"), (self.role_of(u) == "account", "not_member"), (self.conflicted(u, p), "conflict"),
-                       (self.phase != "bidding", "wrong_phase"), (self.withdrawn(p), "withdrawn"))
+                       (self.phase != "bidding", "wrong_phase"), self.late(), (self.withdrawn(p), "withdrawn"))
         if r:
             return r
         self.history.append((u, "bid", (p, body["bid"])))
@@ -493,7 +522,7 @@ class Conference:
 
     def review(self, u, p, body):
         r = self.first(*self.members_rules(u, p), (self.ordinal_of(u, p) is None, "not_reviewer"),
-                       (self.phase not in ("reviewing", "discussion"), "wrong_phase"), (self.withdrawn(p), "withdrawn"))
+                       (self.phase not in ("reviewing", "discussion"), "wrong_phase"), self.late(), (self.withdrawn(p), "withdrawn"))
         if r:
             return r
         o = self.ordinal_of(u, p)
@@ -531,8 +560,8 @@ class Conference:
         return 200, dump({"reviews": out})
 
     def comment(self, u, p, body):
-        r = self.first(*self.members_rules(u, p), (self.phase != "discussion", "wrong_phase"), (self.withdrawn(p), "withdrawn"),
-                       (self.own_comments(u) >= 1000, "quota_comments"))
+        r = self.first(*self.members_rules(u, p), (self.phase != "discussion", "wrong_phase"), self.late(),
+                       (self.withdrawn(p), "withdrawn"), (self.own_comments(u) >= 1000, "quota_comments"))
         if r:
             return r
         n = len(self.comments(p)) + 1
@@ -703,39 +732,28 @@ def view_lines(c, who):
         elif k == "named":
             row(True, {"user": f[0], "role": f[1]})
             kind = "named"
-        elif k == "phase":
-            row(True, {"phase": f})
-            kind = "phaseset"
-        elif k == "mode":
-            row(True, {"mode": f})
-            kind = "modeset"
+        elif k in ("phase", "mode"):
+            row(True, {k: f})
+            kind = f"{k}set"
+        elif k == "deadline":
+            row(True, {"phase": f[0], "until": f[1]})
+            kind = "deadlineset"
         else:
             p = f if k == "withdrawn" else f[0]
             author, clear = u in c.authors(p), not c.conflicted(u, p)
             cm, cc = member and clear, chair and clear
             accepted, published = c.accepted(p), c.published(p)
             kind = k
+            if k in ("submitted", "revised"):
+                row(author or mine, {"paper": p, "title": f[1], "abstract": f[2]})
+                row(last_text(i, p) and ((member and bidding) or accepted), {"paper": p, "title": f[1]})
+                row(last_text(i, p) and ((cm and bidding) or published), {"paper": p, "abstract": f[2]})
             if k == "submitted":
-                whole = {"paper": p, "title": f[1], "abstract": f[2]}
                 row(True, {"paper": p})
-                row(author, {**whole, "by": m})
-                row(mine, whole)
-                row(last_text(i, p) and member and bidding, {"title": f[1]})
-                row(last_text(i, p) and cm and bidding, {"abstract": f[2]})
-                row((cc or (cm and not anon)) and bidding, {"by": m})
-                row(accepted, {"by": m})
-                row(last_text(i, p) and accepted, {"title": f[1]})
-                row(last_text(i, p) and published, {"abstract": f[2]})
+                row(author or accepted or ((cc or (cm and not anon)) and bidding), {"by": m})
             if k == "coauthor":
                 whole = {"paper": p, "user": f[1]}
                 row(author or mine or ((cc or (cm and not anon)) and bidding) or accepted, whole)
-            if k == "revised":
-                whole = {"paper": p, "title": f[1], "abstract": f[2]}
-                row(author or mine, whole)
-                row(last_text(i, p) and member and bidding, {"paper": p, "title": f[1]})
-                row(last_text(i, p) and cm and bidding, {"abstract": f[2]})
-                row(last_text(i, p) and accepted, {"paper": p, "title": f[1]})
-                row(last_text(i, p) and published, {"abstract": f[2]})
             if k == "uploaded":
                 whole = {"paper": p, "version": f[1], "bytes": len(f[2])}
                 row(author or mine or (last_upload(i, p) and ((cm and bidding) or published)), whole)

@@ -6,11 +6,16 @@
 Each run makes up a conference of nine users from its seed and asks a few hundred requests of `confd pipe` with a store:
 every command and query by every kind of caller, in and out of its phase, most of them refused. Each answer, and then what
 `confd view` prints for each user, has to be what `model.py` gives, which is written from the pages of docs/ and knows no tables.
-An entry's moment has to be the date of the answer by which its command was accepted, and each date one of the run's time.
+The clock stands, by the shim of `shim.c`, and is turned now and then, to the second of a deadline, one behind it and one ahead of
+it: the store is opened again then. Where there is no `cc` to build the shim with, or the program doesn't meet it, the clock is
+the system's, and deadlines are days from it. An entry's moment has to be the date of the answer by which its command was accepted,
+and each date the clock's.
 Ends with status 0 where all of it is, and else tells the seed, the request, what came and what was due.
 """
+import datetime
 import os
 import random
+import shutil
 import subprocess
 import sys
 import tempfile
@@ -19,11 +24,16 @@ import urllib.parse
 
 from model import Conference, PHASES, dump, view_lines
 from serve import APART, moment_of
+from shim import Orders, Shim
+from store import Program
 
 TOP = os.path.dirname(os.path.dirname(os.path.abspath(__file__)))
 CONFD = os.path.join(TOP, "crates/confd/out/confd")
 NAMES = ["alice", "bob", "carol", "dave", "erin", "fay", "gus", "hal", "ivy"]
 STRANGERS = ["zoe", "Bob!"]
+DAY = 24 * 60 * 60
+# The moments that a clock may tell, and a deadline may be; a shim's clock doesn't stand at 0.
+FIRST, LAST, LAST_DEADLINE = 1, 253_402_300_799, 253_402_207_200
 
 
 def secret(name):
@@ -31,12 +41,15 @@ def secret(name):
 
 
 class Run:
-    """The requests of one conference, with the answers that the model gives."""
+    """The requests of one conference, with the answers that the model gives; the clock goes on from a moment where one is told."""
 
-    def __init__(self, seed):
+    def __init__(self, seed, begun=None):
         self.random = random.Random(seed)
         self.model = Conference()
+        self.stands = begun is None
+        self.model.now = begun or self.random.choice([self.random.randint(1, 2 * 10**9), FIRST, LAST])
         self.asked = []
+        self.moments = []  # when each request comes
         self.added = []  # the places of the entries that each request added
         for name in NAMES:
             self.ask("-", "POST", "/register", {"name": name, "secret": secret(name)})
@@ -51,13 +64,32 @@ class Run:
             if phase != "setup":
                 self.ask("alice", "POST", "/phase", {"phase": phase})
             for _ in range(self.random.randint(steps[phase] // 2, steps[phase])):
+                if self.stands and self.random.random() < 0.05:
+                    self.turn()
                 self.step()
 
     def ask(self, who, method, path, body=None):
         before = len(self.model.history)
         code, content = self.model.ask(who, method, path, body)
         self.added.append(range(before, len(self.model.history)))
+        self.moments.append(self.model.now)
         self.asked.append((who, method, path, body, code, without(content) if method == "HEAD" else content))
+
+    def turn(self):
+        """Turns the clock: to a deadline, or a second from it; or on, or back."""
+        until = self.model.deadline(self.model.phase) or self.model.now
+        near = [until - 1, until, until + 1, until + 1] * 2 + [self.model.now + self.random.randint(-DAY, 3 * DAY), FIRST, LAST]
+        self.model.now = min(max(self.random.choice(near), FIRST), LAST)
+
+    def until(self):
+        """The time of a deadline, mostly one to come; now and then none. Where the clock goes on, it is days from now."""
+        choose, now = self.random, self.model.now
+        if choose.random() < 0.2:
+            return None
+        near = [0, 0, -1, 1, 1, 60, DAY] if self.stands else [-DAY, DAY, 30 * DAY]
+        moment = choose.choice([now + choose.choice(near)] * 4 + [1, LAST_DEADLINE])
+        moment = min(max(moment, 1), LAST_DEADLINE)
+        return told_at(moment, choose.choice([0, 0, 0, 60, -90, 14 * 60]), choose.choice(["T", "T", "t", " "]))
 
     def paper(self):
         """Mostly a paper that is there."""
@@ -129,7 +161,8 @@ class Run:
     def deeds(self):
         """What is asked for, as often as the phase suggests."""
         asked = ["page"] * 6 + ["reviews", "comments"] * 3 + ["search"] * 6 + ["report"] * 4
-        asked += ["me", "conflict", "content", "version", "member", "accounts", "phase", "back", "tag", "decide", "accepted"]
+        asked += ["me", "conflict", "content", "version", "member", "accounts", "phase", "back", "tag", "decide", "accepted", "deadlines"]
+        asked += ["deadline"] * (3 if self.model.late()[0] else 4)
         if self.model.phase == "submission":
             return asked + ["submit"] * 6 + ["upload", "revise", "conflict"] * 3 + ["withdraw", "bid", "assign", "unassign"]
         if self.model.phase == "bidding":
@@ -204,6 +237,12 @@ class Run:
             self.ask(anybody, "GET", "/accounts")
         elif deed == "phase":
             self.ask(anybody, "GET", "/phase")
+        elif deed == "deadlines":
+            self.ask(anybody, read, "/deadlines")
+        elif deed == "deadline":
+            phase = self.model.phase if choose.random() < 0.6 else choose.choice(PHASES)
+            phase = phase if phase in PHASES[1:5] else choose.choice(PHASES[1:5])
+            self.ask(self.chair(), "POST", "/deadlines", {"phase": phase, "until": self.until()})
         else:
             self.ask(anybody, "POST", "/phase", {"phase": "setup"})
 
@@ -216,6 +255,15 @@ def spelled(who, method, path, body):
     content = b"" if body is None else (body if isinstance(body, str) else dump(body)).encode()
     lines.append(f"Content-Length: {len(content)}")
     return "\r\n".join(lines).encode() + b"\r\n\r\n" + content
+
+
+def told_at(moment, minutes, between):
+    """The date and time of a moment at an offset from UTC; in UTC where the year has five digits there, or is ahead of 1970."""
+    if not DAY < moment < LAST - DAY:
+        minutes = 0
+    told = (datetime.datetime(1970, 1, 1) + datetime.timedelta(seconds=moment, minutes=minutes)).isoformat(between)
+    sign, minutes = "+-"[minutes < 0], abs(minutes)
+    return told + (f"{sign}{minutes // 60:02}:{minutes % 60:02}" if minutes else "Z" if between == "T" else "z")
 
 
 def without(content):
@@ -247,21 +295,37 @@ def answers(text, methods):
     return told if not text else told + [(0, f"{len(text)} bytes more")], moments
 
 
-def tried(seed):
+def piped(run, store, shim, room):
+    """The answers to all requests, and the moments of their dates: one run of the program for each time that the clock is turned."""
+    told, moments, first = [], [], 0
+    while first < len(run.asked):
+        last, stands = first, {}
+        while last < len(run.asked) and run.moments[last] == run.moments[first]:
+            last += 1
+        if shim is not None:
+            stands = {"env": shim.environment(Orders(os.path.join(room, "orders"), moment=run.moments[first]))}
+        text = b"".join(spelled(*asked[:4]) for asked in run.asked[first:last])
+        child = subprocess.run([CONFD, "pipe", "--store", store], input=text, stdout=subprocess.PIPE, check=True, **stands)
+        more = answers(child.stdout, [asked[1] for asked in run.asked[first:last]])
+        told, moments, first = told + more[0], moments + more[1], last
+    return told, moments
+
+
+def tried(seed, shim):
     """What is not as due in the run of this seed, if anything is, and how many answers and lines were compared."""
-    run = Run(seed)
+    begun = time.time()
+    run = Run(seed, None if shim else int(begun))
     with tempfile.TemporaryDirectory(prefix="random-run-") as room:
         store = os.path.join(room, "store")
-        text = b"".join(spelled(*asked[:4]) for asked in run.asked)
-        begun = time.time()
-        child = subprocess.run([CONFD, "pipe", "--store", store], input=text, stdout=subprocess.PIPE, check=True)
-        told, moments = answers(child.stdout, [asked[1] for asked in run.asked])
+        told, moments = piped(run, store, shim, room)
         for asked, answer in zip(run.asked, told):
             if asked[4:] != answer:
                 return f"{' '.join(str(part) for part in asked[:4])}: came {answer}, due {asked[4:]}", 0
         if len(told) != len(run.asked):
             return f"{len(told)} answers to {len(run.asked)} requests", 0
-        if not all(begun - APART <= moment <= time.time() + APART for moment in moments):
+        if shim is not None and moments != run.moments:
+            return f"the dates are those of {moments}, the clock's of {run.moments}", 0
+        if shim is None and not all(begun - APART <= moment <= time.time() + APART for moment in moments):
             return f"the dates are from {min(moments)} to {max(moments)}, the run from {begun} to {time.time()}", 0
         run.model.moments = {place: moment for added, moment in zip(run.added, moments) for place in added}
         count = len(told)
@@ -279,12 +343,15 @@ def main():
     runs = int(sys.argv[1]) if len(sys.argv) > 1 else 20
     first = int(sys.argv[2]) if len(sys.argv) > 2 else 1
     failed, compared = 0, 0
-    for seed in range(first, first + runs):
-        wrong, count = tried(seed)
-        compared += count
-        if wrong:
-            failed += 1
-            print(f"seed {seed}: {wrong}")
+    with tempfile.TemporaryDirectory(prefix="random-run-") as folder:
+        shim = Shim(folder) if shutil.which("cc") else None
+        shim = shim if shim is not None and shim.holds(Program(CONFD)) else None
+        for seed in range(first, first + runs):
+            wrong, count = tried(seed, shim)
+            compared += count
+            if wrong:
+                failed += 1
+                print(f"seed {seed}: {wrong}")
     print(f"{runs - failed} runs passed, {failed} failed; {compared:,} answers and lines compared")
     sys.exit(failed > 0)
 

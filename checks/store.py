@@ -487,7 +487,7 @@ LAST_MOMENT = 253_402_300_799
 
 # What is done to them so that one is a row of no entry, or of no history; the status is 3.
 BAD_ROWS = (
-    ("UPDATE people_v2 SET kind = 18 WHERE place = 1", 1, 18),
+    ("UPDATE people_v2 SET kind = 19 WHERE place = 1", 1, 19),
     (f"UPDATE people_v2 SET at = {LAST_MOMENT + 1} WHERE place <= 1", 0, 1),
     ("UPDATE people_v2 SET at = at + 1 WHERE place = 1", 1, 2),
     ("UPDATE people_v2 SET n1 = 2 WHERE place = 0", 0, 1),

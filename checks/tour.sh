@@ -106,6 +106,13 @@ due 200 '{"conflict":false,"paper":1}'
 ask erin GET /papers/1
 due 200 '{"abstract":"We do prove.","authors":["erin","gus"],"conflict":true,"declared":["dave"],"paper":1,"title":"Proofs, again","versions":[1,2],"withdrawn":false}'
 
+ask alice POST /deadlines '{"phase":"submission","until":"2020-01-31T23:59:59-12:00"}'
+due 200 '{"phase":"submission","until":"2020-02-01T11:59:59Z"}'
+ask - GET /deadlines
+due 200 '{"deadlines":[{"phase":"submission","until":"2020-02-01T11:59:59Z"}]}'
+ask erin PUT /papers/1/content 'Too late.'
+due 409 '{"error":"late"}'
+
 part "Bidding: the committee reads, bids and is assigned"
 ask alice POST /phase '{"phase":"bidding"}'
 due 200 '{"phase":"bidding"}'

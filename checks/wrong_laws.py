@@ -198,7 +198,7 @@ class Laws:
         if {"commands", "adds", "invariants"} <= set(self.false):
             return
         verdict = self.rules.accepts(u, H, command)
-        if (verdict[0] == "Ok") != self.rules.call("MayDo", "may_do", u, H, command):
+        if (verdict[0] == "Ok") != self.rules.call("MayDo", "may_do", u, asked.MORNING, H, command):
             self.note("commands", (name, u, command, verdict[0]))
         if verdict[0] != "Ok":
             return

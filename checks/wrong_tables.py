@@ -65,7 +65,8 @@ def made_up(seed):
         lambda: ("Unassigned", paper(), user(), dice.randint(1, 3)), lambda: ("Reviewed", paper(), dice.randint(1, 2), dice.randint(1, 4), form()),
         lambda: ("Commented", paper(), dice.randint(1, 9), dice.choice([NOBODY, ("Some", 1), ("Some", 2)]), text()),
         lambda: ("Tagged", paper(), words(dice.choice(["hot", "~own", "~~odd"])), dice.random() < 0.7),
-        lambda: ("Decided", paper(), (dice.choice(["Accept", "Reject"]),))]
+        lambda: ("Decided", paper(), (dice.choice(["Accept", "Reject"]),)),
+        lambda: ("DeadlineSet", (dice.choice(PHASES[:4]),), dice.choice([NOBODY, ("Some", dice.randint(1, 2_000))]))]
     entries = [(1, ("Registered", n, text(), text())) for n in (1, 2)] + [
         (1, ("Named", n, (role,))) for n, role in ((1, "Chair"), (2, "Chair"), (3, "Member"), (4, "Member"), (5, "Member"))]
     entries += [(1, ("ModeSet", dice.choice(MODES))), (6, ("Submitted", 1, text(), text())), (7, ("Submitted", 2, text(), text()))]

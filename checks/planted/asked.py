@@ -4,6 +4,8 @@ Values are those that specs.py computes with: a variant is its name with its par
 missing an option.
 """
 NONE = ("None",)
+# When all is asked: the moment of the small conference (`morning` in Witness.antt of cr_policy).
+MORNING = 1_772_442_000
 NAMES = ("alice", "bob", "carol", "dave", "erin", "fay", "gus", "hal")
 PHASES = ("Setup", "Submission", "Bidding", "Reviewing", "Discussion", "Notification", "Closed")
 
@@ -80,11 +82,14 @@ TWINS = {
     "many papers": ("submitted", [(some(7), ("Submit", words("P"), (), ()))] * 17),
     "many bytes": ("submitted", [(some(7), ("Upload", some(2), Bytes(33554432))), (some(7), ("Upload", some(1), Bytes(33554000)))]),
     "half of the bytes": ("submitted", [(some(7), ("Upload", some(2), Bytes(33554000)))]),
+    "the submission is due": ("submission", [(some(1), ("SetDeadline", ("Submission",), some(MORNING - 1)))]),
+    "the submission ends now": ("submission", [(some(1), ("SetDeadline", ("Submission",), some(MORNING)))]),
+    "the bidding is due": ("bidding", [(some(1), ("SetDeadline", ("Bidding",), some(MORNING - 1)))]),
+    "the bidding has no deadline any more": ("bidding", [(some(1), ("SetDeadline", ("Bidding",), until)) for until in (some(MORNING - 1), NONE)]),
+    "the reviewing is due": ("reviewing", [(some(1), ("SetDeadline", ("Reviewing",), some(MORNING - 1)))]),
+    "the discussion is due, in the reviewing": ("reviewing", [(some(1), ("SetDeadline", ("Discussion",), some(MORNING - 1)))]),
+    "the discussion is due": ("discussion", [(some(1), ("SetDeadline", ("Discussion",), some(MORNING - 1)))]),
 }
-
-
-# When all is asked: the moment of the small conference (`morning` in Witness.antt of cr_policy).
-MORNING = 1_772_442_000
 
 
 def entry(maker, made):
@@ -117,6 +122,7 @@ def commands():
     given = [("Register", words("zoe"), (9,) * 32), ("Register", words("bob"), (9,) * 32)]
     given += [("Name", user, (role,)) for user in users for role in ("Member", "Chair")]
     given += [("SetMode", (mode,)) for mode in ("Overt", "Anonymous")] + [("SetPhase", (phase,)) for phase in PHASES]
+    given += [("SetDeadline", (phase,), until) for phase in PHASES[1:5] for until in (NONE, some(MORNING + 60))]
     told = ((), (named("erin"), named("erin"), named("bob"), named("erin"), named("hal")), (named("gus"), named("dave")), (named("zoe"),))
     given += [("Submit", words("T"), words("a"), authors) for authors in told]
     for p in papers:
@@ -130,7 +136,7 @@ def commands():
 
 
 def queries():
-    asked = [("Accounts",), ("Phase",), ("AcceptedPapers",), ("Me",), ("Search", (), True), ("Search", (), False)]
+    asked = [("Accounts",), ("Phase",), ("Deadlines",), ("AcceptedPapers",), ("Me",), ("Search", (), True), ("Search", (), False)]
     for p in [NONE] + [some(n) for n in (1, 2, 3, 9)]:
         asked += [(kind, p) for kind in ("Page", "Content", "Reviews", "Comments")]
         asked += [("Report", ("Letter", p))] + [("Version", p, version) for version in range(4)]
