@@ -114,8 +114,10 @@ impl Talk {
         if let Some(count) = form.strip_prefix(">>") {
             return add_raw(&mut self.sent, count, rest);
         }
+        if let Some(number) = form.strip_prefix('>') {
+            return add_request(alloc, &mut self.sent, number, rest);
+        }
         match form {
-            ">" => add_request(alloc, &mut self.sent, rest),
             "|" => self.add_other(alloc, time, rest),
             _ => Err(LineError::NoForm),
         }

@@ -12,6 +12,7 @@
 //! - `$ WORDS`: the words of the command line, where they aren't `confd pipe`
 //! - `> NAME METHOD PATH [BODY]`: NAME sends a request with her secret `NAME-secret-000001`; a NAME with a point is
 //!   the token `NAME.SECRET`, `-` sends none
+//! - `>NUMBER NAME METHOD PATH [BODY]`: the same with the field `Command-Number`, whose value has no space as it stands
 //! - `< CODE CONTENT`: an answer is due, and its date with it; `<!` where the connection closes behind it
 //! - `< CODE HEAD CONTENT`: an answer to HEAD is due: the head alone of what GET would be answered
 //! - `< CODE Allow: METHODS; CONTENT`: the same with the field Allow
@@ -21,8 +22,8 @@
 //! - `*N LINE`: N times that line, with the number of the time, from 1, in place of each `\#`
 //! - `!read [N]`, `!write [N]`: the input fails behind what is sent so far, the output behind what
 //!   is due so far, or N bytes later
-//! - `@ ROW`: a row that stands in the store `f` ahead of the run: `KIND MAKER MORE AT N1 N2 N3 N4 N5 B1 B2`, `-` for
-//!   no bytes, `#` ahead of hexadecimal digits
+//! - `@ ROW`: a row that stands in the store `f` ahead of the run:
+//!   `KIND MAKER MORE AT NUM MARK N1 N2 N3 N4 N5 B1 B2`, `-` for no bytes, `#` ahead of hexadecimal digits
 //! - `@N ROW`: the same in place of row number N, from 0, of those told so far
 //! - `=@ same`, `=@ ROW`: the rows that are due there behind the run: those that stood there
 //!   ahead of it; and then this one

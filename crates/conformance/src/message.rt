@@ -58,14 +58,31 @@ fn add_credentials(into: &mut Vec<u8>, name: &str) -> Result<(), AllocError> {
     )
 }
 
-/// Adds the request that `NAME METHOD PATH [BODY]` tells.
-pub fn add_request(alloc: Global, into: &mut Vec<u8>, text: &str) -> Result<(), LineError> {
+// Adds the field that tells the number of a command: nothing where the text is empty.
+fn add_command_number(into: &mut Vec<u8>, number: &str) -> Result<(), LineError> {
+    if number.is_empty() {
+        return Ok(());
+    }
+    into.extend_from_slice(b"Command-Number: ")?;
+    add_text(into, number)?;
+    into.extend_from_slice(b"\r\n")?;
+    Ok(())
+}
+
+/// Adds the request that `NAME METHOD PATH [BODY]` tells, with this number of a command, where it isn't empty.
+pub fn add_request(
+    alloc: Global,
+    into: &mut Vec<u8>,
+    number: &str,
+    text: &str,
+) -> Result<(), LineError> {
     let mut words = text.splitn(4, ' ');
     let (Some(name), Some(method), Some(path)) = (words.next(), words.next(), words.next()) else {
         return Err(LineError::NoForm);
     };
     add_parts(into, &[method, " ", path, " HTTP/1.1\r\nHost: c\r\n"])?;
     add_credentials(into, name)?;
+    add_command_number(into, number)?;
     let mut body = Vec::new(alloc);
     add_text(&mut body, words.next().unwrap_or(""))?;
     add_length(alloc, into, body.len())?;

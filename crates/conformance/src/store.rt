@@ -87,21 +87,29 @@ fn bytes(alloc: Global, word: Option<&str>) -> Result<Blob, LineError> {
     Ok(Blob::from_slice(alloc, bytes.as_slice())?)
 }
 
-/// The row that `KIND MAKER MORE AT N1 N2 N3 N4 N5 B1 B2` tells, a space between any two of them.
+/// The row that `KIND MAKER MORE AT NUM MARK N1 N2 N3 N4 N5 B1 B2` tells, a space between any two of them.
 pub fn read_row(alloc: Global, text: &str) -> Result<Row, LineError> {
     let mut words = text.split(' ');
-    let mut numbers = [0u64; 9];
+    let mut stamp = [0u64; 5];
+    for index in stamp.iter_mut() {
+        *index = number(words.next())?;
+    }
+    let mark = bytes(alloc, words.next())?;
+    let mut numbers = [0u64; 5];
     for index in numbers.iter_mut() {
         *index = number(words.next())?;
     }
     let b1 = bytes(alloc, words.next())?;
     let b2 = bytes(alloc, words.next())?;
-    let [kind, maker, more, at, n1, n2, n3, n4, n5] = numbers;
+    let [kind, maker, more, at, num] = stamp;
+    let [n1, n2, n3, n4, n5] = numbers;
     Ok(Row {
         kind,
         maker,
         more,
         at,
+        num,
+        mark,
         n1,
         n2,
         n3,

@@ -6,6 +6,7 @@ pub mod FiledLaws
 pub mod FitLaws
 pub mod LastLaws
 pub mod ListLaws
+pub mod NameLaws
 pub mod PairLaws
 pub mod PaperLaws
 pub mod PartLaws

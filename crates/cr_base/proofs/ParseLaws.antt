@@ -36,15 +36,18 @@ parts text h =
     let few = at_most (length text) 4 (and_parts (nat_le 1 (length text)) (nat_le (length text) 4) short.0).1 in
     (few, short.1, front.1)
 
+-- digits of which the first isn't 0 write at least 1
+pub low_digits : (b : ℕ) (rest : List ℕ) → IsTrue (not (b == 48)) → IsTrue (list_all is_ascii_digit (b ∷ rest)) → 1 ≤ digits_value 10 (b ∷ rest)
+low_digits b rest first all =
+    let here = digit b (and_parts (is_ascii_digit b) (list_all is_ascii_digit rest) all).0 in
+    let nonzero = not_zero b first in
+    let front = digits_value-take-le 10 (b ∷ rest) 1 (omega arith) in
+    omega (arith, here, digit_value_digit b here, front)
+
 -- each is at least 1
 pub low : (text : List ℕ) → IsTrue (is_paper_number text) → 1 ≤ digits_value 10 text
 low [] h = cc
-low (b ∷ rest) h =
-    let all = parts (b ∷ rest) h in
-    let here = digit b (and_parts (is_ascii_digit b) (list_all is_ascii_digit rest) all.2).0 in
-    let nonzero = not_zero b all.1 in
-    let first = digits_value-take-le 10 (b ∷ rest) 1 (omega arith) in
-    omega (arith, here, digit_value_digit b here, first)
+low (b ∷ rest) h = let all = parts (b ∷ rest) h in low_digits b rest all.1 all.2
 
 -- each is at most 9,999
 pub high : (text : List ℕ) → IsTrue (is_paper_number text) → digits_value 10 text ≤ 9999

@@ -9,8 +9,9 @@ use Rattle.cr_base.specs.Words.{phase_number, phase_numbered, mode_number, mode_
 use Rattle.std.specs.Option.{option_map}
 use Rattle.std.specs.Prelude.{find}
 use Rattle.cr_base.specs.Words.{phases, modes, named_roles, review_kinds, decisions}
-use Rattle.cr_base.specs.Shapes.{stamp_in, FitsShape, HasText, InRange, IsAtMost, unused}
-use Rattle.cr_base.specs.Rows.{kind_number, number_or_zero, numbered_from_one, until_number, until_numbered, shape_of, kind_of, row_of, built, restored, stamped_by}
+use Rattle.cr_base.specs.Keys.{IsKeyOrNone, last_command_number}
+use Rattle.cr_base.specs.Shapes.{stamp_in, key_in, FitsShape, HasText, InRange, IsAtMost, unused}
+use Rattle.cr_base.specs.Rows.{kind_number, key_number, key_mark, number_or_zero, numbered_from_one, until_number, until_numbered, shape_of, kind_of, row_of, built, restored, stamped_by}
 use Rattle.cr_base.specs.Rows.{IsBoundedEntry}
 use Rattle.cr_base.specs.declared.entry.EntryKind.{EntryKind}
 use Rattle.cr_base.specs.declared.entry.EntryKind.TheVariants as kind
@@ -28,6 +29,7 @@ use Rattle.cr_base.specs.declared.words.Mode.{Mode}
 use Rattle.cr_base.specs.declared.words.Mode.TheVariants.{Overt, Blind, Anonymous}
 use Rattle.cr_base.specs.declared.words.Role.{Role}
 use Rattle.cr_base.specs.declared.words.Role.TheVariants.{Account, Member, Chair}
+use Rattle.cr_base.specs.declared.retry.RetryKey.{RetryKey}
 use Rattle.cr_base.specs.declared.row.Row.{Row}
 use Rattle.cr_base.specs.declared.shape.Range.{Range}
 use Rattle.cr_base.specs.declared.shape.Shape.{Shape}
@@ -97,6 +99,30 @@ numbered-number past (Some n) h = by (n == 0) refl h
     by true is h = absurd (omega (arith, h))
     by false is h = ap (λ (c : Bool). cond c None (Some n)) is
 
+-- a command's key that may be none, from its fields and back: a mark stands beside a number alone
+key-number : (num : ℕ) (mark : List ℕ) → key_number (key_in num mark) ≡ num
+key-number num mark = by (num == 0) refl
+  where
+    by : (b : Bool) → (num == 0) ≡ b → key_number (cond b None (Some (record { number = num; mark = mark }))) ≡ num
+    by true is = sym (eqb-true num 0 is)
+    by false is = ap (λ (c : Bool). cond c (last_command_number + 1) num) is
+
+key-mark : (num : ℕ) (mark : List ℕ) → (num ≡ 0 → mark ≡ []) → key_mark (key_in num mark) ≡ mark
+key-mark num mark unmarked = by (num == 0) refl
+  where
+    by : (b : Bool) → (num == 0) ≡ b → key_mark (cond b None (Some (record { number = num; mark = mark }))) ≡ mark
+    by true is = sym (unmarked (eqb-true num 0 is))
+    by false is = refl
+
+number-key : (key : Option RetryKey) → IsKeyOrNone (key_in (key_number key) (key_mark key)) → key_in (key_number key) (key_mark key) ≡ key
+number-key None h = refl
+number-key (Some key) h = by (key.number == 0) refl h
+  where
+    by : (b : Bool) → (key.number == 0) ≡ b → IsKeyOrNone (key_in (cond b (last_command_number + 1) key.number) key.mark)
+        → key_in (cond b (last_command_number + 1) key.number) key.mark ≡ Some key
+    by true is h = let high = h.high in absurd (omega (arith, high))
+    by false is h = ap (λ (c : Bool). cond c None (Some key)) is
+
 -- what is at most that is less than the next
 below-next : (n most : ℕ) → n ≤ most → n < most + 1
 below-next n most h = omega (arith, h)
@@ -109,11 +135,13 @@ unused-zero n h = omega arith
 -- a row is the one with its fields
 same_row : (r : Row) (k : EntryKind) (a b c d f : ℕ) (x y : List ℕ) → kind_number k ≡ r.kind → FitsShape (shape_of k) r → d ≡ r.n4 → f ≡ r.n5 → a ≡ r.n1 → b
     ≡ r.n2 → c ≡ r.n3 → x ≡ r.b1 → y ≡ r.b2
-    → record { kind = kind_number k; maker = r.maker; more = cond (r.more == 1) 1 0; at = r.at; n1 = a; n2 = b; n3 = c; n4 = d; n5 = f; b1 = x; b2 = y } ≡ r
+    → record { kind = kind_number k; maker = r.maker; more = cond (r.more == 1) 1 0; at = r.at; num = key_number (key_in r.num r.mark); mark = key_mark (key_in r.num r.mark); n1 = a; n2 = b; n3 = c; n4 = d; n5 = f; b1 = x; b2 = y } ≡ r
 same_row r k a b c d f x y hk fits h4 h5 h1 h2 h3 hx hy =
     let o = bit r.more fits.more in
-    let e : record { kind = kind_number k; maker = r.maker; more = cond (r.more == 1) 1 0; at = r.at; n1 = a; n2 = b; n3 = c; n4 = d; n5 = f; b1 = x; b2 = y }
-    ≡ record { kind = r.kind; maker = r.maker; more = r.more; at = r.at; n1 = r.n1; n2 = r.n2; n3 = r.n3; n4 = r.n4; n5 = r.n5; b1 = r.b1; b2 = r.b2 } = cc in
+    let number = key-number r.num r.mark in
+    let mark = key-mark r.num r.mark fits.unmarked in
+    let e : record { kind = kind_number k; maker = r.maker; more = cond (r.more == 1) 1 0; at = r.at; num = key_number (key_in r.num r.mark); mark = key_mark (key_in r.num r.mark); n1 = a; n2 = b; n3 = c; n4 = d; n5 = f; b1 = x; b2 = y }
+    ≡ record { kind = r.kind; maker = r.maker; more = r.more; at = r.at; num = r.num; mark = r.mark; n1 = r.n1; n2 = r.n2; n3 = r.n3; n4 = r.n4; n5 = r.n5; b1 = r.b1; b2 = r.b2 } = cc in
     e
 
 -- what a field spells that holds a number as it is, a mark, or nothing
@@ -194,12 +222,16 @@ built-row_of (DeadlineSet phase until) m o h =
     ∙ ap (λ x. Some (DeadlineSet phase x)) (numbered-number 253402207201 until (below-next _ 253402207200 h.n2.1))
 built-row_of e m o h = refl
 
-restamp : (s : Stamped) (p : Bool) → p ≡ s.more → ◌≡◌ {A = Stamped} (record { stamp = s.stamp; more = p; entry = s.entry }) s
-restamp s p hp = let e : ◌≡◌ {A = Stamped} (record { stamp = s.stamp; more = p; entry = s.entry }) (record { stamp = s.stamp; more = s.more; entry = s.entry }) = cc in e
+restamp : (s : Stamped) (p : Bool) (key : Option RetryKey) → p ≡ s.more → key ≡ s.stamp.key
+    → ◌≡◌ {A = Stamped} (record { stamp = record { maker = s.stamp.maker; at = s.stamp.at; key = key }; more = p; entry = s.entry }) s
+restamp s p key hp hk =
+    let e : ◌≡◌ {A = Stamped} (record { stamp = record { maker = s.stamp.maker; at = s.stamp.at; key = key }; more = p; entry = s.entry })
+    (record { stamp = record { maker = s.stamp.maker; at = s.stamp.at; key = s.stamp.key }; more = s.more; entry = s.entry }) = cc in
+    e
 
 -- an entry within its bounds is what its row spells
 pub restored-row_of : (s : Stamped) → IsBoundedEntry s → restored (kind_of s.entry) (row_of s) ≡ Some s
-restored-row_of s h = ap (option_map (stamped_by (row_of s))) (built-row_of s.entry s.stamp s.more h) ∙ ap Some (restamp s _ (bit-back s.more))
+restored-row_of s h = ap (option_map (stamped_by (row_of s))) (built-row_of s.entry s.stamp s.more h) ∙ ap Some (restamp s _ _ (bit-back s.more) (number-key s.stamp.key h.stamp.key))
 
 -- ---- the kind of a row
 

@@ -1,13 +1,15 @@
--- Calls: who asks for what and when, and the stamp under which what they add is kept. Moments are seconds (Moments).
+-- Calls: who asks for what, when, and by which number, and the stamp under which what they add is kept. Moments are
+-- seconds (Moments).
 use Rattle.std.specs.Prelude.{ℕ, List, Option, Some, unwrap_or}
 use Rattle.cr_base.specs.declared.bulk.BulkRow.{BulkRow}
 use Rattle.cr_base.specs.declared.command.Call.{Call}
 use Rattle.cr_base.specs.declared.command.Command.{Command}
 use Rattle.cr_base.specs.declared.entry.Stamp.{Stamp}
+use Rattle.cr_base.specs.declared.retry.RetryKey.{RetryKey}
 
--- the stamp of what a user's request at that moment adds
-abbrev pub stamp_by : ℕ → ℕ → Stamp
-stamp_by user at = record { maker = user; at = at }
+-- the stamp of what a user's request at that moment adds, by the key of its command, if any
+abbrev pub stamp_by : ℕ → ℕ → Option RetryKey → Stamp
+stamp_by user at key = record { maker = user; at = at; key = key }
 
 -- who makes the entries of a caller's command: nobody makes any but a registration
 abbrev pub maker_of : Option ℕ → ℕ
@@ -15,21 +17,21 @@ maker_of caller = unwrap_or caller 0
 
 -- the stamp of a call's entries: its caller makes them, but for a registration, whose maker is the new user
 abbrev pub stamp_of : Call → Stamp
-stamp_of call = stamp_by (maker_of call.caller) call.at
+stamp_of call = stamp_by (maker_of call.caller) call.at call.key
 
--- the command of this caller, who may be nobody, at that moment
-abbrev pub call_of : Option ℕ → ℕ → Command → Call
-call_of caller at command = record { caller = caller; at = at; command = command }
+-- the command of this caller, who may be nobody, at that moment, by that key
+abbrev pub call_of : Option ℕ → ℕ → Option RetryKey → Command → Call
+call_of caller at key command = record { caller = caller; at = at; key = key; command = command }
 
 -- the command of the user whose stamp this is
 abbrev pub call_by : Stamp → Command → Call
-call_by stamp command = call_of (Some stamp.maker) stamp.at command
+call_by stamp command = call_of (Some stamp.maker) stamp.at stamp.key command
 
 -- the rows of a bulk, and the stamp of the user who gives it
 pub record BulkCall : Type 0 where
   pub stamp : Stamp
   pub rows : List BulkRow
 
--- the bulk of this user at that moment
-abbrev pub bulk_by : ℕ → ℕ → List BulkRow → BulkCall
-bulk_by user at rows = record { stamp = stamp_by user at; rows = rows }
+-- the bulk of this user at that moment, by that key
+abbrev pub bulk_by : ℕ → ℕ → Option RetryKey → List BulkRow → BulkCall
+bulk_by user at key rows = record { stamp = stamp_by user at key; rows = rows }

@@ -75,14 +75,14 @@ phase_checks by now to =
     ∷ not (is_next now to) breaks rules.WrongPhase
     ∷ []
 
--- a deadline: the caller's standing, the phase now, and the one that is to have the deadline, or none
+-- a deadline: the caller's standing, the phase now, and the phase whose deadline is set or taken away
 abbrev pub deadline_checks : Standing → Phase → Phase → List Check
 deadline_checks by now phase =
     not (is_chair by.role) breaks rules.NotChair
     ∷ not (is_from now phase) breaks rules.WrongPhase
     ∷ []
 
--- What a phase opens, and its deadline ends, takes last whether it is too late: the phase that it is has a deadline,
+-- What a phase opens, and its deadline ends, takes last whether it is too late: the current phase has a deadline,
 -- and the moment of the request is past it.
 
 -- submit: whether a co-author isn't there, the caller's standing, how many papers there

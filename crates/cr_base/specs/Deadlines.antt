@@ -64,8 +64,8 @@ with_deadline Closed until deadlines = deadlines
 -- ---- what is told of them
 
 -- the phases that may have one, in the order of phases
-abbrev pub phases_with_deadlines : List Phase
-phases_with_deadlines = Submission ∷ Bidding ∷ Reviewing ∷ Discussion ∷ []
+abbrev pub deadline_phases : List Phase
+deadline_phases = Submission ∷ Bidding ∷ Reviewing ∷ Discussion ∷ []
 
 -- a phase with its deadline
 abbrev pub phase_deadline : Phase → ℕ → PhaseDeadline
@@ -74,4 +74,4 @@ phase_deadline phase until = record { phase = phase; until = until }
 -- the phases that have one, each with it
 abbrev pub deadlines_told : (Phase → Option ℕ) → List PhaseDeadline
 deadlines_told deadline =
-    flat_map (λ (phase : Phase). listed (option_map (phase_deadline phase) (deadline phase))) phases_with_deadlines
+    flat_map (λ (phase : Phase). listed (option_map (phase_deadline phase) (deadline phase))) deadline_phases

@@ -12,6 +12,7 @@ pub mod Filed
 pub mod History
 pub mod HistoryFacts
 pub mod Judging
+pub mod Keys
 pub mod Labels
 pub mod Lists
 pub mod Logins
@@ -21,6 +22,7 @@ pub mod Pairs
 pub mod Papers
 pub mod Phases
 pub mod Reports
+pub mod Retries
 pub mod Reviews
 pub mod Rows
 pub mod Search

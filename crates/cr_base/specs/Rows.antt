@@ -1,6 +1,6 @@
 -- The row of each entry, and the entry of a row, kind by kind. Numbers and fields are the server's own
 -- (docs/STORE.md).
-use Rattle.std.specs.Prelude.{ℕ, Bool, ◌==◌, List, [], codes, Option, Some, None, if◌then◌else◌, map}
+use Rattle.std.specs.Prelude.{ℕ, Bool, ◌==◌, ◌+◌, List, [], codes, Option, Some, None, if◌then◌else◌, map}
 use Rattle.cr_base.specs.declared.entry.EntryKind.{EntryKind}
 use Rattle.cr_base.specs.declared.entry.EntryKind.TheVariants as kind
 use Rattle.cr_base.specs.declared.entry.Entry.{Entry}
@@ -9,8 +9,12 @@ use Rattle.cr_base.specs.declared.entry.Entry.TheVariants.{Coauthor, Revised, Up
 use Rattle.cr_base.specs.declared.entry.Entry.TheVariants.{Bid, Assigned, Unassigned, Reviewed}
 use Rattle.cr_base.specs.declared.entry.Entry.TheVariants.{Commented, Tagged, Decided, DeadlineSet}
 use Rattle.cr_base.specs.declared.entry.Stamped.{Stamped}
+use Rattle.cr_base.specs.declared.retry.RetryKey.{RetryKey}
+use Rattle.cr_base.specs.declared.row.OldVersion.{OldVersion}
+use Rattle.cr_base.specs.declared.row.OldVersion.TheVariants.{First, Second}
 use Rattle.cr_base.specs.declared.row.Row.{Row}
 use Rattle.std.specs.Option.{option_map}
+use Rattle.cr_base.specs.Keys.{last_command_number}
 use Rattle.cr_base.specs.Words.{phase_number, phase_numbered, mode_number, mode_numbered, role_number, role_numbered}
 use Rattle.cr_base.specs.Words.{review_kind_number, review_kind_numbered, decision_number, decision_numbered}
 use Rattle.cr_base.specs.declared.shape.Shape.{Shape}
@@ -113,7 +117,7 @@ kind_of (Tagged paper tag on) = kind.Tagged
 kind_of (Decided paper decision) = kind.Decided
 kind_of (DeadlineSet phase until) = kind.DeadlineSet
 
--- what a row tells of an entry beside its kind, its maker and the mark
+-- what a row tells of an entry beside its kind, its stamp and whether another follows
 pub record Fields : Type 0 where
   pub n1 : ℕ
   pub n2 : ℕ
@@ -130,9 +134,9 @@ fields n1 n2 n3 b1 b2 = record { n1 = n1; n2 = n2; n3 = n3; n4 = 0; n5 = 0; b1 =
 abbrev pub bit_number : Bool → ℕ
 bit_number b = if b then 1 else 0
 
--- A number that may be none: itself, from 1, or 0 where there is none. But an entry of a definition may have a 0 there,
--- and would be spelled as one without a number is. So that gets `past`, the first number past those that a row may have
--- there: the entry is out of its bounds, and of entries within theirs no two have the same row.
+-- A number that may be none: itself, from 1, or 0 where there is none. But an entry of a definition may have a 0
+-- there, and would be spelled as one without a number is. So that gets `past`, the first number past those that a row
+-- may have there: the entry is out of its bounds, and of entries within theirs no two have the same row.
 abbrev pub number_or_zero : ℕ → Option ℕ → ℕ
 number_or_zero past None = 0
 number_or_zero past (Some n) = if n == 0 then past else n
@@ -153,6 +157,15 @@ until_number until = number_or_zero 253402207201 until
 
 abbrev pub until_numbered : ℕ → Option ℕ
 until_numbered n = numbered_from_one n
+
+-- a key that may be none by its fields: the command's number (`some_number_range`), and the mark, empty where there is
+-- none
+abbrev pub key_number : Option RetryKey → ℕ
+key_number key = number_or_zero (last_command_number + 1) (option_map (λ (k : RetryKey). k.number) key)
+
+abbrev pub key_mark : Option RetryKey → List ℕ
+key_mark None = []
+key_mark (Some key) = key.mark
 
 -- the numbers and bytes of an entry, each in its field
 abbrev pub fields_of : Entry → Fields
@@ -186,6 +199,8 @@ row_of s =
       maker = s.stamp.maker;
       more = bit_number s.more;
       at = s.stamp.at;
+      num = key_number s.stamp.key;
+      mark = key_mark s.stamp.key;
       n1 = f.n1;
       n2 = f.n2;
       n3 = f.n3;
@@ -199,9 +214,11 @@ row_of s =
 abbrev pub rows_of : List Stamped → List Row
 rows_of history = map row_of history
 
--- the row of a store that keeps moments, for a row of one that kept none: the same, at the first moment
-abbrev pub migrated : Row → Row
-migrated r = record r { at = 0 }
+-- the row of a store of today, for a row of an older one: the same, at the first moment where it kept none, and
+-- without a number
+abbrev pub migrated : OldVersion → Row → Row
+migrated First r = record r { at = 0; num = 0; mark = [] }
+migrated Second r = record r { num = 0; mark = [] }
 
 -- the numbers and bytes of an entry are within the bounds of its kind, so that it has a row
 abbrev pub IsBoundedEntry : Stamped → Type 0
@@ -228,9 +245,10 @@ built kind.Reviewed r =
 built kind.Commented r = Some (Commented r.n1 r.n2 (label_numbered r.n3) r.b1)
 built kind.Tagged r = Some (Tagged r.n1 r.b1 (r.n2 == 1))
 built kind.Decided r = option_map (λ (decision : Decision). Decided r.n1 decision) (decision_numbered r.n2)
-built kind.DeadlineSet r = option_map (λ (phase : Phase). DeadlineSet phase (until_numbered r.n2)) (phase_numbered r.n1)
+built kind.DeadlineSet r =
+    option_map (λ (phase : Phase). DeadlineSet phase (until_numbered r.n2)) (phase_numbered r.n1)
 
--- an entry with the stamp that a row's fields spell and the row's mark
+-- an entry with the stamp that a row's fields spell, and whether the row says that another follows
 abbrev pub stamped_by : Row → Entry → Stamped
 stamped_by r e = record { stamp = stamp_in r; more = r.more == 1; entry = e }
 

@@ -1,15 +1,17 @@
 -- What may stand in the fields of a row: ranges of numbers and grammars of bytes, which are the server's own
 -- (docs/STORE.md).
-use Rattle.std.specs.Prelude.{ℕ, ◌≡◌, ◌≤◌, List, [], length, Option, Some, None, IsTrue}
+use Rattle.std.specs.Prelude.{ℕ, ◌≡◌, ◌≤◌, ◌==◌, List, [], length, Option, Some, None, IsTrue, if◌then◌else◌}
 use Rattle.cr_base.specs.declared.shape.Range.{Range}
 use Rattle.cr_base.specs.declared.shape.Shape.{Shape}
 use Rattle.cr_base.specs.declared.shape.TextKind.{TextKind}
 use Rattle.cr_base.specs.declared.shape.TextKind.TheVariants.{Nothing, Name, Digest, Title, Abstract}
 use Rattle.cr_base.specs.declared.shape.TextKind.TheVariants.{Content, ReviewText, CommentText, Tag}
 use Rattle.cr_base.specs.declared.entry.Stamp.{Stamp}
+use Rattle.cr_base.specs.declared.retry.RetryKey.{RetryKey}
 use Rattle.cr_base.specs.declared.row.Row.{Row}
 use Rattle.cr_base.specs.Deadlines.{last_deadline}
 use Rattle.cr_base.specs.Moments.{IsMoment}
+use Rattle.cr_base.specs.Keys.{IsKeyOrNone}
 use Rattle.cr_base.specs.TagTexts.{is_tag}
 use Rattle.cr_base.specs.Texts.{IsName, IsTitle, IsAbstract, IsContent, IsReviewText, IsCommentText}
 
@@ -111,17 +113,23 @@ HasText ReviewText bytes = IsReviewText bytes
 HasText CommentText bytes = IsCommentText bytes
 HasText Tag bytes = IsTrue (is_tag bytes)
 
+-- the key that a row's fields spell: none where the number is 0
+abbrev pub key_in : ℕ → List ℕ → Option RetryKey
+key_in num mark = if num == 0 then None else Some (record { number = num; mark = mark })
+
 -- the stamp that a row's fields spell, and that its fields are as they may be in every kind
 abbrev pub stamp_in : Row → Stamp
-stamp_in r = record { maker = r.maker; at = r.at }
+stamp_in r = record { maker = r.maker; at = r.at; key = key_in r.num r.mark }
 
 pub record FitsStamp (stamp : Stamp) : Type 0 where
   pub maker : InRange user_range stamp.maker
   pub at : IsMoment stamp.at
+  pub key : IsKeyOrNone stamp.key
 
 -- the row's fields are as the shape wants them
 pub record FitsShape (s : Shape) (r : Row) : Type 0 where
   pub stamp : FitsStamp (stamp_in r)
+  pub unmarked : r.num ≡ 0 → r.mark ≡ []
   pub more : r.more ≤ 1
   pub n1 : InRange s.n1 r.n1
   pub n2 : InRange s.n2 r.n2

@@ -28,6 +28,6 @@ stage_after stage (DeadlineSet phase until) =
     record stage { deadlines = with_deadline phase until stage.deadlines }
 stage_after stage _ = stage
 
--- the phase that it is has a deadline, and the moment is past it
+-- the current phase has a deadline, and the moment is past it
 abbrev pub is_late_in : StageState → ℕ → Bool
 is_late_in stage at = is_past (deadline_in stage.deadlines stage.phase) at

@@ -10,6 +10,7 @@ use crate::form::Form;
 use crate::moment::Moment;
 use crate::numbers::{PaperNo, UserNo};
 use crate::report::Report;
+use crate::retry::RetryKey;
 use crate::search::Search;
 use crate::tag::Tag;
 use crate::texts::{Blob, Short, Text};
@@ -144,13 +145,15 @@ pub enum Command {
     },
 }
 
-/// A command, who gives it, and when.
+/// A command, who gives it, when, and by which number.
 #[derive(Drop)]
 pub struct Call {
     /// Who gives it; nobody registers, and every other command is a user's.
     pub caller: Option<UserNo>,
     /// The moment of its request.
     pub at: Moment,
+    /// The number that its client gave it, with the mark of its request; None where it gave none.
+    pub key: Option<RetryKey>,
     /// What is to change.
     pub command: Command,
 }

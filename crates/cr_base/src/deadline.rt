@@ -51,7 +51,7 @@ impl Deadline {
         self.seconds
     }
 
-    /// Whether it is past at that moment, which is later; at the very second it isn't.
+    /// Whether that moment is later than its second.
     pub fn is_past(self, at: Moment) -> bool
         ensures { result ≡ is_past (Some self) at }
     {
@@ -85,7 +85,7 @@ impl Deadlines {
         }
     }
 
-    /// The deadline of a phase; None where it has none, as a phase has that never may.
+    /// The deadline of a phase. None where it has none; setup, notification and closed never have one.
     pub fn of(&self, phase: Phase) -> Option<Deadline>
         ensures { result ≡ deadline_in self.now phase }
     {

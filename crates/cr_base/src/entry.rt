@@ -7,6 +7,7 @@ use crate::deadline::Deadline;
 use crate::form::Form;
 use crate::moment::Moment;
 use crate::numbers::{Ordinal, PaperNo, UserNo};
+use crate::retry::RetryKey;
 use crate::tag::Tag;
 use crate::texts::{Blob, Short, Text, TwoTexts};
 use crate::words::{Decision, Kind, Mode, Phase, Role};
@@ -208,13 +209,16 @@ pub enum EntryKind {
     DeadlineSet,
 }
 
-/// What a command's entries have alike, beside what each says: who gave it, and when.
+/// What a command's entries have alike, beside what each says: who gave it, when, and by which number.
 #[derive(Clone, Copy, PartialEq, Eq)]
 pub struct Stamp {
     /// Who gave the command; of a registration the new user.
     pub maker: UserNo,
     /// The moment of the command's request.
     pub at: Moment,
+    /// The number that its client gave the command, with the mark of its request; None where it gave none, as of every
+    /// registration.
+    pub key: Option<RetryKey>,
 }
 
 /// An entry with the stamp of its command, and whether another entry of the same command follows.

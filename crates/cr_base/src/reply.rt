@@ -74,6 +74,8 @@ pub enum Rule {
     BadTag,
     /// A row of a bulk turns a conflict of the caller's own on or off.
     BulkSelf,
+    /// The caller has given the command's number to another request, which was accepted.
+    NumberUsed,
 }
 
 /// What an accepted command is answered.

@@ -17,6 +17,10 @@ pub struct Row {
     pub more: u64,
     /// The moment of the command's request, in seconds since 1970-01-01T00:00:00Z.
     pub at: u64,
+    /// The number that its client gave the command; 0 where it gave none.
+    pub num: u64,
+    /// The mark of the command's request, 32 bytes; empty where it has no number.
+    pub mark: Blob,
     /// The first number of the entry, by its kind; 0 where unused, as in the four others.
     pub n1: u64,
     /// The second number.
@@ -43,6 +47,8 @@ impl Row {
             maker: self.maker,
             more: self.more,
             at: self.at,
+            num: self.num,
+            mark: self.mark.copy()?,
             n1: self.n1,
             n2: self.n2,
             n3: self.n3,
@@ -61,6 +67,8 @@ impl Row {
             && self.maker == other.maker
             && self.more == other.more
             && self.at == other.at
+            && self.num == other.num
+            && self.mark.is_same(&other.mark)
             && self.n1 == other.n1
             && self.n2 == other.n2
             && self.n3 == other.n3
@@ -71,10 +79,28 @@ impl Row {
     }
 }
 
-/// The row of a store of version 2 that a row of version 1 gives. Version 1 kept no moment: `at` is 0, and every other
-/// field stays. Takes no memory.
-pub fn migrate_row(row: Row) -> Row
-    ensures { result ≡ migrated row }
+/// A version of stores from before this one, which is 3.
+#[derive(Clone, Copy, PartialEq, Eq)]
+pub enum OldVersion {
+    /// Version 1, which kept no moments of requests.
+    First,
+    /// Version 2, which kept moments, and as little as version 1 the numbers of commands.
+    Second,
+}
+
+/// The row of a store of version 3 that a row of an older one gives: what the older one didn't keep is 0 or empty, and
+/// every other field stays. Takes no memory.
+pub fn migrate_row(from: OldVersion, row: Row) -> Row
+    ensures { result ≡ migrated from row }
 {
-    Row { at: 0, ..row }
+    let at = match from {
+        OldVersion::First => 0,
+        OldVersion::Second => row.at,
+    };
+    Row {
+        at,
+        num: 0,
+        mark: Blob::empty(),
+        ..row
+    }
 }

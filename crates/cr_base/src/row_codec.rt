@@ -2,9 +2,10 @@
 ghost use Rattle.std.specs.Prelude.{◌≡◌, ◌≢◌, ◌≤◌, [], length, IfOk, IfSome, IfNone, Some, IsTrue};
 ghost use Rattle.cr_base.specs.Moments.{IsMoment};
 ghost use Rattle.cr_base.specs.TagTexts.{is_tag};
-ghost use Rattle.cr_base.specs.Shapes.{FitsShape, FitsStamp, stamp_in};
+ghost use Rattle.cr_base.specs.Shapes.{FitsShape, FitsStamp, key_in, stamp_in};
+ghost use Rattle.cr_base.specs.Keys.{IsKeyOrNone};
 ghost use Rattle.cr_base.specs.Rows.{kind_name, kind_number, shape_of, row_of, fields_of};
-ghost use Rattle.cr_base.specs.Rows.{label_number, label_numbered, until_number, until_numbered};
+ghost use Rattle.cr_base.specs.Rows.{key_mark, key_number, label_number, label_numbered, until_number, until_numbered};
 ghost use Rattle.cr_base.specs.Rows.{built, IsBoundedEntry};
 ghost use Rattle.cr_base.specs.declared.entry.EntryKind.{EntryKind};
 ghost use Rattle.cr_base.specs.declared.entry.Stamped.{Stamped};
@@ -15,6 +16,7 @@ use crate::entry::{Digest, Entry, EntryKind, Stamp, Stamped};
 use crate::form::Form;
 use crate::moment::Moment;
 use crate::numbers::{Grade, Ordinal, PaperNo, UserNo};
+use crate::retry::{CommandNumber, RetryKey};
 use crate::row::Row;
 use crate::shape::{
     BIDS, BIT, DEADLINE_PHASES, DECISIONS, GRADES, KINDS, MODES, ORDINALS, PAPERS, PHASES, ROLES,
@@ -171,6 +173,8 @@ impl Entry {
             maker: stamp.maker.number(),
             more: u64::from(more),
             at: stamp.at.seconds(),
+            num: number_of_key(&stamp.key),
+            mark: mark_of_key(alloc, &stamp.key)?,
             n1: numbers.n1,
             n2: numbers.n2,
             n3: numbers.n3,
@@ -417,6 +421,38 @@ fn until_of_number(number: u64) -> Option<Deadline>
     Deadline::new(number)
 }
 
+/// The number that rows tell of a command's key that may be none: its own, or 0.
+fn number_of_key(key: &Option<RetryKey>) -> u64
+    ensures { result ≡ key_number key.now }
+{
+    match key {
+        Some(key) => key.number.number(),
+        None => 0,
+    }
+}
+
+/// The mark that rows tell of a command's key that may be none; an error only for lack of memory.
+fn mark_of_key(alloc: Global, key: &Option<RetryKey>) -> Result<Blob, AllocError>
+    ensures { IfOk result (λ mark. mark ≡ key_mark key.now) }
+{
+    match key {
+        Some(key) => Blob::from_slice(alloc, &key.mark),
+        None => Ok(Blob::empty()),
+    }
+}
+
+/// The key that the fields of a row spell.
+fn key_of_row(row: &Row) -> Option<RetryKey>
+    requires { IsKeyOrNone (key_in (row.now).num (row.now).mark) }
+    ensures { result ≡ key_in (row.now).num (row.now).mark }
+{
+    let number = CommandNumber::new(row.num)?;
+    Some(RetryKey {
+        number,
+        mark: digest_of(&row.mark),
+    })
+}
+
 /// The moment of so many seconds, where there is one.
 fn moment_of_seconds(seconds: u64) -> Moment
     requires { IsMoment seconds }
@@ -566,6 +602,7 @@ impl Stamp {
         Stamp {
             maker: UserNo::new(row.maker),
             at: moment_of_seconds(row.at),
+            key: key_of_row(row),
         }
     }
 }

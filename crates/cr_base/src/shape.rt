@@ -1,11 +1,13 @@
 //! What may stand in the fields of a row: ranges of numbers and grammars of bytes.
-ghost use Rattle.std.specs.Prelude.{◌≡◌, ◌↔◌, IsTrue};
-ghost use Rattle.cr_base.specs.Shapes.{FitsShape, FitsStamp, stamp_in, HasText, InRange, IsAtMost};
+ghost use Rattle.std.specs.Prelude.{◌≡◌, ◌↔◌, [], IsTrue};
+ghost use Rattle.cr_base.specs.Shapes.{FitsShape, FitsStamp, stamp_in, key_in, HasText, InRange, IsAtMost};
+ghost use Rattle.cr_base.specs.Keys.{IsKeyOrNone};
 
 use crate::bid::HIGHEST_RAISED;
 use crate::deadline::LAST_DEADLINE;
 use crate::moment::LAST_MOMENT;
 use crate::numbers::{HIGHEST_GRADE, LAST_NUMBER, MOST_LABELS};
+use crate::retry::LAST_COMMAND_NUMBER;
 use crate::row::Row;
 use crate::tag::is_tag;
 use crate::texts::{is_abstract, is_comment, is_content, is_name, is_review_text, is_title};
@@ -239,6 +241,7 @@ impl Shape {
         ensures { IsTrue result ↔ FitsShape self.now row.now }
     {
         fits_stamp(row)
+            && fits_mark(row)
             && BIT.holds(row.more)
             && self.n1.holds(row.n1)
             && self.n2.holds(row.n2)
@@ -254,5 +257,19 @@ impl Shape {
 fn fits_stamp(row: &Row) -> bool
     ensures { IsTrue result ↔ FitsStamp (stamp_in row.now) }
 {
-    USERS.holds(row.maker) && row.at <= LAST_MOMENT
+    USERS.holds(row.maker) && row.at <= LAST_MOMENT && fits_key(row)
+}
+
+/// Whether a row has no command number, or one with a mark as they may be.
+fn fits_key(row: &Row) -> bool
+    ensures { IsTrue result ↔ IsKeyOrNone (key_in (row.now).num (row.now).mark) }
+{
+    row.num == 0 || (row.num <= LAST_COMMAND_NUMBER && row.mark.as_slice().len() == 32)
+}
+
+/// Whether a row without a command number has no mark.
+fn fits_mark(row: &Row) -> bool
+    ensures { IsTrue result ↔ ((row.now).num ≡ 0 → (row.now).mark ≡ []) }
+{
+    row.num != 0 || row.mark.as_slice().is_empty()
 }

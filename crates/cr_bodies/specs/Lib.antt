@@ -1,4 +1,5 @@
 pub mod Secret
+pub mod Mark
 pub mod Field
 pub mod Until
 pub mod Json

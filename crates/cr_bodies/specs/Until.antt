@@ -26,13 +26,13 @@ deadline_at (pos nanos) =
 deadline_at (negsuc nanos) = None
 
 -- the deadline that a text tells
-abbrev pub deadline_told : List ℕ → Option ℕ
-deadline_told text = option_and_then deadline_at (result_ok (parse_timestamp text))
+abbrev pub deadline_in_text : List ℕ → Option ℕ
+deadline_in_text text = option_and_then deadline_at (result_ok (parse_timestamp text))
 
 -- until when, where a value tells it: null says that there is no deadline any more
 abbrev pub until_told : Data → Option (Option ℕ)
 until_told d =
-    if is_some (as_null d) then Some None else option_map (λ until. Some until) (as_str d >>= deadline_told)
+    if is_some (as_null d) then Some None else option_map (λ until. Some until) (as_str d >>= deadline_in_text)
 
 -- until when, under a key that must be there
 abbrev pub until_under : List ℕ → Data → Option (Option ℕ)

@@ -186,11 +186,10 @@ fn command_in(
             let decision = decision(body, "decision")?;
             Ok(Command::Decide { paper, decision })
         }
-        Ask::Accounts | Ask::Phase | Ask::AcceptedPapers => Err(DecodeError::Malformed),
-        Ask::Deadlines | Ask::Page | Ask::Me | Ask::Search => Err(DecodeError::Malformed),
-        Ask::Withdraw | Ask::Content | Ask::Upload | Ask::Version => Err(DecodeError::Malformed),
-        Ask::Unassign | Ask::Reviews | Ask::Comments => Err(DecodeError::Malformed),
-        Ask::Tag | Ask::Untag => Err(DecodeError::Malformed),
+        Ask::Accounts | Ask::Phase | Ask::AcceptedPapers | Ask::Page => Err(DecodeError::Malformed),
+        Ask::Deadlines | Ask::Me | Ask::Search | Ask::Withdraw => Err(DecodeError::Malformed),
+        Ask::Content | Ask::Upload | Ask::Version | Ask::Tag => Err(DecodeError::Malformed),
+        Ask::Unassign | Ask::Reviews | Ask::Comments | Ask::Untag => Err(DecodeError::Malformed),
         Ask::Bulk | Ask::PapersReport | Ask::ScoresReport => Err(DecodeError::Malformed),
         Ask::LoadReport | Ask::DecisionsReport | Ask::Letter => Err(DecodeError::Malformed),
     }

@@ -1,4 +1,4 @@
-//! What a request tells beside its path and method: a JSON body, and the credentials of a login.
+//! What a request tells beside its path and method: a JSON body, the credentials of a login, and its mark.
 #![tactic(auto)]
 
 mod body;
@@ -6,6 +6,7 @@ mod bytes;
 mod credentials;
 mod field;
 mod laws;
+mod mark;
 mod secret;
 mod until;
 
@@ -13,3 +14,4 @@ pub use body::read_command;
 pub use bytes::{after_first, before_first};
 pub use credentials::{Credentials, read_credentials};
 pub use laws::law_deadlines_read;
+pub use mark::mark_of;

@@ -3,7 +3,7 @@ ghost use Rattle.std.specs.Prelude.{◌≡◌, IfOk, IsTrue};
 ghost use Rattle.cr_base.specs.Deadlines.{IsDeadlineOrNone};
 ghost use Rattle.cr_base.specs.Phases.{may_have_deadline};
 ghost use Rattle.cr_bodies.specs.Outcome.{Tells};
-ghost use Rattle.cr_bodies.specs.Until.{deadline_at as deadline_of_nanos, deadline_phase_under, deadline_told};
+ghost use Rattle.cr_bodies.specs.Until.{deadline_at as deadline_of_nanos, deadline_phase_under, deadline_in_text};
 ghost use Rattle.cr_bodies.specs.Until.{until_under};
 ghost use Rattle.serde_json.specs.View.{view};
 
@@ -12,7 +12,8 @@ use cr_base::{Deadline, DecodeError, Phase};
 use jiff::Timestamp;
 use serde_json::Value;
 
-/// The phase whose word stands under a key, where it may have a deadline: submission, bidding, reviewing or discussion.
+/// The phase whose word stands under a key, where it may have a deadline: submission, bidding, reviewing or
+/// discussion.
 pub(crate) fn deadline_phase(body: &Value, key: &str) -> Result<Phase, DecodeError>
     ensures told { Tells result (deadline_phase_under key.now (view body.now)) }
     ensures valid { IfOk result (λ phase. IsTrue (may_have_deadline phase)) }
@@ -38,10 +39,10 @@ fn deadline_at(instant: Timestamp) -> Option<Deadline>
     }
 }
 
-/// The deadline that a text tells, as `jiff` reads a timestamp (RFC 3339, with what RFC 9557 adds): None where it reads
-/// none, and where that is no deadline.
+/// The deadline that a text tells, as `jiff` reads a timestamp (RFC 3339, with what RFC 9557 adds): None where it
+/// reads none, and where that is no deadline.
 fn parse_deadline(text: &str) -> Option<Deadline>
-    ensures { result ≡ deadline_told text.now }
+    ensures { result ≡ deadline_in_text text.now }
 {
     match text.parse::<Timestamp>() {
         Ok(instant) => deadline_at(instant),

@@ -2,6 +2,7 @@
 use Rattle.std.proofs.Common.{ℕ, ◌≡◌, ◌≢◌, Bool, true, false, List, ◌++◌, refl, sym, ap, subst, ◌∙◌, length, Option, Some, None, Result, Ok, IfSome, IsSome, IsOk, Err}
 use Rattle.cr_base.specs.declared.command.Call.{Call}
 use Rattle.cr_base.specs.declared.bulk.Broken.{Broken}
+use Rattle.cr_base.specs.declared.reply.Receipt.{Receipt}
 use Rattle.cr_base.specs.declared.reply.Receipt.TheVariants as receipts
 use Rattle.cr_base.specs.declared.reply.Rule.{Rule}
 use Rattle.cr_base.specs.declared.row.Row.{Row}
@@ -18,19 +19,20 @@ use Rattle.cr_base.specs.Answering.{answer_by_role, login_wanted}
 use Rattle.cr_base.specs.Calls.{BulkCall}
 use Rattle.cr_base.specs.Drawn.{Drawn, grouped}
 use Rattle.cr_base.specs.Judging.{judge_by_role}
+use Rattle.cr_base.specs.Retries.{Judged}
 use Rattle.cr_base.specs.Rows.{rows_of}
 use Rattle.cr_base.specs.Sources.{facts_of_tables}
 use Rattle.cr_base.specs.Tables.{Tables, tables_of, tables_from}
 use Rattle.cr_policy.specs.Judge.{judge, judge_bulk, answer, needs_login}
 use Rattle.cr_policy.specs.View.{view}
 use Rattle.cr_policy.specs.Legal.{IsBulkAllowed, Legal, MayAsk}
-use Rattle.cr_policy.proofs.LegalLaws.{Legal-judge, Legal-judge_bulk, Legal-answer, Legal-needs_login, Legal-number_of, Legal-caller_of}
+use Rattle.cr_policy.proofs.LegalLaws.{given-bounded, Legal-judge, Legal-judge_bulk, Legal-answer, Legal-needs_login, Legal-number_of, Legal-caller_of}
 use Rattle.cr_history.specs.Invariants.{IsRegistered}
 use Rattle.cr_history.proofs.TableAgreement.{tables_of-append, rows_of-append}
 use Rattle.cr_ports.specs.Keeping.{and_rows}
 use Rattle.cr_view.specs.Callers.{HasAsker}
 use Rattle.cr_view.specs.Replies.{IsNoRefusal}
-use Rattle.cr_book.specs.Sound.{IsSound}
+use Rattle.cr_book.specs.Sound.{Acts, IsSound}
 
 -- it is no search and no report, which have crates of their own
 pub record IsOther (query : Query) : Type 0 where
@@ -91,7 +93,7 @@ pub bulk-by_view : {K : Type 0} (rows : K → Option (List Row)) (h log : Histor
     → judge_bulk (view (Some bulk.stamp.maker) log) bulk ≡ judgement
 bulk-by_view rows h log t keeper bulk judgement same sound allowed is =
     sym (ap (λ (x : History). judge_bulk (view (Some bulk.stamp.maker) x) bulk) same)
-    ∙ Legal-judge_bulk h bulk sound.legal (subst (λ (x : History). IsRegistered x bulk.stamp.maker) (sym same) allowed.caller) allowed.moment
+    ∙ Legal-judge_bulk h bulk sound.legal (subst (λ (x : History). IsRegistered x bulk.stamp.maker) (sym same) allowed.given.caller) (given-bounded log bulk allowed.given)
     ∙ ap (λ (x : Tables). bulk_by_role x bulk) (sym sound.same)
     ∙ is
 
@@ -112,6 +114,12 @@ pub drawn-no_error : {D E : Type 0} (judged : Result D E) (drawn : D) (error : E
 drawn-no_error {D} {E} judged drawn error is told = let e : ◌≡◌ {A = Result D E} (Ok drawn) (Err error) = sym is ∙ told in cc (e)
 
 -- ---- an accepted command
+
+-- what is drawn acts
+pub acts-judged : {E : Type 0} (old new : History) (receipt : Receipt) (judgement : Result Drawn E) (drawn : Drawn) → judgement ≡ Ok drawn → receipt ≡ drawn.receipt
+    → new ≡ old ++ drawn.group → Acts (Judged judgement) old new receipt
+acts-judged {E} old new receipt judgement drawn accepted told added =
+    subst (λ (r : Result Drawn E). Acts (Judged r) old new receipt) (sym accepted) (told, added)
 
 kept-append : (told now : Option (List Row)) (h group : History) → IfSome told (λ t. t ≡ rows_of h) → now ≡ and_rows told (rows_of group) → IfSome now (λ t. t ≡ rows_of (h ++ group))
 kept-append None now h group was is = subst (λ (o : Option (List Row)). IfSome o (λ t. t ≡ rows_of (h ++ group))) (sym is) tt

@@ -1,4 +1,6 @@
 pub mod BookLaws
+pub mod EarlierLaws
+pub mod FollowLaws
 pub mod JudgingLaws
 pub mod OpeningAuthors
 pub mod OpeningBulkRows
@@ -13,5 +15,6 @@ pub mod OpeningOnward
 pub mod OpeningRowCommands
 pub mod OpeningRows
 pub mod OpeningSpelling
+pub mod OutcomeLaws
 pub mod ViewLaws
 pub mod StoreLaws

@@ -1,5 +1,5 @@
 -- Rows of a bulk that are read one behind another: which go on it, by which legal histories, and which don't.
-use Rattle.std.proofs.Common.{ℕ, Bool, true, false, cond, ◌≡◌, ◌≤◌, ◌<◌, inl, inr, List, [], ◌∷◌, ◌++◌, length, length-append, take, refl, sym, ap, subst, ◌∙◌, arith, append_assoc, ◌&&◌, ◌||◌, ◌+◌}
+use Rattle.std.proofs.Common.{ℕ, Bool, true, false, cond, ◌≡◌, ◌≤◌, ◌<◌, inl, inr, Some, List, [], ◌∷◌, ◌++◌, length, length-append, take, refl, sym, ap, subst, ◌∙◌, arith, append_assoc, ◌&&◌, ◌||◌, ◌+◌}
 use Rattle.std.specs.Prelude.{is_ok, not, nat_lt, map}
 use Rattle.std.specs.List.{AllByRecursion}
 use Rattle.std.proofs.lemmas.Bool.{and_parts, true≢false}
@@ -20,20 +20,22 @@ use Rattle.cr_base.specs.Tables.{Tables, tables_of, tables_from}
 use Rattle.cr_base.proofs.RowLaws.{same_entry}
 use Rattle.cr_history.specs.Groups.{Adds, single, submitted, first_user}
 use Rattle.cr_history.proofs.TableAgreement.{rows_of-append}
-use Rattle.cr_policy.specs.Legal.{Legal}
+use Rattle.cr_log.specs.Given.{MayFollow}
+use Rattle.cr_policy.specs.Legal.{IsNewKey, Legal}
 use Rattle.cr_policy.proofs.AcceptedLaws.{accepted-adds}
-use Rattle.cr_policy.proofs.LegalLaws.{Legal-judge_bulk, Legal-bulk_accepted}
+use Rattle.cr_policy.proofs.LegalLaws.{given-bounded, Legal-judge_bulk, Legal-bulk_accepted}
 use Rattle.cr_judge.specs.Rows.{AreEarlier}
 use Rattle.cr_book.specs.BulkRebuilding.{is_of_row, begins_bulk, unfinished, IsDrawn, AreDrawn, caller_judged, may_bulk, IsOpenBulk, has_room, HaveStamp, GoesOn, NoBulk, IsBulkRead, is_of_bulk}
 use Rattle.cr_book.specs.Opening.{Continue}
-use Rattle.cr_book.specs.Reading.{IsOpen, IsGroup, IsReading, IsGoing}
+use Rattle.cr_book.specs.Reading.{BeginNew, IsOpen, IsGroup, IsReading, IsGoing}
 use Rattle.cr_book.proofs.OpeningBulks.{bulk-parts, parts-bulk, rows-drawn, rows-spelled, drawn-middle, drawn-more, told-of_row, Within, within, whole-group, map-more, marked}
 use Rattle.cr_book.proofs.OpeningCommands.{registered-known, drawn-adds}
+use Rattle.cr_book.proofs.FollowLaws.{grouped-follow}
 use Rattle.cr_book.proofs.OpeningLegal.{MayAdd, MayAddRows, MayMove, may_move-group, grouped-group}
 use Rattle.cr_book.proofs.OpeningNames.{row_names}
 use Rattle.cr_book.proofs.OpeningNext.{may-parts, OnClear, drawn-clear, tag-next}
 use Rattle.cr_book.proofs.OpeningOnward.{last-bounded, Onward, onward}
-use Rattle.cr_book.proofs.OpeningRows.{head_is, rows-split}
+use Rattle.cr_book.proofs.OpeningRows.{bounded-stamp, head_is, rows-split}
 
 -- ---- what a legal history goes on by
 
@@ -42,6 +44,7 @@ pub record BulkOf (H group : History) : Type 0 where
   pub stamp : Stamp
   pub entries : List Entry
   pub group_is : group ≡ grouped stamp entries
+  pub new : IsNewKey H (Some stamp.maker) stamp.key
   pub may : may_bulk (tables_of H) stamp.maker ≡ true
   pub drawn : AreDrawn (tables_of H) stamp entries
   pub few : length entries ≤ 512
@@ -50,32 +53,34 @@ bulk-of : (H group : History) → Legal H → MayAddRows H group → BulkOf H gr
 bulk-of H group legal add =
     let stamp : Stamp = add.bulk.stamp in
     let t : Tables = tables_of H in
-    let parts = bulk-parts (tables_basis stamp.maker) t add.bulk add.drawn (sym (Legal-judge_bulk H add.bulk legal add.allowed.caller add.allowed.moment) ∙ add.accepted) in
+    let parts = bulk-parts (tables_basis stamp.maker) t add.bulk add.drawn (sym (Legal-judge_bulk H add.bulk legal add.allowed.given.caller (given-bounded H add.bulk add.allowed.given)) ∙ add.accepted) in
     let rebuilt = rows-drawn stamp 1 t add.bulk.rows parts.entries parts.accepted in
     let many = rebuilt.count in
-    let bound = add.allowed.bounded in
+    let bound = add.allowed.given.bounded in
     record {
       stamp = stamp;
       entries = parts.entries;
       group_is = add.group_is ∙ ap (λ (d : Drawn). d.group) (sym parts.drawn_is);
-      may = ap (λ (b : Bool). b && is_ok (caller_judged t stamp.maker)) (sym (registered-known H stamp.maker legal) ∙ add.allowed.caller) ∙ ap is_ok parts.may;
+      new = add.allowed.unused;
+      may = ap (λ (b : Bool). b && is_ok (caller_judged t stamp.maker)) (sym (registered-known H stamp.maker legal) ∙ add.allowed.given.caller) ∙ ap is_ok parts.may;
       drawn = rebuilt.drawn;
       few = omega (arith, many, bound);
     }
 
--- entries that are drawn are a bulk's
-bulk-may : (H : History) (stamp : Stamp) → FitsStamp stamp → (entries : List Entry) → Legal H → may_bulk (tables_of H) stamp.maker ≡ true
+-- entries that are drawn are a bulk's, where its number is new
+bulk-may : (H : History) (stamp : Stamp) → FitsStamp stamp → IsNewKey H (Some stamp.maker) stamp.key → (entries : List Entry) → Legal H → may_bulk (tables_of H) stamp.maker ≡ true
     → AllByRecursion (λ (e : Entry). IsBoundedEntry (unfinished stamp e)) entries → AreDrawn (tables_of H) stamp entries → length entries ≤ 512
     → Legal (H ++ grouped stamp entries)
-bulk-may H stamp fits entries legal may bounded drawn few =
+bulk-may H stamp fits new entries legal may bounded drawn few =
     let t : Tables = tables_of H in
     let rows = rows-spelled stamp 1 t entries (row_names H legal) bounded drawn in
     let parts = may-parts t stamp.maker may in
     let registered = registered-known H stamp.maker legal ∙ parts.0 in
     let many = rows.1 in
     let bulk : BulkCall = record { stamp = stamp; rows = rows.0 } in
-    Legal-bulk_accepted H bulk (bulk_drawn stamp (length rows.0) entries) legal (record { caller = registered; bounded = omega (arith, many, few); moment = fits.at })
-    (Legal-judge_bulk H bulk legal registered fits.at ∙ parts-bulk (tables_basis stamp.maker) t bulk entries parts.1 rows.2)
+    Legal-bulk_accepted H bulk (bulk_drawn stamp (length rows.0) entries) legal
+    (record { given = record { caller = registered; bounded = omega (arith, many, few); moment = fits.at; key = fits.key }; unused = new })
+    (Legal-judge_bulk H bulk legal registered (record { moment = fits.at; key = fits.key }) ∙ parts-bulk (tables_basis stamp.maker) t bulk entries parts.1 rows.2)
 
 -- ---- the first entry of a group
 
@@ -107,7 +112,7 @@ call-of H group legal (inr rows) bounded alone = by of.entries of.group_is of.dr
     by [] is drawn = elim (subst (λ (g : History). IsGroup g) is rows.some) [ ]
     by (e ∷ []) is drawn =
         subst (λ (g : History). MayAdd H g) (sym is)
-        (drawn-adds H legal of.stamp e (subst (λ (g : History). AllByRecursion IsBoundedEntry g) is bounded).0 (may-parts (tables_of H) of.stamp.maker of.may).0 drawn.0)
+        (drawn-adds H legal of.stamp e (subst (λ (g : History). AllByRecursion IsBoundedEntry g) is bounded).0 of.new (may-parts (tables_of H) of.stamp.maker of.may).0 drawn.0)
     by (e ∷ next ∷ entries) is drawn =
         absurd (true≢false (sym (told-of_row (tables_of H) e drawn.0.command drawn.0.told) ∙ alone (unfinished of.stamp e) (grouped of.stamp (next ∷ entries)) is))
 
@@ -242,7 +247,7 @@ no-call : (H group begun rest : History) (next : Stamped) → MayAdd H group →
 no-call H group begun rest next add first is = by begun first is
   where
     added : Adds H group
-    added = subst (λ (g : History). Adds H g) (sym add.group_is) (accepted-adds H add.call add.drawn add.allowed add.accepted)
+    added = subst (λ (g : History). Adds H g) (sym add.group_is) (accepted-adds H add.call add.drawn add.allowed.given add.accepted)
 
     by : (begun : History) → begins_bulk (first_of begun next) ≡ true → group ≡ begun ++ next ∷ rest → ⊥
     by [] first is = true≢false (sym first ∙ call-first H group next rest added is)
@@ -305,7 +310,8 @@ marked-next : (next : Stamped) (m : Bool) → next.more ≡ m → next ≡ stamp
 marked-next next m is = ap (λ (b : Bool). stamped next.stamp b next.entry) is
 
 module _ (log : History) (pending : List Row) (begun : History) (row : Row) (next : Stamped) (reading : IsReading log (tables_of log) pending begun)
-    (of : is_of_bulk pending begun next ≡ true) (bounded : IsBoundedEntry next) (is : row_of next ≡ row) (on : GoesOn (tables_of log) begun next) where
+    (of : is_of_bulk pending begun next ≡ true) (bounded : IsBoundedEntry next) (is : row_of next ≡ row) (on : GoesOn (tables_of log) begun next)
+    (fresh : BeginNew log (pending ++ row ∷ [])) where
   abbrev t : Tables
   t = tables_of log
 
@@ -335,6 +341,16 @@ module _ (log : History) (pending : List Row) (begun : History) (row : Row) (nex
   rows_with : pending ++ row ∷ [] ≡ rows_of (begun ++ next ∷ [])
   rows_with = ap (λ (rows : List Row). rows ++ row ∷ []) before.rows_are ∙ ap (λ (r : Row). rows_of begun ++ r ∷ []) (sym is) ∙ sym (rows_of-append begun (next ∷ []))
 
+  -- the first row's number is that of all
+  new : IsNewKey log (Some stamp.maker) stamp.key
+  new = by before.entries (subst (λ (rows : List Row). BeginNew log rows) (ap (λ (rows : List Row). rows ++ row ∷ []) (before.rows_are ∙ ap rows_of before.begun_is)) fresh)
+      (subst (λ (h : History). AllByRecursion IsBoundedEntry h) before.begun_is before.bounded)
+    where
+      by : (front : List Entry) → BeginNew log (rows_of (map (unfinished stamp) front) ++ row ∷ []) → AllByRecursion IsBoundedEntry (map (unfinished stamp) front)
+          → IsNewKey log (Some stamp.maker) stamp.key
+      by [] fresh within = fresh next bounded is
+      by (e ∷ front) fresh within = fresh (unfinished stamp e) within.0 refl
+
   -- ---- the last row
 
   last-going : next.more ≡ false → IsGoing log t (pending ++ row ∷ []) (begun ++ next ∷ [])
@@ -344,7 +360,8 @@ module _ (log : History) (pending : List Row) (begun : History) (row : Row) (nex
       record {
         legal = reading.legal;
         same = refl;
-        next = subst (λ (g : History). Legal (log ++ g)) (sym group_is) (bulk-may log stamp bounded.stamp entries reading.legal may_parts.1 all_bounded drawn (omega (arith, few, n)));
+        next = subst (λ (g : History). Legal (log ++ g)) (sym group_is) (bulk-may log stamp (bounded-stamp next bounded) new entries reading.legal may_parts.1 all_bounded drawn (omega (arith, few, n)));
+        follows = subst (λ (g : History). MayFollow log g) (sym group_is) (grouped-follow log stamp entries new);
         whole = subst (λ (g : History). IsGroup g) (sym group_is) (grouped-some stamp before.entries next.entry);
         begins = ap (λ (rows : List Row). take (length rows) (rows_of (begun ++ next ∷ []))) rows_with ∙ take_whole (rows_of (begun ++ next ∷ [])) ∙ sym rows_with;
       }
@@ -373,6 +390,7 @@ module _ (log : History) (pending : List Row) (begun : History) (row : Row) (nex
   tag_bounded : IsBoundedEntry (unfinished stamp tagged)
   tag_bounded = record {
     stamp = bounded.stamp;
+    unmarked = bounded.unmarked;
     more = omega arith;
     n1 = (clear.low, clear.high);
     n2 = (omega arith, omega arith);
@@ -403,7 +421,7 @@ module _ (log : History) (pending : List Row) (begun : History) (row : Row) (nex
       let m = length-append entries (tagged ∷ []) in
       record {
         history = log ++ grouped stamp (entries ++ tagged ∷ []);
-        legal = bulk-may log stamp bounded.stamp (entries ++ tagged ∷ []) reading.legal may_parts.1 (all-more (λ (e : Entry). IsBoundedEntry (unfinished stamp e)) entries tagged all_bounded tag_bounded)
+        legal = bulk-may log stamp (bounded-stamp next bounded) new (entries ++ tagged ∷ []) reading.legal may_parts.1 (all-more (λ (e : Entry). IsBoundedEntry (unfinished stamp e)) entries tagged all_bounded tag_bounded)
             (tag-next t stamp entries clear.paper (97 ∷ []) true may_parts.1 clear.clear drawn) (omega (arith, few, n, m));
         after = row_of last ∷ [];
         rows_are = rows_of-append log (grouped stamp (entries ++ tagged ∷ []))
@@ -424,6 +442,7 @@ module _ (log : History) (pending : List Row) (begun : History) (row : Row) (nex
         same = refl;
         unfinished = all-more IsOpen pending row reading.unfinished (ap (λ (r : Row). r.more) (sym is) ∙ ap (λ (m : Bool). cond m 1 0) more);
         continue = more-continue more;
+        new = fresh;
         bulk = some begun (record {
           stamp = stamp;
           entries = entries;
@@ -443,7 +462,8 @@ module _ (log : History) (pending : List Row) (begun : History) (row : Row) (nex
 
 -- the same by the tables that are at hand
 module _ (log : History) (t : Tables) (pending : List Row) (begun : History) (row : Row) (next : Stamped) (reading : IsReading log t pending begun)
-    (of : is_of_bulk pending begun next ≡ true) (bounded : IsBoundedEntry next) (is : row_of next ≡ row) (on : GoesOn t begun next) where
+    (of : is_of_bulk pending begun next ≡ true) (bounded : IsBoundedEntry next) (is : row_of next ≡ row) (on : GoesOn t begun next)
+    (fresh : BeginNew log (pending ++ row ∷ [])) where
   here : IsReading log (tables_of log) pending begun
   here = subst (λ (x : Tables). IsReading log x pending begun) reading.same reading
 
@@ -451,12 +471,12 @@ module _ (log : History) (t : Tables) (pending : List Row) (begun : History) (ro
   on_here = subst (λ (x : Tables). GoesOn x begun next) reading.same on
 
   pub bulk-last : next.more ≡ false → IsGoing log t (pending ++ row ∷ []) (begun ++ next ∷ [])
-  bulk-last last = subst (λ (x : Tables). IsGoing log x (pending ++ row ∷ []) (begun ++ next ∷ [])) (sym reading.same) (last-going log pending begun row next here of bounded is on_here last)
+  bulk-last last = subst (λ (x : Tables). IsGoing log x (pending ++ row ∷ []) (begun ++ next ∷ [])) (sym reading.same) (last-going log pending begun row next here of bounded is on_here fresh last)
 
   pub bulk-more : AreEarlier t (begun ++ next ∷ []) → next.more ≡ true → IsReading log t (pending ++ row ∷ []) (begun ++ next ∷ [])
   bulk-more earlier more =
       subst (λ (x : Tables). IsReading log x (pending ++ row ∷ []) (begun ++ next ∷ [])) (sym reading.same)
-      (more-reading log pending begun row next here of bounded is on_here (subst (λ (x : Tables). AreEarlier x (begun ++ next ∷ [])) reading.same earlier) more)
+      (more-reading log pending begun row next here of bounded is on_here fresh (subst (λ (x : Tables). AreEarlier x (begun ++ next ∷ [])) reading.same earlier) more)
 
 -- ---- what is asked of the entries that are begun
 

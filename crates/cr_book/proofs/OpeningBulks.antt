@@ -352,7 +352,7 @@ map-more stamp (x ∷ entries) e = ap (λ (h : History). unfinished stamp x ∷ 
 
 -- the marks make no difference to the bounds
 pub marked : (stamp : Stamp) (m n : Bool) (e : Entry) → IsBoundedEntry (stamped stamp m e) → IsBoundedEntry (stamped stamp n e)
-marked stamp m n e b = record { stamp = b.stamp; more = by n; n1 = b.n1; n2 = b.n2; n3 = b.n3; n4 = b.n4; n5 = b.n5; b1 = b.b1; b2 = b.b2 }
+marked stamp m n e b = record { stamp = b.stamp; unmarked = b.unmarked; more = by n; n1 = b.n1; n2 = b.n2; n3 = b.n3; n4 = b.n4; n5 = b.n5; b1 = b.b1; b2 = b.b2 }
   where
     by : (n : Bool) → bit_number n ≤ 1
     by true = omega arith

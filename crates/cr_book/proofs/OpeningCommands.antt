@@ -1,7 +1,7 @@
 -- The command of a group, by its first entry and the rows behind it: what is rebuilt is an allowed call of the history, and it
 -- adds a group that begins like the one that was added.
 use Rattle.std.proofs.Common.{ℕ, Bool, true, false, cond, ◌≡◌, ◌≤◌, ◌+◌, List, [], ◌∷◌, ◌++◌, length, take, eqb, refl, sym, ap, subst, ◌∙◌, arith, ◌||◌, Option, Some, None, Result, Ok, Err}
-use Rattle.std.specs.Prelude.{is_some, is_none, nat_le, not, unwrap_or, map}
+use Rattle.std.specs.Prelude.{is_some, is_none, nat_le, not, unwrap_or, map, ◌&&◌}
 use Rattle.std.specs.List.{list_any, find, flat_map, AllByRecursion}
 use Rattle.std.specs.Option.{option_map, option_and_then}
 use Rattle.std.specs.Result.{result_ok}
@@ -23,6 +23,7 @@ use Rattle.cr_base.specs.declared.form.Form.{Form}
 use Rattle.cr_base.specs.declared.reply.AccountLine.{AccountLine}
 use Rattle.cr_base.specs.declared.reply.Rule.{Rule}
 use Rattle.cr_base.specs.declared.reply.Rule.TheVariants as rules
+use Rattle.cr_base.specs.declared.retry.RetryKey.{RetryKey}
 use Rattle.cr_base.specs.declared.row.Row.{Row}
 use Rattle.cr_base.specs.declared.standing.Standing.{Standing}
 use Rattle.cr_base.specs.declared.words.Decision.{Decision}
@@ -64,15 +65,17 @@ use Rattle.cr_base.specs.Words.{phase_number, role_number, is_member}
 use Rattle.cr_base.proofs.AccountLaws.{number_in-lines_of}
 use Rattle.cr_base.proofs.ListLaws.{name_in-lines_of}
 use Rattle.cr_policy.specs.Judge.{judge}
-use Rattle.cr_policy.specs.Legal.{IsUser, CallsAs, IsCaller, IsAllowed, Legal}
+use Rattle.cr_policy.specs.Legal.{IsUser, CallsAs, IsCaller, IsAllowed, IsKeyOf, IsNewKey, Legal}
 use Rattle.cr_history.specs.Invariants.{IsRegistered}
 use Rattle.cr_policy.specs.View.{view}
+use Rattle.cr_policy.proofs.AcceptedLaws.{key-given}
 use Rattle.cr_policy.proofs.LegalLaws.{Legal-fits, Legal-judge}
 use Rattle.cr_history.proofs.LineAgreement.{accounts_of-tables}
 use Rattle.cr_base.specs.Bulk.{IsRowCommand}
 use Rattle.cr_book.proofs.OpeningRowCommands.{row-adds}
+use Rattle.cr_book.proofs.OpeningRows.{bounded-stamp}
 use Rattle.cr_book.specs.BulkRebuilding.{is_of_row, IsDrawn}
-use Rattle.cr_book.specs.Rebuilding.{name_told, giver_told, call_given, command_told, paper_command_told, user_command_told, is_known, authors_told, call_told, drawn_of, drawn_told, drawn_by_rows}
+use Rattle.cr_book.specs.Rebuilding.{name_told, call_given, command_told, paper_command_told, user_command_told, is_givers, is_known, authors_told, call_told, drawn_of, drawn_told, drawn_by_rows}
 
 -- ---- who is known
 
@@ -116,9 +119,9 @@ pub record ToldByRows (t : Tables) (rows : List Row) (drawn : Drawn) : Type 0 wh
   pub told : drawn_by_rows t rows first ≡ Some given
   pub begins : take (length rows) (rows_of given.group) ≡ rows
 
--- where the call of an entry is known, what is drawn is what its judgement draws
+-- where whoever gives the call of an entry is known, and may have given its number, what is drawn is what its judgement draws
 pub told-judged : (t : Tables) (authors : List (Option (List ℕ))) (first : Stamped) (call : Call) (judged : Result Drawn Rule)
-    → call_told t authors first ≡ Some call → is_known t call.caller ≡ true → judge_by_role t call ≡ judged
+    → call_told t authors first ≡ Some call → is_givers t call ≡ true → judge_by_role t call ≡ judged
     → drawn_told t authors first ≡ result_ok judged
 told-judged t authors first call judged told known is =
     ap (option_and_then (drawn_of t)) told
@@ -224,6 +227,11 @@ row-call t authors first command of_row told = by first.entry of_row ∙ ap (opt
     by e of_row = absurd (true≢false (sym of_row))
 
 module _ (t : Tables) (rows : List Row) (drawn : Drawn) (begins : take (length rows) (rows_of drawn.group) ≡ rows) where
+  -- nobody's has no number
+  nobodys : (key : Option RetryKey) → IsKeyOf None key → (is_none key && true) ≡ true
+  nobodys None keyless = refl
+  nobodys (Some key) keyless = absurd keyless
+
   -- a group of one entry
   told-single : (stamp : Stamp) (e : Entry) (command : Command) (given : Drawn) → given.group ≡ grouped stamp (e ∷ []) → given ≡ drawn
       → is_known t (Some stamp.maker) ≡ true → call_told t (authors_told t stamp.maker rows) (stamped stamp false e) ≡ Some (call_by stamp command)
@@ -237,9 +245,9 @@ module _ (t : Tables) (rows : List Row) (drawn : Drawn) (begins : take (length r
     begins = begins;
   }
 
-  register-told : (call : Call) (name digest : List ℕ) → judge_by_role t (record call { caller = None; command = Register name digest }) ≡ Ok drawn
-      → ToldByRows t rows drawn
-  register-told call name digest accepted =
+  register-told : (call : Call) (name digest : List ℕ) → IsKeyOf None call.key
+      → judge_by_role t (record call { caller = None; command = Register name digest }) ≡ Ok drawn → ToldByRows t rows drawn
+  register-told call name digest keyless accepted =
       let n : ℕ = length (lines_of t.accounts) in
       let k = judged-Ok (register_checks (is_some (number_in (lines_of t.accounts) name)) n) (registration_drawn (stamp 0) (n + 1) name digest) drawn accepted in
       by (eqb (n + 1) 1) (n + 1) (sym (ap (λ (d : Drawn). d.group) k.1))
@@ -256,7 +264,7 @@ module _ (t : Tables) (rows : List Row) (drawn : Drawn) (begins : take (length r
             rest = rest;
             group_is = is;
             given = drawn;
-            told = told-judged t (authors_told t user rows) first (record call { caller = None; command = Register name digest }) (Ok drawn) refl refl accepted;
+            told = told-judged t (authors_told t user rows) first (record call { caller = None; command = Register name digest }) (Ok drawn) refl (nobodys call.key keyless) accepted;
             begins = begins;
           }
 
@@ -386,7 +394,8 @@ tags-login paper tag false = refl
 pub accepted-told : (H : History) (call : Call) (drawn : Drawn) (r : Row) (behind : List Row) → Legal H → IsAllowed H call
     → judge (view call.caller H) call ≡ Ok drawn
     → take (length (r ∷ behind)) (rows_of drawn.group) ≡ r ∷ behind → AllByRecursion IsBoundedEntry drawn.group → ToldByRows (tables_of H) (r ∷ behind) drawn
-accepted-told H call drawn r behind legal allowed accepted begins bounded = by call.caller call.command allowed.caller allowed.bounded (sym (Legal-judge H call legal) ∙ accepted)
+accepted-told H call drawn r behind legal allowed accepted begins bounded =
+    by call.caller call.command allowed.given.caller allowed.given.bounded allowed.given.key (sym (Legal-judge H call legal) ∙ accepted)
   where
     t : Tables
     t = tables_of H
@@ -400,34 +409,34 @@ accepted-told H call drawn r behind legal allowed accepted begins bounded = by c
     stamp : ℕ → Stamp
     stamp user = record (stamp_of call) { maker = user }
 
-    by : (caller : Option ℕ) (command : Command) → IsCaller H caller command → IsBoundedCommand command → judge_by_role t (record call { caller = caller; command = command }) ≡ Ok drawn
-        → ToldByRows t rows drawn
-    by caller (Register name digest) is within judges =
-        register-told t rows drawn begins call name digest
+    by : (caller : Option ℕ) (command : Command) → IsCaller H caller command → IsBoundedCommand command → IsKeyOf caller call.key
+        → judge_by_role t (record call { caller = caller; command = command }) ≡ Ok drawn → ToldByRows t rows drawn
+    by caller (Register name digest) is within key judges =
+        register-told t rows drawn begins call name digest (subst (λ (c : Option ℕ). IsKeyOf c call.key) is key)
         (ap (λ (c : Option ℕ). judge_by_role t (record call { caller = c; command = Register name digest })) (sym is) ∙ judges)
-    by None (Tag paper tag on) is within judges = absurd (subst (λ (login : Bool). CallsAs H login None) (tags-login paper tag on) is)
-    by None command is within judges = absurd is
-    by (Some user) (SetPhase to) is within judges = stage-told t rows drawn begins (stamp user) (registered user is) to judges
-    by (Some user) (SetMode to) is within judges = mode-told t rows drawn begins (stamp user) (registered user is) to judges
-    by (Some user) (SetDeadline phase until) is within judges = deadline-told t rows drawn begins (stamp user) (registered user is) phase until judges
-    by (Some user) (Submit title abstract authors) is within judges = submission-told t (found_by_name H legal) (stamp user) (registered user is) drawn r behind title abstract authors within.2 judges begins bounded
-    by (Some user) (Revise paper title abstract) is within judges = revision-told t rows drawn begins (stamp user) (registered user is) paper title abstract judges
-    by (Some user) (Upload paper content) is within judges = upload-told t rows drawn begins (stamp user) (registered user is) paper content judges
-    by (Some user) (Withdraw paper) is within judges = withdrawal-told t rows drawn begins (stamp user) (registered user is) paper judges
-    by (Some user) (Name name role) is within judges = name-told t rows drawn begins (stamp user) (registered user is) name role judges
-    by (Some user) (SetConflict paper name on) is within judges =
+    by None (Tag paper tag on) is within key judges = absurd (subst (λ (login : Bool). CallsAs H login None) (tags-login paper tag on) is)
+    by None command is within key judges = absurd is
+    by (Some user) (SetPhase to) is within key judges = stage-told t rows drawn begins (stamp user) (registered user is) to judges
+    by (Some user) (SetMode to) is within key judges = mode-told t rows drawn begins (stamp user) (registered user is) to judges
+    by (Some user) (SetDeadline phase until) is within key judges = deadline-told t rows drawn begins (stamp user) (registered user is) phase until judges
+    by (Some user) (Submit title abstract authors) is within key judges = submission-told t (found_by_name H legal) (stamp user) (registered user is) drawn r behind title abstract authors within.2 judges begins bounded
+    by (Some user) (Revise paper title abstract) is within key judges = revision-told t rows drawn begins (stamp user) (registered user is) paper title abstract judges
+    by (Some user) (Upload paper content) is within key judges = upload-told t rows drawn begins (stamp user) (registered user is) paper content judges
+    by (Some user) (Withdraw paper) is within key judges = withdrawal-told t rows drawn begins (stamp user) (registered user is) paper judges
+    by (Some user) (Name name role) is within key judges = name-told t rows drawn begins (stamp user) (registered user is) name role judges
+    by (Some user) (SetConflict paper name on) is within key judges =
         row-told t rows drawn begins (stamp user) (registered user is) (SetConflict paper name on) tt judges
-    by (Some user) (commands.Bid paper value) is within judges = bid-told t rows drawn begins (stamp user) (registered user is) paper value judges
-    by (Some user) (Assign paper name kind) is within judges =
+    by (Some user) (commands.Bid paper value) is within key judges = bid-told t rows drawn begins (stamp user) (registered user is) paper value judges
+    by (Some user) (Assign paper name kind) is within key judges =
         row-told t rows drawn begins (stamp user) (registered user is) (Assign paper name kind) tt judges
-    by (Some user) (Unassign paper name) is within judges =
+    by (Some user) (Unassign paper name) is within key judges =
         row-told t rows drawn begins (stamp user) (registered user is) (Unassign paper name) tt judges
-    by (Some user) (Review paper form) is within judges = review-told t rows drawn begins (stamp user) (registered user is) paper form judges
-    by (Some user) (Comment paper text) is within judges = comment-told t rows drawn begins (stamp user) (registered user is) paper text judges
-    by (Some user) (Tag paper tag on) is within judges =
+    by (Some user) (Review paper form) is within key judges = review-told t rows drawn begins (stamp user) (registered user is) paper form judges
+    by (Some user) (Comment paper text) is within key judges = comment-told t rows drawn begins (stamp user) (registered user is) paper text judges
+    by (Some user) (Tag paper tag on) is within key judges =
         let made = subst (λ (login : Bool). CallsAs H login (Some user)) (tags-login paper tag on) is in
         row-told t rows drawn begins (stamp user) (registered user made) (Tag paper tag on) tt judges
-    by (Some user) (Decide paper decision) is within judges = decision-told t rows drawn begins (stamp user) (registered user is) paper decision judges
+    by (Some user) (Decide paper decision) is within key judges = decision-told t rows drawn begins (stamp user) (registered user is) paper decision judges
 
 -- ---- the call of an entry
 
@@ -435,18 +444,15 @@ accepted-told H call drawn r behind legal allowed accepted begins bounded = by c
 record Judges (t : Tables) (authors : List (Option (List ℕ))) (first : Stamped) (drawn : Drawn) : Type 0 where
   command : Command
   told : command_told t authors first.entry ≡ Some command
-  known : is_known t (giver_told first.stamp.maker first.entry) ≡ true
+  known : is_givers t (call_given first command) ≡ true
   judged : judge_by_role t (call_given first command) ≡ Ok drawn
 
 told-judges : (t : Tables) (authors : List (Option (List ℕ))) (first : Stamped) (drawn : Drawn) → drawn_told t authors first ≡ Some drawn
     → Judges t authors first drawn
 told-judges t authors first drawn told = by (command_told t authors first.entry) refl told
   where
-    caller : Option ℕ
-    caller = giver_told first.stamp.maker first.entry
-
     of_command : (command : Command) → command_told t authors first.entry ≡ Some command → (known : Bool) (r : Result Drawn Rule)
-        → is_known t caller ≡ known → judge_by_role t (call_given first command) ≡ r → cond known (result_ok r) None ≡ Some drawn → Judges t authors first drawn
+        → is_givers t (call_given first command) ≡ known → judge_by_role t (call_given first command) ≡ r → cond known (result_ok r) None ≡ Some drawn → Judges t authors first drawn
     of_command command is true (Ok d) known judges same = record { command = command; told = is; known = known; judged = judges ∙ ap Ok (some_is d drawn same) }
     of_command command is true (Err rule) known judges same = absurd (none_some drawn same)
     of_command command is false r known judges same = absurd (none_some drawn same)
@@ -454,7 +460,7 @@ told-judges t authors first drawn told = by (command_told t authors first.entry)
     by : (o : Option Command) → command_told t authors first.entry ≡ o → option_and_then (drawn_of t) (option_map (call_given first) o) ≡ Some drawn
         → Judges t authors first drawn
     by None is same = absurd (none_some drawn same)
-    by (Some command) is same = of_command command is (is_known t caller) (judge_by_role t (call_given first command)) refl refl same
+    by (Some command) is same = of_command command is (is_givers t (call_given first command)) (judge_by_role t (call_given first command)) refl refl same
 
 member_named : (role : Role) → 1 ≤ role_number role → is_member role ≡ true
 member_named roles.Account h = absurd (omega (arith, h))
@@ -487,106 +493,122 @@ module _ (H : History) (legal : Legal H) where
   registered : (user : ℕ) → is_known t (Some user) ≡ true → IsRegistered H user
   registered user known = registered-known H user legal ∙ known
 
+  -- a user's stamp is within its bounds, and its number, if it has one, is new
+  record MayStamp (stamp : Stamp) : Type 0 where
+    fits : FitsStamp stamp
+    new : IsNewKey H (Some stamp.maker) stamp.key
+
   -- the command that a user's entry tells is allowed, where she may give it and its parts are within the bounds
-  same-allowed : (stamp : Stamp) → FitsStamp stamp → (told command : Command) → Some told ≡ Some command → IsCaller H (Some stamp.maker) told
+  same-allowed : (stamp : Stamp) → MayStamp stamp → (told command : Command) → Some told ≡ Some command → IsCaller H (Some stamp.maker) told
       → IsBoundedCommand told → IsAllowed H (call_by stamp command)
-  same-allowed stamp fits told command is made bounded =
-      subst (λ (c : Command). IsAllowed H (call_by stamp c)) (some_is told command is) (record { caller = made; bounded = bounded; moment = fits.at })
+  same-allowed stamp may told command is made bounded =
+      subst (λ (c : Command). IsAllowed H (call_by stamp c)) (some_is told command is) (record {
+        given = record { caller = made; bounded = bounded; moment = may.fits.at; key = key-given stamp.maker stamp.key may.fits.key };
+        unused = may.new;
+      })
 
   -- a submission is allowed, where it has no more co-authors than there may be
-  submission-allowed : (stamp : Stamp) → FitsStamp stamp → (title abstract : List ℕ) (authors : List (Option (List ℕ))) (command : Command)
+  submission-allowed : (stamp : Stamp) → MayStamp stamp → (title abstract : List ℕ) (authors : List (Option (List ℕ))) (command : Command)
       → IsTitle title → IsAbstract abstract
       → IsRegistered H stamp.maker → cond (nat_le (length authors) 19) (Some (Submit title abstract authors)) None ≡ Some command
       → IsAllowed H (call_by stamp command)
-  submission-allowed stamp fits title abstract authors command is_title is_abstract made told = by (nat_le (length authors) 19) refl told
+  submission-allowed stamp may title abstract authors command is_title is_abstract made told = by (nat_le (length authors) 19) refl told
     where
       by : (b : Bool) → nat_le (length authors) 19 ≡ b → cond b (Some (Submit title abstract authors)) None ≡ Some command
           → IsAllowed H (call_by stamp command)
       by true few told =
           let le : length authors ≤ 19 = few_of (length authors) few in
-          same-allowed stamp fits (Submit title abstract authors) command told made (is_title, is_abstract, le)
+          same-allowed stamp may (Submit title abstract authors) command told made (is_title, is_abstract, le)
         where
           few_of : (n : ℕ) → nat_le n 19 ≡ true → n ≤ 19
           few_of n h = grind (arith, nat_tests, h)
       by false few told = absurd (none_some command told)
 
   -- a command that names a user is allowed, where it is with every name
-  target-allowed : (stamp : Stamp) → FitsStamp stamp → (user : ℕ) (command : Command) (aimed : List ℕ → Command)
+  target-allowed : (stamp : Stamp) → MayStamp stamp → (user : ℕ) (command : Command) (aimed : List ℕ → Command)
       → ((name : List ℕ) → IsCaller H (Some stamp.maker) (aimed name)) → ((name : List ℕ) → IsBoundedCommand (aimed name))
       → option_map aimed (name_told t user) ≡ Some command → IsAllowed H (call_by stamp command)
-  target-allowed stamp fits user command aimed made bounded told =
+  target-allowed stamp may user command aimed made bounded told =
       let name = with-name (name_told t user) aimed command told in
-      same-allowed stamp fits (aimed name.0) command (ap (λ (c : Command). Some c) name.2) (made name.0) (bounded name.0)
+      same-allowed stamp may (aimed name.0) command (ap (λ (c : Command). Some c) name.2) (made name.0) (bounded name.0)
 
   -- a user's is allowed, where the entry is within its bounds
   user-allowed : (authors : List (Option (List ℕ))) (stamp : Stamp) (more : Bool) (e : Entry) (command : Command)
-      → IsBoundedEntry (stamped stamp more e) → IsRegistered H stamp.maker → user_command_told t authors e ≡ Some command
+      → IsBoundedEntry (stamped stamp more e) → MayStamp stamp → IsRegistered H stamp.maker → user_command_told t authors e ≡ Some command
       → IsAllowed H (call_by stamp command)
-  user-allowed authors stamp more (PhaseSet to) command bounded made told = same-allowed stamp bounded.stamp (SetPhase to) command told made tt
-  user-allowed authors stamp more (ModeSet to) command bounded made told = same-allowed stamp bounded.stamp (SetMode to) command told made tt
-  user-allowed authors stamp more (DeadlineSet phase until) command bounded made told =
-      same-allowed stamp bounded.stamp (SetDeadline phase until) command told made
+  user-allowed authors stamp more (PhaseSet to) command bounded may made told = same-allowed stamp may (SetPhase to) command told made tt
+  user-allowed authors stamp more (ModeSet to) command bounded may made told = same-allowed stamp may (SetMode to) command told made tt
+  user-allowed authors stamp more (DeadlineSet phase until) command bounded may made told =
+      same-allowed stamp may (SetDeadline phase until) command told made
       (phase_numbered-may phase bounded.n1.0 bounded.n1.1, until_numbered-within until bounded.n2.1)
-  user-allowed authors stamp more (Submitted paper title abstract) command bounded made told =
-      submission-allowed stamp bounded.stamp title abstract authors command bounded.b1 bounded.b2 made told
-  user-allowed authors stamp more (Revised paper title abstract) command bounded made told =
-      same-allowed stamp bounded.stamp (Revise (Some paper) title abstract) command told made (bounded.b1, bounded.b2)
-  user-allowed authors stamp more (Uploaded paper version content) command bounded made told =
-      same-allowed stamp bounded.stamp (Upload (Some paper) content) command told made bounded.b1
-  user-allowed authors stamp more (Withdrawn paper) command bounded made told =
-      same-allowed stamp bounded.stamp (Withdraw (Some paper)) command told made tt
-  user-allowed authors stamp more (entries.Bid paper value) command bounded made told =
-      same-allowed stamp bounded.stamp (commands.Bid (Some paper) value) command told made bounded.n2.1
-  user-allowed authors stamp more (Reviewed paper ordinal version form) command bounded made told =
+  user-allowed authors stamp more (Submitted paper title abstract) command bounded may made told =
+      submission-allowed stamp may title abstract authors command bounded.b1 bounded.b2 made told
+  user-allowed authors stamp more (Revised paper title abstract) command bounded may made told =
+      same-allowed stamp may (Revise (Some paper) title abstract) command told made (bounded.b1, bounded.b2)
+  user-allowed authors stamp more (Uploaded paper version content) command bounded may made told =
+      same-allowed stamp may (Upload (Some paper) content) command told made bounded.b1
+  user-allowed authors stamp more (Withdrawn paper) command bounded may made told =
+      same-allowed stamp may (Withdraw (Some paper)) command told made tt
+  user-allowed authors stamp more (entries.Bid paper value) command bounded may made told =
+      same-allowed stamp may (commands.Bid (Some paper) value) command told made bounded.n2.1
+  user-allowed authors stamp more (Reviewed paper ordinal version form) command bounded may made told =
       let within : IsForm form = record { score = bounded.n4; confidence = bounded.n5; to_authors = bounded.b1; to_pc = bounded.b2 } in
-      same-allowed stamp bounded.stamp (Review (Some paper) form) command told made within
-  user-allowed authors stamp more (Commented paper n ordinal text) command bounded made told =
-      same-allowed stamp bounded.stamp (Comment (Some paper) text) command told made bounded.b1
-  user-allowed authors stamp more (Tagged paper tag on) command bounded made told =
+      same-allowed stamp may (Review (Some paper) form) command told made within
+  user-allowed authors stamp more (Commented paper n ordinal text) command bounded may made told =
+      same-allowed stamp may (Comment (Some paper) text) command told made bounded.b1
+  user-allowed authors stamp more (Tagged paper tag on) command bounded may made told =
       let caller = subst (λ (login : Bool). CallsAs H login (Some stamp.maker)) (sym (tags-login (Some paper) tag on)) made in
-      same-allowed stamp bounded.stamp (Tag (Some paper) tag on) command told caller bounded.b1
-  user-allowed authors stamp more (Decided paper decision) command bounded made told =
-      same-allowed stamp bounded.stamp (Decide (Some paper) decision) command told made tt
-  user-allowed authors stamp more (Named user role) command bounded made told =
-      target-allowed stamp bounded.stamp user command (λ name. Name (Some name) role) (λ name. made) (λ name. member_named role bounded.n2.0) told
-  user-allowed authors stamp more (Conflict paper user on) command bounded made told =
-      target-allowed stamp bounded.stamp user command (λ name. SetConflict (Some paper) (Some name) on) (λ name. made) (λ name. tt) told
-  user-allowed authors stamp more (Assigned paper user kind ordinal) command bounded made told =
-      target-allowed stamp bounded.stamp user command (λ name. Assign (Some paper) (Some name) kind) (λ name. made) (λ name. tt) told
-  user-allowed authors stamp more (Unassigned paper user ordinal) command bounded made told =
-      target-allowed stamp bounded.stamp user command (λ name. Unassign (Some paper) (Some name)) (λ name. made) (λ name. tt) told
-  user-allowed authors stamp more e command bounded made told = absurd (none_some command told)
+      same-allowed stamp may (Tag (Some paper) tag on) command told caller bounded.b1
+  user-allowed authors stamp more (Decided paper decision) command bounded may made told =
+      same-allowed stamp may (Decide (Some paper) decision) command told made tt
+  user-allowed authors stamp more (Named user role) command bounded may made told =
+      target-allowed stamp may user command (λ name. Name (Some name) role) (λ name. made) (λ name. member_named role bounded.n2.0) told
+  user-allowed authors stamp more (Conflict paper user on) command bounded may made told =
+      target-allowed stamp may user command (λ name. SetConflict (Some paper) (Some name) on) (λ name. made) (λ name. tt) told
+  user-allowed authors stamp more (Assigned paper user kind ordinal) command bounded may made told =
+      target-allowed stamp may user command (λ name. Assign (Some paper) (Some name) kind) (λ name. made) (λ name. tt) told
+  user-allowed authors stamp more (Unassigned paper user ordinal) command bounded may made told =
+      target-allowed stamp may user command (λ name. Unassign (Some paper) (Some name)) (λ name. made) (λ name. tt) told
+  user-allowed authors stamp more e command bounded may made told = absurd (none_some command told)
 
   -- and so is any
   told-allowed : (authors : List (Option (List ℕ))) (stamp : Stamp) (more : Bool) (e : Entry) (command : Command)
-      → IsBoundedEntry (stamped stamp more e) → is_known t (giver_told stamp.maker e) ≡ true → command_told t authors e ≡ Some command
-      → IsAllowed H (call_given (stamped stamp more e) command)
-  told-allowed authors stamp more (Registered user name digest) command bounded known told =
-      subst (λ (c : Command). IsAllowed H (record (call_by stamp c) { caller = None })) (some_is (Register name digest) command told)
-      (record { caller = refl; bounded = (bounded.b1, bounded.b2); moment = bounded.stamp.at })
-  told-allowed authors stamp more e command bounded known told = user-allowed authors stamp more e command bounded (registered stamp.maker known) told
+      → IsBoundedEntry (stamped stamp more e) → IsNewKey H (Some stamp.maker) stamp.key → is_givers t (call_given (stamped stamp more e) command) ≡ true
+      → command_told t authors e ≡ Some command → IsAllowed H (call_given (stamped stamp more e) command)
+  told-allowed authors stamp more (Registered user name digest) command bounded new known told =
+      let keyless = no-key stamp.key known in
+      subst (λ (c : Command). IsAllowed H (record (call_by stamp c) { caller = None })) (some_is (Register name digest) command told) (record {
+        given = record { caller = refl; bounded = (bounded.b1, bounded.b2); moment = bounded.stamp.at; key = keyless.0 };
+        unused = keyless.1;
+      })
+    where
+      no-key : (key : Option RetryKey) → (is_none key && true) ≡ true → IsKeyOf None key × IsNewKey H None key
+      no-key None known = (tt, tt)
+      no-key (Some key) known = absurd (true≢false (sym known))
+  told-allowed authors stamp more e command bounded new known told =
+      user-allowed authors stamp more e command bounded (record { fits = bounded-stamp (stamped stamp more e) bounded; new = new }) (registered stamp.maker known) told
 
-  -- so an allowed call adds what the call of such an entry draws
-  pub told-adds : (authors : List (Option (List ℕ))) (first : Stamped) (drawn : Drawn) → IsBoundedEntry first → drawn_told t authors first ≡ Some drawn
-      → MayAdd H drawn.group
-  told-adds authors first drawn bounded told =
+  -- so an allowed call adds what the call of such an entry draws, where its number is new
+  pub told-adds : (authors : List (Option (List ℕ))) (first : Stamped) (drawn : Drawn) → IsBoundedEntry first → IsNewKey H (Some first.stamp.maker) first.stamp.key
+      → drawn_told t authors first ≡ Some drawn → MayAdd H drawn.group
+  told-adds authors first drawn bounded new told =
       let j = told-judges t authors first drawn told in
       record {
         call = call_given first j.command;
-        allowed = told-allowed authors first.stamp first.more first.entry j.command bounded j.known j.told;
+        allowed = told-allowed authors first.stamp first.more first.entry j.command bounded new j.known j.told;
         drawn = drawn;
         accepted = Legal-judge H (call_given first j.command) legal ∙ j.judged;
         group_is = refl;
       }
 
   -- and what one row of a bulk adds, its command does
-  pub drawn-adds : (stamp : Stamp) (e : Entry) → IsBoundedEntry (stamped stamp false e) → is_known t (Some stamp.maker) ≡ true → IsDrawn t stamp e
-      → MayAdd H (grouped stamp (e ∷ []))
-  drawn-adds stamp e bounded known d =
+  pub drawn-adds : (stamp : Stamp) (e : Entry) → IsBoundedEntry (stamped stamp false e) → IsNewKey H (Some stamp.maker) stamp.key
+      → is_known t (Some stamp.maker) ≡ true → IsDrawn t stamp e → MayAdd H (grouped stamp (e ∷ []))
+  drawn-adds stamp e bounded new known d =
       let first : Stamped = stamped stamp false e in
       let of_row = told-of_row t e d.command d.told in
       let told : paper_command_told t e ≡ Some d.command = ap (λ (b : Bool). cond b (paper_command_told t e) None) (sym of_row) ∙ d.told in
       let judges = (row-judges t stamp d.command d.drawn d.accepted).1 in
-      let added = told-adds [] first d.drawn bounded (told-judged t [] first (call_by stamp d.command) (Ok d.drawn) (row-call t [] first d.command of_row told) known judges) in
+      let added = told-adds [] first d.drawn bounded new (told-judged t [] first (call_by stamp d.command) (Ok d.drawn) (row-call t [] first d.command of_row told) known judges) in
       let one = row-adds t stamp d.drawn d.command (drawn-of_row t e d.command d.told) judges in
       subst (λ (g : History). MayAdd H g) (one.group_is ∙ ap (λ (x : Entry). grouped stamp (x ∷ [])) (one_is one.entry e (ap entries_of (sym one.group_is) ∙ d.adds))) added

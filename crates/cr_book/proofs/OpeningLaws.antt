@@ -1,5 +1,5 @@
 -- What is so of rows that are read one behind another: where they begin a group, and where none.
-use Rattle.std.proofs.Common.{true, false, cond, ◌≡◌, ◌≤◌, ◌<◌, List, [], ◌∷◌, ◌++◌, length, take, drop, suc, refl, sym, ap, subst, ◌∙◌, arith, append_assoc, append-nil, IfSome, Ok}
+use Rattle.std.proofs.Common.{true, false, cond, ◌≡◌, ◌≤◌, ◌<◌, List, [], ◌∷◌, ◌++◌, length, take, drop, suc, refl, sym, ap, subst, ◌∙◌, arith, append_assoc, append-nil, Some, IfSome, Ok}
 use Rattle.std.specs.Prelude.{Bool, slice_get, IsTrue, ◌↔◌}
 use Rattle.std.proofs.lemmas.Bool.{true≢false}
 use Rattle.std.specs.List.{AllByRecursion}
@@ -10,23 +10,25 @@ use Rattle.cr_base.specs.declared.row.Row.{Row}
 use Rattle.cr_base.specs.History.{History}
 use Rattle.cr_base.specs.Rows.{row_of, rows_of, IsBoundedEntry}
 use Rattle.cr_base.specs.Tables.{Tables, tables_of, tables_from, FitInTurn}
+use Rattle.cr_base.proofs.RowLaws.{same_entry}
 use Rattle.cr_judge.specs.Rows.{AreEarlier}
 use Rattle.cr_policy.specs.Legal.{Legal}
 use Rattle.cr_policy.proofs.LegalLaws.{Legal-accepted}
 use Rattle.cr_history.proofs.TableAgreement.{tables_of-append, rows_of-append}
 use Rattle.cr_book.specs.Opening.{Continue}
-use Rattle.cr_book.specs.Reading.{IsOpen, IsGroup, IsReading, IsGoing, IsRowRefused}
+use Rattle.cr_book.specs.Reading.{BeginNew, IsOpen, IsGroup, IsReading, IsGoing, IsRowRefused}
 use Rattle.cr_book.specs.declared.reading.ReadError.{ReadError}
 use Rattle.cr_book.specs.declared.reading.ReadError.TheVariants as errors
 use Rattle.cr_base.specs.Drawn.{Drawn}
 use Rattle.cr_policy.specs.Judge.{judge}
-use Rattle.cr_policy.specs.Legal.{IsAllowed}
+use Rattle.cr_policy.specs.Legal.{IsAllowed, IsNewKey}
 use Rattle.cr_policy.specs.View.{view}
 use Rattle.cr_book.specs.Rebuilding.{authors_told, drawn_by_rows, IsBegun, NoneBegun}
 use Rattle.cr_book.proofs.OpeningRows.{head_is, tail_is, rows-split, group-covers}
 use Rattle.cr_book.specs.BulkRebuilding.{begins_bulk, GoesOn, NoBulk, is_of_bulk}
 use Rattle.cr_book.proofs.OpeningBulkRows.{call-of, bulk-refused, bulk-last, bulk-more}
-use Rattle.cr_book.proofs.OpeningLegal.{MayAdd, may_add-group}
+use Rattle.cr_book.proofs.FollowLaws.{added-follows, move-new}
+use Rattle.cr_book.proofs.OpeningLegal.{MayAdd, MayMove, may_add-group, may_move-group}
 use Rattle.cr_book.proofs.OpeningOnward.{legal-bounded, first-bounded, Onward, onward}
 use Rattle.cr_book.proofs.OpeningCommands.{ToldByRows, accepted-told, told-adds}
 
@@ -50,16 +52,25 @@ one_history G H first then same =
 may_add-legal : (log group : History) → Legal log → MayAdd log group → Legal (log ++ group)
 may_add-legal log group legal add = subst (λ (g : History). Legal (log ++ g)) (sym add.group_is) (Legal-accepted log add.call add.drawn legal add.allowed add.accepted)
 
+-- the entry of the first row has a new number
+begin-first : (log : History) (rows : List Row) (first : Stamped) → BeginNew log rows → IsBoundedEntry first → slice_get rows 0 ≡ Some (row_of first)
+    → IsNewKey log (Some first.stamp.maker) first.stamp.key
+begin-first log [] first fresh bounded here = cc (here)
+begin-first log (row ∷ rows) first fresh bounded here = let same : row_of first ≡ row = cc (here) in fresh first bounded same
+
 -- a group that is begun goes on the history
-pub begun-going : (log : History) (t : Tables) (pending rows : List Row) (group : History) → IsReading log t pending [] → IsBegun t rows group → IsGoing log t rows group
-begun-going log t pending rows group reading begun =
+pub begun-going : (log : History) (t : Tables) (pending rows : List Row) (group : History) → IsReading log t pending [] → BeginNew log rows → IsBegun t rows group
+    → IsGoing log t rows group
+begun-going log t pending rows group reading fresh begun =
+    let new = begin-first log rows begun.first fresh begun.bounded begun.here in
     let told : drawn_by_rows (tables_of log) rows begun.first ≡ _ = ap (λ (x : Tables). drawn_by_rows x rows begun.first) (sym reading.same) ∙ begun.told in
     let authors = authors_told (tables_of log) begun.first.stamp.maker rows in
-    let add : MayAdd log group = subst (λ (g : History). MayAdd log g) (sym begun.group_is) (told-adds log reading.legal authors begun.first begun.drawn begun.bounded told) in
+    let add : MayAdd log group = subst (λ (g : History). MayAdd log g) (sym begun.group_is) (told-adds log reading.legal authors begun.first begun.drawn begun.bounded new told) in
     record {
       legal = reading.legal;
       same = reading.same;
       next = may_add-legal log group reading.legal add;
+      follows = added-follows log group reading.legal add;
       whole = may_add-group log group add;
       begins = begun.begins;
     }
@@ -139,9 +150,9 @@ group-opens (e ∷ e' ∷ g) (r ∷ rows) ig b few = (
 )
 
 -- the reading goes on, where more rows of the group are to come
-pub going-on : (log : History) (t : Tables) (rows : List Row) (group begun : History) → IsGoing log t rows group → length rows < length group → NoBulk rows → begun ≡ []
-    → IsReading log t rows begun
-going-on log t rows group begun going few no_bulk none = subst (λ (h : History). IsReading log t rows h) (sym none) (record {
+pub going-on : (log : History) (t : Tables) (rows : List Row) (group begun : History) → IsGoing log t rows group → length rows < length group → BeginNew log rows
+    → NoBulk rows → begun ≡ [] → IsReading log t rows begun
+going-on log t rows group begun going few fresh no_bulk none = subst (λ (h : History). IsReading log t rows h) (sym none) (record {
   legal = going.legal;
   same = going.same;
   unfinished = group-opens group rows going.whole going.begins few;
@@ -153,6 +164,7 @@ going-on log t rows group begun going few no_bulk none = subst (λ (h : History)
         ∙ ap (λ (x : List Row). rows_of log ++ x) (sym (take-append-drop (length rows) (rows_of group)) ∙ ap (λ (x : List Row). x ++ drop (length rows) (rows_of group)) going.begins)
         ∙ sym (append_assoc (rows_of log) rows (drop (length rows) (rows_of group)));
   };
+  new = fresh;
   bulk = no_bulk;
 })
 
@@ -173,6 +185,7 @@ going-whole log items t now rows left group begun going is_items is_now is_left 
     after = [];
     rows_are = sym (append-nil (rows_of items)) ∙ ap (λ (x : List Row). rows_of items ++ x) (sym is_left) ∙ sym (append-nil (rows_of items ++ left));
   };
+  new = subst (λ (x : List Row). BeginNew items x) (sym is_left) tt;
   bulk = subst (λ (x : List Row). NoBulk x) (sym is_left) tt;
 })
 
@@ -211,6 +224,39 @@ refused-none log t pending begun row reading none =
     among (s ∷ H) [] after all is = none s all.0 (head_is (row_of s) row (rows_of H) after is)
     among (s ∷ H) (p ∷ before) after all is = among H before after all.1 (tail_is (row_of s) p (rows_of H) (before ++ row ∷ after) is)
 
+-- ---- the first row of a group
+
+-- one under whose number something was added is refused
+refused-used : (log : History) (t : Tables) (begun : History) (row : Row) (next : Stamped) → IsReading log t [] begun → IsBoundedEntry next → row_of next ≡ row
+    → (IsNewKey log (Some next.stamp.maker) next.stamp.key → ⊥) → IsRowRefused (rows_of log ++ []) row (errors.Bad row)
+refused-used log t begun row next reading bounded is used =
+    (refl, reading.continue, λ goes. by (onward log [] row reading.legal (subst (λ (x : List Row). Continue x) (append_assoc (rows_of log) [] (row ∷ [])) goes)))
+  where
+    begins : (group further : History) (after : List Row) → IsGroup group → MayMove log group → AllByRecursion IsBoundedEntry (group ++ further)
+        → rows_of (group ++ further) ≡ row ∷ after → ⊥
+    begins [] further after some move within spelled = elim some [ ]
+    begins (first ∷ rest) further after some move within spelled =
+        used (subst (λ (s : Stamped). IsNewKey log (Some s.stamp.maker) s.stamp.key)
+        (same_entry first next within.0 bounded (head_is (row_of first) row (rows_of (rest ++ further)) after spelled ∙ sym is))
+        (move-new log first rest reading.legal move))
+
+    by : Onward log (row ∷ []) → ⊥
+    by on = begins on.group on.further on.after (may_move-group log on.group on.move) on.move on.bounded on.spelled
+
+pub refused-first : (log : History) (t : Tables) (pending : List Row) (begun : History) (row : Row) (next : Stamped) → IsReading log t pending begun
+    → IsBoundedEntry next → row_of next ≡ row → pending ≡ [] → (IsNewKey log (Some next.stamp.maker) next.stamp.key → ⊥)
+    → IsRowRefused (rows_of log ++ pending) row (errors.Bad row)
+refused-first log t pending begun row next reading bounded is first used =
+    subst (λ (rows : List Row). IsRowRefused (rows_of log ++ rows) row (errors.Bad row)) (sym first)
+    (refused-used log t begun row next (subst (λ (rows : List Row). IsReading log t rows begun) first reading) bounded is used)
+
+-- and where nothing was, the rows begin with it, or with the one with which they began
+pub begins-new : (log : History) (pending : List Row) (row : Row) (next : Stamped) → BeginNew log pending → IsBoundedEntry next → row_of next ≡ row
+    → (pending ≡ [] → IsNewKey log (Some next.stamp.maker) next.stamp.key) → BeginNew log (pending ++ row ∷ [])
+begins-new log [] row next was bounded is new = λ first within same.
+    subst (λ (s : Stamped). IsNewKey log (Some s.stamp.maker) s.stamp.key) (sym (same_entry first next within bounded (same ∙ sym is))) (new refl)
+begins-new log (p ∷ pending) row next was bounded is new = was
+
 -- ---- a bulk's row by the test on it
 
 module _ (log : History) (t : Tables) (pending : List Row) (begun at_hand : History) (row : Row) (next : Stamped) (reading : IsReading log t pending begun)
@@ -221,12 +267,12 @@ module _ (log : History) (t : Tables) (pending : List Row) (begun at_hand : Hist
   goes : on ≡ true → GoesOn t begun next
   goes passed = subst (λ (h : History). GoesOn t h next) same (tested.0 passed)
 
-  pub test-last : on ≡ true → next.more ≡ false → IsGoing log t (pending ++ row ∷ []) (begun ++ next ∷ [])
-  test-last passed last = bulk-last log t pending begun row next reading of bounded is (goes passed) last
+  pub test-last : BeginNew log (pending ++ row ∷ []) → on ≡ true → next.more ≡ false → IsGoing log t (pending ++ row ∷ []) (begun ++ next ∷ [])
+  test-last fresh passed last = bulk-last log t pending begun row next reading of bounded is (goes passed) fresh last
 
-  pub test-more : on ≡ true → (IsTrue on → AreEarlier t (at_hand ++ next ∷ [])) → next.more ≡ true → IsReading log t (pending ++ row ∷ []) (begun ++ next ∷ [])
-  test-more passed earlier more =
-      bulk-more log t pending begun row next reading of bounded is (goes passed) (subst (λ (h : History). AreEarlier t (h ++ next ∷ [])) same (earlier passed)) more
+  pub test-more : BeginNew log (pending ++ row ∷ []) → on ≡ true → (IsTrue on → AreEarlier t (at_hand ++ next ∷ [])) → next.more ≡ true → IsReading log t (pending ++ row ∷ []) (begun ++ next ∷ [])
+  test-more fresh passed earlier more =
+      bulk-more log t pending begun row next reading of bounded is (goes passed) fresh (subst (λ (h : History). AreEarlier t (h ++ next ∷ [])) same (earlier passed)) more
 
   pub test-fits : on ≡ true → (IsTrue on → AreEarlier t (at_hand ++ next ∷ [])) → FitInTurn t (begun ++ next ∷ [])
   test-fits passed earlier = (subst (λ (h : History). AreEarlier t (h ++ next ∷ [])) same (earlier passed)).fits

@@ -46,7 +46,7 @@ adds-group H g (first_user stamp name digest moment is texts) = (refl, refl)
 
 -- what is added is a group
 pub may_add-group : (H g : History) → MayAdd H g → IsGroup g
-may_add-group H g add = subst (λ (x : History). IsGroup x) (sym add.group_is) (adds-group H add.drawn.group (accepted-adds H add.call add.drawn add.allowed add.accepted))
+may_add-group H g add = subst (λ (x : History). IsGroup x) (sym add.group_is) (adds-group H add.drawn.group (accepted-adds H add.call add.drawn add.allowed.given add.accepted))
 
 -- ---- one bulk that adds
 

@@ -25,7 +25,7 @@ use Rattle.cr_policy.specs.Legal.{Legal}
 use Rattle.cr_policy.proofs.LegalLaws.{Legal-fits, legal_invariants}
 use Rattle.cr_base.specs.Rows.{IsBoundedEntry}
 use Rattle.cr_base.specs.Texts.{IsName, is_name, is_name_byte}
-use Rattle.cr_judge.proofs.NameLaws.{name-found}
+use Rattle.cr_base.proofs.NameLaws.{name-found}
 use Rattle.cr_book.specs.Rebuilding.{name_told, is_taken, first_free, name_left}
 
 none_some : {A : Type 0} (x : A) → None ≡ Some x → ⊥

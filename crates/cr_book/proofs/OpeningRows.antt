@@ -1,12 +1,15 @@
 -- Rows that spell entries, and entries that make a group: how far one list goes, where two begin alike.
-use Rattle.std.proofs.Common.{true, false, cond, ◌≡◌, List, [], ◌∷◌, ◌++◌, length, take, refl, sym, ap, ◌∙◌, arith}
-use Rattle.std.specs.List.{AllByRecursion}
+use Rattle.std.proofs.Common.{true, false, cond, ◌≡◌, List, [], ◌∷◌, ◌++◌, length, take, refl, sym, ap, subst, ◌∙◌, arith, get_or, Option, None, Some, ◌<◌}
+use Rattle.std.specs.List.{AllByRecursion, slice_get}
+use Rattle.std.specs.Option.{option_map}
 use Rattle.std.proofs.lemmas.Bool.{true≢false}
+use Rattle.cr_base.specs.declared.entry.Entry.{Entry}
 use Rattle.cr_base.specs.declared.entry.Stamped.{Stamped}
 use Rattle.cr_base.specs.declared.row.Row.{Row}
 use Rattle.cr_base.specs.History.{History}
-use Rattle.cr_base.specs.Rows.{row_of, rows_of, IsBoundedEntry}
-use Rattle.cr_base.proofs.RowLaws.{same_entry}
+use Rattle.cr_base.specs.Rows.{built, kind_of, row_of, rows_of, stamped_by, IsBoundedEntry}
+use Rattle.cr_base.specs.Shapes.{stamp_in, FitsStamp}
+use Rattle.cr_base.proofs.RowLaws.{restored-row_of, same_entry}
 use Rattle.cr_book.specs.Reading.{IsOpen, IsGroup}
 
 -- ---- rows
@@ -30,6 +33,17 @@ rows-split (g ∷ G) [] after bg bh e = absurd (empty_not (row_of g) (rows_of G 
 rows-split (g ∷ G) (h ∷ H) after bg bh e =
     let rest = rows-split G H after bg.1 bh.1 (tail_is (row_of h) (row_of g) (rows_of H) (rows_of G ++ after) e) in
     (rest.0, cons_is h g H (G ++ rest.0) (same_entry h g bh.0 bg.0 (head_is (row_of h) (row_of g) (rows_of H) (rows_of G ++ after) e)) rest.1, rest.2)
+
+-- the stamp of an entry within its bounds is within its own: it is the one that the entry's row spells
+pub bounded-stamp : (s : Stamped) → IsBoundedEntry s → FitsStamp s.stamp
+bounded-stamp s bounded = by (built (kind_of s.entry) (row_of s)) (restored-row_of s bounded)
+  where
+    by : (e : Option Entry) → option_map (stamped_by (row_of s)) e ≡ Some s → FitsStamp s.stamp
+    by None none = cc (none)
+    by (Some e) is = subst FitsStamp (spelled (stamped_by (row_of s) e) is) bounded.stamp
+      where
+        spelled : (x : Stamped) → ◌≡◌ {A = Option Stamped} (Some x) (Some s) → x.stamp ≡ s.stamp
+        spelled x e = let same : x ≡ s = cc (e) in ap (λ (y : Stamped). y.stamp) same
 
 -- ---- groups
 
@@ -63,3 +77,8 @@ group-covers (e ∷ []) (p ∷ ps) row a b ig o s = absurd (not_open e p (head_i
 group-covers (e ∷ e' ∷ g) (p ∷ ps) row a b ig o s =
     cons_is (row_of e) p (take (length (ps ++ row ∷ [])) (rows_of (e' ∷ g))) (ps ++ row ∷ []) (head_is (row_of e) p (rows_of (e' ∷ g) ++ a) ((ps ++ row ∷ []) ++ b) s)
     (group-covers (e' ∷ g) ps row a b ig.1 o.1 (tail_is (row_of e) p (rows_of (e' ∷ g) ++ a) ((ps ++ row ∷ []) ++ b) s))
+
+-- the row that is read first
+pub first-row : (rows : List Row) (row spelled : Row) → 0 < length rows → row ≡ get_or rows 0 row → spelled ≡ row → slice_get rows 0 ≡ Some spelled
+first-row [] row spelled some here is = absurd (omega (arith, some))
+first-row (r ∷ rows) row spelled some here is = ap Some (sym (is ∙ here))

@@ -1,3 +1,4 @@
+pub mod Earlier
 pub mod Opening
 pub mod Reading
 pub mod BulkRebuilding

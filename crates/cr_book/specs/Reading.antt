@@ -1,11 +1,13 @@
 -- What is true of rows that are being read, one behind another.
-use Rattle.std.specs.Prelude.{ℕ, ◌≡◌, ◌++◌, List, [], ◌∷◌, length, take, IsTrue, IsFalse}
+use Rattle.std.specs.Prelude.{ℕ, ◌≡◌, ◌++◌, List, [], ◌∷◌, length, take, Some, IsTrue, IsFalse}
 use Rattle.std.specs.List.{AllByRecursion}
+use Rattle.cr_base.specs.declared.entry.Stamped.{Stamped}
 use Rattle.cr_base.specs.declared.row.Row.{Row}
 use Rattle.cr_base.specs.History.{History}
-use Rattle.cr_base.specs.Rows.{rows_of}
+use Rattle.cr_base.specs.Rows.{row_of, rows_of, IsBoundedEntry}
 use Rattle.cr_base.specs.Tables.{Tables, tables_of}
-use Rattle.cr_policy.specs.Legal.{Legal}
+use Rattle.cr_log.specs.Given.{MayFollow}
+use Rattle.cr_policy.specs.Legal.{Legal, IsNewKey}
 use Rattle.cr_ports.specs.declared.keeper.KeeperError.{KeeperError}
 use Rattle.cr_ports.specs.declared.keeper.KeeperError.TheVariants as failures
 use Rattle.cr_book.specs.declared.opening.OpenError.{OpenError}
@@ -25,6 +27,13 @@ IsGroup [] = ⊥
 IsGroup (e ∷ []) = IsFalse e.more
 IsGroup (e ∷ next ∷ after) = IsTrue e.more × IsGroup (next ∷ after)
 
+-- the rows begin with an entry whose command had a new number, if it had any
+abbrev pub BeginNew : History → List Row → Type 0
+BeginNew log [] = Unit {0}
+BeginNew log (row ∷ rows) =
+    (first : Stamped) → IsBoundedEntry first → row_of first ≡ row
+    → IsNewKey log (Some first.stamp.maker) first.stamp.key
+
 -- the history of the whole groups is legal and the tables are its own; the rows behind them are open, and continue it;
 -- if they are a bulk's, their entries are begun
 pub record IsReading (log : History) (tables : Tables) (pending : List Row) (begun : History) : Type 0 where
@@ -32,6 +41,7 @@ pub record IsReading (log : History) (tables : Tables) (pending : List Row) (beg
   pub same : tables ≡ tables_of log
   pub unfinished : AllByRecursion IsOpen pending
   pub continue : Continue (rows_of log ++ pending)
+  pub new : BeginNew log pending
   pub bulk : IsBulkRead tables pending begun
 
 -- the same, where a whole group of the history continues it, and the rows are its first
@@ -39,6 +49,7 @@ pub record IsGoing (log : History) (tables : Tables) (rows : List Row) (group : 
   pub legal : Legal log
   pub same : tables ≡ tables_of log
   pub next : Legal (log ++ group)
+  pub follows : MayFollow log group
   pub whole : IsGroup group
   pub begins : take (length rows) (rows_of group) ≡ rows
 

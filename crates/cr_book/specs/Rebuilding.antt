@@ -1,7 +1,7 @@
 -- Which command the entries of a group come of, by the tables of the history before it.
 use Rattle.std.specs.Prelude.{ℕ, Bool, true, false, zero, suc, ◌≡◌, ◌+◌, ◌-◌, ◌==◌, ◌||◌}
 use Rattle.std.specs.Prelude.{◌&&◌, nat_le, List, ◌++◌, length, take, drop, map, slice_get}
-use Rattle.std.specs.Prelude.{Option, Some, None, is_some, if◌then◌else◌}
+use Rattle.std.specs.Prelude.{Option, Some, None, is_some, is_none, if◌then◌else◌}
 use Rattle.std.specs.List.{list_any}
 use Rattle.std.specs.Option.{option_map, option_map_or, option_and_then}
 use Rattle.std.specs.Result.{result_ok}
@@ -14,6 +14,7 @@ use Rattle.cr_base.specs.declared.entry.Entry.TheVariants.{Revised, Uploaded, Wi
 use Rattle.cr_base.specs.declared.entry.Entry.TheVariants.{Conflict, Bid, Assigned, Unassigned}
 use Rattle.cr_base.specs.declared.entry.Entry.TheVariants.{Reviewed, Commented, Tagged, Decided, DeadlineSet}
 use Rattle.cr_base.specs.declared.entry.Stamped.{Stamped}
+use Rattle.cr_base.specs.declared.retry.RetryKey.{RetryKey}
 use Rattle.cr_base.specs.declared.row.Row.{Row}
 use Rattle.cr_base.specs.Accounts.{account_at}
 use Rattle.cr_base.specs.Calls.{call_by}
@@ -121,9 +122,18 @@ abbrev pub is_known : Tables → Option ℕ → Bool
 is_known t None = true
 is_known t (Some user) = is_some (name_told t user)
 
--- what a call draws, where its caller is known and no rule is broken; and that of such an entry
+-- whoever gives it may have given it this number: nobody gives any
+abbrev pub may_have_key : Option ℕ → Option RetryKey → Bool
+may_have_key None key = is_none key
+may_have_key (Some user) key = true
+
+-- its caller is known, and may have given it its number
+abbrev pub is_givers : Tables → Call → Bool
+is_givers t call = may_have_key call.caller call.key && is_known t call.caller
+
+-- what a call draws, where its caller is such and no rule is broken; and that of such an entry
 abbrev pub drawn_of : Tables → Call → Option Drawn
-drawn_of t call = if is_known t call.caller then result_ok (judge_by_role t call) else None
+drawn_of t call = if is_givers t call then result_ok (judge_by_role t call) else None
 
 abbrev pub drawn_told : Tables → List (Option (List ℕ)) → Stamped → Option Drawn
 drawn_told t authors first = option_and_then (drawn_of t) (call_told t authors first)
@@ -137,6 +147,7 @@ drawn_by_rows t rows first = drawn_told t (authors_told t first.stamp.maker rows
 -- the entry of the first row has a command that draws this group, and the rows are the first of the group's
 pub record IsBegun (t : Tables) (rows : List Row) (group : History) : Type 0 where
   pub first : Stamped
+  pub here : slice_get rows 0 ≡ Some (row_of first)
   pub bounded : IsBoundedEntry first
   pub drawn : Drawn
   pub told : drawn_by_rows t rows first ≡ Some drawn

@@ -1,14 +1,14 @@
 -- What is true of every book, and what a command or a bulk did to one.
-use Rattle.std.specs.Prelude.{◌≡◌, ◌++◌, List, Option, Some, Ok, IfSome}
+use Rattle.std.specs.Prelude.{◌≡◌, ◌++◌, List, Option, Some, Ok, Err, IfSome}
 use Rattle.cr_base.specs.declared.command.Call.{Call}
 use Rattle.cr_base.specs.declared.row.Row.{Row}
 use Rattle.cr_base.specs.declared.reply.Receipt.{Receipt}
 use Rattle.cr_base.specs.Calls.{BulkCall}
 use Rattle.cr_base.specs.History.{History}
-use Rattle.cr_base.specs.Drawn.{Drawn}
+use Rattle.cr_base.specs.Retries.{Outcome, Repeats, Judged}
 use Rattle.cr_base.specs.Rows.{rows_of}
 use Rattle.cr_base.specs.Tables.{Tables, tables_of}
-use Rattle.cr_policy.specs.Judge.{judge, judge_bulk}
+use Rattle.cr_policy.specs.Judge.{decide, decide_bulk}
 use Rattle.cr_policy.specs.View.{view}
 use Rattle.cr_policy.specs.Legal.{Legal}
 
@@ -23,17 +23,17 @@ pub record IsSound {K : Type 0} (rows : K → Option (List Row)) (log : History)
   pub same : tables ≡ tables_of log
   pub kept : IsKept rows keeper log
 
--- Judge accepted the call on its caller's view, the receipt is the one drawn, and the
--- history grew by the group drawn
-pub record Accepts (old new : History) (call : Call) (receipt : Receipt) : Type 0 where
-  pub drawn : Drawn
-  pub judged : judge (view call.caller old) call ≡ Ok drawn
-  pub receipt_is : receipt ≡ drawn.receipt
-  pub added : new ≡ old ++ drawn.group
+-- What an outcome does, and what it is answered: a repeat adds nothing and is answered as it says; what was judged and
+-- accepted is answered the receipt drawn, and its group goes behind the history. What was refused isn't accepted.
+abbrev pub Acts : {E : Type 0} → Outcome E → History → History → Receipt → Type 0
+Acts (Repeats told) old new receipt = (receipt ≡ told) × (new ≡ old)
+Acts (Judged (Ok drawn)) old new receipt = (receipt ≡ drawn.receipt) × (new ≡ old ++ drawn.group)
+Acts (Judged (Err refusal)) old new receipt = ⊥
 
--- the same of a bulk
-pub record AcceptsBulk (old new : History) (bulk : BulkCall) (receipt : Receipt) : Type 0 where
-  pub drawn : Drawn
-  pub judged : judge_bulk (view (Some bulk.stamp.maker) old) bulk ≡ Ok drawn
-  pub receipt_is : receipt ≡ drawn.receipt
-  pub added : new ≡ old ++ drawn.group
+-- so does what the call comes to on its caller's view
+abbrev pub Accepts : History → History → Call → Receipt → Type 0
+Accepts old new call receipt = Acts (decide (view call.caller old) call) old new receipt
+
+-- and a bulk
+abbrev pub AcceptsBulk : History → History → BulkCall → Receipt → Type 0
+AcceptsBulk old new bulk receipt = Acts (decide_bulk (view (Some bulk.stamp.maker) old) bulk) old new receipt

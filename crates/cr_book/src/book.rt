@@ -1,15 +1,18 @@
 //! The book: one history, its tables and its keeper.
 ghost use Rattle.std.specs.Prelude.{◌≡◌, ◌≢◌, ◌≤◌, ◌++◌, ℕ, length};
-ghost use Rattle.std.specs.Prelude.{IfOk, IfErr, IsOk, OnOk, OnErr, IfSome, Ok, Err, None, Some};
+ghost use Rattle.std.specs.Prelude.{IfOk, IfErr, IsOk, IsSome, OnOk, OnErr, IfSome, Ok, Err, None, Some};
 ghost use Rattle.cr_base.specs.declared.bulk.Broken.{Broken};
+ghost use Rattle.cr_base.specs.declared.reply.Receipt.{Receipt};
 ghost use Rattle.cr_base.specs.declared.reply.Rule.{Rule};
 ghost use Rattle.cr_base.specs.Calls.{call_of, bulk_by};
 ghost use Rattle.cr_base.specs.HistoryFacts.{number_of, caller_of};
+ghost use Rattle.cr_base.specs.Retries.{Repeats, Judged, drawn_by};
 ghost use Rattle.cr_base.specs.Tables.{tables_of, FitInTurn};
-ghost use Rattle.cr_policy.specs.Judge.{judge, judge_bulk, answer, needs_login};
+ghost use Rattle.cr_log.specs.Given.{MayFollow};
+ghost use Rattle.cr_policy.specs.Judge.{decide, decide_bulk, judge, judge_bulk, answer, needs_login};
 ghost use Rattle.cr_policy.specs.View.{view};
 ghost use Rattle.cr_base.specs.declared.command.Query.TheVariants as queries;
-ghost use Rattle.cr_policy.specs.Legal.{Legal, IsAllowed, IsBulkAllowed, MayAsk};
+ghost use Rattle.cr_policy.specs.Legal.{Legal, IsAllowed, IsBulkAllowed, IsBulkGiven, IsGiven, MayAsk};
 ghost use Rattle.cr_ports.specs.Count.{Rises};
 ghost use Rattle.cr_ports.specs.Writing.{outlet_of};
 ghost use Rattle.cr_sights.specs.Lines.{lines_text};
@@ -17,18 +20,20 @@ ghost use Rattle.cr_sights.specs.Walks.{WritesView};
 ghost use Rattle.cr_view.specs.Replies.{AnswersAsDue};
 ghost use Rattle.cr_book.specs.Kinds.{count_of_kind};
 ghost use Rattle.cr_book.specs.Opening.{Opens, IsCounted};
-ghost use Rattle.cr_book.specs.Sound.{IsKept, Accepts, AcceptsBulk};
+ghost use Rattle.cr_book.specs.Sound.{IsKept, Accepts, AcceptsBulk, Acts};
 
+use crate::earlier::{Earlier, look_up};
 use crate::judging::judge_bulk;
 use crate::kinds::count_of_kind;
 use crate::opening::{OpenError, read_all};
 use crate::rows::{copies_of, rows_of};
 use cr_base::{
     Broken, BulkRows, Call, Command, Digest, EntryKind, Moment, Query, Receipt, Reply, Report,
-    Rule, Search, Short, Stamp, Stamped, UserNo,
+    RetryKey, Rule, Search, Short, Stamp, Stamped, UserNo,
 };
 use cr_judge::judge;
 use cr_lock::Stands;
+use cr_log::Log;
 use cr_ports::{Keeper, KeeperError, Sink};
 use cr_sights::{ViewError, view_len, write_view};
 use cr_view::{AnswerError, Live};
@@ -41,7 +46,7 @@ use std::marker::Model;
 /// the tables are the history's, and that the keeper's rows, where it tells them, are the history's.
 pub struct Book<K: Keeper> {
     alloc: Global,
-    log: Vec<Stamped>,
+    log: Log,
     live: Live,
     keeper: K,
 }
@@ -51,11 +56,11 @@ impl<K: Keeper> Model for Book<K> {
 
     ghost Value = { SeenBook K };
 
-    ghost view = { λ b. record { log = b.log.items; keeper = b.keeper } };
+    ghost view = { λ b. record { log = b.log.entries; keeper = b.keeper } };
 
     ghost use Rattle.cr_book.specs.Sound.{IsSound};
 
-    ghost invariant = { λ b. IsSound K.rows b.log.items b.live.tables b.keeper };
+    ghost invariant = { λ b. IsSound K.rows b.log.entries b.live.tables b.keeper };
 }
 
 /// Why a command or a bulk was not taken. `B` tells what is broken: a `Rule` of a command, a `Broken` of a bulk.
@@ -75,6 +80,7 @@ impl<K: Keeper> Book<K> {
     /// judgement and on the history before it; at each row of the group, so one of n rows costs n judgements.
     /// Only a submission's has more than two rows, 20 at most; its judgement looks up each co-author told so far.
     /// Each row of a bulk is judged once, behind the entries of the rows before it, over which its judgement walks.
+    /// A group whose command had a number costs one look-up more, at its first row.
     ///
     /// `OpenError::BadStore` comes exactly where no legal history has these rows, and tells the first that
     /// is no entry's or doesn't continue a legal history, or else the last one, where another of its
@@ -115,37 +121,51 @@ impl<K: Keeper> Book<K> {
         keeper
     }
 
-    /// Judges a command of this caller, given at this moment, and where no rule is broken, keeps what it adds and
-    /// applies it. Each entry that it adds has the moment.
+    /// What a command of this caller comes to, given at this moment by this number. Where she had one of the same
+    /// number accepted, it isn't judged: if the marks are the same, it is a repeat, which is answered and changes
+    /// nothing; else it breaks `Rule::NumberUsed`. Every other command is judged, and where no rule is broken, what it
+    /// adds is kept and applied. Each entry that it adds has the moment, the number and the mark.
     ///
-    /// The caller is nobody on a registration, and the command is within the bounds on its parts. On
-    /// each error the history and the keeper's rows stay as they were. A broken rule is told whatever
-    /// memory there is, so both other errors come only for a command that is accepted. `KeeperFault`
-    /// comes only where the keeper's count of faults rose, or stands at its last value; with all else
-    /// the count is as it was, and `OutOfMemory` comes for lack of memory alone.
+    /// The caller is nobody on a registration, which has no number, and the command is within the bounds on its parts.
+    /// On each error the history and the keeper's rows stay as they were. A repeat is answered, and a broken rule is
+    /// told, whatever memory there is, so both other errors come only for a command that is judged and accepted.
+    /// `KeeperFault` comes only where the keeper's count of faults rose, or stands at its last value; with all else the
+    /// count is as it was, and `OutOfMemory` comes for lack of memory alone.
+    ///
+    /// A number costs one look-up, however many there are.
     pub fn command(
         &mut self,
         caller: &Option<UserNo>,
         command: Command,
         at: Moment,
+        key: Option<RetryKey>,
     ) -> Result<Receipt, BookError<Rule>>
-        requires { IsAllowed self.old.log (call_of caller.now at command) }
+        requires { IsGiven self.old.log (call_of caller.now at key command) }
 
         ensures accepted { IfOk result
-            (λ receipt. Accepts self.old.log self.new.log (call_of caller.now at command) receipt) }
+            (λ receipt. Accepts self.old.log self.new.log (call_of caller.now at key command) receipt) }
 
-        // A rule is told exactly where Judge gives it, and then nothing changes.
-        ensures rule { (rule : Rule) → judge (view caller.now self.old.log) (call_of caller.now at command) ≡ Err rule
+        // A repeat is answered, and nothing changes.
+        ensures repeats { (receipt : Receipt)
+            → decide (view caller.now self.old.log) (call_of caller.now at key command) ≡ Repeats receipt
+            → result ≡ Ok receipt }
+        ensures repeat_stays { (receipt : Receipt)
+            → decide (view caller.now self.old.log) (call_of caller.now at key command) ≡ Repeats receipt
+            → self.new ≡ self.old }
+
+        // A rule is told exactly where that is what the command comes to, and then nothing changes.
+        ensures rule { (rule : Rule)
+            → decide (view caller.now self.old.log) (call_of caller.now at key command) ≡ Judged (Err rule)
             → result ≡ Err (BookError.Broken rule) }
         ensures only_rule { (rule : Rule) → result ≡ Err (BookError.Broken rule)
-            → judge (view caller.now self.old.log) (call_of caller.now at command) ≡ Err rule }
+            → decide (view caller.now self.old.log) (call_of caller.now at key command) ≡ Judged (Err rule) }
         ensures rule_stays { (rule : Rule) → result ≡ Err (BookError.Broken rule) → self.new ≡ self.old }
 
-        // The other errors come only where Judge accepts the command.
+        // The other errors come only where something is to be added.
         ensures memory { result ≡ Err BookError.OutOfMemory
-            → IsOk (judge (view caller.now self.old.log) (call_of caller.now at command)) }
+            → IsSome (drawn_by (decide (view caller.now self.old.log) (call_of caller.now at key command))) }
         ensures lost { result ≡ Err BookError.KeeperFault
-            → IsOk (judge (view caller.now self.old.log) (call_of caller.now at command)) }
+            → IsSome (drawn_by (decide (view caller.now self.old.log) (call_of caller.now at key command))) }
 
         ensures log_stays { OnErr result (self.new.log ≡ self.old.log) }
         ensures rows_stay { OnErr result (K.rows self.new.keeper ≡ K.rows self.old.keeper) }
@@ -155,11 +175,44 @@ impl<K: Keeper> Book<K> {
         ensures count { K.faults self.old.keeper ≤ K.faults self.new.keeper }
         ensures legal { Legal self.new.log }
     {
-        let call = Call {
-            caller: *caller,
-            at,
-            command,
-        };
+        match look_up(&self.log, &self.live, caller, &key, false) {
+            Earlier::Nothing => self.judge_command(Call {
+                caller: *caller,
+                at,
+                key,
+                command,
+            }),
+            Earlier::Same(receipt) => {
+                drop(command);
+                Ok(receipt)
+            }
+            Earlier::Other => {
+                drop(command);
+                Err(BookError::Broken(Rule::NumberUsed))
+            }
+        }
+    }
+
+    /// The same of a command whose number, if it has one, is new: it is judged.
+    fn judge_command(&mut self, call: Call) -> Result<Receipt, BookError<Rule>>
+        requires { IsAllowed self.old.log call }
+        ensures accepted { IfOk result
+            (λ receipt. Acts (Judged (judge (view call.caller self.old.log) call)) self.old.log self.new.log receipt) }
+        ensures rule { (rule : Rule) → judge (view call.caller self.old.log) call ≡ Err rule
+            → result ≡ Err (BookError.Broken rule) }
+        ensures only_rule { (rule : Rule) → result ≡ Err (BookError.Broken rule)
+            → judge (view call.caller self.old.log) call ≡ Err rule }
+        ensures rule_stays { (rule : Rule) → result ≡ Err (BookError.Broken rule) → self.new ≡ self.old }
+        ensures memory { result ≡ Err BookError.OutOfMemory → IsOk (judge (view call.caller self.old.log) call) }
+        ensures lost { result ≡ Err BookError.KeeperFault → IsOk (judge (view call.caller self.old.log) call) }
+        ensures log_stays { OnErr result (self.new.log ≡ self.old.log) }
+        ensures rows_stay { OnErr result (K.rows self.new.keeper ≡ K.rows self.old.keeper) }
+        ensures fault { result ≡ Err BookError.KeeperFault
+            → Rises (K.faults self.old.keeper) (K.faults self.new.keeper) }
+        ensures steady { result ≢ Err BookError.KeeperFault → K.faults self.new.keeper ≡ K.faults self.old.keeper }
+        ensures count { K.faults self.old.keeper ≤ K.faults self.new.keeper }
+        ensures legal { Legal self.new.log }
+    {
         let effect = match judge(&self.live, call) {
             Ok(effect) => effect,
             Err(rule) => return Err(BookError::Broken(rule)),
@@ -174,41 +227,52 @@ impl<K: Keeper> Book<K> {
         }
     }
 
-    /// Judges a bulk of this caller, given at this moment, each row behind those before it, and where no rule is
-    /// broken, keeps the entries of all rows, each with the moment, and applies them.
+    /// What a bulk of this caller comes to, given at this moment by this number: looked up as a command's, and then a
+    /// repeat, which is answered the number of rows that were added, or a bulk that breaks `Rule::NumberUsed` as a
+    /// whole. Else it is judged, each row behind those before it, and where no rule is broken, the entries of all rows
+    /// are kept and applied, each with the moment, the number and the mark.
     ///
     /// The caller is a registered user. On each error the history and the keeper's rows stay as they were: so of a
-    /// bulk with a broken row nothing is kept. What is broken is told whatever memory there is, since judging takes
-    /// none; so both other errors come only for a bulk that is accepted. `KeeperFault` comes only where the keeper's
-    /// count of faults rose, or stands at its last value; with all else the count is as it was, and `OutOfMemory`
-    /// comes for lack of memory alone.
+    /// bulk with a broken row nothing is kept. A repeat is answered, and what is broken is told, whatever memory there
+    /// is, since look-up and judging take none; so both other errors come only for a bulk that is judged and accepted.
+    /// `KeeperFault` comes only where the keeper's count of faults rose, or stands at its last value; with all else the
+    /// count is as it was, and `OutOfMemory` comes for lack of memory alone.
     ///
-    /// Costs one judgement for each row, which walks over the entries of the rows before it, at most
-    /// 511; the keeper is asked once.
+    /// Costs one look-up where it has a number; and where it is judged, one judgement for each row, which walks over
+    /// the entries of the rows before it, at most 511; the keeper is asked once.
     pub fn bulk(
         &mut self,
         caller: UserNo,
         rows: BulkRows,
         at: Moment,
+        key: Option<RetryKey>,
     ) -> Result<Receipt, BookError<Broken>>
-        requires { IsBulkAllowed self.old.log (bulk_by caller at rows) }
+        requires { IsBulkGiven self.old.log (bulk_by caller at key rows) }
 
         ensures accepted { IfOk result
-            (λ receipt. AcceptsBulk self.old.log self.new.log (bulk_by caller at rows) receipt) }
+            (λ receipt. AcceptsBulk self.old.log self.new.log (bulk_by caller at key rows) receipt) }
 
-        // What is broken is told exactly where Judge gives it, and then nothing changes.
+        // A repeat is answered, and nothing changes.
+        ensures repeats { (receipt : Receipt)
+            → decide_bulk (view (Some caller) self.old.log) (bulk_by caller at key rows) ≡ Repeats receipt
+            → result ≡ Ok receipt }
+        ensures repeat_stays { (receipt : Receipt)
+            → decide_bulk (view (Some caller) self.old.log) (bulk_by caller at key rows) ≡ Repeats receipt
+            → self.new ≡ self.old }
+
+        // What is broken is told exactly where that is what the bulk comes to, and then nothing changes.
         ensures broken { (broken : Broken)
-            → judge_bulk (view (Some caller) self.old.log) (bulk_by caller at rows) ≡ Err broken
+            → decide_bulk (view (Some caller) self.old.log) (bulk_by caller at key rows) ≡ Judged (Err broken)
             → result ≡ Err (BookError.Broken broken) }
         ensures only_broken { (broken : Broken) → result ≡ Err (BookError.Broken broken)
-            → judge_bulk (view (Some caller) self.old.log) (bulk_by caller at rows) ≡ Err broken }
+            → decide_bulk (view (Some caller) self.old.log) (bulk_by caller at key rows) ≡ Judged (Err broken) }
         ensures broken_stays { (broken : Broken) → result ≡ Err (BookError.Broken broken) → self.new ≡ self.old }
 
-        // The other errors come only where Judge accepts the bulk.
+        // The other errors come only where something is to be added.
         ensures memory { result ≡ Err BookError.OutOfMemory
-            → IsOk (judge_bulk (view (Some caller) self.old.log) (bulk_by caller at rows)) }
+            → IsSome (drawn_by (decide_bulk (view (Some caller) self.old.log) (bulk_by caller at key rows))) }
         ensures lost { result ≡ Err BookError.KeeperFault
-            → IsOk (judge_bulk (view (Some caller) self.old.log) (bulk_by caller at rows)) }
+            → IsSome (drawn_by (decide_bulk (view (Some caller) self.old.log) (bulk_by caller at key rows))) }
 
         ensures log_stays { OnErr result (self.new.log ≡ self.old.log) }
         ensures rows_stay { OnErr result (K.rows self.new.keeper ≡ K.rows self.old.keeper) }
@@ -218,7 +282,48 @@ impl<K: Keeper> Book<K> {
         ensures count { K.faults self.old.keeper ≤ K.faults self.new.keeper }
         ensures legal { Legal self.new.log }
     {
-        let stamp = Stamp { maker: caller, at };
+        let stamp = Stamp {
+            maker: caller,
+            at,
+            key,
+        };
+        match look_up(&self.log, &self.live, &Some(caller), &key, true) {
+            Earlier::Nothing => self.judge_rows(stamp, rows),
+            Earlier::Same(receipt) => {
+                drop(rows);
+                Ok(receipt)
+            }
+            Earlier::Other => {
+                drop(rows);
+                Err(BookError::Broken(Broken::Rule(Rule::NumberUsed)))
+            }
+        }
+    }
+
+    /// The same of a bulk under this stamp whose number, if it has one, is new: its rows are judged.
+    fn judge_rows(&mut self, stamp: Stamp, rows: BulkRows) -> Result<Receipt, BookError<Broken>>
+        requires { IsBulkAllowed self.old.log (record { stamp = stamp; rows = rows }) }
+        ensures accepted { IfOk result (λ receipt. Acts
+            (Judged (judge_bulk (view (Some stamp.maker) self.old.log) (record { stamp = stamp; rows = rows })))
+            self.old.log self.new.log receipt) }
+        ensures broken { (broken : Broken)
+            → judge_bulk (view (Some stamp.maker) self.old.log) (record { stamp = stamp; rows = rows }) ≡ Err broken
+            → result ≡ Err (BookError.Broken broken) }
+        ensures only_broken { (broken : Broken) → result ≡ Err (BookError.Broken broken)
+            → judge_bulk (view (Some stamp.maker) self.old.log) (record { stamp = stamp; rows = rows }) ≡ Err broken }
+        ensures broken_stays { (broken : Broken) → result ≡ Err (BookError.Broken broken) → self.new ≡ self.old }
+        ensures memory { result ≡ Err BookError.OutOfMemory
+            → IsOk (judge_bulk (view (Some stamp.maker) self.old.log) (record { stamp = stamp; rows = rows })) }
+        ensures lost { result ≡ Err BookError.KeeperFault
+            → IsOk (judge_bulk (view (Some stamp.maker) self.old.log) (record { stamp = stamp; rows = rows })) }
+        ensures log_stays { OnErr result (self.new.log ≡ self.old.log) }
+        ensures rows_stay { OnErr result (K.rows self.new.keeper ≡ K.rows self.old.keeper) }
+        ensures fault { result ≡ Err BookError.KeeperFault
+            → Rises (K.faults self.old.keeper) (K.faults self.new.keeper) }
+        ensures steady { result ≢ Err BookError.KeeperFault → K.faults self.new.keeper ≡ K.faults self.old.keeper }
+        ensures count { K.faults self.old.keeper ≤ K.faults self.new.keeper }
+        ensures legal { Legal self.new.log }
+    {
         let group = match judge_bulk(&self.live, &stamp, rows) {
             Ok(group) => group,
             Err(broken) => return Err(BookError::Broken(broken)),
@@ -230,11 +335,12 @@ impl<K: Keeper> Book<K> {
         }
     }
 
-    /// Takes the room for a group, keeps it and applies it: after the keeper has kept it nothing can fail.
-    /// The texts are in the entries, which the tables keep; rows and history share them. Nothing is
+    /// Takes the room for a group, its number's place with it, keeps it and applies it: after the keeper has kept it
+    /// nothing can fail. The texts are in the entries, which the tables keep; rows and history share them. Nothing is
     /// judged, so nothing is told as broken.
     fn keep<B>(&mut self, group: Vec<Stamped>) -> Result<(), BookError<B>>
         requires legal { Legal (self.old.log ++ group.items) }
+        requires follows { MayFollow self.old.log group.items }
         requires fits { FitInTurn (tables_of self.old.log) group.items }
         ensures kept { OnOk result (self.new.log ≡ self.old.log ++ group.items) }
         ensures unbroken { (broken : B) → result ≢ Err (BookError.Broken broken) }
@@ -249,13 +355,13 @@ impl<K: Keeper> Book<K> {
         let Ok(rows) = rows_of(self.alloc, &group) else {
             return Err(BookError::OutOfMemory);
         };
-        let Ok(mut entries) = copies_of(self.alloc, &group) else {
+        let Ok(entries) = copies_of(self.alloc, &group) else {
             return Err(BookError::OutOfMemory);
         };
         if self.live.room(&group).is_err() {
             return Err(BookError::OutOfMemory);
         }
-        if self.log.reserve(group.len()).is_err() {
+        if self.log.room(&group).is_err() {
             return Err(BookError::OutOfMemory);
         }
         match self.keeper.append_all(&rows) {
@@ -264,10 +370,8 @@ impl<K: Keeper> Book<K> {
             Err(KeeperError::OutOfMemory) => return Err(BookError::OutOfMemory),
         }
         self.live.apply_all(group);
-        match self.log.append(&mut entries) {
-            Ok(()) => Ok(()),
-            Err(_) => unreachable!(),
-        }
+        self.log.append(entries);
+        Ok(())
     }
 
     /// The answer to a query of this caller, a registered user, or nobody where no login is wanted for the
@@ -281,8 +385,8 @@ impl<K: Keeper> Book<K> {
     /// there are at most 26, `Query::Comments` a walk over the comments on the paper with a look-up each,
     /// `Query::Content` and `Query::Version` one look-up, `Query::Search` a walk over all papers, which costs each
     /// what `matches` of `cr_search_eval` does, `Query::Report` what `cr_reports` says of each report, `Query::Phase`
-    /// and `Query::Deadlines` nothing that grows. But for a search and a letter, the length of texts and contents makes
-    /// no difference.
+    /// and `Query::Deadlines` nothing that grows. But for a search and a letter, the length of texts and contents
+    /// makes no difference.
     pub fn answer(&self, caller: &Option<UserNo>, query: &Query) -> Result<Reply, AnswerError>
         requires { MayAsk self.now.log (needs_login (view None self.now.log) query.now) caller.now }
         ensures answered { AnswersAsDue result (answer caller.now (view caller.now self.now.log) query.now) }
@@ -351,14 +455,14 @@ impl<K: Keeper> Book<K> {
         ensures value { result ≡ length self.now.log }
         ensures legal { Legal self.now.log }
     {
-        self.log.len() as u64
+        self.log.len()
     }
 
     /// How many entries of this kind the history has. One walk over the history; takes no memory.
     pub fn count_of_kind(&self, kind: EntryKind) -> u64
         ensures { result ≡ count_of_kind kind self.now.log }
     {
-        count_of_kind(&self.log, kind) as u64
+        count_of_kind(self.log.entries(), kind) as u64
     }
 }
 
@@ -372,7 +476,7 @@ impl<K: Keeper> Book<K> {
         ensures { let outlet = outlet_of O.taken O.faults in
             WritesView result (lines_text (view (Some user) self.now.log)) (outlet sink.old) (outlet sink.new) }
     {
-        write_view(self.alloc, &self.live, &self.log, user, sink)
+        write_view(self.alloc, &self.live, self.log.entries(), user, sink)
     }
 
     /// The length of the user's view, which is the number of lines that `view_lines` writes; an error only for want of
@@ -380,7 +484,7 @@ impl<K: Keeper> Book<K> {
     pub fn view_len(&self, user: UserNo) -> Result<u64, AllocError>
         ensures { IfOk result (λ n. n ≡ length (view (Some user) self.now.log)) }
     {
-        view_len(self.alloc, &self.live, &self.log, user)
+        view_len(self.alloc, &self.live, self.log.entries(), user)
     }
 }
 
@@ -393,6 +497,6 @@ impl<K: Keeper> Stands for Book<K> {
     ghost faults = { λ b. K.faults b.keeper };
 
     fn entries(&self) -> u64 {
-        self.log.len() as u64
+        self.log.len()
     }
 }

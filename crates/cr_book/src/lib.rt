@@ -5,6 +5,7 @@
 mod book;
 mod bulks;
 mod coauthor_names;
+mod earlier;
 mod empty;
 mod judging;
 mod kinds;

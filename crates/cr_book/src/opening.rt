@@ -8,7 +8,8 @@ ghost use Rattle.cr_book.specs.Opening.{Explains, IsCounted};
 ghost use Rattle.cr_book.specs.Reading.{refusal, untold};
 
 use crate::reading::{ReadError, Reading};
-use cr_base::{Row, Stamped};
+use cr_base::Row;
+use cr_log::Log;
 use cr_ports::{Keeper, KeeperError};
 use cr_view::Live;
 use std::alloc::Global;
@@ -74,12 +75,9 @@ fn read_rows<K: Keeper>(alloc: Global, keeper: &mut K, count: u64) -> Result<Rea
 }
 
 /// The history that the keeper's rows spell, with its tables.
-pub(crate) fn read_all<K: Keeper>(
-    alloc: Global,
-    keeper: &mut K,
-) -> Result<(Vec<Stamped>, Live), OpenError>
-    ensures legal { IfOk result (λ read. Legal read.0.items × (read.1.tables ≡ tables_of read.0.items)) }
-    ensures spelled { IfOk result (λ read. IfSome (K.rows keeper.old) (λ rows. rows_of read.0.items ≡ rows)) }
+pub(crate) fn read_all<K: Keeper>(alloc: Global, keeper: &mut K) -> Result<(Log, Live), OpenError>
+    ensures legal { IfOk result (λ read. Legal read.0.entries × (read.1.tables ≡ tables_of read.0.entries)) }
+    ensures spelled { IfOk result (λ read. IfSome (K.rows keeper.old) (λ rows. rows_of read.0.entries ≡ rows)) }
     ensures bad { IfErr result (λ e. IfSome (K.rows keeper.old) (λ rows. Explains rows e)) }
     ensures same { K.rows keeper.new ≡ K.rows keeper.old }
     ensures cause { IsCounted (K.faults keeper.old) (K.faults keeper.new) result }

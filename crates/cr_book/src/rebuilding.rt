@@ -7,12 +7,14 @@ ghost use Rattle.cr_base.specs.declared.command.Command.TheVariants as commands;
 ghost use Rattle.cr_judge.specs.Effects.{drawn_by, group_of};
 ghost use Rattle.cr_book.specs.Rebuilding.{giver_told, call_told, command_told, target_command_told};
 ghost use Rattle.cr_book.specs.Rebuilding.{paper_command_told, user_command_told};
-ghost use Rattle.cr_book.specs.Rebuilding.{drawn_told, is_known, IsBegun, NoneBegun};
+ghost use Rattle.cr_book.specs.Rebuilding.{drawn_told, is_givers, is_known, may_have_key, IsBegun, NoneBegun};
 ghost use Rattle.cr_base.specs.declared.row.Row.{Row};
 
 use crate::coauthor_names::authors_told;
 use crate::rows::rows_of;
-use cr_base::{Call, Command, Entry, MOST_COAUTHORS, Row, Stamped, Text, ToldNames, UserNo};
+use cr_base::{
+    Call, Command, Entry, MOST_COAUTHORS, RetryKey, Row, Stamped, Text, ToldNames, UserNo,
+};
 use cr_judge::{Effect, judge};
 use cr_view::Live;
 use std::alloc::{AllocError, Global};
@@ -42,6 +44,20 @@ pub(crate) fn is_known(live: &Live, caller: &Option<UserNo>) -> bool
         Some(user) => live.name_of(*user).is_some(),
         None => true,
     }
+}
+
+/// Whether whoever gives it may have given it this number: nobody gives any.
+fn may_have_key(caller: &Option<UserNo>, key: &Option<RetryKey>) -> bool
+    ensures { result ≡ may_have_key caller.now key.now }
+{
+    caller.is_some() || key.is_none()
+}
+
+/// Whether its caller is known, and may have given it its number.
+fn is_givers(live: &Live, call: &Call) -> bool
+    ensures { result ≡ is_givers live.now.tables call.now }
+{
+    may_have_key(&call.caller, &call.key) && is_known(live, &call.caller)
 }
 
 /// The command of a group with this first entry, which gives it its texts and its content, and with these co-authors
@@ -184,21 +200,23 @@ fn call_of(live: &Live, first: Stamped, authors: ToldNames) -> Option<Call>
 {
     let caller = caller_of(&first);
     let at = first.stamp.at;
+    let key = first.stamp.key;
     let command = command_of(live, first.entry, authors)?;
     Some(Call {
         caller,
         at,
+        key,
         command,
     })
 }
 
-/// What that call comes to; none where its caller isn't known, or it breaks a rule.
+/// What that call comes to; none where its caller isn't known, or is nobody and it has a number, or it breaks a rule.
 fn effect_of(live: &Live, first: Stamped, authors: ToldNames) -> Option<Effect>
     ensures drawn { option_map (drawn_by live.now.tables.accounts) result ≡ drawn_told live.now.tables authors first }
     ensures fits { IfSome result (λ effect. FitInTurn live.now.tables (group_of effect)) }
 {
     let call = call_of(live, first, authors)?;
-    if !is_known(live, &call.caller) {
+    if !is_givers(live, &call) {
         drop(call);
         return None;
     }

@@ -283,7 +283,8 @@ impl Ties {
 
     /// Whether the caller may bid on this paper, or the first broken rule. `by` is her standing at the
     /// paper; `paper` is none where there is no such paper. Whether it is withdrawn stands in none of
-    /// the ties, and no rule asks of her bids. Takes no search.
+    /// the ties, and no rule asks of her bids. `late` is what `Stage::is_late` says at the request's moment. Takes
+    /// no search.
     ///
     /// In this order: `NoPaper`, `NotMember`, `Conflict`, `WrongPhase` where it isn't the bidding, `Late`
     /// where it is too late, `Withdrawn`.
@@ -306,9 +307,9 @@ impl Ties {
     /// Whether the caller may turn this user's conflict with this paper on or off, or the first broken
     /// rule, behind earlier entries of the same command, whatever these are. `by` is her standing at
     /// the paper, `maker` her number; `paper` is none where there is no such paper, `target` none where
-    /// there is no such user. Whether the paper is withdrawn stands in none of the ties. A walk over the
-    /// paper's authors, a binary search among its conflicts, and two walks over the earlier entries, of
-    /// which there are none but in a command of many parts.
+    /// there is no such user. Whether the paper is withdrawn stands in none of the ties. `late` is what
+    /// `Stage::is_late` says at the request's moment. A walk over the paper's authors, a binary search among its
+    /// conflicts, and two walks over the earlier entries, of which there are none but in a command of many parts.
     ///
     /// First come `NoPaper` and `NoUser`. On, before the bidding: `NotAuthor`, `Late` where it is too late,
     /// `Withdrawn`, `NotAMember`; from the bidding to the discussion, of herself: `NotMember`, `Withdrawn`,

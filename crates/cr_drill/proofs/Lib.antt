@@ -1,3 +1,4 @@
+mod DrillCalls
 mod DrillCast
 mod DrillConference
 mod DrillCommands

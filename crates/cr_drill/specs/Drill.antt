@@ -29,9 +29,9 @@ use Rattle.cr_drill.specs.Dice.{roll_of, after_roll}
 
 -- ---- calls
 
--- the command of this caller in a drill, where all requests come at the first moment
+-- the command of this caller in a drill, where all requests come at the first moment, and no command has a number
 abbrev pub drill_call : Option ℕ → Command → Call
-drill_call caller command = call_of caller 0 command
+drill_call caller command = call_of caller 0 None command
 
 -- Judge accepts the call
 abbrev pub is_accepted : History → Call → Bool

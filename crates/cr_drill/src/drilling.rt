@@ -6,7 +6,7 @@ ghost use Rattle.cr_base.specs.Logins.{command_wants_login};
 ghost use Rattle.cr_base.specs.HistoryFacts.{papers_of, phase_of};
 ghost use Rattle.cr_base.specs.declared.words.Role.TheVariants.{Chair};
 ghost use Rattle.cr_base.specs.Words.{is_member};
-ghost use Rattle.cr_policy.specs.Legal.{Legal, IsAllowed, step};
+ghost use Rattle.cr_policy.specs.Legal.{Legal, IsGiven, step};
 ghost use Rattle.cr_drill.specs.Cast.{first_chair, second_chair, member_count};
 ghost use Rattle.cr_drill.specs.Drill.{all_registered, drill_call, drilled, drilled_for, is_accepted, is_on_way};
 ghost use Rattle.cr_drill.specs.Drill.{members_named, moved_on, moved_through, moved_to, named, opened};
@@ -52,20 +52,21 @@ pub(crate) struct Progress {
     pub(crate) refused: u64,
 }
 
-/// Gives a command at the first moment, and tells whether it was accepted; an error only for lack of memory.
+/// Gives a command without a number at the first moment, and tells whether it was accepted; an error only for lack of
+/// memory.
 fn ask(
     book: &mut Book<PlainKeeper>,
     caller: Option<UserNo>,
     command: Command,
 ) -> Result<bool, AllocError>
-    requires { IsAllowed book.old.log (drill_call caller command) }
+    requires { IsGiven book.old.log (drill_call caller command) }
     ensures stepped { IfOk result (λ yes. book.new.log
         ≡ step book.old.log (drill_call caller command)) }
     ensures accepted { IfOk result (λ yes. yes
         ≡ is_accepted book.old.log (drill_call caller command)) }
     ensures goes_on { GoesOn book.old.log book.new.log }
 {
-    match book.command(&caller, command, Moment::epoch()) {
+    match book.command(&caller, command, Moment::epoch(), None) {
         Ok(_) => Ok(true),
         Err(BookError::Broken(_)) => Ok(false),
         Err(BookError::OutOfMemory) => Err(AllocError),

@@ -1,6 +1,6 @@
 -- What follows of an entry from fitting the tables: its number and its name are the next and a new one, whom and what it is
 -- about is there; and where the rules let a command add it, it is within its bounds, so that it has a row.
-use Rattle.std.proofs.Common.{ℕ, Bool, true, false, cond, ◌≡◌, ◌≤◌, ◌<◌, ◌+◌, ◌-◌, List, [], ◌∷◌, ◌++◌, length, eqb, refl, sym, ap, ◌∙◌, arith, ◌||◌, ◌&&◌, Option, Some, None}
+use Rattle.std.proofs.Common.{ℕ, Bool, true, false, cond, ◌≡◌, ◌≤◌, ◌<◌, ◌+◌, ◌-◌, List, [], ◌∷◌, ◌++◌, length, eqb, refl, sym, ap, subst, ◌∙◌, arith, ◌||◌, ◌&&◌, Option, Some, None}
 use Rattle.std.specs.Prelude.{nat_le, map}
 use Rattle.std.specs.List.{All, AllByRecursion, list_any}
 use Rattle.std.proofs.lemmas.Bool.{eqb-true, true≢false}
@@ -14,6 +14,7 @@ use Rattle.cr_base.specs.declared.entry.Entry.TheVariants.{Conflict, Bid, Assign
 use Rattle.cr_base.specs.declared.entry.Stamp.{Stamp}
 use Rattle.cr_base.specs.declared.entry.Stamped.{Stamped}
 use Rattle.cr_base.specs.declared.reply.AccountLine.{AccountLine}
+use Rattle.cr_base.specs.declared.retry.RetryKey.{RetryKey}
 use Rattle.cr_base.specs.declared.words.Phase.{Phase}
 use Rattle.cr_base.specs.declared.words.Phase.TheVariants.{Setup, Submission, Bidding, Reviewing, Discussion, Notification, Closed}
 use Rattle.cr_base.specs.declared.words.Mode.{Mode}
@@ -29,19 +30,19 @@ use Rattle.cr_base.specs.Deadlines.{IsDeadlineOrNone, last_deadline}
 use Rattle.cr_base.specs.Drawn.{stamped, grouped, submission}
 use Rattle.cr_base.specs.HistoryFacts.{role_of, accounts_of, ordinal_of}
 use Rattle.cr_base.specs.History.{History, Registration, all_told, registration_told}
+use Rattle.cr_base.specs.Keys.{IsRetryKey, IsKeyOrNone, last_command_number}
 use Rattle.cr_base.specs.Lists.{numbers_from}
-use Rattle.cr_base.specs.Moments.{IsMoment}
 use Rattle.cr_base.specs.Papers.{IsPaper}
 use Rattle.cr_base.specs.Phases.{may_have_deadline}
 use Rattle.cr_base.specs.Reviews.{forms_in, written_told}
-use Rattle.cr_base.specs.Rows.{label_number, until_number, IsBoundedEntry}
-use Rattle.cr_base.specs.Shapes.{InRange, FitsStamp, user_range, paper_range, role_range, review_kind_range, decision_range, ordinal_range, some_ordinal_range, deadline_phase_range, some_deadline_range, unused}
+use Rattle.cr_base.specs.Rows.{fields_of, shape_of, kind_of, key_number, key_mark, label_number, until_number, IsBoundedEntry}
+use Rattle.cr_base.specs.Shapes.{InRange, HasText, key_in, user_range, paper_range, role_range, review_kind_range, decision_range, ordinal_range, some_ordinal_range, deadline_phase_range, some_deadline_range, unused}
 use Rattle.cr_base.specs.Tables.{no_tables, tables_of, Fits, FitInTurn}
 use Rattle.cr_base.specs.Talk.{comments_in, comment_as_told}
 use Rattle.cr_base.specs.Words.{phase_number, mode_number, role_number, review_kind_number, decision_number}
 use Rattle.cr_base.proofs.AccountLaws.{length-lines_of}
 use Rattle.cr_base.proofs.ListLaws.{length-numbers_from, list_any-numbers_from}
-use Rattle.cr_history.specs.Groups.{IsRuled, Adds, single, submitted, first_user, Grows, adds, goes_on}
+use Rattle.cr_history.specs.Groups.{IsRuled, IsBoundedStamp, Adds, single, submitted, first_user, Grows, adds, goes_on}
 use Rattle.cr_history.specs.Invariants.{IsRegistered, IsMadeByUser, HasNextNumber, HasNewName, IsAboutThose, IsSubmitted, InTurn}
 use Rattle.cr_history.proofs.CallerLaws.{registered-from}
 use Rattle.cr_history.proofs.SizeAgreement.{IsSized, sized-tables}
@@ -186,7 +187,55 @@ until-few (Some n) bounded = by (eqb n 0) refl bounded.0 bounded.1
     by true none low high = let e = eqb-true n 0 none in absurd (omega (arith, e, low))
     by false some low high = (omega arith, high)
 
+-- a key has a number, which isn't 0
+no-zero : (key : RetryKey) → IsRetryKey key → eqb key.number 0 ≡ true → ⊥
+no-zero key bounded is = let none = eqb-true key.number 0 is in let low = bounded.low in omega (arith, none, low)
+
+-- so that its fields spell it
+key-back : (key : Option RetryKey) → IsKeyOrNone key → key_in (key_number key) (key_mark key) ≡ key
+key-back None bounded = refl
+key-back (Some key) bounded = by (eqb key.number 0) refl
+  where
+    by : (b : Bool) → eqb key.number 0 ≡ b → key_in (cond b (last_command_number + 1) key.number) key.mark ≡ Some key
+    by true is = absurd (no-zero key bounded is)
+    by false is = ap (λ (c : Bool). cond c None (Some key)) is
+
+-- and there is no mark without a number
+key-unmarked : (key : Option RetryKey) → IsKeyOrNone key → key_number key ≡ 0 → key_mark key ≡ []
+key-unmarked None bounded none = refl
+key-unmarked (Some key) bounded none = by (eqb key.number 0) refl none
+  where
+    by : (b : Bool) → eqb key.number 0 ≡ b → cond b (last_command_number + 1) key.number ≡ 0 → key.mark ≡ []
+    by true is none = absurd (no-zero key bounded is)
+    by false is none = let low = bounded.low in absurd (omega (arith, none, low))
+
 -- ---- bounds
+
+-- what an entry tells beside its stamp and its mark is within the bounds of its kind
+record IsToldIn (e : Entry) : Type 0 where
+  pub n1 : InRange (shape_of (kind_of e)).n1 (fields_of e).n1
+  pub n2 : InRange (shape_of (kind_of e)).n2 (fields_of e).n2
+  pub n3 : InRange (shape_of (kind_of e)).n3 (fields_of e).n3
+  pub n4 : InRange (shape_of (kind_of e)).n4 (fields_of e).n4
+  pub n5 : InRange (shape_of (kind_of e)).n5 (fields_of e).n5
+  pub b1 : HasText (shape_of (kind_of e)).b1 (fields_of e).b1
+  pub b2 : HasText (shape_of (kind_of e)).b2 (fields_of e).b2
+
+-- and so is all of it, where its stamp's maker and what a request brings are
+told-bounded : (stamp : Stamp) (more : Bool) (e : Entry) → InRange user_range stamp.maker → IsBoundedStamp stamp → IsToldIn e
+    → IsBoundedEntry (stamped stamp more e)
+told-bounded stamp more e maker bounds told = record {
+  stamp = record { maker = maker; at = bounds.moment; key = subst IsKeyOrNone (sym (key-back stamp.key bounds.key)) bounds.key };
+  unmarked = key-unmarked stamp.key bounds.key;
+  more = bit_few more;
+  n1 = told.n1;
+  n2 = told.n2;
+  n3 = told.n3;
+  n4 = told.n4;
+  n5 = told.n5;
+  b1 = told.b1;
+  b2 = told.b2;
+}
 
 module _ (H : History) (fits : FitInTurn no_tables H) where
   sized : IsSized (tables_of H)
@@ -207,50 +256,41 @@ module _ (H : History) (fits : FitInTurn no_tables H) where
   label_drawn : (user paper ordinal : ℕ) → ordinal_of (Some user) paper H ≡ Some ordinal → InRange ordinal_range ordinal
   label_drawn user paper ordinal is = seat-drawn H fits user paper ordinal (sym (ordinal_of-tables (Some user) paper H fits) ∙ is)
 
-  -- the stamp of a user's entry
-  stamp_bounded : (stamp : Stamp) → IsMoment stamp.at → IsRegistered H stamp.maker → FitsStamp stamp
-  stamp_bounded stamp moment registered = record { maker = numbered stamp.maker registered; at = moment }
-
-  bounded-coauthor : (stamp : Stamp) (more : Bool) (paper user : ℕ) → IsMoment stamp.at → IsRegistered H stamp.maker → Fits (tables_of H) (stamped stamp more (Coauthor paper user))
-      → IsBoundedEntry (stamped stamp more (Coauthor paper user))
-  bounded-coauthor stamp more paper user moment registered fit =
+  coauthor-told : (stamp : Stamp) (more : Bool) (paper user : ℕ) → Fits (tables_of H) (stamped stamp more (Coauthor paper user)) → IsToldIn (Coauthor paper user)
+  coauthor-told stamp more paper user fit =
       let last = fit.papers.1 in
-      record { stamp = stamp_bounded stamp moment registered; more = bit_few more; n1 = paper_numbered paper (fit.papers.0, omega (arith, last)); n2 = account_numbered user fit.accounts; n3 = zero_in; n4 = zero_in; n5 = zero_in; b1 = refl; b2 = refl }
+      record { n1 = paper_numbered paper (fit.papers.0, omega (arith, last)); n2 = account_numbered user fit.accounts; n3 = zero_in; n4 = zero_in; n5 = zero_in; b1 = refl; b2 = refl }
 
-  bounded-entry : (stamp : Stamp) (more : Bool) (e : Entry) → IsMoment stamp.at → IsMadeByUser H stamp.maker e → IsRuled H stamp.maker e → Fits (tables_of H) (stamped stamp more e)
-      → IsBoundedEntry (stamped stamp more e)
-  bounded-entry stamp more (Registered user name digest) moment made ruled fit =
+  told-in : (stamp : Stamp) (more : Bool) (e : Entry) → IsRuled H stamp.maker e → Fits (tables_of H) (stamped stamp more e) → IsToldIn e
+  told-in stamp more (Registered user name digest) ruled fit =
       let next = fit.accounts.0 in
-      let few = fit.accounts.1 in
-      record { stamp = record { maker = (omega (arith, made, next), omega (arith, made, few)); at = moment }; more = bit_few more; n1 = (omega (arith, next), few); n2 = zero_in; n3 = zero_in; n4 = zero_in; n5 = zero_in; b1 = ruled.texts.0; b2 = ruled.texts.1 }
-  bounded-entry stamp more (Named user to) moment made ruled fit =
-      record { stamp = stamp_bounded stamp moment made; more = bit_few more; n1 = account_numbered user fit.accounts; n2 = raised_number _ to ruled.role; n3 = zero_in; n4 = zero_in; n5 = zero_in; b1 = refl; b2 = refl }
-  bounded-entry stamp more (PhaseSet phase) moment made ruled fit = record { stamp = stamp_bounded stamp moment made; more = bit_few more; n1 = (omega arith, phase_number-few phase); n2 = zero_in; n3 = zero_in; n4 = zero_in; n5 = zero_in; b1 = refl; b2 = refl }
-  bounded-entry stamp more (ModeSet mode) moment made ruled fit = record { stamp = stamp_bounded stamp moment made; more = bit_few more; n1 = (omega arith, mode_number-few mode); n2 = zero_in; n3 = zero_in; n4 = zero_in; n5 = zero_in; b1 = refl; b2 = refl }
-  bounded-entry stamp more (Submitted paper title abstract) moment made ruled fit =
+      record { n1 = (omega (arith, next), fit.accounts.1); n2 = zero_in; n3 = zero_in; n4 = zero_in; n5 = zero_in; b1 = ruled.texts.0; b2 = ruled.texts.1 }
+  told-in stamp more (Named user to) ruled fit =
+      record { n1 = account_numbered user fit.accounts; n2 = raised_number _ to ruled.role; n3 = zero_in; n4 = zero_in; n5 = zero_in; b1 = refl; b2 = refl }
+  told-in stamp more (PhaseSet phase) ruled fit = record { n1 = (omega arith, phase_number-few phase); n2 = zero_in; n3 = zero_in; n4 = zero_in; n5 = zero_in; b1 = refl; b2 = refl }
+  told-in stamp more (ModeSet mode) ruled fit = record { n1 = (omega arith, mode_number-few mode); n2 = zero_in; n3 = zero_in; n4 = zero_in; n5 = zero_in; b1 = refl; b2 = refl }
+  told-in stamp more (Submitted paper title abstract) ruled fit =
       let next = fit.papers.0 in
-      record { stamp = stamp_bounded stamp moment made; more = bit_few more; n1 = (omega (arith, next), fit.papers.1); n2 = zero_in; n3 = zero_in; n4 = zero_in; n5 = zero_in; b1 = ruled.texts.0; b2 = ruled.texts.1 }
-  bounded-entry stamp more (Coauthor paper user) moment made ruled fit = bounded-coauthor stamp more paper user moment made fit
-  bounded-entry stamp more (Revised paper title abstract) moment made ruled fit = record { stamp = stamp_bounded stamp moment made; more = bit_few more; n1 = paper_numbered paper fit.papers; n2 = zero_in; n3 = zero_in; n4 = zero_in; n5 = zero_in; b1 = ruled.texts.0; b2 = ruled.texts.1 }
-  bounded-entry stamp more (Uploaded paper version content) moment made ruled fit =
+      record { n1 = (omega (arith, next), fit.papers.1); n2 = zero_in; n3 = zero_in; n4 = zero_in; n5 = zero_in; b1 = ruled.texts.0; b2 = ruled.texts.1 }
+  told-in stamp more (Coauthor paper user) ruled fit = coauthor-told stamp more paper user fit
+  told-in stamp more (Revised paper title abstract) ruled fit = record { n1 = paper_numbered paper fit.papers; n2 = zero_in; n3 = zero_in; n4 = zero_in; n5 = zero_in; b1 = ruled.texts.0; b2 = ruled.texts.1 }
+  told-in stamp more (Uploaded paper version content) ruled fit =
       let next = fit.papers.1 in
-      record { stamp = stamp_bounded stamp moment made; more = bit_few more; n1 = paper_numbered paper fit.papers.0; n2 = (omega (arith, next), tt); n3 = zero_in; n4 = zero_in; n5 = zero_in; b1 = ruled.texts; b2 = refl }
-  bounded-entry stamp more (Withdrawn paper) moment made ruled fit = record { stamp = stamp_bounded stamp moment made; more = bit_few more; n1 = paper_numbered paper fit.papers; n2 = zero_in; n3 = zero_in; n4 = zero_in; n5 = zero_in; b1 = refl; b2 = refl }
-  bounded-entry stamp more (Conflict paper user on) moment made ruled fit =
-      record { stamp = stamp_bounded stamp moment made; more = bit_few more; n1 = paper_numbered paper fit.papers; n2 = account_numbered user fit.accounts; n3 = (omega arith, bit_few on); n4 = zero_in; n5 = zero_in; b1 = refl; b2 = refl }
-  bounded-entry stamp more (Bid paper value) moment made ruled fit =
-      record { stamp = stamp_bounded stamp moment made; more = bit_few more; n1 = paper_numbered paper fit.papers; n2 = (omega arith, ruled.texts); n3 = zero_in; n4 = zero_in; n5 = zero_in; b1 = refl; b2 = refl }
-  bounded-entry stamp more (Assigned paper user kind' ordinal) moment made ruled fit =
+      record { n1 = paper_numbered paper fit.papers.0; n2 = (omega (arith, next), tt); n3 = zero_in; n4 = zero_in; n5 = zero_in; b1 = ruled.texts; b2 = refl }
+  told-in stamp more (Withdrawn paper) ruled fit = record { n1 = paper_numbered paper fit.papers; n2 = zero_in; n3 = zero_in; n4 = zero_in; n5 = zero_in; b1 = refl; b2 = refl }
+  told-in stamp more (Conflict paper user on) ruled fit =
+      record { n1 = paper_numbered paper fit.papers; n2 = account_numbered user fit.accounts; n3 = (omega arith, bit_few on); n4 = zero_in; n5 = zero_in; b1 = refl; b2 = refl }
+  told-in stamp more (Bid paper value) ruled fit =
+      record { n1 = paper_numbered paper fit.papers; n2 = (omega arith, ruled.texts); n3 = zero_in; n4 = zero_in; n5 = zero_in; b1 = refl; b2 = refl }
+  told-in stamp more (Assigned paper user kind' ordinal) ruled fit =
       let next = fit.seats.0 in
-      record { stamp = stamp_bounded stamp moment made; more = bit_few more; n1 = paper_numbered paper fit.papers; n2 = account_numbered user fit.accounts; n3 = review_kind_number-few kind'; n4 = (omega (arith, next), fit.seats.1); n5 = zero_in; b1 = refl; b2 = refl }
-  bounded-entry stamp more (Unassigned paper user ordinal) moment made ruled fit =
+      record { n1 = paper_numbered paper fit.papers; n2 = account_numbered user fit.accounts; n3 = review_kind_number-few kind'; n4 = (omega (arith, next), fit.seats.1); n5 = zero_in; b1 = refl; b2 = refl }
+  told-in stamp more (Unassigned paper user ordinal) ruled fit =
       let drawn = seat-drawn H fits user paper ordinal fit.seats in
-      record { stamp = stamp_bounded stamp moment made; more = bit_few more; n1 = paper_numbered paper fit.papers; n2 = account_numbered user fit.accounts; n3 = drawn; n4 = zero_in; n5 = zero_in; b1 = refl; b2 = refl }
-  bounded-entry stamp more (Reviewed paper ordinal version form) moment made ruled fit =
+      record { n1 = paper_numbered paper fit.papers; n2 = account_numbered user fit.accounts; n3 = drawn; n4 = zero_in; n5 = zero_in; b1 = refl; b2 = refl }
+  told-in stamp more (Reviewed paper ordinal version form) ruled fit =
       let next = fit.reviews in
       record {
-        stamp = stamp_bounded stamp moment made;
-        more = bit_few more;
         n1 = paper_numbered paper fit.papers;
         n2 = label_drawn stamp.maker paper ordinal ruled.seat;
         n3 = (omega (arith, next), tt);
@@ -259,11 +299,9 @@ module _ (H : History) (fits : FitInTurn no_tables H) where
         b1 = ruled.texts.to_authors;
         b2 = ruled.texts.to_pc;
       }
-  bounded-entry stamp more (Commented paper n ordinal text) moment made ruled fit =
+  told-in stamp more (Commented paper n ordinal text) ruled fit =
       let next = fit.talk.0 in
       record {
-        stamp = stamp_bounded stamp moment made;
-        more = bit_few more;
         n1 = paper_numbered paper fit.papers;
         n2 = (omega (arith, next), tt);
         n3 = label-few ordinal (λ o is. label_drawn stamp.maker paper o (ruled.seat ∙ is));
@@ -272,10 +310,8 @@ module _ (H : History) (fits : FitInTurn no_tables H) where
         b1 = ruled.texts;
         b2 = refl;
       }
-  bounded-entry stamp more (Tagged paper tag on) moment made ruled fit =
+  told-in stamp more (Tagged paper tag on) ruled fit =
       record {
-        stamp = stamp_bounded stamp moment made;
-        more = bit_few more;
         n1 = paper_numbered paper fit.papers;
         n2 = (omega arith, bit_few on);
         n3 = zero_in;
@@ -284,10 +320,8 @@ module _ (H : History) (fits : FitInTurn no_tables H) where
         b1 = ruled.texts;
         b2 = refl;
       }
-  bounded-entry stamp more (Decided paper decision) moment made ruled fit =
+  told-in stamp more (Decided paper decision) ruled fit =
       record {
-        stamp = stamp_bounded stamp moment made;
-        more = bit_few more;
         n1 = paper_numbered paper fit.papers;
         n2 = decision_number-few decision;
         n3 = zero_in;
@@ -296,10 +330,8 @@ module _ (H : History) (fits : FitInTurn no_tables H) where
         b1 = refl;
         b2 = refl;
       }
-  bounded-entry stamp more (DeadlineSet phase until) moment made ruled fit =
+  told-in stamp more (DeadlineSet phase until) ruled fit =
       record {
-        stamp = stamp_bounded stamp moment made;
-        more = bit_few more;
         n1 = deadline_phase-few phase ruled.phase.1;
         n2 = until-few until ruled.texts;
         n3 = zero_in;
@@ -309,8 +341,24 @@ module _ (H : History) (fits : FitInTurn no_tables H) where
         b2 = refl;
       }
 
-  bounded_chair : (stamp : Stamp) → IsMoment stamp.at → stamp.maker ≡ 1 → IsBoundedEntry (stamped stamp false (Named stamp.maker role.Chair))
-  bounded_chair stamp moment is = record { stamp = record { maker = (omega (arith, is), omega (arith, is)); at = moment }; more = omega arith; n1 = (omega (arith, is), omega (arith, is)); n2 = (omega arith, omega arith); n3 = zero_in; n4 = zero_in; n5 = zero_in; b1 = refl; b2 = refl }
+  -- who makes it has a number that a row can hold, the new user too
+  made-in : (stamp : Stamp) (more : Bool) (e : Entry) → IsMadeByUser H stamp.maker e → Fits (tables_of H) (stamped stamp more e) → InRange user_range stamp.maker
+  made-in stamp more (Registered user name digest) made fit = let next = fit.accounts.0 in let few = fit.accounts.1 in (omega (arith, made, next), omega (arith, made, few))
+  made-in stamp more e made fit = numbered stamp.maker made
+
+  bounded-entry : (stamp : Stamp) (more : Bool) (e : Entry) → IsBoundedStamp stamp → IsMadeByUser H stamp.maker e → IsRuled H stamp.maker e → Fits (tables_of H) (stamped stamp more e)
+      → IsBoundedEntry (stamped stamp more e)
+  bounded-entry stamp more e bounds made ruled fit = told-bounded stamp more e (made-in stamp more e made fit) bounds (told-in stamp more e ruled fit)
+
+  bounded-coauthor : (stamp : Stamp) (more : Bool) (paper user : ℕ) → IsBoundedStamp stamp → IsRegistered H stamp.maker → Fits (tables_of H) (stamped stamp more (Coauthor paper user))
+      → IsBoundedEntry (stamped stamp more (Coauthor paper user))
+  bounded-coauthor stamp more paper user bounds registered fit =
+      told-bounded stamp more (Coauthor paper user) (numbered stamp.maker registered) bounds (coauthor-told stamp more paper user fit)
+
+  bounded_chair : (stamp : Stamp) → IsBoundedStamp stamp → stamp.maker ≡ 1 → IsBoundedEntry (stamped stamp false (Named stamp.maker role.Chair))
+  bounded_chair stamp bounds is =
+      let first : InRange user_range stamp.maker = (omega (arith, is), omega (arith, is)) in
+      told-bounded stamp false (Named stamp.maker role.Chair) first bounds (record { n1 = first; n2 = (omega arith, omega arith); n3 = zero_in; n4 = zero_in; n5 = zero_in; b1 = refl; b2 = refl })
 
 -- ---- groups
 
@@ -319,19 +367,19 @@ in_turn-all Q before [] all = tt
 in_turn-all Q before (e ∷ g) all = (all.0, in_turn-all Q (before ++ e ∷ []) g all.1)
 
 added-bounded : (H : History) → FitInTurn no_tables H → (g : History) → Adds H g → FitInTurn (tables_of H) g → All IsBoundedEntry g
-added-bounded H fits g (single stamp e moment made alone ruled) fit = All-from_recursion IsBoundedEntry (grouped stamp (e ∷ [])) (bounded-entry H fits stamp false e moment made ruled fit.0, tt)
-added-bounded H fits g (submitted stamp paper title abstract users moment made ruled registered) fit =
+added-bounded H fits g (single stamp e bounds made alone ruled) fit = All-from_recursion IsBoundedEntry (grouped stamp (e ∷ [])) (bounded-entry H fits stamp false e bounds made ruled fit.0, tt)
+added-bounded H fits g (submitted stamp paper title abstract users bounds made ruled registered) fit =
     All-from_recursion IsBoundedEntry (grouped stamp (submission stamp.maker paper title abstract users))
     (in_turn-all IsBoundedEntry H _
-    (submission-in_turn stamp paper (λ _ e. IsBoundedEntry e) (λ G more user before fit. bounded-coauthor G before.fits stamp more paper user moment before.registered fit)
-    H title abstract users fits made ruled.phase (λ more fit. bounded-entry H fits stamp more (Submitted paper title abstract) moment made ruled fit) fit))
-added-bounded H fits g (first_user stamp name digest moment is texts) fit =
+    (submission-in_turn stamp paper (λ _ e. IsBoundedEntry e) (λ G more user before fit. bounded-coauthor G before.fits stamp more paper user bounds before.registered fit)
+    H title abstract users fits made ruled.phase (λ more fit. bounded-entry H fits stamp more (Submitted paper title abstract) bounds made ruled fit) fit))
+added-bounded H fits g (first_user stamp name digest bounds is texts) fit =
     let user : ℕ = stamp.maker in
     let ruled : IsRuled H user (Registered user name digest) = record { phase = tt; chair = tt; role = tt; member = tt; right = tt; seat = tt; texts = texts } in
     All-from_recursion IsBoundedEntry (grouped stamp (Registered user name digest ∷ Named user role.Chair ∷ []))
-    (bounded-entry H fits stamp true (Registered user name digest) moment refl ruled fit.0, (bounded_chair H fits stamp moment is, tt))
+    (bounded-entry H fits stamp true (Registered user name digest) bounds refl ruled fit.0, (bounded_chair H fits stamp bounds is, tt))
 
 pub grown-bounded : (H : History) → FitInTurn no_tables H → (g : History) → Grows H g → FitInTurn (tables_of H) g → All IsBoundedEntry g
 grown-bounded H fits g (adds same added) fit = added-bounded H fits g added fit
-grown-bounded H fits g (goes_on stamp e moment made goes ruled) fit =
-    All-from_recursion IsBoundedEntry (stamped stamp true e ∷ []) (bounded-entry H fits stamp true e moment made ruled fit.0, tt)
+grown-bounded H fits g (goes_on stamp e bounds made goes ruled) fit =
+    All-from_recursion IsBoundedEntry (stamped stamp true e ∷ []) (bounded-entry H fits stamp true e bounds made ruled fit.0, tt)

@@ -55,7 +55,7 @@ tables_tell H fits first = record {
 
 pub growth_keeps : GrowthKeeps
 growth_keeps = record {
-  first = record { bounded = All-nil IsBoundedEntry; spelled = λ k d within. restored-row_of _ (All-nil IsBoundedEntry k d within); fits = tt; in_order = tt; in_time = in_time-nil; discussed = refl; stay = All-nil _ };
+  first = record { bounded = All-nil IsBoundedEntry; spelled = λ k d within. restored-row_of _ (All-nil IsBoundedEntry k d within); fits = tt; in_order = tt; declared_in_time = in_time-nil; discussed = refl; stay = All-nil _ };
   more = λ H g kept grows fits.
       let all : All IsBoundedEntry (H ++ g) = All-append IsBoundedEntry H g kept.bounded (grown-bounded H kept.fits g grows fits) in
       record {
@@ -63,7 +63,7 @@ growth_keeps = record {
         spelled = λ k d within. restored-row_of _ (all k d within);
         fits = FitInTurn-append no_tables H g kept.fits fits;
         in_order = in_order-append H g kept.fits grows fits kept.in_order;
-        in_time = in_time-append H g grows kept.in_time;
+        declared_in_time = in_time-append H g grows kept.declared_in_time;
         discussed = discussed-append H g grows kept.discussed;
         stay = stay-append H g grows kept.stay;
       };

@@ -107,9 +107,9 @@ ruled-in_order H fits stamp more e made ruled fit marked first = record {
 
 -- what is added to a history in order is in order
 added-in_order : (H g : History) → FitInTurn no_tables H → InTurn IsInOrder [] H → Adds H g → FitInTurn (tables_of H) g → InTurn IsInOrder H g
-added-in_order H g fits kept (single stamp e moment made alone ruled) fit =
+added-in_order H g fits kept (single stamp e bounds made alone ruled) fit =
     (ruled-in_order H fits stamp false e made ruled fit.0 (alone-marked e alone) (alone-first H e alone), tt)
-added-in_order H g fits kept (submitted stamp paper title abstract users moment made ruled registered) fit =
+added-in_order H g fits kept (submitted stamp paper title abstract users bounds made ruled registered) fit =
     submission-in_turn stamp paper IsInOrder (coauthor-in_order stamp paper) H title abstract users fits made ruled.phase
     (λ more fit. record {
       maker = made;
@@ -125,7 +125,7 @@ added-in_order H g fits kept (submitted stamp paper title abstract users moment 
       seat = tt;
       first = tt;
     }) fit
-added-in_order H g fits kept (first_user stamp name digest moment is texts) fit =
+added-in_order H g fits kept (first_user stamp name digest bounds is texts) fit =
     let next = fit.0.accounts.0 in
     let count = accounts-counted H fits in
     let none : H ≡ [] = nothing_before H kept (omega (arith, next, count, is)) in
@@ -135,13 +135,13 @@ added-in_order H g fits kept (first_user stamp name digest moment is texts) fit 
 -- and so is what it grows by
 grown-in_order : (H g : History) → FitInTurn no_tables H → InTurn IsInOrder [] H → Grows H g → FitInTurn (tables_of H) g → InTurn IsInOrder H g
 grown-in_order H g fits kept (adds same added) fit = added-in_order H g fits kept added fit
-grown-in_order H g fits kept (goes_on stamp e moment made goes ruled) fit =
+grown-in_order H g fits kept (goes_on stamp e bounds made goes ruled) fit =
     (ruled-in_order H fits stamp true e made ruled fit.0 (going-marked e goes) (going-first H e goes), tt)
 
 added-whole : (H g : History) → Adds H g → IsWhole g
-added-whole H g (single stamp e moment made alone ruled) = refl
-added-whole H g (submitted stamp paper title abstract users moment made ruled registered) = grouped-whole stamp (submission stamp.maker paper title abstract users)
-added-whole H g (first_user stamp name digest moment is texts) = ((λ more. refl), refl)
+added-whole H g (single stamp e bounds made alone ruled) = refl
+added-whole H g (submitted stamp paper title abstract users bounds made ruled registered) = grouped-whole stamp (submission stamp.maker paper title abstract users)
+added-whole H g (first_user stamp name digest bounds is texts) = ((λ more. refl), refl)
 
 -- ---- one behind another
 

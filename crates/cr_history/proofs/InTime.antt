@@ -42,11 +42,11 @@ ruled-allowed H maker (Conflict paper user on) ruled = ruled.right
 ruled-allowed H maker e ruled = tt
 
 added-allowed : (H g : History) → Adds H g → AllByRecursion (Allowed H) g
-added-allowed H g (single stamp e moment made marked ruled) = (ruled-allowed H stamp.maker e ruled, tt)
-added-allowed H g (submitted stamp paper title abstract users moment made ruled registered) =
+added-allowed H g (single stamp e bounds made marked ruled) = (ruled-allowed H stamp.maker e ruled, tt)
+added-allowed H g (submitted stamp paper title abstract users bounds made ruled registered) =
     grouped-each stamp (Allowed H) (submission stamp.maker paper title abstract users)
     (submission-each (λ (e : Entry). (more : Bool) → EntryAllowed H stamp.maker e) stamp.maker paper title abstract users (λ more. ruled.phase) (λ user more. ruled.phase))
-added-allowed H g (first_user stamp name digest moment is texts) = (tt, (tt, tt))
+added-allowed H g (first_user stamp name digest bounds is texts) = (tt, (tt, tt))
 
 -- a group moves the phase on and does nothing else, or leaves the phase
 data Moves (H : History) : History → Type 0 where
@@ -58,21 +58,21 @@ ruled-moves H stamp more (PhaseSet to) ruled = moved stamp more to (eqb-true (ph
 ruled-moves H stamp more e ruled = stayed _ refl
 
 added-moves : (H g : History) → Adds H g → Moves H g
-added-moves H g (single stamp e moment made marked ruled) = ruled-moves H stamp false e ruled
-added-moves H g (submitted stamp paper title abstract users moment made ruled registered) =
+added-moves H g (single stamp e bounds made marked ruled) = ruled-moves H stamp false e ruled
+added-moves H g (submitted stamp paper title abstract users bounds made ruled registered) =
     stayed _ (all-silent (λ (e : Stamped). phase_told e.entry) _
     (grouped-each stamp (λ (e : Stamped). phase_told e.entry ≡ []) (submission stamp.maker paper title abstract users)
     (submission-each (λ (e : Entry). (more : Bool) → phase_told e ≡ []) stamp.maker paper title abstract users (λ more. refl) (λ user more. refl))))
-added-moves H g (first_user stamp name digest moment is texts) = stayed _ refl
+added-moves H g (first_user stamp name digest bounds is texts) = stayed _ refl
 
 -- and so of all by which a history grows
 grown-allowed : (H g : History) → Grows H g → AllByRecursion (Allowed H) g
 grown-allowed H g (adds same added) = added-allowed H g added
-grown-allowed H g (goes_on stamp e moment made goes ruled) = (ruled-allowed H stamp.maker e ruled, tt)
+grown-allowed H g (goes_on stamp e bounds made goes ruled) = (ruled-allowed H stamp.maker e ruled, tt)
 
 grown-moves : (H g : History) → Grows H g → Moves H g
 grown-moves H g (adds same added) = added-moves H g added
-grown-moves H g (goes_on stamp e moment made goes ruled) = ruled-moves H stamp true e ruled
+grown-moves H g (goes_on stamp e bounds made goes ruled) = ruled-moves H stamp true e ruled
 
 -- ---- authors of more entries
 

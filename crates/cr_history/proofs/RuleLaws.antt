@@ -24,7 +24,6 @@ use Rattle.cr_base.specs.declared.words.Phase.TheVariants.{Setup, Submission, Bi
 use Rattle.cr_base.specs.declared.words.Role.{Role}
 use Rattle.cr_base.specs.declared.words.Role.TheVariants.{Account, Chair}
 use Rattle.cr_base.specs.Lists.{at_some, is_number, listed}
-use Rattle.cr_base.specs.Moments.{IsMoment}
 use Rattle.cr_base.specs.History.{History, Registration, all_told, registration_told}
 use Rattle.cr_base.specs.HistoryFacts.{phase_of, deadline_of, role_of, accounts_of, papers_of, own_papers_of, own_bytes_of}
 use Rattle.cr_base.specs.HistoryFacts.{is_author, is_conflicted, bid_of, ordinal_of, seats_of, is_written, own_forms_of, own_comments_of, is_accepted, standing_of}
@@ -47,7 +46,7 @@ use Rattle.cr_base.proofs.CoauthorLaws.{users-each}
 use Rattle.cr_base.proofs.FitLaws.{none-where, some-where}
 use Rattle.cr_base.proofs.TargetLaws.{is_none-asked, target_role-of}
 use Rattle.cr_history.specs.Invariants.{IsRegistered, IsByRight}
-use Rattle.cr_history.specs.Groups.{IsRuled, Adds, single, submitted, first_user}
+use Rattle.cr_history.specs.Groups.{IsRuled, IsBoundedStamp, Adds, single, submitted, first_user}
 
 -- ---- the facts of a history
 
@@ -131,14 +130,14 @@ module _ (H : History) (maker : ℕ) where
 -- ---- conflicts
 
 -- before the bidding it isn't the notification yet
-not_late : (phase : Phase) → authors_have_declared phase ≡ false → conflicts_are_final phase ≡ false
-not_late Setup h = refl
-not_late Submission h = refl
-not_late Bidding h = absurd (true≢false h)
-not_late Reviewing h = absurd (true≢false h)
-not_late Discussion h = absurd (true≢false h)
-not_late Notification h = absurd (true≢false h)
-not_late Closed h = absurd (true≢false h)
+not_final : (phase : Phase) → authors_have_declared phase ≡ false → conflicts_are_final phase ≡ false
+not_final Setup h = refl
+not_final Submission h = refl
+not_final Bidding h = absurd (true≢false h)
+not_final Reviewing h = absurd (true≢false h)
+not_final Discussion h = absurd (true≢false h)
+not_final Notification h = absurd (true≢false h)
+not_final Closed h = absurd (true≢false h)
 
 clear-right : (begun own on chair conflicted author : Bool) → begun ≡ true → chair ≡ true → conflicted ≡ false
     → cond begun ((own && on) || (chair && not conflicted)) (author && on) ≡ true
@@ -169,35 +168,35 @@ module _ (H : History) (maker paper user : ℕ) where
   abbrev begun : Bool
   begun = authors_have_declared (phase_of H)
 
-  abbrev late : Bool
-  late = conflicts_are_final (phase_of H)
+  abbrev final : Bool
+  final = conflicts_are_final (phase_of H)
 
   abbrev by_maker : Standing
   by_maker = standing_of (Some maker) (Some paper) H
 
-  conflict-ruled : (on : Bool) → late ≡ false → is_member (role_of (Some user) H) ≡ true → IsByRight H maker (Conflict paper user on)
+  conflict-ruled : (on : Bool) → final ≡ false → is_member (role_of (Some user) H) ≡ true → IsByRight H maker (Conflict paper user on)
       → IsRuled H maker (Conflict paper user on)
   conflict-ruled on early member right = record { phase = early; chair = tt; role = tt; member = member; right = right; seat = tt; texts = tt }
 
   abbrev named : Role → Bool → Bool → Bool → Bool → Target
   named role herself author conflicted reviewer = record { role = role; herself = herself; author = author; conflicted = conflicted; reviewer = reviewer }
 
-  case-ruled : (on bidding after withdrawn too_late : Bool) (role : Role) (herself author conflicted reviewer : Bool) → begun ≡ bidding → late ≡ after
+  case-ruled : (on bidding after withdrawn late : Bool) (role : Role) (herself author conflicted reviewer : Bool) → begun ≡ bidding → final ≡ after
       → role ≡ role_of (Some user) H → eqb user maker ≡ herself
-      → NoneBroken (conflict_case on bidding after by_maker withdrawn (named role herself author conflicted reviewer) too_late)
+      → NoneBroken (conflict_case on bidding after by_maker withdrawn (named role herself author conflicted reviewer) late)
       → IsRuled H maker (Conflict paper user on)
-  case-ruled false bidding after withdrawn too_late role herself author conflicted reviewer b l r h none =
-      let now = and_parts begun (not late) (not-false (begun && not late) none.1.1.0) in
-      conflict-ruled false (not-true late now.1) (ap is_member (sym r) ∙ not-false (is_member role) none.1.1.1.1.0)
+  case-ruled false bidding after withdrawn late role herself author conflicted reviewer b l r h none =
+      let now = and_parts begun (not final) (not-false (begun && not final) none.1.1.0) in
+      conflict-ruled false (not-true final now.1) (ap is_member (sym r) ∙ not-false (is_member role) none.1.1.1.1.0)
       (clear-right begun (eqb user maker) false (is_chair by_maker.role) by_maker.conflicted by_maker.author now.0 (not-false (is_chair by_maker.role) none.0) none.1.0)
-  case-ruled true false after withdrawn too_late role herself author conflicted reviewer b l r h none =
-      conflict-ruled true (not_late (phase_of H) b) (ap is_member (sym r) ∙ not-false (is_member role) none.1.1.1.0)
+  case-ruled true false after withdrawn late role herself author conflicted reviewer b l r h none =
+      conflict-ruled true (not_final (phase_of H) b) (ap is_member (sym r) ∙ not-false (is_member role) none.1.1.1.0)
       (author-right begun (eqb user maker) (is_chair by_maker.role) by_maker.conflicted by_maker.author b (not-false by_maker.author none.0))
-  case-ruled true true true withdrawn too_late role herself author conflicted reviewer b l r h none = absurd (true≢false none.0)
-  case-ruled true true false withdrawn too_late role true author conflicted reviewer b l r h none =
+  case-ruled true true true withdrawn late role herself author conflicted reviewer b l r h none = absurd (true≢false none.0)
+  case-ruled true true false withdrawn late role true author conflicted reviewer b l r h none =
       conflict-ruled true l (ap (λ n. is_member (role_of (Some n) H)) (eqb-true user maker h) ∙ not-false (is_member by_maker.role) none.0)
       (own-right begun (eqb user maker) (is_chair by_maker.role) by_maker.conflicted by_maker.author b h)
-  case-ruled true true false withdrawn too_late role false author conflicted reviewer b l r h none =
+  case-ruled true true false withdrawn late role false author conflicted reviewer b l r h none =
       conflict-ruled true l (ap is_member (sym r) ∙ not-false (is_member role) none.1.1.1.0)
       (clear-right begun (eqb user maker) true (is_chair by_maker.role) by_maker.conflicted by_maker.author b (not-false (is_chair by_maker.role) none.0) none.1.0)
 
@@ -219,18 +218,18 @@ pub record TellsSeats (H : History) (maker : ℕ) (shown : Shown) : Type 0 where
 -- ---- all commands
 
 pub registration-adds : (H : History) (stamp : Stamp) (facts : Facts) (shown : Shown) (name digest : List ℕ) (drawn : Drawn)
-    → IsMoment stamp.at → IsName name × (length digest ≡ 32) → judge_by facts shown stamp (Register name digest) ≡ Ok drawn → Adds H drawn.group
-registration-adds H stamp facts shown name digest drawn moment bounded accepted =
+    → IsBoundedStamp stamp → IsName name × (length digest ≡ 32) → judge_by facts shown stamp (Register name digest) ≡ Ok drawn → Adds H drawn.group
+registration-adds H stamp facts shown name digest drawn bounds bounded accepted =
     let n : ℕ = length facts.accounts in
     let k = judged-Ok (register_checks (is_some (number_in facts.accounts name)) n) (registration_drawn stamp (n + 1) name digest) drawn accepted in
     subst (λ (d : Drawn). Adds H d.group) k.1 (by (n + 1) (eqb (n + 1) 1) refl)
   where
     by : (user : ℕ) (b : Bool) → eqb user 1 ≡ b
         → Adds H (grouped (record stamp { maker = user }) (cond b (Registered user name digest ∷ Named user Chair ∷ []) (Registered user name digest ∷ [])))
-    by user true is = first_user (record stamp { maker = user }) name digest moment (eqb-true user 1 is) bounded
-    by user false is = single (record stamp { maker = user }) (Registered user name digest) moment refl is (record { phase = tt; chair = tt; role = tt; member = tt; right = tt; seat = tt; texts = bounded })
+    by user true is = first_user (record stamp { maker = user }) name digest (record { moment = bounds.moment; key = bounds.key }) (eqb-true user 1 is) bounded
+    by user false is = single (record stamp { maker = user }) (Registered user name digest) (record { moment = bounds.moment; key = bounds.key }) refl is (record { phase = tt; chair = tt; role = tt; member = tt; right = tt; seat = tt; texts = bounded })
 
-module _ (H : History) (stamp : Stamp) (shown : Shown) (moment : IsMoment stamp.at) (registered : IsRegistered H stamp.maker) (tells : TellsSeats H stamp.maker shown) where
+module _ (H : History) (stamp : Stamp) (shown : Shown) (bounds : IsBoundedStamp stamp) (registered : IsRegistered H stamp.maker) (tells : TellsSeats H stamp.maker shown) where
   abbrev maker : ℕ
   maker = stamp.maker
 
@@ -241,11 +240,11 @@ module _ (H : History) (stamp : Stamp) (shown : Shown) (moment : IsMoment stamp.
   standing = standing_of (Some maker) None H
 
   -- it is too late for what the phase opens
-  abbrev is_too_late : Bool
-  is_too_late = is_late facts stamp.at
+  abbrev late : Bool
+  late = is_late facts stamp.at
 
   abbrev checks : Option ℕ → Option ℕ → Bool → List Check
-  checks paper target on = conflict_checks (standing_of (Some maker) paper H) (paper_named facts shown paper) (target_named facts shown (Some maker) paper target) on is_too_late
+  checks paper target on = conflict_checks (standing_of (Some maker) paper H) (paper_named facts shown paper) (target_named facts shown (Some maker) paper target) on late
 
   -- the user named, as the rules ask of her
   abbrev asked : Option ℕ → Option ℕ → Option Target
@@ -287,8 +286,8 @@ module _ (H : History) (stamp : Stamp) (shown : Shown) (moment : IsMoment stamp.
   conflict-ruled_for (Some p) None on none = absurd (true≢false none.1.0)
   conflict-ruled_for (Some p) (Some v) on none =
       let by = standing_of (Some maker) (Some p) H in
-      let k = asked-there (λ target. NoneBroken (conflict_checks by (paper_named facts shown (Some p)) target on is_too_late)) p v none.1.0 none in
-      case-ruled H maker p v on (authors_have_declared (phase_of H)) (conflicts_are_final (phase_of H)) (shown.withdrawn p) is_too_late k.role
+      let k = asked-there (λ target. NoneBroken (conflict_checks by (paper_named facts shown (Some p)) target on late)) p v none.1.0 none in
+      case-ruled H maker p v on (authors_have_declared (phase_of H)) (conflicts_are_final (phase_of H)) (shown.withdrawn p) late k.role
       (eqb v maker) (wrote p v) (wrote p v || declared p v) (is_some (shown.ordinal (Some v) p)) refl refl k.held refl k.holds.1.1
 
   -- ---- bids and assignments
@@ -297,7 +296,7 @@ module _ (H : History) (stamp : Stamp) (shown : Shown) (moment : IsMoment stamp.
   clear : (member conflicted : Bool) → member ≡ true → conflicted ≡ false → (member && not conflicted) ≡ true
   clear member conflicted hm hf = grind arith
 
-  bid-ruled : (paper : Option ℕ) (value : ℕ) → value ≤ 40 → NoneBroken (bid_checks (standing_of (Some maker) paper H) (paper_named facts shown paper) is_too_late)
+  bid-ruled : (paper : Option ℕ) (value : ℕ) → value ≤ 40 → NoneBroken (bid_checks (standing_of (Some maker) paper H) (paper_named facts shown paper) late)
       → IsRuled H maker (entries.Bid (unwrap_or paper 0) value)
   bid-ruled None value bounded none = absurd (true≢false none.0)
   bid-ruled (Some p) value bounded none =
@@ -319,8 +318,8 @@ module _ (H : History) (stamp : Stamp) (shown : Shown) (moment : IsMoment stamp.
       all (is_chair by.role) by.conflicted (is_from Bidding by.phase) (is_from Notification by.phase)
       (not-false (is_chair by.role) none.0) none.1.0 (not-false (committee_works by.phase) none.1.1.0)
     where
-      all : (chair conflicted begun late : Bool) → chair ≡ true → conflicted ≡ false → (begun && not late) ≡ true → ((chair && not conflicted) && begun) ≡ true
-      all chair conflicted begun late hc hf hb = grind arith
+      all : (chair conflicted begun over : Bool) → chair ≡ true → conflicted ≡ false → (begun && not over) ≡ true → ((chair && not conflicted) && begun) ≡ true
+      all chair conflicted begun over hc hf hb = grind arith
 
   assigned-ruled : (paper target : Option ℕ) (kind : Kind) (ordinal : ℕ)
       → NoneBroken (assign_checks (standing_of (Some maker) paper H) (paper_named facts shown paper) (asked paper target) (shown.labels (unwrap_or paper 0)))
@@ -375,7 +374,7 @@ module _ (H : History) (stamp : Stamp) (shown : Shown) (moment : IsMoment stamp.
   -- ---- reviews, comments, tags and decisions
 
   reviewed-ruled : (paper : Option ℕ) (version : ℕ) (form : Form) → IsForm form
-      → NoneBroken (review_checks (standing_of (Some maker) paper H) (paper_named facts shown paper) is_too_late)
+      → NoneBroken (review_checks (standing_of (Some maker) paper H) (paper_named facts shown paper) late)
       → IsRuled H maker (Reviewed (unwrap_or paper 0) (unwrap_or (facts.own_ordinal (unwrap_or paper 0)) 0) version form)
   reviewed-ruled None version form bounded none = absurd (true≢false none.0)
   reviewed-ruled (Some p) version form bounded none =
@@ -391,7 +390,7 @@ module _ (H : History) (stamp : Stamp) (shown : Shown) (moment : IsMoment stamp.
       }
 
   commented-ruled : (paper : Option ℕ) (n own : ℕ) (text : List ℕ) → IsCommentText text
-      → NoneBroken (comment_checks (standing_of (Some maker) paper H) (paper_named facts shown paper) own is_too_late)
+      → NoneBroken (comment_checks (standing_of (Some maker) paper H) (paper_named facts shown paper) own late)
       → IsRuled H maker (Commented (unwrap_or paper 0) n (facts.own_ordinal (unwrap_or paper 0)) text)
   commented-ruled None n own text bounded none = absurd (true≢false none.0)
   commented-ruled (Some p) n own text bounded none =
@@ -439,31 +438,31 @@ module _ (H : History) (stamp : Stamp) (shown : Shown) (moment : IsMoment stamp.
       }
 
   pub command-adds : (command : Command) (drawn : Drawn) → IsBoundedCommand command → judge_by facts shown stamp command ≡ Ok drawn → Adds H drawn.group
-  command-adds (Register name digest) drawn bounded accepted = registration-adds H stamp facts shown name digest drawn moment bounded accepted
+  command-adds (Register name digest) drawn bounded accepted = registration-adds H stamp facts shown name digest drawn bounds bounded accepted
   command-adds (SetPhase to) drawn bounded accepted =
       let k = judged-Ok (phase_checks standing (phase_of H) to) (phase_drawn stamp to) drawn accepted in
       subst (λ (d : Drawn). Adds H d.group) k.1
-      (single stamp (PhaseSet to) moment registered tt (record { phase = not-false (is_next (phase_of H) to) k.0.1.0; chair = not-false (is_chair standing.role) k.0.0; role = tt; member = tt; right = tt; seat = tt; texts = tt }))
+      (single stamp (PhaseSet to) bounds registered tt (record { phase = not-false (is_next (phase_of H) to) k.0.1.0; chair = not-false (is_chair standing.role) k.0.0; role = tt; member = tt; right = tt; seat = tt; texts = tt }))
   command-adds (Submit title abstract names) drawn bounded accepted =
       let n : ℕ = length facts.papers in
       let users : List (Option ℕ) = users_among facts.accounts names in
       let others : List ℕ = flat_map listed users in
-      let k = judged-Ok (submit_checks (list_any is_none users) standing n facts.own_papers is_too_late) (submission_drawn stamp (n + 1) title abstract others) drawn accepted in
+      let k = judged-Ok (submit_checks (list_any is_none users) standing n facts.own_papers late) (submission_drawn stamp (n + 1) title abstract others) drawn accepted in
       subst (λ (d : Drawn). Adds H d.group) k.1
-      (submitted stamp (n + 1) title abstract others moment registered (record { phase = submitting H maker k.0.1.0; chair = tt; role = tt; member = tt; right = tt; seat = tt; texts = (bounded.0, bounded.1) }) (users-registered H names))
+      (submitted stamp (n + 1) title abstract others bounds registered (record { phase = submitting H maker k.0.1.0; chair = tt; role = tt; member = tt; right = tt; seat = tt; texts = (bounded.0, bounded.1) }) (users-registered H names))
   command-adds (Revise paper title abstract) drawn bounded accepted =
-      let k = judged-Ok (revise_checks (standing_of (Some maker) paper H) (paper_named facts shown paper) is_too_late) (revision_drawn stamp (unwrap_or paper 0) title abstract) drawn accepted in
+      let k = judged-Ok (revise_checks (standing_of (Some maker) paper H) (paper_named facts shown paper) late) (revision_drawn stamp (unwrap_or paper 0) title abstract) drawn accepted in
       subst (λ (d : Drawn). Adds H d.group) k.1
-      (single stamp (Revised (unwrap_or paper 0) title abstract) moment registered tt (record { phase = submitting H maker k.0.1.1.0; chair = tt; role = tt; member = tt; right = author-named H maker paper k.0.1.0; seat = tt; texts = bounded }))
+      (single stamp (Revised (unwrap_or paper 0) title abstract) bounds registered tt (record { phase = submitting H maker k.0.1.1.0; chair = tt; role = tt; member = tt; right = author-named H maker paper k.0.1.0; seat = tt; texts = bounded }))
   command-adds (Upload paper content) drawn bounded accepted =
       let version : ℕ = length (shown.uploads (unwrap_or paper 0)) + 1 in
-      let k = judged-Ok (upload_checks (standing_of (Some maker) paper H) (paper_named facts shown paper) facts.own_bytes (length content) is_too_late) (upload_drawn stamp (unwrap_or paper 0) version content) drawn accepted in
+      let k = judged-Ok (upload_checks (standing_of (Some maker) paper H) (paper_named facts shown paper) facts.own_bytes (length content) late) (upload_drawn stamp (unwrap_or paper 0) version content) drawn accepted in
       subst (λ (d : Drawn). Adds H d.group) k.1
-      (single stamp (Uploaded (unwrap_or paper 0) version content) moment registered tt (record { phase = submitting H maker k.0.1.1.0; chair = tt; role = tt; member = tt; right = author-named H maker paper k.0.1.0; seat = tt; texts = bounded }))
+      (single stamp (Uploaded (unwrap_or paper 0) version content) bounds registered tt (record { phase = submitting H maker k.0.1.1.0; chair = tt; role = tt; member = tt; right = author-named H maker paper k.0.1.0; seat = tt; texts = bounded }))
   command-adds (Withdraw paper) drawn bounded accepted =
-      let k = judged-Ok (revise_checks (standing_of (Some maker) paper H) (paper_named facts shown paper) is_too_late) (withdrawal_drawn stamp (unwrap_or paper 0)) drawn accepted in
+      let k = judged-Ok (revise_checks (standing_of (Some maker) paper H) (paper_named facts shown paper) late) (withdrawal_drawn stamp (unwrap_or paper 0)) drawn accepted in
       subst (λ (d : Drawn). Adds H d.group) k.1
-      (single stamp (Withdrawn (unwrap_or paper 0)) moment registered tt (record { phase = submitting H maker k.0.1.1.0; chair = tt; role = tt; member = tt; right = author-named H maker paper k.0.1.0; seat = tt; texts = tt }))
+      (single stamp (Withdrawn (unwrap_or paper 0)) bounds registered tt (record { phase = submitting H maker k.0.1.1.0; chair = tt; role = tt; member = tt; right = author-named H maker paper k.0.1.0; seat = tt; texts = tt }))
   command-adds (Name name role) drawn bounded accepted =
       let target : Option ℕ = user_among facts.accounts name in
       let before : Option Role = role_among facts.accounts target in
@@ -472,7 +471,7 @@ module _ (H : History) (stamp : Stamp) (shown : Shown) (moment : IsMoment stamp.
       let rises : role_number (target_role asked) < role_number role = leb-false (role_number role) (role_number (target_role asked)) k.0.1.1.1.0 in
       let there : is_none before ≡ false = sym (is_none-asked of_role before) ∙ k.0.0 in
       subst (λ (d : Drawn). Adds H d.group) k.1
-      (single stamp (Named (unwrap_or target 0) role) moment registered tt (record {
+      (single stamp (Named (unwrap_or target 0) role) bounds registered tt (record {
         phase = k.0.1.1.0;
         chair = or_left (is_chair standing.role) (eqb (length H) 1) (not-false (is_chair standing.role) k.0.1.0);
         role = subst (λ (r : Role). role_number r < role_number role) (target_role-of before ∙ (role-among H target there).0) rises;
@@ -484,22 +483,22 @@ module _ (H : History) (stamp : Stamp) (shown : Shown) (moment : IsMoment stamp.
   command-adds (SetMode to) drawn bounded accepted =
       let k = judged-Ok (mode_checks standing (phase_of H)) (mode_drawn stamp to) drawn accepted in
       subst (λ (d : Drawn). Adds H d.group) k.1
-      (single stamp (ModeSet to) moment registered tt (record { phase = not-false (mode_may_be_set (phase_of H)) k.0.1.0; chair = not-false (is_chair standing.role) k.0.0; role = tt; member = tt; right = tt; seat = tt; texts = tt }))
+      (single stamp (ModeSet to) bounds registered tt (record { phase = not-false (mode_may_be_set (phase_of H)) k.0.1.0; chair = not-false (is_chair standing.role) k.0.0; role = tt; member = tt; right = tt; seat = tt; texts = tt }))
   command-adds (SetConflict paper name on) drawn bounded accepted =
       let target : Option ℕ = user_among facts.accounts name in
       let k = judged-Ok (checks paper target on) (conflict_drawn stamp (unwrap_or paper 0) (unwrap_or target 0) on) drawn accepted in
-      subst (λ (d : Drawn). Adds H d.group) k.1 (single stamp (Conflict (unwrap_or paper 0) (unwrap_or target 0) on) moment registered tt (conflict-ruled_for paper target on k.0))
+      subst (λ (d : Drawn). Adds H d.group) k.1 (single stamp (Conflict (unwrap_or paper 0) (unwrap_or target 0) on) bounds registered tt (conflict-ruled_for paper target on k.0))
   command-adds (Bid paper value) drawn bounded accepted =
-      let k = judged-Ok (bid_checks (standing_of (Some maker) paper H) (paper_named facts shown paper) is_too_late)
+      let k = judged-Ok (bid_checks (standing_of (Some maker) paper H) (paper_named facts shown paper) late)
       (bid_drawn stamp (unwrap_or paper 0) value) drawn accepted in
-      subst (λ (d : Drawn). Adds H d.group) k.1 (single stamp (entries.Bid (unwrap_or paper 0) value) moment registered tt (bid-ruled paper value bounded k.0))
+      subst (λ (d : Drawn). Adds H d.group) k.1 (single stamp (entries.Bid (unwrap_or paper 0) value) bounds registered tt (bid-ruled paper value bounded k.0))
   command-adds (Assign paper name kind) drawn bounded accepted =
       let target : Option ℕ = user_among facts.accounts name in
       let labels : ℕ = shown.labels (unwrap_or paper 0) in
       let k = judged-Ok (assign_checks (standing_of (Some maker) paper H) (paper_named facts shown paper) (asked paper target) labels)
       (assignment_drawn stamp (unwrap_or paper 0) (unwrap_or target 0) kind (labels + 1)) drawn accepted in
       subst (λ (d : Drawn). Adds H d.group) k.1
-      (single stamp (Assigned (unwrap_or paper 0) (unwrap_or target 0) kind (labels + 1)) moment registered tt (assigned-ruled paper target kind (labels + 1) k.0))
+      (single stamp (Assigned (unwrap_or paper 0) (unwrap_or target 0) kind (labels + 1)) bounds registered tt (assigned-ruled paper target kind (labels + 1) k.0))
   command-adds (Unassign paper name) drawn bounded accepted =
       let target : Option ℕ = user_among facts.accounts name in
       let p : ℕ = unwrap_or paper 0 in
@@ -507,33 +506,33 @@ module _ (H : History) (stamp : Stamp) (shown : Shown) (moment : IsMoment stamp.
       let k = judged-Ok (unassign_checks (standing_of (Some maker) paper H) (paper_named facts shown paper) (asked paper target) (under_label paper target))
       (unassignment_drawn stamp p (unwrap_or target 0) ordinal) drawn accepted in
       subst (λ (d : Drawn). Adds H d.group) k.1
-      (single stamp (Unassigned p (unwrap_or target 0) ordinal) moment registered tt (unassigned-ruled paper target k.0))
+      (single stamp (Unassigned p (unwrap_or target 0) ordinal) bounds registered tt (unassigned-ruled paper target k.0))
   command-adds (Review paper form) drawn bounded accepted =
       let p : ℕ = unwrap_or paper 0 in
       let ordinal : ℕ = unwrap_or (facts.own_ordinal p) 0 in
       let version : ℕ = length (facts.own_forms p) + 1 in
-      let k = judged-Ok (review_checks (standing_of (Some maker) paper H) (paper_named facts shown paper) is_too_late)
+      let k = judged-Ok (review_checks (standing_of (Some maker) paper H) (paper_named facts shown paper) late)
       (review_drawn stamp p ordinal version form) drawn accepted in
       subst (λ (d : Drawn). Adds H d.group) k.1
-      (single stamp (Reviewed p ordinal version form) moment registered tt (reviewed-ruled paper version form bounded k.0))
+      (single stamp (Reviewed p ordinal version form) bounds registered tt (reviewed-ruled paper version form bounded k.0))
   command-adds (Comment paper text) drawn bounded accepted =
       let p : ℕ = unwrap_or paper 0 in
       let n : ℕ = length (shown.comments p) + 1 in
-      let k = judged-Ok (comment_checks (standing_of (Some maker) paper H) (paper_named facts shown paper) facts.own_comments is_too_late)
+      let k = judged-Ok (comment_checks (standing_of (Some maker) paper H) (paper_named facts shown paper) facts.own_comments late)
       (comment_drawn stamp p n (facts.own_ordinal p) text) drawn accepted in
       subst (λ (d : Drawn). Adds H d.group) k.1
-      (single stamp (Commented p n (facts.own_ordinal p) text) moment registered tt (commented-ruled paper n facts.own_comments text bounded k.0))
+      (single stamp (Commented p n (facts.own_ordinal p) text) bounds registered tt (commented-ruled paper n facts.own_comments text bounded k.0))
   command-adds (Tag paper tag on) drawn bounded accepted =
       let k = judged-Ok (tag_checks (standing_of (Some maker) paper H) (paper_named facts shown paper) (is_for_chairs tag))
       (tag_drawn stamp (unwrap_or paper 0) tag on) drawn accepted in
       subst (λ (d : Drawn). Adds H d.group) k.1
-      (single stamp (Tagged (unwrap_or paper 0) tag on) moment registered tt (tagged-ruled paper tag on bounded k.0))
+      (single stamp (Tagged (unwrap_or paper 0) tag on) bounds registered tt (tagged-ruled paper tag on bounded k.0))
   command-adds (Decide paper decision) drawn bounded accepted =
       let k = judged-Ok (decide_checks (standing_of (Some maker) paper H) (paper_named facts shown paper))
       (decision_drawn stamp (unwrap_or paper 0) decision) drawn accepted in
       subst (λ (d : Drawn). Adds H d.group) k.1
-      (single stamp (Decided (unwrap_or paper 0) decision) moment registered tt (decided-ruled paper decision k.0))
+      (single stamp (Decided (unwrap_or paper 0) decision) bounds registered tt (decided-ruled paper decision k.0))
   command-adds (SetDeadline phase until) drawn bounded accepted =
       let k = judged-Ok (deadline_checks standing (phase_of H) phase) (deadline_drawn stamp phase until) drawn accepted in
       subst (λ (d : Drawn). Adds H d.group) k.1
-      (single stamp (DeadlineSet phase until) moment registered tt (record { phase = (not-false (is_from (phase_of H) phase) k.0.1.0, bounded.0); chair = not-false (is_chair standing.role) k.0.0; role = tt; member = tt; right = tt; seat = tt; texts = bounded.1 }))
+      (single stamp (DeadlineSet phase until) bounds registered tt (record { phase = (not-false (is_from (phase_of H) phase) k.0.1.0, bounded.0); chair = not-false (is_chair standing.role) k.0.0; role = tt; member = tt; right = tt; seat = tt; texts = bounded.1 }))

@@ -90,16 +90,16 @@ ruled-leaves H stamp more (Unassigned paper' user' ordinal') ruled user paper or
 ruled-leaves H stamp more e ruled user paper ordinal held written = refl
 
 added-leaves : (H g : History) → Adds H g → LeavesSeats H g
-added-leaves H g (single stamp e moment made alone ruled) user paper ordinal held written = ruled-leaves H stamp false e ruled user paper ordinal held written
-added-leaves H g (submitted stamp p title abstract users moment made ruled registered) user paper ordinal held written =
+added-leaves H g (single stamp e bounds made alone ruled) user paper ordinal held written = ruled-leaves H stamp false e ruled user paper ordinal held written
+added-leaves H g (submitted stamp p title abstract users bounds made ruled registered) user paper ordinal held written =
     all-silent (λ (e : Stamped). ordinal_told (Some user) paper e.entry) _
     (grouped-each stamp (λ (e : Stamped). ordinal_told (Some user) paper e.entry ≡ []) (submission stamp.maker p title abstract users)
     (submission-each (λ (e : Entry). (more : Bool) → ordinal_told (Some user) paper e ≡ []) stamp.maker p title abstract users (λ more. refl) (λ user more. refl)))
-added-leaves H g (first_user stamp name digest moment is texts) user paper ordinal held written = refl
+added-leaves H g (first_user stamp name digest bounds is texts) user paper ordinal held written = refl
 
 grown-leaves : (H g : History) → Grows H g → LeavesSeats H g
 grown-leaves H g (adds same added) = added-leaves H g added
-grown-leaves H g (goes_on stamp e moment made goes ruled) = ruled-leaves H stamp true e ruled
+grown-leaves H g (goes_on stamp e bounds made goes ruled) = ruled-leaves H stamp true e ruled
 
 -- a group that tells of no seat of hers leaves it
 seat-stays : (u : Option ℕ) (p : ℕ) (H g : History) → all_told (ordinal_told u p) g ≡ [] → ordinal_of u p (H ++ g) ≡ ordinal_of u p H
@@ -115,15 +115,15 @@ ruled-held H stamp more (Reviewed paper ordinal version form) ruled =
 ruled-held H stamp more e ruled = tt
 
 added-held : (H g : History) → Adds H g → AllByRecursion (λ (e : Stamped). IsHeld (H ++ g) e.stamp.maker e.entry) g
-added-held H g (single stamp e moment made alone ruled) = (ruled-held H stamp false e ruled, tt)
-added-held H g (submitted stamp p title abstract users moment made ruled registered) =
+added-held H g (single stamp e bounds made alone ruled) = (ruled-held H stamp false e ruled, tt)
+added-held H g (submitted stamp p title abstract users bounds made ruled registered) =
     grouped-each stamp (λ (e : Stamped). IsHeld (H ++ g) e.stamp.maker e.entry) (submission stamp.maker p title abstract users)
     (submission-each (λ (e : Entry). (more : Bool) → IsHeld (H ++ g) stamp.maker e) stamp.maker p title abstract users (λ more. tt) (λ user more. tt))
-added-held H g (first_user stamp name digest moment is texts) = (tt, (tt, tt))
+added-held H g (first_user stamp name digest bounds is texts) = (tt, (tt, tt))
 
 grown-held : (H g : History) → Grows H g → AllByRecursion (λ (e : Stamped). IsHeld (H ++ g) e.stamp.maker e.entry) g
 grown-held H g (adds same added) = added-held H g added
-grown-held H g (goes_on stamp e moment made goes ruled) = (ruled-held H stamp true e ruled, tt)
+grown-held H g (goes_on stamp e bounds made goes ruled) = (ruled-held H stamp true e ruled, tt)
 
 -- ---- the step
 

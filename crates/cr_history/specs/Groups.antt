@@ -8,6 +8,7 @@ use Rattle.cr_base.specs.declared.entry.Entry.TheVariants.{Reviewed, Commented, 
 use Rattle.cr_base.specs.declared.entry.Stamp.{Stamp}
 use Rattle.cr_base.specs.declared.words.Role.TheVariants.{Chair}
 use Rattle.cr_base.specs.History.{History}
+use Rattle.cr_base.specs.Keys.{IsKeyOrNone}
 use Rattle.cr_base.specs.Moments.{IsMoment}
 use Rattle.cr_base.specs.Drawn.{stamped, grouped, submission}
 use Rattle.cr_base.specs.Bounds.{IsForm}
@@ -48,16 +49,21 @@ StandsAlone (Registered user name digest) = IsFalse (user == 1)
 StandsAlone (Coauthor paper user) = ⊥
 StandsAlone _ = Unit {0}
 
--- at some moment, one entry; a submission with those of these users who become co-authors; or the registration of the
--- first user and the role that comes with it
+-- the stamp's moment and key are within their bounds; its maker's number is, since she has registered
+pub record IsBoundedStamp (stamp : Stamp) : Type 0 where
+  pub moment : IsMoment stamp.at
+  pub key : IsKeyOrNone stamp.key
+
+-- under such a stamp, one entry; a submission with those of these users who become co-authors; or the registration of
+-- the first user and the role that comes with it
 pub data Adds (H : History) : History → Type 0 where
-  single : (stamp : Stamp) (e : Entry) → IsMoment stamp.at → IsMadeByUser H stamp.maker e → StandsAlone e
+  single : (stamp : Stamp) (e : Entry) → IsBoundedStamp stamp → IsMadeByUser H stamp.maker e → StandsAlone e
       → IsRuled H stamp.maker e → Adds H (grouped stamp (e ∷ []))
   submitted : (stamp : Stamp) (paper : ℕ) (title abstract : List ℕ) (users : List ℕ)
-      → IsMoment stamp.at → IsMadeByUser H stamp.maker (Submitted paper title abstract)
+      → IsBoundedStamp stamp → IsMadeByUser H stamp.maker (Submitted paper title abstract)
       → IsRuled H stamp.maker (Submitted paper title abstract) → AllByRecursion (IsRegistered H) users
       → Adds H (grouped stamp (submission stamp.maker paper title abstract users))
-  first_user : (stamp : Stamp) (name digest : List ℕ) → IsMoment stamp.at → stamp.maker ≡ 1
+  first_user : (stamp : Stamp) (name digest : List ℕ) → IsBoundedStamp stamp → stamp.maker ≡ 1
       → HasTexts (Registered stamp.maker name digest)
       → Adds H (grouped stamp (Registered stamp.maker name digest ∷ Named stamp.maker Chair ∷ []))
 
@@ -65,5 +71,5 @@ pub data Adds (H : History) : History → Type 0 where
 -- the mark that another's follows
 pub data Grows (H : History) : History → Type 0 where
   adds : (g : History) → Adds H g → Grows H g
-  goes_on : (stamp : Stamp) (e : Entry) → IsMoment stamp.at → IsMadeByUser H stamp.maker e → IsRowEntry e
+  goes_on : (stamp : Stamp) (e : Entry) → IsBoundedStamp stamp → IsMadeByUser H stamp.maker e → IsRowEntry e
       → IsRuled H stamp.maker e → Grows H (stamped stamp true e ∷ [])

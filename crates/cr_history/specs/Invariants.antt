@@ -104,7 +104,7 @@ IsAboutThose H _ = Unit {0}
 -- the notification on nobody is named a member or a chair, and no conflict is turned on or off; bids are told in
 -- bidding; reviewers are assigned and unassigned, and tags turned on and off, from bidding to discussion; forms are
 -- written in reviewing and in the discussion, and comments in the discussion, where the committee decides too; and
--- deadlines are set of the phase that it is, and of later ones, where the phase may have one
+-- deadlines are set of the current phase, and of later ones, where the phase may have one
 abbrev pub IsInPhase : History → Entry → Type 0
 IsInPhase H (Registered user name digest) = Unit {0}
 IsInPhase H (Named user role) = IsFalse (roles_are_final (phase_of H))
@@ -125,8 +125,8 @@ IsInPhase H (Tagged paper tag on) = IsTrue (committee_works (phase_of H))
 IsInPhase H (Decided paper decision) = IsTrue (decisions_are_made (phase_of H))
 IsInPhase H (DeadlineSet phase until) = IsTrue (is_from (phase_of H) phase) × IsTrue (may_have_deadline phase)
 
--- chairs set the phase, the mode and deadlines, name members and chairs, assign and unassign reviewers, and decide; the
--- first user alone is named otherwise, as she registers, by the second entry of all
+-- chairs set the phase, the mode and deadlines, name members and chairs, assign and unassign reviewers, and decide;
+-- the first user alone is named otherwise, as she registers, by the second entry of all
 abbrev pub IsByChair : History → ℕ → Entry → Type 0
 IsByChair H maker (Named user role) = IsTrue (is_chair (role_of (Some maker) H) || length H == 1)
 IsByChair H maker (PhaseSet phase) = IsTrue (is_chair (role_of (Some maker) H))
@@ -224,8 +224,8 @@ InTurn P before (e ∷ after) = P before e × InTurn P (before ++ e ∷ []) afte
 
 -- ---- a history as a whole
 
--- no command's entries are cut off: behind an entry with the mark `more` stands another under the same stamp, so by the
--- same maker and of the same moment
+-- no command's entries are cut off: behind an entry with the mark `more` stands another under the same stamp, so by
+-- the same maker, of the same moment and by the same number
 abbrev pub IsWhole : History → Type 0
 IsWhole [] = Unit {0}
 IsWhole (e ∷ []) = IsFalse e.more
@@ -286,6 +286,6 @@ pub record Invariants (H : History) : Type 0 where
   pub spelled : All IsSpelled H
   pub fits : FitInTurn no_tables H
   pub in_order : InTurn IsInOrder [] H
-  pub in_time : DeclaresInTime H
+  pub declared_in_time : DeclaresInTime H
   pub discussed : IsDiscussedInTime H
   pub stay : ReviewersStay H

@@ -39,9 +39,9 @@ pub fn law_growth()
 
 /// The tables keep no more records of a paper than any history has entries on it: its authors, the conflicts with it
 /// that are on, its seats, the last bids on it, its forms, its uploads and its tags, all together (the rows of a paper
-/// in HotCRP's schema). So it is too with whom its authors declared in the place of the conflicts that are on. Whatever
-/// reads each of these once reads no more of them than there are entries on this paper, however many there are on
-/// others. Comments aren't among them.
+/// in HotCRP's schema). So it is too with whom its authors declared in the place of the conflicts that are on.
+/// Whatever reads each of these once reads no more of them than there are entries on this paper, however many there
+/// are on others. Comments aren't among them.
 pub fn law_records()
     ensures kept { (p : ℕ) (H : History) → records_on p (tables_of H) ≤ entries_on p H }
     ensures declared { (p : ℕ) (H : History) → records_declared p (tables_of H) ≤ entries_on p H }

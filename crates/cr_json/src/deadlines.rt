@@ -8,8 +8,8 @@ use crate::value::Value;
 use cr_base::{Deadline, Phase, PhaseDeadline};
 use std::alloc::AllocError;
 
-/// Writes the members that tell a phase and its deadline, null where it has none. They take at most 286 bytes; an error
-/// comes only for lack of memory.
+/// Writes the members that tell a phase and its deadline, null where it has none. They take at most 286 bytes; an
+/// error comes only for lack of memory.
 pub fn add_deadline(
     object: &mut Object,
     into: &mut Vec<u8>,

@@ -4,6 +4,7 @@ ghost use Rattle.cr_json.specs.Times.{time_text};
 
 /// Times written out: that of the example of RFC 9110, section 5.6.7, the first moment that there is, a leap day, the
 /// first second of a month and of a year, and the last deadline.
+#[tactic(auto, unfolding(crate::specs::Times::falls_in, crate::specs::Times::civil_of, crate::specs::Times::time_text))]
 pub fn law_times_written_out()
     ensures example { time_text 784111777 ≡ codes "1994-11-06T08:49:37Z" }
     ensures first { time_text 0 ≡ codes "1970-01-01T00:00:00Z" }

@@ -21,6 +21,7 @@ use Rattle.cr_base.specs.Papers.{is_withdrawn_at}
 use Rattle.cr_base.specs.Phases.{authors_have_declared, conflicts_are_final}
 use Rattle.cr_base.specs.Seats.{SeatsState, ordinal_in}
 use Rattle.cr_base.specs.Sources.{standing_at}
+use Rattle.cr_base.specs.Stage.{is_late_in}
 use Rattle.cr_base.specs.Tables.{Tables}
 use Rattle.cr_base.specs.Ties.{TiesState, is_author_in, is_conflicted_in}
 use Rattle.cr_base.proofs.CheckLaws.{NoneBroken, judged-Ok}
@@ -30,7 +31,7 @@ use Rattle.cr_assign.specs.Targets as seats
 use Rattle.cr_conflicts.specs.Targets as ties
 use Rattle.cr_view.proofs.JudgeLaws.{made_of, judged-made}
 use Rattle.cr_judge.specs.declared.named.Named.{Named}
-use Rattle.cr_judge.specs.Named.{there_in, named_at, late_at, target_with, written_at, asked_at, conflict_at, assignment_at, unassignment_at}
+use Rattle.cr_judge.specs.Named.{there_in, named_at, target_with, written_at, asked_at, conflict_at, assignment_at, unassignment_at}
 use Rattle.cr_judge.proofs.NamedLaws.{there-judged}
 
 -- ---- the user
@@ -119,7 +120,7 @@ module _ (t : Tables) (stamp : Stamp) where
     mine = target_with t.accounts user
 
     -- a conflict: no rule reads whether she reviews the paper
-    pub conflict-drawn : (on late : Bool) → late ≡ late_at t stamp → (seen : TiesState) → seen ≡ t.ties → (kept : Result (Unit {0}) Rule)
+    pub conflict-drawn : (on late : Bool) → late ≡ is_late_in t.stage stamp.at → (seen : TiesState) → seen ≡ t.ties → (kept : Result (Unit {0}) Rule)
         → kept ≡ judged (conflict_checks named.by told (ties.target_of seen maker named.paper target) on late) tt
         → made_of (λ (done : Unit {0}). conflict_drawn stamp (unwrap_or named.paper 0) (unwrap_or user 0) on) kept ≡ conflict_at t stamp paper user on
     conflict-drawn on late when seen same kept judges =
@@ -132,7 +133,7 @@ module _ (t : Tables) (stamp : Stamp) where
         ∙ there-judged t.papers asked due refl (λ (at : Option ℕ). refl) some paper
       where
         past : Bool
-        past = late_at t stamp
+        past = is_late_in t.stage stamp.at
 
         made : Option ℕ → Drawn
         made at = conflict_drawn stamp (unwrap_or at 0) (unwrap_or user 0) on

@@ -8,6 +8,7 @@ use Rattle.cr_base.specs.declared.entry.Entry.TheVariants.{Registered, Named}
 use Rattle.cr_base.specs.declared.entry.Stamp.{Stamp}
 use Rattle.cr_base.specs.declared.reply.Receipt.TheVariants as receipts
 use Rattle.cr_base.specs.declared.reply.Rule.{Rule}
+use Rattle.cr_base.specs.declared.retry.RetryKey.{RetryKey}
 use Rattle.cr_base.specs.declared.standing.Standing.{Standing}
 use Rattle.cr_base.specs.declared.words.Mode.{Mode}
 use Rattle.cr_base.specs.declared.words.Phase.{Phase}
@@ -19,35 +20,35 @@ use Rattle.cr_base.specs.Drawn.{Drawn, grouped, registration_drawn, phase_drawn,
 use Rattle.cr_base.specs.Judging.{judge_by_role}
 use Rattle.cr_base.specs.Papers.{PapersState, uploads_at, own_bytes}
 use Rattle.cr_base.specs.Sources.{standing_at}
-use Rattle.cr_base.specs.Stage.{StageState}
+use Rattle.cr_base.specs.Stage.{StageState, is_late_in}
 use Rattle.cr_base.specs.Tables.{Tables}
 use Rattle.cr_papers.specs.Named.{named_in}
 use Rattle.cr_view.proofs.JudgeLaws.{made_of, judged-made}
 use Rattle.cr_judge.specs.declared.effect.Rest.{Rest}
 use Rattle.cr_judge.specs.declared.effect.Rest.TheVariants as rests
 use Rattle.cr_judge.specs.Effects.{behind, drawn_by}
-use Rattle.cr_judge.specs.Named.{registration_at, late_at}
+use Rattle.cr_judge.specs.Named.{registration_at}
 
 -- a registration; the first user is made a chair
-module _ (t : Tables) (at : ℕ) (name digest : List ℕ) (seen : List Account) (same : seen ≡ t.accounts) where
+module _ (t : Tables) (at : ℕ) (key : Option RetryKey) (name digest : List ℕ) (seen : List Account) (same : seen ≡ t.accounts) where
   registration-made : (r : Result ℕ Rule) → r ≡ judged (register_checks (is_some (number_at seen name)) (length seen)) (length seen + 1)
-      → made_of (λ (user : ℕ). registration_drawn (stamp_by user at) user name digest) r ≡ registration_at t at name digest
+      → made_of (λ (user : ℕ). registration_drawn (stamp_by user at key) user name digest) r ≡ registration_at t at key name digest
   registration-made r judges =
-      judged-made (register_checks (is_some (number_at seen name)) (length seen)) (λ (user : ℕ). registration_drawn (stamp_by user at) user name digest) (length seen + 1) r judges
-      ∙ ap (λ (x : List Account). judged (register_checks (is_some (number_at x name)) (length x)) (registration_drawn (stamp_by (length x + 1) at) (length x + 1) name digest)) same
+      judged-made (register_checks (is_some (number_at seen name)) (length seen)) (λ (user : ℕ). registration_drawn (stamp_by user at key) user name digest) (length seen + 1) r judges
+      ∙ ap (λ (x : List Account). judged (register_checks (is_some (number_at x name)) (length x)) (registration_drawn (stamp_by (length x + 1) at key) (length x + 1) name digest)) same
 
   pub registration-refused : (rule : Rule)
       → ◌≡◌ {A = Result ℕ Rule} (Err rule) (judged (register_checks (is_some (number_at seen name)) (length seen)) (length seen + 1))
-      → ◌≡◌ {A = Result Drawn Rule} (Err rule) (registration_at t at name digest)
+      → ◌≡◌ {A = Result Drawn Rule} (Err rule) (registration_at t at key name digest)
   registration-refused rule judges = registration-made (Err rule) judges
 
   pub registration-drawn : (user : ℕ)
       → ◌≡◌ {A = Result ℕ Rule} (Ok user) (judged (register_checks (is_some (number_at seen name)) (length seen)) (length seen + 1))
       → (rest : Rest) → rest ≡ cond (user == 1) (rests.FirstChair user) rests.Nothing
       → ◌≡◌ {A = Result Drawn Rule}
-      (Ok (drawn_by t.accounts (record { stamp = stamp_by user at; first = Registered user name digest; rest = rest }))) (registration_at t at name digest)
+      (Ok (drawn_by t.accounts (record { stamp = stamp_by user at key; first = Registered user name digest; rest = rest }))) (registration_at t at key name digest)
   registration-drawn user judges rest is =
-      ap (λ (es : List Entry). Ok (record { group = grouped (stamp_by user at) es; receipt = receipts.User user })) (ap (λ (r : Rest). first ∷ behind r) is ∙ by (user == 1))
+      ap (λ (es : List Entry). Ok (record { group = grouped (stamp_by user at key) es; receipt = receipts.User user })) (ap (λ (r : Rest). first ∷ behind r) is ∙ by (user == 1))
       ∙ registration-made (Ok user) judges
     where
       first : Entry
@@ -80,11 +81,11 @@ module _ (t : Tables) (stamp : Stamp) (by : Standing) (stands : by ≡ standing_
 
 -- what an author does with her paper, until it is too late
 module _ (t : Tables) (stamp : Stamp) (paper : Option ℕ) (by : Standing) (stands : by ≡ standing_at t (Some stamp.maker) paper)
-    (seen : PapersState) (same : seen ≡ t.papers) (late : Bool) (when : late ≡ late_at t stamp) where
+    (seen : PapersState) (same : seen ≡ t.papers) (late : Bool) (when : late ≡ is_late_in t.stage stamp.at) where
   -- a revision or a withdrawal, of which the same is asked
   pub revision-drawn : (draw : ℕ → Drawn) (kept : Result (Unit {0}) Rule) → kept ≡ judged (revise_checks by (named_in seen paper) late) tt
       → made_of (λ (done : Unit {0}). draw (unwrap_or paper 0)) kept
-      ≡ judged (revise_checks (standing_at t (Some stamp.maker) paper) (named_in t.papers paper) (late_at t stamp)) (draw (unwrap_or paper 0))
+      ≡ judged (revise_checks (standing_at t (Some stamp.maker) paper) (named_in t.papers paper) (is_late_in t.stage stamp.at)) (draw (unwrap_or paper 0))
   revision-drawn draw kept judges =
       judged-made (revise_checks by (named_in seen paper) late) (λ (done : Unit {0}). draw (unwrap_or paper 0)) tt kept judges
       ∙ (λ i. judged (revise_checks (stands i) (named_in (same i) paper) (when i)) (draw (unwrap_or paper 0)))

@@ -2,7 +2,6 @@ pub mod AssigningLaws
 pub mod CommandLaws
 pub mod GroupLaws
 pub mod JudgedLaws
-pub mod NameLaws
 pub mod NamedLaws
 pub mod RowEntryLaws
 pub mod RowLaws

@@ -23,13 +23,14 @@ use Rattle.cr_base.specs.Papers.{paper_count}
 use Rattle.cr_base.specs.Reviews.{is_written_in}
 use Rattle.cr_base.specs.Seats.{labels_in, ordinal_in}
 use Rattle.cr_base.specs.Sources.{Facts, facts_of_tables, shown_in_tables, standing_at, user_among, paper_named, target_named}
+use Rattle.cr_base.specs.Stage.{is_late_in}
 use Rattle.cr_base.specs.Tables.{Tables, tables_after, tables_from, Fits, FitInTurn}
 use Rattle.cr_base.specs.TagTexts.{is_for_chairs}
 use Rattle.cr_base.specs.Ties.{AreWithin}
 use Rattle.cr_base.proofs.CheckLaws.{judged-Ok}
 use Rattle.cr_base.proofs.FitLaws.{judged-fits}
 use Rattle.cr_judge.specs.Effects.{alone, drawn_by, entry_or_rule}
-use Rattle.cr_judge.specs.Named.{conflict_at, late_at}
+use Rattle.cr_judge.specs.Named.{conflict_at}
 use Rattle.cr_base.specs.Bulk.{IsRowCommand, IsRowEntry}
 use Rattle.cr_judge.specs.Rows.{AreRowEntries, AreEarlier, row_judged_at, group_or_rule, row_group}
 use Rattle.cr_judge.specs.Targets.{target_at}
@@ -59,7 +60,7 @@ row-drawn t stamp (SetConflict paper name on) is drawn entry accepted told =
     let facts : Facts = facts_of_tables t (Some stamp.maker) in
     let target = user_among facts.accounts name in
     one-drawn stamp
-    (conflict_checks (standing_at t (Some stamp.maker) paper) (paper_named facts (shown_in_tables t) paper) (target_named facts (shown_in_tables t) (Some stamp.maker) paper target) on (late_at t stamp))
+    (conflict_checks (standing_at t (Some stamp.maker) paper) (paper_named facts (shown_in_tables t) paper) (target_named facts (shown_in_tables t) (Some stamp.maker) paper target) on (is_late_in t.stage stamp.at))
     (entries.Conflict (unwrap_or paper 0) (unwrap_or target 0) on) (receipts.Changed (unwrap_or paper 0)) drawn entry accepted tt told
 row-drawn t stamp (Assign paper name kind) is drawn entry accepted told =
     let facts : Facts = facts_of_tables t (Some stamp.maker) in

@@ -27,7 +27,7 @@ use Rattle.cr_base.specs.Tags.{TagsState, tags_after}
 use Rattle.cr_base.specs.Ties.{BareTies, TiesState, ties_after, ties_from, is_author_in, is_conflicted_in, AreWithin}
 use Rattle.cr_base.proofs.TieLaws.{within-after}
 use Rattle.cr_view.proofs.NobodyLaws.{nobody-seat}
-use Rattle.cr_judge.specs.Named.{there_in, named_at, late_at, target_with, user_named, written_at}
+use Rattle.cr_judge.specs.Named.{there_in, named_at, target_with, user_named, written_at}
 use Rattle.cr_judge.specs.Rows.{AreRowEntries}
 use Rattle.cr_judge.specs.Targets.{target_at}
 use Rattle.cr_judge.proofs.TargetLaws.{target-among}
@@ -109,7 +109,7 @@ module _ (t : Tables) (earlier : History) (are : AreRowEntries earlier) where
   reviews-behind = ap (λ (x : Tables). x.reviews) (rows-mark t earlier are)
 
   -- whether it is too late
-  pub late-behind : (stamp : Stamp) (late : Bool) → late ≡ late_at t stamp → late ≡ late_at now stamp
+  pub late-behind : (stamp : Stamp) (late : Bool) → late ≡ is_late_in t.stage stamp.at → late ≡ is_late_in now.stage stamp.at
   late-behind stamp late is = is ∙ ap (λ (x : Tables). is_late_in x.stage stamp.at) (rows-mark t earlier are)
 
   -- the ties and the seats

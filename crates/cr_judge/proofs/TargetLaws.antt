@@ -6,6 +6,7 @@ use Rattle.std.specs.Option.{option_map, option_and_then}
 use Rattle.std.proofs.lemmas.Bool.{true≢false}
 use Rattle.cr_base.specs.declared.command.Command.TheVariants.{Submit, Name}
 use Rattle.cr_base.specs.declared.entry.Account.{Account}
+use Rattle.cr_base.specs.declared.entry.Entry.{Entry}
 use Rattle.cr_base.specs.declared.entry.Entry.TheVariants.{Named, Submitted}
 use Rattle.cr_base.specs.declared.entry.Stamp.{Stamp}
 use Rattle.cr_base.specs.declared.reply.Rule.{Rule}
@@ -18,17 +19,19 @@ use Rattle.cr_base.specs.Drawn.{Drawn, besides, submission_drawn, naming_drawn}
 use Rattle.cr_base.specs.Judging.{name_judged, submission_judged, judge_by_role}
 use Rattle.cr_base.specs.Lists.{listed}
 use Rattle.cr_base.specs.Papers.{PapersState, paper_count, own_count}
-use Rattle.cr_base.specs.Sources.{user_among, users_among, standing_at, facts_of_tables}
+use Rattle.cr_base.specs.Retries.{name_told_by}
+use Rattle.cr_base.specs.Sources.{name_in, user_among, users_among, standing_at, facts_of_tables}
+use Rattle.cr_base.specs.Stage.{is_late_in}
 use Rattle.cr_base.specs.Tables.{Tables}
 use Rattle.cr_base.proofs.AccountLaws.{number_in-lines_of}
 use Rattle.cr_base.proofs.CheckLaws.{judged-Ok}
-use Rattle.cr_base.proofs.ListLaws.{length-numbers_from, role_among-lines_of}
+use Rattle.cr_base.proofs.ListLaws.{length-numbers_from, name_in-lines_of, role_among-lines_of}
 use Rattle.cr_view.proofs.JudgeLaws.{made_of, judged-made}
 use Rattle.cr_judge.specs.declared.effect.Rest.TheVariants as rests
 use Rattle.cr_judge.specs.Effects.{alone, drawn_by}
-use Rattle.cr_judge.specs.Named.{submission_of, submission_at, naming_at, late_at}
+use Rattle.cr_judge.specs.Named.{submission_of, submission_at, naming_at}
 use Rattle.cr_judge.specs.Targets.{target_at, users_at, coauthors_of}
-use Rattle.cr_judge.proofs.NameLaws.{name-found}
+use Rattle.cr_base.proofs.NameLaws.{name-found}
 
 pub target-among : (accounts : List Account) (name : Option (List ℕ)) → user_among (lines_of accounts) name ≡ target_at accounts name
 target-among accounts None = refl
@@ -44,7 +47,7 @@ judge-submit t stamp title abstract authors =
     let users : List (Option ℕ) = users_at t.accounts authors in
     let by : Standing = standing_at t (Some stamp.maker) None in
     let judge : ℕ → Result Drawn Rule = λ n.
-    judged (submit_checks (list_any is_none users) by n (own_count t.papers (Some stamp.maker)) (late_at t stamp)) (submission_drawn stamp (n + 1) title abstract (flat_map listed users)) in
+    judged (submit_checks (list_any is_none users) by n (own_count t.papers (Some stamp.maker)) (is_late_in t.stage stamp.at)) (submission_drawn stamp (n + 1) title abstract (flat_map listed users)) in
     ap (λ (us : List (Option ℕ)). submission_judged (facts_of_tables t (Some stamp.maker)) stamp us title abstract) (users-among t.accounts authors)
     ∙ ap judge (length-numbers_from 1 t.papers.papers)
 
@@ -76,7 +79,7 @@ module _ (t : Tables) (stamp : Stamp) (users : List (Option ℕ)) (title abstrac
       of (Some us) none = refl
 
   submission-made : (by : Standing) → by ≡ standing_at t (Some stamp.maker) None → (seen : PapersState) → seen ≡ t.papers
-      → (late : Bool) → late ≡ late_at t stamp → (r : Result ℕ Rule)
+      → (late : Bool) → late ≡ is_late_in t.stage stamp.at → (r : Result ℕ Rule)
       → r ≡ judged (submit_checks (not (is_some found)) by (paper_count seen) (own_count seen (Some stamp.maker)) late) (paper_count seen + 1)
       → made_of (λ (paper : ℕ). submission_drawn stamp paper title abstract (flat_map listed users)) r ≡ submission_of t stamp users title abstract
   submission-made by stands seen same late when r judges =
@@ -88,13 +91,13 @@ module _ (t : Tables) (stamp : Stamp) (users : List (Option ℕ)) (title abstrac
       make paper = submission_drawn stamp paper title abstract (flat_map listed users)
 
   pub submission-refused : (by : Standing) → by ≡ standing_at t (Some stamp.maker) None → (seen : PapersState) → seen ≡ t.papers
-      → (late : Bool) → late ≡ late_at t stamp → (rule : Rule)
+      → (late : Bool) → late ≡ is_late_in t.stage stamp.at → (rule : Rule)
       → ◌≡◌ {A = Result ℕ Rule} (Err rule) (judged (submit_checks (not (is_some found)) by (paper_count seen) (own_count seen (Some stamp.maker)) late) (paper_count seen + 1))
       → ◌≡◌ {A = Result Drawn Rule} (Err rule) (submission_of t stamp users title abstract)
   submission-refused by stands seen same late when rule judges = submission-made by stands seen same late when (Err rule) judges
 
   pub submission-drawn : (by : Standing) → by ≡ standing_at t (Some stamp.maker) None → (seen : PapersState) → seen ≡ t.papers
-      → (late : Bool) → late ≡ late_at t stamp → (paper : ℕ)
+      → (late : Bool) → late ≡ is_late_in t.stage stamp.at → (paper : ℕ)
       → ◌≡◌ {A = Result ℕ Rule} (Ok paper) (judged (submit_checks (not (is_some found)) by (paper_count seen) (own_count seen (Some stamp.maker)) late) (paper_count seen + 1))
       → (given : List ℕ) → found ≡ Some given
       → ◌≡◌ {A = Result Drawn Rule}
@@ -113,9 +116,16 @@ module _ (t : Tables) (stamp : Stamp) (users : List (Option ℕ)) (title abstrac
 
 -- the name of a user who was found by it
 name-told : (accounts : List Account) (name : Option (List ℕ)) (user : ℕ) → target_at accounts name ≡ Some user
-    → unwrap_or (option_map (λ (a : Account). a.name) (account_at accounts user)) [] ≡ unwrap_or name []
+    → unwrap_or (name_in (lines_of accounts) user) [] ≡ unwrap_or name []
 name-told accounts None user is = cc
-name-told accounts (Some name) user is = ap (λ (o : Option (List ℕ)). unwrap_or o []) (name-found accounts name user is)
+name-told accounts (Some name) user is =
+    ap (λ (o : Option (List ℕ)). unwrap_or o []) (name_in-lines_of accounts user ∙ name-found accounts name user is)
+
+-- and that of a user to whom an entry gives a role
+pub name-for : (accounts : List Account) (user : ℕ) (told : Option (List ℕ)) (entry : Entry) (role : Role)
+    → told ≡ option_map (λ (a : Account). a.name) (account_at accounts user) → entry ≡ Named user role → unwrap_or told [] ≡ name_told_by (lines_of accounts) entry
+name-for accounts user told entry role is names =
+    ap (λ (o : Option (List ℕ)). unwrap_or o []) (is ∙ sym (name_in-lines_of accounts user)) ∙ ap (name_told_by (lines_of accounts)) (sym names)
 
 module _ (t : Tables) (stamp : Stamp) (name : Option (List ℕ)) (role : Role) (user : Option ℕ) (found : user ≡ target_at t.accounts name)
     (by : Standing) (stands : by ≡ standing_at t (Some stamp.maker) None) (seen : List Account) (same : seen ≡ t.accounts)

@@ -16,13 +16,14 @@ use Rattle.cr_base.specs.Judging.{judge_by_role}
 use Rattle.cr_base.specs.Reviews.{ReviewsState}
 use Rattle.cr_base.specs.Seats.{ordinal_in}
 use Rattle.cr_base.specs.Sources.{own_forms_in, standing_at}
+use Rattle.cr_base.specs.Stage.{is_late_in}
 use Rattle.cr_base.specs.Tables.{Tables}
 use Rattle.cr_base.specs.Talk.{TalkState, comments_in, comment_as_told, own_comments_in}
 use Rattle.cr_base.proofs.CheckLaws.{judged-Ok}
 use Rattle.cr_reviews.specs.Under.{forms_by}
 use Rattle.cr_view.proofs.JudgeLaws.{made_of}
 use Rattle.cr_judge.specs.declared.named.Named.{Named}
-use Rattle.cr_judge.specs.Named.{there_in, named_at, late_at}
+use Rattle.cr_judge.specs.Named.{there_in, named_at}
 use Rattle.cr_judge.proofs.NamedLaws.{numbered-drawn}
 
 module _ (t : Tables) (stamp : Stamp) (paper : Option ℕ) (named : Named) (given : named ≡ named_at t stamp.maker (there_in t.papers paper))
@@ -34,20 +35,20 @@ module _ (t : Tables) (stamp : Stamp) (paper : Option ℕ) (named : Named) (give
   abbrev seat : Option ℕ → Option ℕ
   seat at = option_and_then (ordinal_in t.seats (Some stamp.maker)) at
 
-  pub review-drawn : (form : Form) (late : Bool) → late ≡ late_at t stamp → (seen : ReviewsState) → seen ≡ t.reviews → (r : Result ℕ Rule)
+  pub review-drawn : (form : Form) (late : Bool) → late ≡ is_late_in t.stage stamp.at → (seen : ReviewsState) → seen ≡ t.reviews → (r : Result ℕ Rule)
       → r ≡ judged (review_checks named.by told late) (length (forms_by seen (unwrap_or named.paper 0) ordinal) + 1)
       → made_of (λ (version : ℕ). review_drawn stamp (unwrap_or named.paper 0) (unwrap_or ordinal 0) version form) r ≡ judge_by_role t (call_by stamp (Review paper form))
   review-drawn form late when seen same r judges =
       ap (λ (o : Option ℕ). made_of (λ (version : ℕ). review_drawn stamp (unwrap_or named.paper 0) (unwrap_or o 0) version form) r) held
-      ∙ numbered-drawn t stamp.maker paper named given (λ (s : Standing) (p : NamedPaper). review_checks s p (late_at t stamp)) (λ (s : Standing) (w : Bool) (x : Drawn). refl)
+      ∙ numbered-drawn t stamp.maker paper named given (λ (s : Standing) (p : NamedPaper). review_checks s p (is_late_in t.stage stamp.at)) (λ (s : Standing) (w : Bool) (x : Drawn). refl)
       (λ (at : Option ℕ) (version : ℕ). review_drawn stamp (unwrap_or at 0) (unwrap_or (seat at) 0) version form)
       (λ (at : Option ℕ). length (forms_by t.reviews (unwrap_or at 0) (seat at)) + 1)
       (λ (at : Option ℕ). let p : ℕ = unwrap_or at 0 in review_drawn stamp p (unwrap_or (ordinal_in t.seats (Some stamp.maker) p) 0) (length (own_forms_in t (Some stamp.maker) p) + 1) form)
       (λ (p : ℕ). refl) r
       (judges
       ∙ ap (λ (b : Bool). judged (review_checks named.by told b) (length (forms_by seen (unwrap_or named.paper 0) ordinal) + 1)) when
-      ∙ ap (λ (o : Option ℕ). judged (review_checks named.by told (late_at t stamp)) (length (forms_by seen (unwrap_or named.paper 0) o) + 1)) held
-      ∙ ap (λ (x : ReviewsState). judged (review_checks named.by told (late_at t stamp)) (length (forms_by x (unwrap_or named.paper 0) (seat named.paper)) + 1)) same)
+      ∙ ap (λ (o : Option ℕ). judged (review_checks named.by told (is_late_in t.stage stamp.at)) (length (forms_by seen (unwrap_or named.paper 0) o) + 1)) held
+      ∙ ap (λ (x : ReviewsState). judged (review_checks named.by told (is_late_in t.stage stamp.at)) (length (forms_by x (unwrap_or named.paper 0) (seat named.paper)) + 1)) same)
 
   -- where no rule is broken, she reviews it
   pub is-seated : (late : Bool) (x given : ℕ) → ◌≡◌ {A = Result ℕ Rule} (Ok given) (judged (review_checks named.by told late) x) → IsSome ordinal
@@ -73,12 +74,12 @@ module _ (t : Tables) (stamp : Stamp) (paper : Option ℕ) (named : Named) (give
       by (Some o) is = refl
 
   -- a comment is numbered by how many are kept
-  pub comment-drawn : (text : List ℕ) (late : Bool) → late ≡ late_at t stamp → (seen : TalkState) → seen ≡ t.talk → (r : Result ℕ Rule)
+  pub comment-drawn : (text : List ℕ) (late : Bool) → late ≡ is_late_in t.stage stamp.at → (seen : TalkState) → seen ≡ t.talk → (r : Result ℕ Rule)
       → r ≡ judged (comment_checks named.by told (own_comments_in seen (Some stamp.maker)) late) (length (comments_in seen (unwrap_or named.paper 0)) + 1)
       → made_of (λ (n : ℕ). comment_drawn stamp (unwrap_or named.paper 0) n ordinal text) r ≡ judge_by_role t (call_by stamp (Comment paper text))
   comment-drawn text late when seen same r judges =
       ap (λ (o : Option ℕ). made_of (λ (n : ℕ). comment_drawn stamp (unwrap_or named.paper 0) n o text) r) held
-      ∙ numbered-drawn t stamp.maker paper named given (λ (s : Standing) (p : NamedPaper). comment_checks s p (own_comments_in t.talk (Some stamp.maker)) (late_at t stamp))
+      ∙ numbered-drawn t stamp.maker paper named given (λ (s : Standing) (p : NamedPaper). comment_checks s p (own_comments_in t.talk (Some stamp.maker)) (is_late_in t.stage stamp.at))
       (λ (s : Standing) (w : Bool) (x : Drawn). refl)
       (λ (at : Option ℕ) (n : ℕ). comment_drawn stamp (unwrap_or at 0) n (seat at) text)
       (λ (at : Option ℕ). length (comments_in t.talk (unwrap_or at 0)) + 1)
@@ -86,4 +87,4 @@ module _ (t : Tables) (stamp : Stamp) (paper : Option ℕ) (named : Named) (give
       (λ (p : ℕ). ap (λ (n : ℕ). comment_drawn stamp p (n + 1) (ordinal_in t.seats (Some stamp.maker) p) text) (sym (length-map (comments_in t.talk p) comment_as_told))) r
       (judges
       ∙ ap (λ (b : Bool). judged (comment_checks named.by told (own_comments_in seen (Some stamp.maker)) b) (length (comments_in seen (unwrap_or named.paper 0)) + 1)) when
-      ∙ ap (λ (x : TalkState). judged (comment_checks named.by told (own_comments_in x (Some stamp.maker)) (late_at t stamp)) (length (comments_in x (unwrap_or named.paper 0)) + 1)) same)
+      ∙ ap (λ (x : TalkState). judged (comment_checks named.by told (own_comments_in x (Some stamp.maker)) (is_late_in t.stage stamp.at)) (length (comments_in x (unwrap_or named.paper 0)) + 1)) same)

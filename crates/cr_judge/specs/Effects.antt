@@ -1,15 +1,15 @@
 -- What an accepted command comes to.
-use Rattle.std.specs.Prelude.{ℕ, List, [], ◌∷◌, map, Option, None, Result, Ok, Err, unwrap_or}
-use Rattle.std.specs.Option.{option_map}
+use Rattle.std.specs.Prelude.{ℕ, List, [], ◌∷◌, map, Result, Ok, Err}
 use Rattle.cr_base.specs.declared.entry.Account.{Account}
 use Rattle.cr_base.specs.declared.entry.Entry.{Entry}
 use Rattle.cr_base.specs.declared.entry.Entry.TheVariants.{Named, Coauthor}
 use Rattle.cr_base.specs.declared.entry.Stamp.{Stamp}
 use Rattle.cr_base.specs.declared.reply.Rule.{Rule}
 use Rattle.cr_base.specs.declared.words.Role.TheVariants.{Chair}
-use Rattle.cr_base.specs.Accounts.{account_at}
+use Rattle.cr_base.specs.Accounts.{lines_of}
 use Rattle.cr_base.specs.Drawn.{Drawn, grouped, receipt_of}
 use Rattle.cr_base.specs.History.{History}
+use Rattle.cr_base.specs.Retries.{name_told_by}
 use Rattle.cr_judge.specs.declared.effect.Effect.{Effect}
 use Rattle.cr_judge.specs.declared.effect.Rest.{Rest}
 use Rattle.cr_judge.specs.declared.effect.Rest.TheVariants as rests
@@ -23,16 +23,11 @@ behind (rests.Coauthors paper users) = map (λ (user : ℕ). Coauthor paper user
 abbrev pub group_of : Effect → History
 group_of effect = grouped effect.stamp (effect.first ∷ behind effect.rest)
 
--- the name of the user to whom the entry gives a role
-abbrev pub name_for : List Account → Entry → Option (List ℕ)
-name_for accounts (Named user role) = option_map (λ a. a.name) (account_at accounts user)
-name_for accounts entry = None
-
 -- what it adds, and its receipt
 abbrev pub drawn_by : List Account → Effect → Drawn
 drawn_by accounts effect = record {
   group = group_of effect;
-  receipt = receipt_of (unwrap_or (name_for accounts effect.first) []) effect.first;
+  receipt = receipt_of (name_told_by (lines_of accounts) effect.first) effect.first;
 }
 
 -- the same of a judgement: what it comes to, or the broken rule

@@ -7,6 +7,7 @@ use Rattle.std.specs.Option.{option_map, option_and_then}
 use Rattle.cr_base.specs.declared.entry.Account.{Account}
 use Rattle.cr_base.specs.declared.entry.Stamp.{Stamp}
 use Rattle.cr_base.specs.declared.reply.Rule.{Rule}
+use Rattle.cr_base.specs.declared.retry.RetryKey.{RetryKey}
 use Rattle.cr_base.specs.declared.target.Target.{Target}
 use Rattle.cr_base.specs.declared.words.Kind.{Kind}
 use Rattle.cr_base.specs.declared.words.Role.{Role}
@@ -19,8 +20,9 @@ use Rattle.cr_base.specs.Lists.{listed, at_some}
 use Rattle.cr_base.specs.Papers.{PapersState, paper_count, paper_numbers, own_count, is_withdrawn_at}
 use Rattle.cr_base.specs.Reviews.{is_written_in}
 use Rattle.cr_base.specs.Seats.{ordinal_in}
-use Rattle.cr_base.specs.Sources.{standing_at, is_late, facts_of_tables, shown_in_tables}
+use Rattle.cr_base.specs.Sources.{standing_at, facts_of_tables, shown_in_tables}
 use Rattle.cr_base.specs.Sources.{paper_named, target_named, user_among}
+use Rattle.cr_base.specs.Stage.{is_late_in}
 use Rattle.cr_base.specs.Tables.{Tables}
 use Rattle.cr_judge.specs.declared.named.Named.{Named}
 use Rattle.cr_judge.specs.Targets.{target_at, users_at}
@@ -59,17 +61,13 @@ asked_at t maker paper user = target_named (facts_of_tables t (Some maker)) (sho
 abbrev pub user_named : Tables → Option (List ℕ) → Option ℕ
 user_named t name = user_among (lines_of t.accounts) name
 
--- at the moment of this stamp it is too late for what the phase opens
-abbrev pub late_at : Tables → Stamp → Bool
-late_at t stamp = is_late (facts_of_tables t (Some stamp.maker)) stamp.at
-
 -- ---- what is judged
 
--- a registration at this moment
-abbrev pub registration_at : Tables → ℕ → List ℕ → List ℕ → Result Drawn Rule
-registration_at t at name digest =
+-- a registration at this moment, by this key
+abbrev pub registration_at : Tables → ℕ → Option RetryKey → List ℕ → List ℕ → Result Drawn Rule
+registration_at t at key name digest =
     let count = length t.accounts in
-    let drawn = registration_drawn (stamp_by (count + 1) at) (count + 1) name digest in
+    let drawn = registration_drawn (stamp_by (count + 1) at key) (count + 1) name digest in
     judged (register_checks (is_some (number_at t.accounts name)) count) drawn
 
 -- submitting a paper with the users of these names
@@ -79,7 +77,7 @@ submission_of t stamp users title abstract =
     let maker = stamp.maker in
     judged
     (submit_checks (list_any is_none users) (standing_at t (Some maker) None) count (own_count t.papers (Some maker))
-    (late_at t stamp))
+    (is_late_in t.stage stamp.at))
     (submission_drawn stamp (count + 1) title abstract (flat_map listed users))
 
 abbrev pub submission_at : Tables → Stamp → List ℕ → List ℕ → List (Option (List ℕ)) → Result Drawn Rule

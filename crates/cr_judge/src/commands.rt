@@ -16,8 +16,8 @@ use crate::effect::{Effect, Rest, alone, alone_or_rule};
 use crate::named::{held, is_late, user_of};
 use crate::writing::{comment, decision, review, tag};
 use cr_base::{
-    Blob, Call, Command, Deadline, Digest, Entry, Mode, Moment, PaperNo, Phase, Role, Rule, Short,
-    Stamp, Text, ToldNames, UserNo,
+    Blob, Call, Command, Deadline, Digest, Entry, Mode, Moment, PaperNo, Phase, RetryKey, Role,
+    Rule, Short, Stamp, Text, ToldNames, UserNo,
 };
 use cr_view::Live;
 
@@ -56,14 +56,16 @@ fn effect_of(live: &Live, call: Call) -> Result<Effect, Rule>
     let Call {
         caller,
         at,
+        key,
         command,
     } = call;
     match command {
-        Command::Register { name, digest } => registration(live, at, name, digest),
+        Command::Register { name, digest } => registration(live, at, key, name, digest),
         command => {
             let stamp = Stamp {
                 maker: held(&caller),
                 at,
+                key,
             };
             user_effect_of(live, &stamp, command)
         }
@@ -120,12 +122,22 @@ fn user_effect_of(live: &Live, stamp: &Stamp, command: Command) -> Result<Effect
     }
 }
 
-fn registration(live: &Live, at: Moment, name: Short, digest: Digest) -> Result<Effect, Rule>
-    ensures { drawn_or_rule live.now.tables.accounts result ≡ registration_at live.now.tables at name digest }
+fn registration(
+    live: &Live,
+    at: Moment,
+    key: Option<RetryKey>,
+    name: Short,
+    digest: Digest,
+) -> Result<Effect, Rule>
+    ensures { drawn_or_rule live.now.tables.accounts result ≡ registration_at live.now.tables at key name digest }
 {
     let user = live.account_table().register_check(&name)?;
     Ok(Effect {
-        stamp: Stamp { maker: user, at },
+        stamp: Stamp {
+            maker: user,
+            at,
+            key,
+        },
         first: Entry::Registered { user, name, digest },
         rest: behind_registration(user),
     })

@@ -1,7 +1,9 @@
 //! What an accepted command comes to.
 ghost use Rattle.std.specs.Prelude.{◌≡◌, ◌≤◌, ◌<◌, [], IfOk, Some, length, slice_get, unwrap_or};
+ghost use Rattle.cr_base.specs.Accounts.{lines_of};
 ghost use Rattle.cr_base.specs.Drawn.{receipt_of, stamped};
-ghost use Rattle.cr_judge.specs.Effects.{alone, alone_or_rule, behind, drawn_by, group_of, name_for};
+ghost use Rattle.cr_base.specs.Retries.{name_told_by};
+ghost use Rattle.cr_judge.specs.Effects.{alone, alone_or_rule, behind, drawn_by, group_of};
 
 use cr_base::{Coauthors, Entry, PaperNo, Receipt, Role, Rule, Short, Stamp, Stamped, UserNo};
 use cr_view::Live;
@@ -75,7 +77,7 @@ impl Effect {
     pub fn receipt(&self, live: &Live) -> Receipt
         ensures { result ≡ (drawn_by live.now.tables.accounts self.now).receipt }
     {
-        receipt_of(&self.first, &name_for(live, &self.first))
+        receipt_of(live, &self.first)
     }
 
     /// The entries that the command adds, which have its texts and its content whole. An error only for lack of
@@ -126,9 +128,17 @@ fn stamped(stamp: &Stamp, more: bool, entry: Entry) -> Stamped
     }
 }
 
+/// What a command is answered whose first entry this is, also where it was added before: what it tells is in the entry,
+/// but for the name of the user to whom it gives a role. Takes no memory; where it gives one, one read by number.
+pub fn receipt_of(live: &Live, first: &Entry) -> Receipt
+    ensures { result ≡ receipt_of (name_told_by (lines_of live.now.tables.accounts) first.now) first.now }
+{
+    receipt_with(first, &name_for(live, first))
+}
+
 /// The name of the user to whom the entry gives a role.
 fn name_for(live: &Live, first: &Entry) -> Option<Short>
-    ensures { result ≡ name_for live.now.tables.accounts first.now }
+    ensures { unwrap_or result [] ≡ name_told_by (lines_of live.now.tables.accounts) first.now }
 {
     match first {
         Entry::Named { user, .. } => live.name_of(*user),
@@ -136,8 +146,8 @@ fn name_for(live: &Live, first: &Entry) -> Option<Short>
     }
 }
 
-/// What a command is answered whose first entry this is; `name` is that of the user to whom it gives a role.
-pub fn receipt_of(first: &Entry, name: &Option<Short>) -> Receipt
+/// The same, with that name.
+fn receipt_with(first: &Entry, name: &Option<Short>) -> Receipt
     ensures { result ≡ receipt_of (unwrap_or name.now []) first.now }
 {
     match first {

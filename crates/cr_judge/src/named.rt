@@ -7,9 +7,10 @@ ghost use Rattle.cr_base.specs.Lists.{at_some};
 ghost use Rattle.cr_base.specs.Papers.{is_withdrawn_at};
 ghost use Rattle.cr_base.specs.Seats.{ordinal_in};
 ghost use Rattle.cr_base.specs.Sources.{standing_at};
+ghost use Rattle.cr_base.specs.Stage.{is_late_in};
 ghost use Rattle.cr_base.specs.Tables.{tables_from};
 ghost use Rattle.cr_base.specs.Ties.{is_conflicted_in};
-ghost use Rattle.cr_judge.specs.Named.{late_at, named_at, there_in, target_with};
+ghost use Rattle.cr_judge.specs.Named.{named_at, there_in, target_with};
 ghost use Rattle.cr_judge.specs.Rows.{AreEarlier};
 ghost use Rattle.cr_judge.specs.Targets.{target_at};
 
@@ -84,7 +85,7 @@ fn is_withdrawn(live: &Live, paper: &Option<PaperNo>) -> bool
 
 /// Whether it is too late, at the moment of this stamp, for what the phase opens. Takes no memory; two reads.
 pub(crate) fn is_late(live: &Live, stamp: &Stamp) -> bool
-    ensures { result ≡ late_at live.now.tables stamp.now }
+    ensures { result ≡ is_late_in live.now.tables.stage stamp.now.at }
 {
     live.stage_table().is_late(stamp.at)
 }

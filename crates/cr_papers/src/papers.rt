@@ -227,7 +227,8 @@ impl Papers {
     /// broken rule: `NoUser` where not all of the co-authors named were found, else `WrongPhase` where
     /// the phase isn't submission, else `Late` where it is too late, else `FullPapers` where 9,999 papers
     /// were submitted, else `QuotaPapers` where this maker has submitted 20, withdrawn ones counted. `by` is the
-    /// maker's standing, where no paper is named. One read by number; takes no memory.
+    /// maker's standing, where no paper is named; `late` is what `Stage::is_late` says at the request's moment.
+    /// One read by number; takes no memory.
     pub fn judge_submit(
         &self,
         by: &Standing,
@@ -261,8 +262,8 @@ impl Papers {
     /// Whether the caller may give a paper other texts, or the first broken rule: `NoPaper` where no
     /// paper of a number was named or there is none of it, else `NotAuthor` where the caller is none of
     /// its authors, else `WrongPhase` where the phase isn't submission, else `Late` where it is too late,
-    /// else `Withdrawn` where the paper was withdrawn. `by` is the caller's standing at the paper. One read by
-    /// number at most; takes no memory.
+    /// else `Withdrawn` where the paper was withdrawn. `by` is the caller's standing at the paper; `late` is what
+    /// `Stage::is_late` says at the request's moment. One read by number at most; takes no memory.
     pub fn judge_revise(
         &self,
         by: &Standing,
@@ -277,7 +278,8 @@ impl Papers {
         self.may_change(by, *paper, late)
     }
 
-    /// Whether the caller may withdraw a paper, or the first broken rule: the same as of revising it.
+    /// Whether the caller may withdraw a paper, or the first broken rule: the same as of revising it, with the same
+    /// `by` and `late`.
     pub fn judge_withdraw(
         &self,
         by: &Standing,
@@ -292,7 +294,8 @@ impl Papers {
     /// The number of the version that so many bytes would be, the count of the paper's versions plus 1,
     /// or the first broken rule: the same as of revising the paper, else `QuotaBytes` where with them
     /// the maker would have uploaded more than 67,108,864 bytes, in all versions of all papers. `by` is
-    /// the maker's standing at the paper. Three reads by number at most; takes no memory.
+    /// the maker's standing at the paper; `late` is what `Stage::is_late` says at the request's moment. Three reads
+    /// by number at most; takes no memory.
     pub fn judge_upload(
         &self,
         by: &Standing,

@@ -1,23 +1,19 @@
 //! The phase, the mode and the deadlines of a history.
-ghost use Rattle.std.specs.Prelude.{◌≡◌, ◌∷◌, [], ◌++◌, IfOk, OnOk, not};
-ghost use Rattle.std.specs.Option.{option_map};
+ghost use Rattle.std.specs.Prelude.{◌≡◌, ◌∷◌, [], not};
 ghost use Rattle.cr_base.specs.Checks.{judged, ◌breaks◌, phase_checks, deadline_checks, mode_checks};
-ghost use Rattle.cr_base.specs.Deadlines.{deadline_in, deadlines_told, phase_deadline, with_deadline};
-ghost use Rattle.cr_base.specs.Lists.{listed};
+ghost use Rattle.cr_base.specs.Deadlines.{deadline_in, with_deadline};
 ghost use Rattle.cr_base.specs.Words.{is_chair};
 ghost use Rattle.cr_base.specs.Stage.{first_stage, stage_after, is_late_in};
 ghost use Rattle.cr_base.specs.Steps.{Takes};
 
 use cr_base::{
-    Deadline, Deadlines, Entry, Kept, Mode, Moment, Phase, PhaseDeadline, PhaseDeadlines, Rule,
-    Stamped, Standing, Steps,
+    Deadline, Deadlines, Entry, Kept, Mode, Moment, Phase, Rule, Stamped, Standing, Steps,
 };
-use std::alloc::{AllocError, Global};
 use std::marker::Model;
 use std::sync::ledger::Ledger;
 
-/// The phase and the mode of the conference, and the deadlines of its phases. Of fixed size: but for the list of
-/// deadlines that `deadlines` makes, no call takes memory, and none fails for want of it.
+/// The phase and the mode of the conference, and the deadlines of its phases. Of fixed size: no call takes memory, and
+/// none fails for want of it.
 ///
 /// Contracts see all three.
 #[derive(Drop)]
@@ -73,34 +69,11 @@ impl Stage {
         *self.mode.get(steps)
     }
 
-    /// The deadline of a phase, and none where it has none: no such entry has come, or the last one cleared it.
+    /// The deadline of a phase, and none where it has none: none was set, or it was taken away.
     pub fn deadline(&self, phase: Phase) -> Option<Deadline>
         ensures { result ≡ deadline_in self.now.deadlines phase }
     {
         self.deadlines.get(&mut Steps::uncounted()).of(phase)
-    }
-
-    /// The phases that have a deadline, in the order of phases, each with it; an error only for lack of memory.
-    pub fn deadlines(&self, alloc: Global) -> Result<PhaseDeadlines, AllocError>
-        ensures { IfOk result (λ told. told ≡ deadlines_told (deadline_in self.now.deadlines)) }
-    {
-        let mut told = Vec::new(alloc);
-        self.push_deadline(&mut told, Phase::Submission)?;
-        self.push_deadline(&mut told, Phase::Bidding)?;
-        self.push_deadline(&mut told, Phase::Reviewing)?;
-        self.push_deadline(&mut told, Phase::Discussion)?;
-        Ok(PhaseDeadlines::from_vec(told))
-    }
-
-    /// Adds the phase with its deadline, where it has one; an error only for lack of memory.
-    fn push_deadline(&self, told: &mut Vec<PhaseDeadline>, phase: Phase) -> Result<(), AllocError>
-        ensures { OnOk result (told.new.items ≡ told.old.items
-            ++ listed (option_map (phase_deadline phase) (deadline_in self.now.deadlines phase))) }
-    {
-        if let Some(until) = self.deadline(phase) {
-            told.push(PhaseDeadline { phase, until })?;
-        }
-        Ok(())
     }
 
     /// Whether it is too late, at that moment, for what the phase opens: the phase that the conference is in has a

@@ -9,6 +9,7 @@ use Rattle.cr_base.specs.declared.command.Command.{Command}
 use Rattle.cr_base.specs.declared.command.Command.TheVariants.{Register, Tag}
 use Rattle.cr_base.specs.declared.entry.Stamped.{Stamped}
 use Rattle.cr_base.specs.declared.reply.AccountLine.{AccountLine}
+use Rattle.cr_base.specs.declared.retry.RetryKey.{RetryKey}
 use Rattle.cr_base.specs.Bounds.{IsBoundedCommand}
 use Rattle.cr_base.specs.declared.entry.Stamp.{Stamp}
 use Rattle.cr_base.specs.Drawn.{Drawn}
@@ -16,21 +17,21 @@ use Rattle.cr_base.specs.History.{History}
 use Rattle.cr_base.specs.HistoryFacts.{accounts_of, is_author, standing_of, is_accepted}
 use Rattle.cr_base.specs.Lists.{is_number}
 use Rattle.cr_base.specs.Page.{is_clear_chair}
-use Rattle.cr_base.specs.Calls.{stamp_by, stamp_of, call_of, call_by}
+use Rattle.cr_base.specs.Calls.{stamp_by, maker_of, stamp_of, call_of, call_by}
+use Rattle.cr_base.specs.Keys.{IsKeyOrNone}
 use Rattle.cr_base.specs.Judging.{judge_by, judge_by_role}
 use Rattle.cr_base.specs.Sources.{Facts, Shown}
 use Rattle.cr_base.specs.Tables.{Tables, tables_of, FitInTurn}
-use Rattle.cr_base.specs.Moments.{IsMoment}
 use Rattle.cr_base.proofs.FitLaws.{judged-fits}
 use Rattle.cr_base.proofs.ListLaws.{turned}
-use Rattle.cr_history.specs.Groups.{Adds}
+use Rattle.cr_history.specs.Groups.{IsBoundedStamp, Adds}
 use Rattle.cr_history.specs.Laws.{AreTold, AreFormsTold}
 use Rattle.cr_history.specs.Invariants.{IsRegistered, Invariants, InTurn, IsInOrder, ComesFirst}
 use Rattle.cr_history.proofs.GrowthLaws.{tables_tell}
 use Rattle.cr_history.proofs.RuleLaws.{facts_of, is_told_all, TellsSeats, registration-adds, command-adds}
 use Rattle.cr_history.proofs.SizeAgreement.{sized-tables}
 use Rattle.cr_policy.specs.Judge.{judge}
-use Rattle.cr_policy.specs.Legal.{IsAllowed, IsCaller, IsUser}
+use Rattle.cr_policy.specs.Legal.{IsKeyOf, IsGiven, IsCaller, IsUser}
 use Rattle.cr_policy.specs.View.{View, view}
 use Rattle.cr_policy.specs.ViewFacts.{accounts_in_view, is_conflict_on_in_view, users_where, facts_in_view, shown_in_view}
 use Rattle.cr_policy.proofs.BidAgreement.{users-registered}
@@ -112,12 +113,12 @@ module _ (user : ℕ) (H : History) where
       shown author chair member accepted h = grind arith
 
 -- a registered user's command
-user-adds : (H : History) (stamp : Stamp) (command : Command) (drawn : Drawn) → IsBoundedCommand command → IsMoment stamp.at → IsRegistered H stamp.maker
+user-adds : (H : History) (stamp : Stamp) (command : Command) (drawn : Drawn) → IsBoundedCommand command → IsBoundedStamp stamp → IsRegistered H stamp.maker
     → judge (view (Some stamp.maker) H) (call_by stamp command) ≡ Ok drawn → Adds H drawn.group
-user-adds H stamp command drawn bounded moment registered accepted =
+user-adds H stamp command drawn bounded bounds registered accepted =
     let user : ℕ = stamp.maker in
     let shown : Shown = shown_in_view (Some user) (view (Some user) H) in
-    command-adds H stamp shown moment registered (seats-told user H) command drawn bounded
+    command-adds H stamp shown bounds registered (seats-told user H) command drawn bounded
     (sym (ap (λ (facts : Facts). judge_by facts shown stamp command) (facts-seen (Some user) H)) ∙ accepted)
 
 -- a tag is turned on, and off, by a registered user
@@ -125,20 +126,34 @@ tags-user : (H : History) (caller paper : Option ℕ) (tag : List ℕ) (on : Boo
 tags-user H caller paper tag true is = is
 tags-user H caller paper tag false is = is
 
+-- a key that a caller may give is within its bounds
+key-bounded : (caller : Option ℕ) (key : Option RetryKey) → IsKeyOf caller key → IsKeyOrNone key
+key-bounded caller None is = tt
+key-bounded None (Some key) is = absurd is
+key-bounded (Some user) (Some key) is = is
+
+-- and one within its bounds a user may give
+pub key-given : (user : ℕ) (key : Option RetryKey) → IsKeyOrNone key → IsKeyOf (Some user) key
+key-given user None is = tt
+key-given user (Some key) is = is
+
 -- the group of an accepted command is one that the rules allow
-pub accepted-adds : (H : History) (call : Call) (drawn : Drawn) → IsAllowed H call → judge (view call.caller H) call ≡ Ok drawn → Adds H drawn.group
-accepted-adds H call drawn allowed = by call.caller call.command allowed.bounded allowed.caller
+pub accepted-adds : (H : History) (call : Call) (drawn : Drawn) → IsGiven H call → judge (view call.caller H) call ≡ Ok drawn → Adds H drawn.group
+accepted-adds H call drawn given = by call.caller call.command given.bounded given.caller
   where
+    bounds : (maker : ℕ) → IsBoundedStamp (stamp_by maker call.at call.key)
+    bounds maker = record { moment = given.moment; key = key-bounded call.caller call.key given.key }
+
     by : (caller : Option ℕ) (command : Command) → IsBoundedCommand command → IsCaller H caller command
-        → judge (view caller H) (call_of caller call.at command) ≡ Ok drawn → Adds H drawn.group
+        → judge (view caller H) (call_of caller call.at call.key command) ≡ Ok drawn → Adds H drawn.group
     by caller (Register name digest) bounded is accepted =
-        registration-adds H (stamp_of (call_of caller call.at (Register name digest))) (facts_in_view caller (view caller H))
-        (shown_in_view caller (view caller H)) name digest drawn allowed.moment bounded accepted
+        registration-adds H (stamp_of (call_of caller call.at call.key (Register name digest))) (facts_in_view caller (view caller H))
+        (shown_in_view caller (view caller H)) name digest drawn (bounds (maker_of caller)) bounded accepted
     by None (Tag paper tag on) bounded is accepted = absurd (tags-user H None paper tag on is)
     by None command bounded is accepted = absurd is
     by (Some user) (Tag paper tag on) bounded is accepted =
-        user-adds H (stamp_by user call.at) (Tag paper tag on) drawn bounded allowed.moment (tags-user H (Some user) paper tag on is) accepted
-    by (Some user) command bounded is accepted = user-adds H (stamp_by user call.at) command drawn bounded allowed.moment is accepted
+        user-adds H (stamp_by user call.at call.key) (Tag paper tag on) drawn bounded (bounds user) (tags-user H (Some user) paper tag on is) accepted
+    by (Some user) command bounded is accepted = user-adds H (stamp_by user call.at call.key) command drawn bounded (bounds user) is accepted
 
 -- and the tables take it. Nobody's is a registration, which doesn't ask who gives it
 pub accepted-fits : (H : History) (call : Call) (drawn : Drawn) → Invariants H → AreTold H → AreFormsTold H
@@ -148,8 +163,8 @@ accepted-fits H call drawn kept told forms is accepted = by call.caller call.com
     t : Tables
     t = tables_of H
 
-    by : (caller : Option ℕ) (command : Command) → IsCaller H caller command → judge_by_role t (call_of caller call.at command) ≡ Ok drawn → FitInTurn t drawn.group
-    by (Some user) command is accepted = judged-fits t (sized-tables H kept.fits).ties (stamp_by user call.at) command drawn accepted
-    by None (Register name digest) is accepted = judged-fits t (sized-tables H kept.fits).ties (stamp_by 0 call.at) (Register name digest) drawn accepted
+    by : (caller : Option ℕ) (command : Command) → IsCaller H caller command → judge_by_role t (call_of caller call.at call.key command) ≡ Ok drawn → FitInTurn t drawn.group
+    by (Some user) command is accepted = judged-fits t (sized-tables H kept.fits).ties (stamp_by user call.at call.key) command drawn accepted
+    by None (Register name digest) is accepted = judged-fits t (sized-tables H kept.fits).ties (stamp_by 0 call.at call.key) (Register name digest) drawn accepted
     by None (Tag paper tag on) is accepted = absurd (tags-user H None paper tag on is)
     by None command is accepted = absurd is

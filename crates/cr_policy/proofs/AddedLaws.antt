@@ -17,6 +17,7 @@ use Rattle.cr_base.specs.declared.reply.Receipt.{Receipt}
 use Rattle.cr_base.specs.declared.reply.Receipt.TheVariants as receipts
 use Rattle.cr_base.specs.declared.reply.Rule.{Rule}
 use Rattle.cr_base.specs.declared.reply.Rule.TheVariants as rules
+use Rattle.cr_base.specs.declared.retry.RetryKey.{RetryKey}
 use Rattle.cr_base.specs.declared.standing.Standing.{Standing}
 use Rattle.cr_base.specs.declared.target.Target.{Target}
 use Rattle.cr_base.specs.declared.words.Decision.{Decision}
@@ -150,18 +151,18 @@ module _ (u : Option ℕ) (H : History) (legal : Legal H) where
   users-same [] = refl
   users-same (name ∷ names) = λ i. listed (user-same name i) ++ users-same names i
 
-  module _ (m : ℕ) where
+  module _ (m : ℕ) (key : Option RetryKey) where
     -- what an accepted command draws, and that it breaks none of its checks
-    drawn-by : (command : Command) (checks : List Check) (draws drawn : Drawn) → judged_on u H legal m command ≡ judged checks draws
-        → judge (view u H) (call_of u m command) ≡ Ok drawn → NoneBroken checks × (draws ≡ drawn)
-    drawn-by command checks draws drawn is accepted = judged-Ok checks draws drawn (sym is ∙ sym (judge-history u H legal m command) ∙ accepted)
+    drawn-by : (command : Command) (checks : List Check) (draws drawn : Drawn) → judged_on u H legal m key command ≡ judged checks draws
+        → judge (view u H) (call_of u m key command) ≡ Ok drawn → NoneBroken checks × (draws ≡ drawn)
+    drawn-by command checks draws drawn is accepted = judged-Ok checks draws drawn (sym is ∙ sym (judge-history u H legal m key command) ∙ accepted)
 
-    judged-by : (command : Command) (drawn : Drawn) → judge (view u H) (call_of u m command) ≡ Ok drawn → judged_on u H legal m command ≡ Ok drawn
-    judged-by command drawn accepted = sym (judge-history u H legal m command) ∙ accepted
+    judged-by : (command : Command) (drawn : Drawn) → judge (view u H) (call_of u m key command) ≡ Ok drawn → judged_on u H legal m key command ≡ Ok drawn
+    judged-by command drawn accepted = sym (judge-history u H legal m key command) ∙ accepted
 
     -- registrations
     abbrev registering : List ℕ → List ℕ → Call
-    registering name digest = call_of u m (commands.Register name digest)
+    registering name digest = call_of u m key (commands.Register name digest)
 
     registered : (name digest : List ℕ) (drawn : Drawn) → judge (view u H) (registering name digest) ≡ Ok drawn
         → IsAdded (stamp_added H (registering name digest)) (entries.Registered (next_user H) name digest ∷ given (is_nothing (accounts_of H)) (entries.Named 1 Chair))
@@ -184,18 +185,18 @@ module _ (u : Option ℕ) (H : History) (legal : Legal H) where
             (entries.Registered (length (a ∷ lines) + 1) name digest ∷ [])) (later (length lines))
 
 -- of a user
-module _ (w : ℕ) (H : History) (legal : Legal H) (m : ℕ) where
+module _ (w : ℕ) (H : History) (legal : Legal H) (m : ℕ) (key : Option RetryKey) where
   abbrev u : Option ℕ
   u = Some w
 
   abbrev stamp : Stamp
-  stamp = stamp_by w m
+  stamp = stamp_by w m key
 
   abbrev Adds : Command → Drawn → Type 0
   Adds command drawn = IsAdded stamp (added u H command) (answered u H command) drawn
 
   abbrev Accepted : Command → Drawn → Type 0
-  Accepted command drawn = judge (view u H) (call_of u m command) ≡ Ok drawn
+  Accepted command drawn = judge (view u H) (call_of u m key command) ≡ Ok drawn
 
   abbrev by : ℕ → Standing
   by p = standing_of u (Some p) H
@@ -212,11 +213,11 @@ module _ (w : ℕ) (H : History) (legal : Legal H) (m : ℕ) where
 
   -- one entry
   one : (command : Command) (drawn : Drawn) (checks : List Check) (e : Entry) (receipt : Receipt)
-      → judged_on u H legal m command ≡ judged checks (record { group = grouped stamp (e ∷ []); receipt = receipt })
+      → judged_on u H legal m key command ≡ judged checks (record { group = grouped stamp (e ∷ []); receipt = receipt })
       → Accepted command drawn → IsAdded stamp (e ∷ []) (receipt ∷ []) drawn
   one command drawn checks e receipt is accepted =
       subst (IsAdded stamp (e ∷ []) (receipt ∷ []))
-      (drawn-by u H legal m command checks (record { group = grouped stamp (e ∷ []); receipt = receipt }) drawn is accepted).1 (group-added stamp (e ∷ []) receipt)
+      (drawn-by u H legal m key command checks (record { group = grouped stamp (e ∷ []); receipt = receipt }) drawn is accepted).1 (group-added stamp (e ∷ []) receipt)
 
   phases : (to : Phase) (drawn : Drawn) → Accepted (commands.SetPhase to) drawn → Adds (commands.SetPhase to) drawn
   phases to drawn accepted =
@@ -234,39 +235,39 @@ module _ (w : ℕ) (H : History) (legal : Legal H) (m : ℕ) where
 
   revisions : (paper : Option ℕ) (title abstract : List ℕ) (drawn : Drawn) → Accepted (commands.Revise paper title abstract) drawn
       → Adds (commands.Revise paper title abstract) drawn
-  revisions None title abstract drawn accepted = refused rules.NoPaper drawn (judged-by u H legal m (commands.Revise None title abstract) drawn accepted)
+  revisions None title abstract drawn accepted = refused rules.NoPaper drawn (judged-by u H legal m key (commands.Revise None title abstract) drawn accepted)
   revisions (Some p) title abstract drawn accepted =
       one (commands.Revise (Some p) title abstract) drawn (revise_checks (by p) (named p) late) (entries.Revised p title abstract) (receipts.Changed p) refl accepted
 
   uploads : (paper : Option ℕ) (content : List ℕ) (drawn : Drawn) → Accepted (commands.Upload paper content) drawn → Adds (commands.Upload paper content) drawn
-  uploads None content drawn accepted = refused rules.NoPaper drawn (judged-by u H legal m (commands.Upload None content) drawn accepted)
+  uploads None content drawn accepted = refused rules.NoPaper drawn (judged-by u H legal m key (commands.Upload None content) drawn accepted)
   uploads (Some p) content drawn accepted =
       one (commands.Upload (Some p) content) drawn (upload_checks (by p) (named p) (own_bytes_of u H) (length content) late)
       (entries.Uploaded p (next_version p H) content) (receipts.Version (next_version p H)) refl accepted
 
   withdrawals : (paper : Option ℕ) (drawn : Drawn) → Accepted (commands.Withdraw paper) drawn → Adds (commands.Withdraw paper) drawn
-  withdrawals None drawn accepted = refused rules.NoPaper drawn (judged-by u H legal m (commands.Withdraw None) drawn accepted)
+  withdrawals None drawn accepted = refused rules.NoPaper drawn (judged-by u H legal m key (commands.Withdraw None) drawn accepted)
   withdrawals (Some p) drawn accepted =
       one (commands.Withdraw (Some p)) drawn (revise_checks (by p) (named p) late) (entries.Withdrawn p) (receipts.Changed p) refl accepted
 
   bids : (paper : Option ℕ) (value : ℕ) (drawn : Drawn) → Accepted (commands.Bid paper value) drawn → Adds (commands.Bid paper value) drawn
-  bids None value drawn accepted = refused rules.NoPaper drawn (judged-by u H legal m (commands.Bid None value) drawn accepted)
+  bids None value drawn accepted = refused rules.NoPaper drawn (judged-by u H legal m key (commands.Bid None value) drawn accepted)
   bids (Some p) value drawn accepted =
       one (commands.Bid (Some p) value) drawn (bid_checks (by p) (named p) late) (entries.Bid p value) (receipts.Bid value) refl accepted
 
   comments : (paper : Option ℕ) (text : List ℕ) (drawn : Drawn) → Accepted (commands.Comment paper text) drawn → Adds (commands.Comment paper text) drawn
-  comments None text drawn accepted = refused rules.NoPaper drawn (judged-by u H legal m (commands.Comment None text) drawn accepted)
+  comments None text drawn accepted = refused rules.NoPaper drawn (judged-by u H legal m key (commands.Comment None text) drawn accepted)
   comments (Some p) text drawn accepted =
       one (commands.Comment (Some p) text) drawn (comment_checks (by p) (named p) (own_comments_of u H) late)
       (entries.Commented p (next_comment p H) (ordinal_of u p H) text) (receipts.Comment (next_comment p H)) refl accepted
 
   tags : (paper : Option ℕ) (tag : List ℕ) (on : Bool) (drawn : Drawn) → Accepted (commands.Tag paper tag on) drawn → Adds (commands.Tag paper tag on) drawn
-  tags None tag on drawn accepted = refused rules.NoPaper drawn (judged-by u H legal m (commands.Tag None tag on) drawn accepted)
+  tags None tag on drawn accepted = refused rules.NoPaper drawn (judged-by u H legal m key (commands.Tag None tag on) drawn accepted)
   tags (Some p) tag on drawn accepted =
       one (commands.Tag (Some p) tag on) drawn (tag_checks (by p) (named p) (is_for_chairs tag)) (entries.Tagged p tag on) (receipts.Changed p) refl accepted
 
   decisions : (paper : Option ℕ) (decision : Decision) (drawn : Drawn) → Accepted (commands.Decide paper decision) drawn → Adds (commands.Decide paper decision) drawn
-  decisions None decision drawn accepted = refused rules.NoPaper drawn (judged-by u H legal m (commands.Decide None decision) drawn accepted)
+  decisions None decision drawn accepted = refused rules.NoPaper drawn (judged-by u H legal m key (commands.Decide None decision) drawn accepted)
   decisions (Some p) decision drawn accepted =
       one (commands.Decide (Some p) decision) drawn (decide_checks (by p) (named p)) (entries.Decided p decision) (receipts.Changed p) refl accepted
 
@@ -274,7 +275,7 @@ module _ (w : ℕ) (H : History) (legal : Legal H) (m : ℕ) where
       → Adds (commands.Submit title abstract names) drawn
   submissions title abstract names drawn accepted =
       let told : List ℕ = flat_map listed (users_among (accounts_of H) names) in
-      let k = drawn-by u H legal m (commands.Submit title abstract names)
+      let k = drawn-by u H legal m key (commands.Submit title abstract names)
       (submit_checks (list_any (λ (o : Option ℕ). is_none o) (users_among (accounts_of H) names)) (standing_of u None H) (length (papers_of H)) (own_papers_of u H) late)
       (submission_drawn stamp (next_paper H) title abstract told) drawn refl accepted in
       subst (Adds (commands.Submit title abstract names)) k.1
@@ -284,11 +285,11 @@ module _ (w : ℕ) (H : History) (legal : Legal H) (m : ℕ) where
       (group-added stamp (submission w (next_paper H) title abstract told) (receipts.Paper (next_paper H))))
 
   namings : (name : Option (List ℕ)) (role : Role) (drawn : Drawn) → Accepted (commands.Name name role) drawn → Adds (commands.Name name role) drawn
-  namings None role drawn accepted = refused rules.NoUser drawn (judged-by u H legal m (commands.Name None role) drawn accepted)
+  namings None role drawn accepted = refused rules.NoUser drawn (judged-by u H legal m key (commands.Name None role) drawn accepted)
   namings (Some name) role drawn accepted =
       each (number_of name H)
       (ap (λ (target : Option ℕ). name_judged (facts_of u H) stamp target name role) (sym (user-same u H legal (Some name)))
-      ∙ judged-by u H legal m (commands.Name (Some name) role) drawn accepted)
+      ∙ judged-by u H legal m key (commands.Name (Some name) role) drawn accepted)
     where
       each : (target : Option ℕ) → name_judged (facts_of u H) stamp target name role ≡ Ok drawn
           → IsAdded stamp (listed (option_map (λ v. entries.Named v role) target)) (receipts.Named name role ∷ []) drawn
@@ -300,11 +301,11 @@ module _ (w : ℕ) (H : History) (legal : Legal H) (m : ℕ) where
 
   conflicts : (paper : Option ℕ) (name : Option (List ℕ)) (on : Bool) (drawn : Drawn) → Accepted (commands.SetConflict paper name on) drawn
       → Adds (commands.SetConflict paper name on) drawn
-  conflicts None name on drawn accepted = refused rules.NoPaper drawn (judged-by u H legal m (commands.SetConflict None name on) drawn accepted)
+  conflicts None name on drawn accepted = refused rules.NoPaper drawn (judged-by u H legal m key (commands.SetConflict None name on) drawn accepted)
   conflicts (Some p) name on drawn accepted =
       each (user_named name H)
       (ap (λ (target : Option ℕ). conflict_judged (facts_of u H) (shown_of H) stamp (Some p) target on) (sym (user-same u H legal name))
-      ∙ judged-by u H legal m (commands.SetConflict (Some p) name on) drawn accepted)
+      ∙ judged-by u H legal m key (commands.SetConflict (Some p) name on) drawn accepted)
     where
       each : (target : Option ℕ) → conflict_judged (facts_of u H) (shown_of H) stamp (Some p) target on ≡ Ok drawn
           → IsAdded stamp (listed (option_map (λ v. entries.Conflict p v on) target)) (receipts.Changed p ∷ []) drawn
@@ -316,11 +317,11 @@ module _ (w : ℕ) (H : History) (legal : Legal H) (m : ℕ) where
 
   assignments : (paper : Option ℕ) (name : Option (List ℕ)) (kind : Kind) (drawn : Drawn) → Accepted (commands.Assign paper name kind) drawn
       → Adds (commands.Assign paper name kind) drawn
-  assignments None name kind drawn accepted = refused rules.NoPaper drawn (judged-by u H legal m (commands.Assign None name kind) drawn accepted)
+  assignments None name kind drawn accepted = refused rules.NoPaper drawn (judged-by u H legal m key (commands.Assign None name kind) drawn accepted)
   assignments (Some p) name kind drawn accepted =
       each (user_named name H)
       (ap (λ (target : Option ℕ). assignment_judged (facts_of u H) (shown_of H) stamp (Some p) target kind) (sym (user-same u H legal name))
-      ∙ judged-by u H legal m (commands.Assign (Some p) name kind) drawn accepted)
+      ∙ judged-by u H legal m key (commands.Assign (Some p) name kind) drawn accepted)
     where
       each : (target : Option ℕ) → assignment_judged (facts_of u H) (shown_of H) stamp (Some p) target kind ≡ Ok drawn
           → IsAdded stamp (listed (option_map (λ v. entries.Assigned p v kind (next_label p H)) target)) (receipts.Label (next_label p H) ∷ []) drawn
@@ -333,11 +334,11 @@ module _ (w : ℕ) (H : History) (legal : Legal H) (m : ℕ) where
 
   unassignments : (paper : Option ℕ) (name : Option (List ℕ)) (drawn : Drawn) → Accepted (commands.Unassign paper name) drawn
       → Adds (commands.Unassign paper name) drawn
-  unassignments None name drawn accepted = refused rules.NoPaper drawn (judged-by u H legal m (commands.Unassign None name) drawn accepted)
+  unassignments None name drawn accepted = refused rules.NoPaper drawn (judged-by u H legal m key (commands.Unassign None name) drawn accepted)
   unassignments (Some p) name drawn accepted =
       each (user_named name H)
       (ap (λ (target : Option ℕ). unassignment_judged (facts_of u H) (shown_of H) stamp (Some p) target) (sym (user-same u H legal name))
-      ∙ judged-by u H legal m (commands.Unassign (Some p) name) drawn accepted)
+      ∙ judged-by u H legal m key (commands.Unassign (Some p) name) drawn accepted)
     where
       -- the user named, as the rules ask of her
       target_at : ℕ → ℕ → Role → Target
@@ -375,9 +376,9 @@ module _ (w : ℕ) (H : History) (legal : Legal H) (m : ℕ) where
           (seated (role_among (accounts_of H) (Some v)) (target_at p v) (is_some (ordinal_of (Some v) p H)) (λ r. refl) k.0.1.1.1.1.1.1.0))
 
   reviewed : (paper : Option ℕ) (form : Form) (drawn : Drawn) → Accepted (commands.Review paper form) drawn → Adds (commands.Review paper form) drawn
-  reviewed None form drawn accepted = refused rules.NoPaper drawn (judged-by u H legal m (commands.Review None form) drawn accepted)
+  reviewed None form drawn accepted = refused rules.NoPaper drawn (judged-by u H legal m key (commands.Review None form) drawn accepted)
   reviewed (Some p) form drawn accepted =
-      let k = drawn-by u H legal m (commands.Review (Some p) form) (review_checks (by p) (named p) late)
+      let k = drawn-by u H legal m key (commands.Review (Some p) form) (review_checks (by p) (named p) late)
       (review_drawn stamp p (unwrap_or (ordinal_of u p H) 0) (length (own_forms_of u p H) + 1) form) drawn refl accepted in
       subst (Adds (commands.Review (Some p) form)) k.1 (under (ordinal_of u p H) refl (was-true (is_some (ordinal_of u p H)) k.0.1.1.1.0))
     where
@@ -406,25 +407,25 @@ pub adds_as_said : AddsAsSaid
 adds_as_said H call drawn = by call.caller call.command
   where
     by : (caller : Option ℕ) (command : Command) → Legal H → IsCaller H caller command
-        → judge (view caller H) (call_of caller call.at command) ≡ Ok drawn
-        → IsAdded (stamp_added H (call_of caller call.at command)) (added caller H command) (answered caller H command) drawn
-    by caller (commands.Register name digest) legal calls accepted = registered caller H legal call.at name digest drawn accepted
+        → judge (view caller H) (call_of caller call.at call.key command) ≡ Ok drawn
+        → IsAdded (stamp_added H (call_of caller call.at call.key command)) (added caller H command) (answered caller H command) drawn
+    by caller (commands.Register name digest) legal calls accepted = registered caller H legal call.at call.key name digest drawn accepted
     by None (commands.Tag paper tag true) legal calls accepted = absurd calls
     by None (commands.Tag paper tag false) legal calls accepted = absurd calls
     by None _ legal calls accepted = absurd calls
-    by (Some w) (commands.SetPhase to) legal calls accepted = phases w H legal call.at to drawn accepted
-    by (Some w) (commands.SetDeadline phase until) legal calls accepted = deadlines w H legal call.at phase until drawn accepted
-    by (Some w) (commands.Submit title abstract names) legal calls accepted = submissions w H legal call.at title abstract names drawn accepted
-    by (Some w) (commands.Revise paper title abstract) legal calls accepted = revisions w H legal call.at paper title abstract drawn accepted
-    by (Some w) (commands.Upload paper content) legal calls accepted = uploads w H legal call.at paper content drawn accepted
-    by (Some w) (commands.Withdraw paper) legal calls accepted = withdrawals w H legal call.at paper drawn accepted
-    by (Some w) (commands.Name name role) legal calls accepted = namings w H legal call.at name role drawn accepted
-    by (Some w) (commands.SetMode to) legal calls accepted = modes w H legal call.at to drawn accepted
-    by (Some w) (commands.SetConflict paper name on) legal calls accepted = conflicts w H legal call.at paper name on drawn accepted
-    by (Some w) (commands.Bid paper value) legal calls accepted = bids w H legal call.at paper value drawn accepted
-    by (Some w) (commands.Assign paper name kind) legal calls accepted = assignments w H legal call.at paper name kind drawn accepted
-    by (Some w) (commands.Unassign paper name) legal calls accepted = unassignments w H legal call.at paper name drawn accepted
-    by (Some w) (commands.Review paper form) legal calls accepted = reviewed w H legal call.at paper form drawn accepted
-    by (Some w) (commands.Comment paper text) legal calls accepted = comments w H legal call.at paper text drawn accepted
-    by (Some w) (commands.Tag paper tag on) legal calls accepted = tags w H legal call.at paper tag on drawn accepted
-    by (Some w) (commands.Decide paper decision) legal calls accepted = decisions w H legal call.at paper decision drawn accepted
+    by (Some w) (commands.SetPhase to) legal calls accepted = phases w H legal call.at call.key to drawn accepted
+    by (Some w) (commands.SetDeadline phase until) legal calls accepted = deadlines w H legal call.at call.key phase until drawn accepted
+    by (Some w) (commands.Submit title abstract names) legal calls accepted = submissions w H legal call.at call.key title abstract names drawn accepted
+    by (Some w) (commands.Revise paper title abstract) legal calls accepted = revisions w H legal call.at call.key paper title abstract drawn accepted
+    by (Some w) (commands.Upload paper content) legal calls accepted = uploads w H legal call.at call.key paper content drawn accepted
+    by (Some w) (commands.Withdraw paper) legal calls accepted = withdrawals w H legal call.at call.key paper drawn accepted
+    by (Some w) (commands.Name name role) legal calls accepted = namings w H legal call.at call.key name role drawn accepted
+    by (Some w) (commands.SetMode to) legal calls accepted = modes w H legal call.at call.key to drawn accepted
+    by (Some w) (commands.SetConflict paper name on) legal calls accepted = conflicts w H legal call.at call.key paper name on drawn accepted
+    by (Some w) (commands.Bid paper value) legal calls accepted = bids w H legal call.at call.key paper value drawn accepted
+    by (Some w) (commands.Assign paper name kind) legal calls accepted = assignments w H legal call.at call.key paper name kind drawn accepted
+    by (Some w) (commands.Unassign paper name) legal calls accepted = unassignments w H legal call.at call.key paper name drawn accepted
+    by (Some w) (commands.Review paper form) legal calls accepted = reviewed w H legal call.at call.key paper form drawn accepted
+    by (Some w) (commands.Comment paper text) legal calls accepted = comments w H legal call.at call.key paper text drawn accepted
+    by (Some w) (commands.Tag paper tag on) legal calls accepted = tags w H legal call.at call.key paper tag on drawn accepted
+    by (Some w) (commands.Decide paper decision) legal calls accepted = decisions w H legal call.at call.key paper decision drawn accepted

@@ -213,9 +213,12 @@ LeftAt u H s None = Unit {0}
 LeftAt u H s (Some paper) = is_author u paper H ≡ false → is_eligible u paper H ≡ false → IsLeft u (outsider u paper H) s.kind s
 
 module _ (u : Option ℕ) (H : History) where
-  -- the moment is left to who made the entry
+  -- the moment is left to who made the entry, and so is the key
   moment-left : (stamp : Stamp) → where_known (is_number u stamp.maker) stamp.at ≡ cond (is_number u stamp.maker) (where_known (is_number u stamp.maker) stamp.at) None
   moment-left stamp = known-alone (is_number u stamp.maker) (is_number u stamp.maker) stamp.at (λ other. other)
+
+  key-left : (stamp : Stamp) → where_known (is_number u stamp.maker) stamp.key ≡ cond (is_number u stamp.maker) (where_known (is_number u stamp.maker) stamp.key) None
+  key-left stamp = known-alone (is_number u stamp.maker) (is_number u stamp.maker) stamp.key (λ other. other)
 
   left-one : (before later : History) (stamp : Stamp) (e : Entry) → IsWriters u H stamp.maker e → is_told u H before later stamp.maker e ≡ true
       → LeftAt u H (shown_to u H before later stamp e) (paper_for u H before later stamp e)
@@ -226,6 +229,7 @@ module _ (u : Option ℕ) (H : History) where
     title = title-left u H paper wrote handled (is_replaced paper later) title i;
     abstract = text-left u H paper wrote handled false (is_replaced paper later) abstract i;
     at = known-not _ stamp.at (other wrote) i;
+    key = known-not _ stamp.key (other wrote) i;
   }
     where
       other : is_author u paper H ≡ false → is_number u stamp.maker ≡ false
@@ -237,25 +241,26 @@ module _ (u : Option ℕ) (H : History) where
   left-one before later stamp (Coauthor paper user) writes told = λ wrote handled. (
     coauthor-left (is_number u stamp.maker) (is_author u paper H) (is_eligible u paper H) (chairs_committee (role_of u H)) (hides_authors (mode_of H))
         (is_in_programme paper H) wrote handled told,
-    λ i. record (shown_to u H before later stamp (Coauthor paper user)) { at = moment-left stamp i },
+    λ i. record (shown_to u H before later stamp (Coauthor paper user)) { at = moment-left stamp i; key = key-left stamp i },
   )
   left-one before later stamp (Revised paper title abstract) writes told = λ wrote handled. (
     revision-left (is_number u stamp.maker) (is_author u paper H) (not (is_replaced paper later)) (serves u H) (is_in_programme paper H) wrote told,
     λ i. record (shown_to u H before later stamp (Revised paper title abstract)) {
       at = moment-left stamp i;
+      key = key-left stamp i;
       abstract = text-left u H paper wrote handled (is_number u stamp.maker) (is_replaced paper later) abstract i;
     },
   )
   left-one before later stamp (Uploaded paper version content) writes told = λ wrote handled. (
     upload-left (is_number u stamp.maker) (is_author u paper H) (not (is_superseded paper later)) (is_eligible u paper H) (appears paper H) wrote handled told,
-    λ i. record (shown_to u H before later stamp (Uploaded paper version content)) { at = moment-left stamp i },
+    λ i. record (shown_to u H before later stamp (Uploaded paper version content)) { at = moment-left stamp i; key = key-left stamp i },
   )
   left-one before later stamp (Withdrawn paper) writes told = λ wrote handled.
-      (withdrawal-left (is_number u stamp.maker) (is_author u paper H) (serves u H) wrote told, λ i. record (shown_to u H before later stamp (Withdrawn paper)) { at = moment-left stamp i })
+      (withdrawal-left (is_number u stamp.maker) (is_author u paper H) (serves u H) wrote told, λ i. record (shown_to u H before later stamp (Withdrawn paper)) { at = moment-left stamp i; key = key-left stamp i })
   left-one before later stamp (Conflict paper user on) writes told = λ wrote handled. (
     hers (is_number u user) (is_number u stamp.maker) (is_author u paper H) (is_author (Some stamp.maker) paper H) (oversees u paper H) wrote
         (ap (λ b. b && chairs_committee (role_of u H)) handled) told,
-    λ i. record (shown_to u H before later stamp (Conflict paper user on)) { at = moment-left stamp i },
+    λ i. record (shown_to u H before later stamp (Conflict paper user on)) { at = moment-left stamp i; key = key-left stamp i },
   )
     where
       hers : (named own a w o : Bool) → a ≡ false → o ≡ false → (named || own || (a && w) || o) ≡ true → (own || named) ≡ true
@@ -264,15 +269,17 @@ module _ (u : Option ℕ) (H : History) where
     bid-own (is_number u stamp.maker) (is_eligible u paper H) (chairs_committee (role_of u H)) handled told,
     λ i. record (shown_to u H before later stamp (Bid paper value)) {
       at = moment-left stamp i;
+      key = key-left stamp i;
       by = known-not _ stamp.maker (ap (λ b. b && chairs_committee (role_of u H)) handled) i;
     },
   )
-  left-one before later stamp (Assigned paper user review_kind ordinal) writes told = λ wrote handled. (party u H paper wrote handled user stamp.maker told, λ i. record (shown_to u H before later stamp (Assigned paper user review_kind ordinal)) { at = moment-left stamp i })
-  left-one before later stamp (Unassigned paper user ordinal) writes told = λ wrote handled. (party u H paper wrote handled user stamp.maker told, λ i. record (shown_to u H before later stamp (Unassigned paper user ordinal)) { at = moment-left stamp i })
+  left-one before later stamp (Assigned paper user review_kind ordinal) writes told = λ wrote handled. (party u H paper wrote handled user stamp.maker told, λ i. record (shown_to u H before later stamp (Assigned paper user review_kind ordinal)) { at = moment-left stamp i; key = key-left stamp i })
+  left-one before later stamp (Unassigned paper user ordinal) writes told = λ wrote handled. (party u H paper wrote handled user stamp.maker told, λ i. record (shown_to u H before later stamp (Unassigned paper user ordinal)) { at = moment-left stamp i; key = key-left stamp i })
   left-one before later stamp (Reviewed paper ordinal version form) writes told = λ wrote handled. (
     left-form u H paper wrote handled before later ordinal (is_number u stamp.maker) told,
     λ i. record (shown_to u H before later stamp (Reviewed paper ordinal version form)) {
       at = moment-left stamp i;
+      key = key-left stamp i;
       version = form-own u H paper wrote handled before later ordinal (is_number u stamp.maker) version i;
       score = review-own u H paper wrote handled before later ordinal (is_number u stamp.maker) form.score i;
       confidence = review-own u H paper wrote handled before later ordinal (is_number u stamp.maker) form.confidence i;
@@ -285,18 +292,20 @@ module _ (u : Option ℕ) (H : History) where
     comment-own (is_number u stamp.maker) (is_eligible u paper H) (is_past_reviewing (phase_of H)) handled told,
     λ i. record (shown_to u H before later stamp (Commented paper n ordinal text)) {
       at = moment-left stamp i;
+      key = key-left stamp i;
       by = known-not _ stamp.maker (form-unread (is_eligible u paper H) (is_past_reviewing (phase_of H)) (knows_writers u H) handled) i;
     },
   )
   left-one before later stamp (Tagged paper tag on) writes told = λ wrote handled. (
     tag-own (is_number u stamp.maker) (is_committees tag) (is_chairs tag) (is_eligible u paper H) (chairs_committee (role_of u H)) handled told,
-    λ i. record (shown_to u H before later stamp (Tagged paper tag on)) { at = moment-left stamp i },
+    λ i. record (shown_to u H before later stamp (Tagged paper tag on)) { at = moment-left stamp i; key = key-left stamp i },
   )
   left-one before later stamp (Decided paper decision) writes told = λ wrote handled. (
     own-or-in (is_number u stamp.maker) (is_announced H later paper) (decision-told u H paper wrote handled later (is_number u stamp.maker) told)
         (announced-in u H paper wrote handled later),
     λ i. record (shown_to u H before later stamp (Decided paper decision)) {
       at = moment-left stamp i;
+      key = key-left stamp i;
       decision = known-alone _ (is_number u stamp.maker) decision (verdict-unknown u H paper wrote handled later (is_number u stamp.maker)) i;
       outcome = known-not _ true (outcome-unknown u H paper wrote handled later) i;
       accepted = accepted-left u H paper wrote handled later i;
@@ -374,6 +383,7 @@ module _ (u : Option ℕ) (H : History) (stranger : IsStranger u H) where
     name = Some name;
     digest = where_known (other i) digest;
     at = where_known (other i) stamp.at;
+    key = where_known (other i) stamp.key;
   }
   public-one before later stamp (Submitted paper title abstract) unnamed told other = λ i. record (blank kinds.Submitted) {
     mine = other i;
@@ -382,12 +392,13 @@ module _ (u : Option ℕ) (H : History) (stranger : IsStranger u H) where
     title = title-public paper (is_replaced paper later) title i;
     abstract = text-public paper false (is_replaced paper later) abstract refl i;
     at = where_known (other i) stamp.at;
+    key = where_known (other i) stamp.key;
   }
   public-one before later stamp (Coauthor paper user) unnamed told other = (
     public (is_number u stamp.maker) (is_in_programme paper H) other
         (coauthor-left (is_number u stamp.maker) (is_author u paper H) (is_eligible u paper H) (chairs_committee (role_of u H)) (hides_authors (mode_of H))
         (is_in_programme paper H) (stranger.author paper) (unhandled paper) told),
-    λ i. record (shown_to u H before later stamp (Coauthor paper user)) { mine = other i; at = where_known (other i) stamp.at },
+    λ i. record (shown_to u H before later stamp (Coauthor paper user)) { mine = other i; at = where_known (other i) stamp.at; key = where_known (other i) stamp.key },
   )
   public-one before later stamp (Revised paper title abstract) unnamed told other = (
     public (is_number u stamp.maker || serves u H) (is_in_programme paper H) (or_from (is_number u stamp.maker) (serves u H) other stranger.serving)
@@ -396,6 +407,7 @@ module _ (u : Option ℕ) (H : History) (stranger : IsStranger u H) where
     λ i. record (shown_to u H before later stamp (Revised paper title abstract)) {
       mine = other i;
       at = where_known (other i) stamp.at;
+      key = where_known (other i) stamp.key;
       abstract = text-public paper (is_number u stamp.maker) (is_replaced paper later) abstract other i;
     },
   )
@@ -403,7 +415,7 @@ module _ (u : Option ℕ) (H : History) (stranger : IsStranger u H) where
     public (is_number u stamp.maker) (appears paper H) other
         (upload-left (is_number u stamp.maker) (is_author u paper H) (not (is_superseded paper later)) (is_eligible u paper H) (appears paper H)
         (stranger.author paper) (unhandled paper) told),
-    λ i. record (shown_to u H before later stamp (Uploaded paper version content)) { mine = other i; at = where_known (other i) stamp.at },
+    λ i. record (shown_to u H before later stamp (Uploaded paper version content)) { mine = other i; at = where_known (other i) stamp.at; key = where_known (other i) stamp.key },
   )
   public-one before later stamp (Bid paper value) unnamed told other =
       hers other (bid-own (is_number u stamp.maker) (is_eligible u paper H) (chairs_committee (role_of u H)) (unhandled paper) told)
@@ -432,6 +444,7 @@ module _ (u : Option ℕ) (H : History) (stranger : IsStranger u H) where
     λ i. record (shown_to u H before later stamp (Decided paper decision)) {
       mine = other i;
       at = where_known (other i) stamp.at;
+      key = where_known (other i) stamp.key;
       decision = known-not _ decision (verdict-unknown u H paper (stranger.author paper) (unhandled paper) later (is_number u stamp.maker) other) i;
       outcome = known-not _ true (outcome-unknown u H paper (stranger.author paper) (unhandled paper) later) i;
       accepted = where_known (announced i) true;
@@ -442,7 +455,7 @@ module _ (u : Option ℕ) (H : History) (stranger : IsStranger u H) where
       announced =
           public (is_number u stamp.maker) (is_announced H later paper) other
           (decision-told u H paper (stranger.author paper) (unhandled paper) later (is_number u stamp.maker) told)
-  public-one before later stamp e unnamed told other = λ i. record (shown_to u H before later stamp e) { mine = other i; at = where_known (other i) stamp.at }
+  public-one before later stamp e unnamed told other = λ i. record (shown_to u H before later stamp e) { mine = other i; at = where_known (other i) stamp.at; key = where_known (other i) stamp.key }
 
   unnamed-all : (G : History) → list_any (λ (e : Stamped). names_her u e.entry) G ≡ false
       → (chairs_committee (role_of u H) && list_any (λ (e : Stamped). is_reviewing e.entry) G) ≡ false

@@ -37,7 +37,7 @@ use Rattle.cr_policy.specs.ShownTo.{hides_authors, hides_reviewers, names_review
 use Rattle.cr_policy.specs.ShownTo.{is_notified, knows_writers, is_discussion, begins_discussion, gives_form, is_reviewed, is_discussed}
 use Rattle.cr_policy.specs.ShownTo.{reads_form, learns_form, counts_form, reads_review, is_committees, is_chairs}
 use Rattle.cr_policy.specs.ShownTo.{gives_texts, is_replaced, gives_content, is_superseded, owns, is_party, is_told, where_known}
-use Rattle.cr_policy.specs.ShownTo.{kind_for, mark_for, moment_for, paper_for, reviewer_for, user_for, name_for, digest_for, role_for, phase_for, until_for, mode_for, maker_for}
+use Rattle.cr_policy.specs.ShownTo.{kind_for, mark_for, moment_for, key_for, paper_for, reviewer_for, user_for, name_for, digest_for, role_for, phase_for, until_for, mode_for, maker_for}
 use Rattle.cr_policy.specs.ShownTo.{title_for, abstract_for, version_for, content_for, switch_for, value_for, review_kind_for, ordinal_for}
 use Rattle.cr_policy.specs.ShownTo.{score_for, confidence_for, to_authors_for, to_pc_for, done_for, n_for, text_for, tag_for, decision_for, outcome_for, accepted_for}
 
@@ -528,6 +528,11 @@ module _ (u : Option ℕ) (H : History) (at : Around) (stamp : Stamp) (more : Bo
   pub moment-one : (e : Entry) → (seen e).at ≡ moment_for u H at.before at.after stamp e
   moment-one (Registered user name digest) = known-same _ (is_number u stamp.maker) stamp.at (or-false (is_number u stamp.maker))
   moment-one e = known-same _ (is_number u stamp.maker) stamp.at (or-false (is_number u stamp.maker))
+
+  -- nor the key
+  pub key-one : (e : Entry) → (seen e).key ≡ key_for u H at.before at.after stamp e
+  key-one (Registered user name digest) = known-same _ (is_number u stamp.maker) stamp.key (or-false (is_number u stamp.maker))
+  key-one e = known-same _ (is_number u stamp.maker) stamp.key (or-false (is_number u stamp.maker))
 
   pub user-one : (e : Entry) → is_told u H at.before at.after stamp.maker e ≡ true → (seen e).user ≡ user_for u H at.before at.after stamp e
   user-one (Coauthor paper user) told = ap (λ b. where_known b user) (seen-told (Coauthor paper user) ∙ told)

@@ -18,14 +18,14 @@ use Rattle.cr_base.specs.HistoryFacts.{authors_of, is_author}
 use Rattle.cr_policy.specs.Sighting.{Sighting}
 use Rattle.cr_policy.specs.Triggers.{reader, Around}
 use Rattle.cr_policy.specs.View.{sight, sights, view, is_seen, joined}
-use Rattle.cr_policy.specs.ShownTo.{PartFor, is_told, each_told, kind_for, mark_for, moment_for, paper_for, user_for, name_for, digest_for, role_for, phase_for, until_for, mode_for}
+use Rattle.cr_policy.specs.ShownTo.{PartFor, is_told, each_told, kind_for, mark_for, moment_for, key_for, paper_for, user_for, name_for, digest_for, role_for, phase_for, until_for, mode_for}
 use Rattle.cr_policy.specs.ShownTo.{maker_for, title_for, abstract_for, version_for, content_for, switch_for, value_for, review_kind_for, ordinal_for}
 use Rattle.cr_policy.specs.ShownTo.{score_for, confidence_for, to_authors_for, to_pc_for, done_for, n_for, text_for, tag_for, decision_for, outcome_for, accepted_for}
-use Rattle.cr_policy.specs.ViewBounds.{EntriesShown, MarksShown, MomentsShown, PapersShown, UsersShown, NamesShown, DigestsShown, RolesShown, PhasesShown, DeadlinesShown, ModesShown}
+use Rattle.cr_policy.specs.ViewBounds.{EntriesShown, MarksShown, MomentsShown, KeysShown, PapersShown, UsersShown, NamesShown, DigestsShown, RolesShown, PhasesShown, DeadlinesShown, ModesShown}
 use Rattle.cr_policy.specs.ViewBounds.{MakersShown, TitlesShown, AbstractsShown, VersionsShown, ContentsShown, SwitchesShown, ValuesShown}
 use Rattle.cr_policy.specs.ViewBounds.{SeatsShown, OrdinalsShown, ScoresShown, ConfidencesShown, TextsToAuthorsShown, TextsToPcShown, DoneShown}
 use Rattle.cr_policy.specs.ViewBounds.{NumbersShown, CommentsShown, TagsShown, DecisionsShown, OutcomesShown, AcceptedShown}
-use Rattle.cr_policy.proofs.BoundsParts.{IsWriters, seen-told, shown-one, mark-one, moment-one, user-one, digest-one, maker-one, title-one, abstract-one, version-one}
+use Rattle.cr_policy.proofs.BoundsParts.{IsWriters, seen-told, shown-one, mark-one, moment-one, key-one, user-one, digest-one, maker-one, title-one, abstract-one, version-one}
 use Rattle.cr_policy.proofs.BoundsParts.{content-one, switch-one, value-one, seat-one, ordinal-one, score-one, confidence-one, to_authors-one}
 use Rattle.cr_policy.proofs.BoundsParts.{to_pc-one, done-one, n-one, comment-one, tag-one, decision-one, outcome-one, accepted-one}
 
@@ -64,6 +64,7 @@ shown_to u H before later stamp e = record {
   outcome = outcome_for u H before later stamp e;
   accepted = accepted_for u H before later stamp e;
   at = moment_for u H before later stamp e;
+  key = key_for u H before later stamp e;
   until = until_for u H before later stamp e;
 }
 
@@ -108,6 +109,7 @@ module _ (u : Option ℕ) (H : History) where
     outcome = outcome-one u H at stamp more e i;
     accepted = accepted-one u H at stamp more e i;
     at = moment-one u H at stamp more e i;
+    key = key-one u H at stamp more e i;
     until = (shown-one u H at stamp more e).until i;
   }
 
@@ -218,6 +220,9 @@ marks-shown u H = map-view u H (λ (s : Sighting). s.mine)
 
 pub moments-shown : MomentsShown
 moments-shown u H = map-view u H (λ (s : Sighting). s.at)
+
+pub keys-shown : KeysShown
+keys-shown u H = map-view u H (λ (s : Sighting). s.key)
 
 pub papers-shown : PapersShown
 papers-shown u H = map-view u H (λ (s : Sighting). s.paper)

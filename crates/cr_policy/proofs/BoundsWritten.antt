@@ -63,6 +63,7 @@ forms-early u p H early = each-view u H IsUnread each
         λ i. record (shown_to u H before later stamp (Reviewed paper ordinal version form)) {
           mine = own i;
           at = where_known (own i) stamp.at;
+          key = where_known (own i) stamp.key;
           version = known-not _ version unread i;
           score = known-not _ form.score unlearnt i;
           confidence = known-not _ form.confidence unlearnt i;
@@ -245,6 +246,7 @@ decisions-untold u p H apart = each-view u H IsUntold each
           λ i. record (shown_to u H before later stamp (Decided paper decision)) {
             mine = parts.1 i;
             at = where_known (parts.1 i) stamp.at;
+            key = where_known (parts.1 i) stamp.key;
             paper = Some (same i);
             decision = known-not _ decision
                 (unread (is_number u stamp.maker) (discusses u paper H) last (is_author u paper H) (is_past_discussion (phase_of H)) parts.1 silent wrote) i;

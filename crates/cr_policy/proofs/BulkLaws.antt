@@ -25,19 +25,18 @@ use Rattle.cr_base.specs.Parse.{parse_paper}
 use Rattle.cr_base.specs.Sources.{Facts, Shown, user_among, paper_named, target_named, is_late, facts_of_tables, shown_in_tables}
 use Rattle.cr_base.specs.Tables.{Tables, tables_of, tables_from, Fits, FitInTurn}
 use Rattle.cr_base.specs.TagTexts.{is_tag, is_for_chairs}
-use Rattle.cr_base.specs.Moments.{IsMoment}
 use Rattle.cr_base.proofs.CheckLaws.{judged-Ok}
-use Rattle.cr_history.specs.Groups.{IsRuled, StandsAlone, Adds, single, submitted, first_user, Grows, adds, goes_on}
+use Rattle.cr_history.specs.Groups.{IsRuled, IsBoundedStamp, StandsAlone, Adds, single, submitted, first_user, Grows, adds, goes_on}
 use Rattle.cr_history.specs.Invariants.{IsRegistered, IsMadeByUser, Invariants}
 use Rattle.cr_history.specs.Laws.{AreTold, AreFormsTold}
 use Rattle.cr_history.proofs.FormAgreement.{forms_tell}
 use Rattle.cr_history.proofs.GrowthLaws.{growth_keeps}
 use Rattle.cr_history.proofs.TableAgreement.{tables_of-append}
 use Rattle.cr_policy.specs.Judge.{judge, view_basis, own_sightings, judge_row, judge_bulk}
-use Rattle.cr_policy.specs.Legal.{IsCaller}
+use Rattle.cr_policy.specs.Legal.{IsCaller, IsGiven}
 use Rattle.cr_policy.specs.View.{View, view}
 use Rattle.cr_policy.specs.ViewFacts.{facts_in_view, shown_in_view}
-use Rattle.cr_policy.proofs.AcceptedLaws.{Kept-told, accepted-adds, accepted-fits}
+use Rattle.cr_policy.proofs.AcceptedLaws.{Kept-told, key-given, accepted-adds, accepted-fits}
 use Rattle.cr_policy.proofs.BulkViews.{LeavesStanding, row-goes, registered-behind, view-behind}
 use Rattle.cr_policy.proofs.FactAgreement.{facts_in_view-tables}
 use Rattle.cr_policy.proofs.JudgeAgreement.{judge-tables}
@@ -179,11 +178,11 @@ module _ (stamp : Stamp) where
   abbrev tabled : History → ℕ → List BulkRow → Result (List Entry) Broken
   tabled H n rows = rows_judged (tables_basis user) stamp (tables_of H) n rows
 
-  -- the caller has registered, there is such a moment, and the history keeps the invariants
+  -- the caller has registered, there are such a moment and such a key, and the history keeps the invariants
   pub record IsReady (H : History) : Type 0 where
     pub kept : Invariants H
     pub registered : IsRegistered H user
-    pub moment : IsMoment stamp.at
+    pub bounds : IsBoundedStamp stamp
 
   -- an accepted row tells a command that is allowed and accepted there, and turns no conflict of the caller's own
   pub record RowCalls (H : History) (row : BulkRow) (drawn : Drawn) : Type 0 where
@@ -221,6 +220,11 @@ module _ (stamp : Stamp) where
                 accepted = accepted;
               }
 
+  -- so it may be given
+  pub row-given : (H : History) (row : BulkRow) (drawn : Drawn) → IsReady H → (calls : RowCalls H row drawn) → IsGiven H (call_by stamp calls.command)
+  row-given H row drawn ready calls =
+      record { caller = calls.caller; bounded = calls.told.bounded; moment = ready.bounds.moment; key = key-given user stamp.key ready.bounds.key }
+
   -- and adds one entry, which the history may have behind it with either mark
   pub record RowAdds (H : History) (drawn : Drawn) : Type 0 where
     pub entry : Entry
@@ -235,7 +239,7 @@ module _ (stamp : Stamp) where
       let calls : RowCalls H row drawn = row-calls H row drawn ready seen in
       let draws : RowDraws stamp drawn = row-draws (facts_in_view (Some user) V) (shown_in_view (Some user) V) stamp calls.command drawn calls.told.of_row
       calls.other calls.accepted in
-      let added : Adds H drawn.group = accepted-adds H (call_by stamp calls.command) drawn (record { caller = calls.caller; bounded = calls.told.bounded; moment = ready.moment }) calls.accepted in
+      let added : Adds H drawn.group = accepted-adds H (call_by stamp calls.command) drawn (row-given H row drawn ready calls) calls.accepted in
       let ruled = subst (IsRuledFirst H) draws.group (added-ruled H drawn.group added) in
       let fits = subst (FitInTurn (tables_of H)) draws.group
       (accepted-fits H (call_by stamp calls.command) drawn ready.kept (Kept-told H ready.kept) (forms_tell H ready.kept) calls.caller calls.accepted) in
@@ -248,8 +252,8 @@ module _ (stamp : Stamp) where
       }
     where
       grown : (e : Entry) → LeavesStanding user e → IsMadeByUser H user e → IsRuled H user e → (more : Bool) → Grows H (stamped stamp more e ∷ [])
-      grown e row made ruled true = goes_on stamp e ready.moment made (row-goes user e row) ruled
-      grown e row made ruled false = adds _ (single stamp e ready.moment made (row-alone user e row) ruled)
+      grown e row made ruled true = goes_on stamp e ready.bounds made (row-goes user e row) ruled
+      grown e row made ruled false = adds _ (single stamp e ready.bounds made (row-alone user e row) ruled)
 
   -- ---- behind it
 
@@ -261,7 +265,7 @@ module _ (stamp : Stamp) where
     next-ready = record {
       kept = growth_keeps.more H (stamped stamp more row.entry ∷ []) ready.kept (row.grows more) (fits-marked (tables_of H) stamp more row.entry row.fit, tt);
       registered = registered-behind stamp more row.entry row.of_row H user ready.registered;
-      moment = ready.moment;
+      bounds = ready.bounds;
     }
 
     pub next-seen : view (Some user) H ++ own_sightings drawn.group ≡ view (Some user) next
@@ -291,7 +295,7 @@ module _ (stamp : Stamp) where
           ∙ ap (λ (r : Result Drawn Rule). cond (turns_own_conflict (facts_of_tables (tables_of H) (Some user)) user command) (Err rules.BulkSelf) r)
           (judge-tables H (call_by stamp command) kept told forms)
 
-  rows-same : (rows : List BulkRow) (n : ℕ) (H : History) → IsReady H → seen H n rows ≡ tabled H n rows
+  pub rows-same : (rows : List BulkRow) (n : ℕ) (H : History) → IsReady H → seen H n rows ≡ tabled H n rows
   rows-same [] n H ready = refl
   rows-same (row ∷ rows) n H ready =
       by (row_seen H row) refl (rows-same rows (n + 1)) ∙ ap (λ (r : Result Drawn Rule). and_behind n r tables_go) (row-same H row ready.kept)

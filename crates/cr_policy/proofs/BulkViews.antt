@@ -111,7 +111,7 @@ last-seen : (rs : List TriggerRow) → applies_any (rs ++ true see own_parts ∷
 last-seen [] = refl
 last-seen (r ∷ rs) = or_right r.applies (applies_any (rs ++ true see own_parts ∷ [])) (last-seen rs)
 
-last-shows : (rs : List TriggerRow) (p : Part) → own_parts p ≡ true → shows (rs ++ true see own_parts ∷ []) p ≡ true
+pub last-shows : (rs : List TriggerRow) (p : Part) → own_parts p ≡ true → shows (rs ++ true see own_parts ∷ []) p ≡ true
 last-shows [] p is = ap (λ b. (b && true) || false) is
 last-shows (r ∷ rs) p is = or_right (r.parts p && r.applies) (shows (rs ++ true see own_parts ∷ []) p) (last-shows rs p is)
 

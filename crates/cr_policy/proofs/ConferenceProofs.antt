@@ -8,8 +8,9 @@ use Rattle.std.proofs.lemmas.Option.{none-some, same_Some}
 use Rattle.cr_base.specs.declared.command.Call.{Call}
 use Rattle.cr_base.specs.declared.command.Command.{Command}
 use Rattle.cr_base.specs.declared.command.Command.TheVariants.{SetPhase, Submit, Revise, Upload, Withdraw, Name, SetMode, SetConflict}
-use Rattle.cr_base.specs.declared.command.Command.TheVariants.{Bid, Assign, Unassign, Review, Comment, Tag, Decide}
+use Rattle.cr_base.specs.declared.command.Command.TheVariants.{Bid, Assign, Unassign, Review, Comment, Tag, Decide, SetDeadline}
 use Rattle.cr_base.specs.declared.form.Form.{Form}
+use Rattle.cr_base.specs.declared.retry.RetryKey.{RetryKey}
 use Rattle.cr_base.specs.declared.words.Decision.{Decision}
 use Rattle.cr_base.specs.declared.words.Kind.TheVariants.{Primary, Secondary, Pc}
 use Rattle.cr_base.specs.declared.words.Mode.{Mode}
@@ -19,28 +20,31 @@ use Rattle.cr_base.specs.declared.words.Role.TheVariants.{Member, Chair}
 use Rattle.cr_base.specs.Bounds.{IsGrade, IsForm, IsBoundedCommand}
 use Rattle.cr_base.specs.Calls.{call_of}
 use Rattle.cr_base.specs.History.{History, Registration, all_told, registration_told}
+use Rattle.cr_base.specs.Keys.{kept_under}
+use Rattle.cr_base.specs.Lists.{is_nothing}
 use Rattle.cr_base.specs.Logins.{command_wants_login}
 use Rattle.cr_base.specs.Texts.{IsName, IsTitle, IsAbstract, IsReviewText, IsCommentText, is_name_byte, is_name, is_title_byte}
 use Rattle.cr_base.specs.Moments.{IsMoment}
-use Rattle.cr_policy.specs.Conference.{alice, bob, carol, dave, fay, gus, hal, Digests, AreDigests, Asides, AreAsides, other_than}
+use Rattle.cr_policy.specs.Conference.{alice, bob, carol, dave, fay, gus, hal, next_morning, Digests, AreDigests, Asides, AreAsides, other_than}
 use Rattle.cr_policy.specs.Conference.{proofs, we_prove, types, we_type, drafts, we_draft, fewer_proofs, we_prove_less, more_proofs, we_prove_more}
 use Rattle.cr_policy.specs.Conference.{first_version, second_version, only_version, hot, own_tag, chairs_tag}
 use Rattle.cr_policy.specs.Conference.{first_form, second_form, last_form, alices_form, agreed}
 use Rattle.cr_policy.specs.Conference.{registered, opened, submitted, before_bidding, having_tags, in_bidding, in_reviewing, having_comments}
 use Rattle.cr_policy.specs.Conference.{Verdicts, verdicts, in_discussion, at_notification, at_close}
 use Rattle.cr_policy.specs.ConferenceLaws.{IsReviewed, IsDecided, ConferenceLegal}
-use Rattle.cr_policy.specs.Legal.{CallsAs, step, Move, calls, LeadsTo, Legal}
-use Rattle.cr_policy.specs.Witness.{morning}
+use Rattle.cr_policy.specs.Legal.{CallsAs, IsKeyOf, IsNewKey, step, Move, calls, LeadsTo, Legal}
+use Rattle.cr_policy.specs.Witness.{morning, some_key}
 use Rattle.cr_policy.proofs.LegalLaws.{LeadsTo-append}
 use Rattle.cr_policy.proofs.WitnessLaws.{register, ascii-utf8}
 
 -- ---- calls
 
--- a call that is within its bounds, at some moment
+-- a call that is within its bounds, at some moment, by a key that its caller may give
 pub record Turn : Type 0 where
   pub call : Call
   pub bounded : IsBoundedCommand call.command
   pub moment : IsMoment call.at
+  pub key : IsKeyOf call.caller call.key
 
 abbrev pub calls_of : List Turn → List Move
 calls_of turns = map (λ (turn : Turn). calls turn.call) turns
@@ -58,23 +62,47 @@ calls_as-so H false (Some user) h = absurd (true≢false (sym h))
 calls_as-so H true None h = absurd (true≢false (sym h))
 calls_as-so H true (Some user) h = h
 
+-- and so that its number is new
+abbrev is_new : History → Option ℕ → Option RetryKey → Bool
+is_new H caller None = true
+is_new H None (Some key) = false
+is_new H (Some user) (Some key) = is_nothing (kept_under user key.number H)
+
+is_new-so : (H : History) (caller : Option ℕ) (key : Option RetryKey) → is_new H caller key ≡ true → IsNewKey H caller key
+is_new-so H caller None h = tt
+is_new-so H None (Some key) h = absurd (true≢false (sym h))
+is_new-so H (Some user) (Some key) h = nothing (kept_under user key.number H) h
+  where
+    nothing : (es : History) → is_nothing es ≡ true → es ≡ []
+    nothing [] h = refl
+    nothing (e ∷ es) h = absurd (true≢false (sym h))
+
+abbrev may_turn : History → Call → Bool
+may_turn H call = calls_as H (command_wants_login call.command) call.caller && is_new H call.caller call.key
+
 -- the history to which the turns lead, where each is taken by who may
 abbrev pub reached : History → List Turn → Option History
 reached H [] = Some H
-reached H (turn ∷ turns) = if calls_as H (command_wants_login turn.call.command) turn.call.caller then reached (step H turn.call) turns else None
+reached H (turn ∷ turns) = if may_turn H turn.call then reached (step H turn.call) turns else None
 
 reached-leads : (from to : History) (turns : List Turn) → reached from turns ≡ Some to → LeadsTo from (calls_of turns) to
 reached-leads from to [] h = same_Some from to h
 reached-leads from to (turn ∷ turns) h =
-    let login : Bool = command_wants_login turn.call.command in
-    called (calls_as from login turn.call.caller) refl (λ i. reached-leads (step from turn.call) to turns i) h
+    called (may_turn from turn.call) refl (λ i. reached-leads (step from turn.call) to turns i) h
   where
-    called : (may : Bool) → calls_as from (command_wants_login turn.call.command) turn.call.caller ≡ may
+    called : (may : Bool) → may_turn from turn.call ≡ may
         → (reached (step from turn.call) turns ≡ Some to → LeadsTo (step from turn.call) (calls_of turns) to)
         → (if may then reached (step from turn.call) turns else None) ≡ Some to → LeadsTo from (calls turn.call ∷ calls_of turns) to
     called false is rest h = absurd (none-some to h)
     called true is rest h =
-        (record { caller = calls_as-so from (command_wants_login turn.call.command) turn.call.caller is; bounded = turn.bounded; moment = turn.moment }, rest h)
+        let login : Bool = command_wants_login turn.call.command in
+        let may = and_parts (calls_as from login turn.call.caller) (is_new from turn.call.caller turn.call.key) is in (
+          record {
+            given = record { caller = calls_as-so from login turn.call.caller may.0; bounded = turn.bounded; moment = turn.moment; key = turn.key };
+            unused = is_new-so from turn.call.caller turn.call.key may.1;
+          },
+          rest h,
+        )
 
 -- a legal history goes on by turns
 pub goes_on : (from to : History) (turns : List Turn) → reached from turns ≡ Some to → Legal from → Legal to
@@ -83,10 +111,19 @@ goes_on from to turns leads legal =
 
 -- a user's command, at that moment, and at the one of all examples
 abbrev pub by_then : (user : ℕ) (at : ℕ) (command : Command) → IsBoundedCommand command → IsMoment at → Turn
-by_then user at command bounded moment = record { call = call_of (Some user) at command; bounded = bounded; moment = moment }
+by_then user at command bounded moment = record { call = call_of (Some user) at None command; bounded = bounded; moment = moment; key = tt }
 
 abbrev pub by : (user : ℕ) (command : Command) → IsBoundedCommand command → Turn
 by user command bounded = by_then user morning command bounded (omega arith)
+
+-- and by the number that a command here has
+abbrev pub by_number : (user : ℕ) (command : Command) → IsBoundedCommand command → Turn
+by_number user command bounded = record {
+  call = call_of (Some user) morning (Some some_key) command;
+  bounded = bounded;
+  moment = omega arith;
+  key = record { low = omega arith; high = omega arith; mark = refl };
+}
 
 -- ---- bounds, by computing
 
@@ -140,7 +177,7 @@ bounded-form form score confidence to_authors to_pc = record {
 
 -- anybody may register
 abbrev pub joins : (name digest : List ℕ) → is_name name ≡ true → length digest ≡ 32 → Turn
-joins name digest named digested = record { call = register name digest; bounded = (is_name-bounded name named, digested); moment = omega arith }
+joins name digest named digested = record { call = register name digest; bounded = (is_name-bounded name named, digested); moment = omega arith; key = tt }
 
 pub registered-legal : (d : Digests) → AreDigests d → Legal (registered d)
 registered-legal d are =
@@ -168,6 +205,7 @@ opened-legal d mode =
     ∷ by alice (Name (Some (codes "hal")) Member) refl
     ∷ by alice (SetMode mode) tt
     ∷ by alice (SetPhase Submission) tt
+    ∷ by alice (SetDeadline Submission (Some next_morning)) (refl, (omega arith, omega arith))
     ∷ []
     )
     refl
@@ -176,7 +214,7 @@ pub submitted-legal : (d : Digests) (mode : Mode) → Legal (opened d mode) → 
 submitted-legal d mode =
     goes_on (opened d mode) (submitted d mode)
     (
-    by bob (Submit proofs we_prove (Some (codes "gus") ∷ [])) (ascii-title proofs refl, ascii-abstract we_prove refl, omega arith)
+    by_number bob (Submit proofs we_prove (Some (codes "gus") ∷ [])) (ascii-title proofs refl, ascii-abstract we_prove refl, omega arith)
     ∷ by gus (Submit types we_type []) (ascii-title types refl, ascii-abstract we_type refl, omega arith)
     ∷ by gus (Submit drafts we_draft []) (ascii-title drafts refl, ascii-abstract we_draft refl, omega arith)
     ∷ []

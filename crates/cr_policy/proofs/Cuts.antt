@@ -19,7 +19,7 @@ use Rattle.cr_history.proofs.ListCuts.{until-append, since-append}
 use Rattle.cr_policy.specs.Sighting.{Sighting}
 use Rattle.cr_policy.specs.Triggers.{Reader, Around}
 use Rattle.cr_policy.specs.View.{sight, sights, is_seen, joined}
-use Rattle.cr_policy.specs.ViewFacts.{only, is_kind, opens_phase}
+use Rattle.cr_policy.specs.ViewFacts.{only, is_kind, shows_phase}
 use Rattle.cr_policy.proofs.Walk.{Tells, TellsAs, kept, sights-kept, kept-all, kept-map, map-only, map-flat_map, last_from-append, last_from-same}
 
 -- ---- what is kept at a cut
@@ -43,7 +43,7 @@ pub record CutsAt (r : Reader) (cut : Stamped → Bool) (cut_seen : Sighting →
 module _ (r : Reader) (first : Phase) where
   -- whether a sighting opens it
   abbrev pub opening_seen : Sighting → Bool
-  opening_seen s = is_kind kinds.PhaseSet s && opens_phase first s.phase
+  opening_seen s = is_kind kinds.PhaseSet s && shows_phase first s.phase
 
   opening-one : (at : Around) (stamp : Stamp) (more : Bool) (e : Entry) → opens first e ≡ true
       → (s : Sighting) × ((sight r at (stamped stamp more e) ≡ s ∷ []) × (opening_seen s ≡ true))

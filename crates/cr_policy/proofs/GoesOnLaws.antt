@@ -8,6 +8,7 @@ use Rattle.cr_base.specs.declared.command.Command.TheVariants as commands
 use Rattle.cr_base.specs.declared.entry.Entry.{Entry}
 use Rattle.cr_base.specs.declared.entry.Entry.TheVariants.{Registered, Named}
 use Rattle.cr_base.specs.declared.entry.Stamped.{Stamped}
+use Rattle.cr_base.specs.declared.retry.RetryKey.{RetryKey}
 use Rattle.cr_base.specs.declared.words.Role.{Role}
 use Rattle.cr_base.specs.declared.words.Role.TheVariants.{Account, Member, Chair}
 use Rattle.cr_base.specs.Drawn.{Drawn}
@@ -41,23 +42,23 @@ Begins (e ∷ []) = ⊥
 Begins (e ∷ f ∷ rest) = IsFirst e.entry × (f.entry ≡ Named 1 Chair)
 
 -- the first command of all
-begun : (caller : Option ℕ) (at : ℕ) (command : Command) → IsCaller [] caller command → Begins (followed_by [] (judge (view caller []) (call_of caller at command)))
-begun None at (commands.Register name digest) is = (refl, refl)
-begun (Some u) at (commands.Register name digest) is = cc
-begun None at (commands.Tag paper tag true) is = absurd is
-begun None at (commands.Tag paper tag false) is = absurd is
-begun None at command is = absurd is
-begun (Some u) at (commands.Tag paper tag true) is = absurd (true≢false (sym is))
-begun (Some u) at (commands.Tag paper tag false) is = absurd (true≢false (sym is))
-begun (Some u) at command is = absurd (true≢false (sym is))
+begun : (caller : Option ℕ) (at : ℕ) (key : Option RetryKey) (command : Command) → IsCaller [] caller command → Begins (followed_by [] (judge (view caller []) (call_of caller at key command)))
+begun None at key (commands.Register name digest) is = (refl, refl)
+begun (Some u) at key (commands.Register name digest) is = cc
+begun None at key (commands.Tag paper tag true) is = absurd is
+begun None at key (commands.Tag paper tag false) is = absurd is
+begun None at key command is = absurd is
+begun (Some u) at key (commands.Tag paper tag true) is = absurd (true≢false (sym is))
+begun (Some u) at key (commands.Tag paper tag false) is = absurd (true≢false (sym is))
+begun (Some u) at key command is = absurd (true≢false (sym is))
 
 stays : {E : Type 0} (e f : Stamped) (rest : History) (r : Result Drawn E) → Begins (e ∷ f ∷ rest) → Begins (followed_by (e ∷ f ∷ rest) r)
 stays e f rest (Ok drawn) begins = begins
 stays e f rest (Err refusal) begins = begins
 
 moved-begins : (H : History) (move : Move) → Begins H → IsMoveAllowed H move → Begins (moved H move)
-moved-begins [] (calls call) begins allowed = begun call.caller call.at call.command allowed.caller
-moved-begins [] (bulks bulk) begins allowed = absurd (true≢false (sym allowed.caller))
+moved-begins [] (calls call) begins allowed = begun call.caller call.at call.key call.command allowed.given.caller
+moved-begins [] (bulks bulk) begins allowed = absurd (true≢false (sym allowed.given.caller))
 moved-begins (e ∷ []) move begins allowed = absurd begins
 moved-begins (e ∷ f ∷ rest) (calls call) begins allowed =
     stays e f rest (judge (view call.caller (e ∷ f ∷ rest)) call) begins
@@ -123,7 +124,7 @@ opens-next H legal chair before =
     record {
       next = next.0;
       comes = next.1;
-      accepted = λ at. permissions_as_said H (call_of (Some 1) at (commands.SetPhase next.0)) legal ∙ (λ i. chair i && next.1 i);
+      accepted = λ at key. permissions_as_said H (call_of (Some 1) at key (commands.SetPhase next.0)) legal ∙ (λ i. chair i && next.1 i);
     }
 
 has-chair : (H : History) (u : ℕ) → Legal H → Begins H → InTurn IsInOrder [] H → IsRegistered H u → HasChair H

@@ -35,8 +35,9 @@ use Rattle.cr_policy.specs.Legal.{Legal}
 use Rattle.cr_policy.specs.Sighting.{Sighting}
 use Rattle.cr_policy.specs.View.{View}
 use Rattle.cr_policy.specs.ViewFacts.{is_kind, is_user, is_text}
+use Rattle.cr_policy.specs.ViewRetries.{shows_number}
 use Rattle.cr_policy.specs.Witness.{morning}
-use Rattle.cr_policy.proofs.ConferenceProofs.{Turn, by, by_then, goes_on, reached, registered-legal, opened-legal, submitted-legal}
+use Rattle.cr_policy.proofs.ConferenceProofs.{Turn, by, by_then, by_number, goes_on, reached, registered-legal, opened-legal, submitted-legal}
 use Rattle.cr_policy.proofs.ConferenceProofs.{is_plain_title, is_plain, ascii-title, ascii-abstract, ascii-review, few-ascii, agreed-bounded, bounded-form}
 use Rattle.cr_policy.proofs.HiddenPairLaws.{apart, pair, several, once}
 
@@ -203,6 +204,11 @@ pub moment-hidden : pairs.MomentHidden
 moment-hidden d are =
     once (papers-so d are) (opens Bidding alice) (by_then alice (morning + 60) (SetPhase Bidding) tt (omega arith)) []
     (list_any (λ (s : Sighting). is_number s.at (morning + 60))) refl refl refl refl refl
+
+pub key-hidden : pairs.KeyHidden
+key-hidden d are =
+    once (papers-so d are) (opens Bidding alice) (by_number alice (SetPhase Bidding) tt) []
+    (list_any (λ (s : Sighting). shows_number 7 s.key)) refl refl refl refl refl
 
 -- ---- papers
 

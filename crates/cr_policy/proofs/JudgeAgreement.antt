@@ -89,11 +89,11 @@ module _ (by : Standing) (drawn : Drawn) where
   in_committee h = (and_parts begun still (not-false (begun && still) h)).0
 
   -- Of each list it is asked only behind rules that have let through one whom the page tells it.
-  declare-withdrawn : (v w past : Bool) (user : Target) → (gets_withdrawn by ≡ true → v ≡ w)
-      → Alike (declare_checks by v user past) (declare_checks by w user past)
-  declare-withdrawn v w past user same =
+  declare-withdrawn : (v w late : Bool) (user : Target) → (gets_withdrawn by ≡ true → v ≡ w)
+      → Alike (declare_checks by v user late) (declare_checks by w user late)
+  declare-withdrawn v w late user same =
       asked-behind
-      (not by.author breaks rules.NotAuthor ∷ past breaks rules.Late ∷ [])
+      (not by.author breaks rules.NotAuthor ∷ late breaks rules.Late ∷ [])
       v w rules.Withdrawn
       (not (is_member user.role) breaks rules.NotAMember ∷ []) drawn
       (λ none. same (told-author none.0))
@@ -122,12 +122,12 @@ module _ (by : Standing) (drawn : Drawn) where
       (not (is_member user.role) breaks rules.NotAMember ∷ user.author breaks rules.AuthorConflict ∷ []) drawn
       (λ none. same (told-chair none.0 (in_committee none.1.1.0)))
 
-  case-withdrawn : (on bidding late past : Bool) (user : Target) (v w : Bool) → begun ≡ bidding → (gets_withdrawn by ≡ true → v ≡ w)
-      → Alike (conflict_case on bidding late by v user past) (conflict_case on bidding late by w user past)
-  case-withdrawn false bidding late past user v w b same = off-withdrawn v w user same
-  case-withdrawn true false late past user v w b same = declare-withdrawn v w past user same
-  case-withdrawn true true true past user v w b same = refl
-  case-withdrawn true true false past user v w b same = by_user user.herself
+  case-withdrawn : (on bidding final late : Bool) (user : Target) (v w : Bool) → begun ≡ bidding → (gets_withdrawn by ≡ true → v ≡ w)
+      → Alike (conflict_case on bidding final by v user late) (conflict_case on bidding final by w user late)
+  case-withdrawn false bidding final late user v w b same = off-withdrawn v w user same
+  case-withdrawn true false final late user v w b same = declare-withdrawn v w late user same
+  case-withdrawn true true true late user v w b same = refl
+  case-withdrawn true true false late user v w b same = by_user user.herself
     where
       by_user : (herself : Bool) → Alike (cond herself (own_checks by v) (other_checks by v user)) (cond herself (own_checks by w) (other_checks by w user))
       by_user true = own-withdrawn v w b same
@@ -155,14 +155,14 @@ module _ (by : Standing) (drawn : Drawn) where
       (λ none. same (told-clear_chair none.0 none.1.0 (in_committee none.1.1.0)))
 
   -- and it is all that a conflict's rules ask of her ties
-  case-author : (on bidding late past withdrawn herself : Bool) (role : Role) (x y clash clash' reviews reviews' : Bool) → (shows_author by false ≡ true → x ≡ y)
-      → Alike (conflict_case on bidding late by withdrawn (named role herself x clash reviews) past)
-      (conflict_case on bidding late by withdrawn (named role herself y clash' reviews') past)
-  case-author false bidding late past withdrawn herself role x y clash clash' reviews reviews' same =
+  case-author : (on bidding final late withdrawn herself : Bool) (role : Role) (x y clash clash' reviews reviews' : Bool) → (shows_author by false ≡ true → x ≡ y)
+      → Alike (conflict_case on bidding final by withdrawn (named role herself x clash reviews) late)
+      (conflict_case on bidding final by withdrawn (named role herself y clash' reviews') late)
+  case-author false bidding final late withdrawn herself role x y clash clash' reviews reviews' same =
       off-author withdrawn herself role x y clash clash' reviews reviews' same
-  case-author true false late past withdrawn herself role x y clash clash' reviews reviews' same = refl
-  case-author true true true past withdrawn herself role x y clash clash' reviews reviews' same = refl
-  case-author true true false past withdrawn herself role x y clash clash' reviews reviews' same = refl
+  case-author true false final late withdrawn herself role x y clash clash' reviews reviews' same = refl
+  case-author true true true late withdrawn herself role x y clash clash' reviews reviews' same = refl
+  case-author true true false late withdrawn herself role x y clash clash' reviews reviews' same = refl
 
 -- what two sources show of papers is the same as far as a caller is told it
 record Agree (facts : Facts) (shown tabled : Shown) : Type 0 where
@@ -186,17 +186,17 @@ module _ (facts : Facts) (shown tabled : Shown) (same : Agree facts shown tabled
   before = not (has_paper facts (Some p)) breaks rules.NoPaper ∷ not by_author.author breaks rules.NotAuthor ∷ []
 
   abbrev behind : Bool → Bool → List Check → List Check
-  behind past withdrawn more =
-      not (papers_may_change by_author.phase) breaks rules.WrongPhase ∷ past breaks rules.Late ∷ withdrawn breaks rules.Withdrawn ∷ more
+  behind late withdrawn more =
+      not (papers_may_change by_author.phase) breaks rules.WrongPhase ∷ late breaks rules.Late ∷ withdrawn breaks rules.Withdrawn ∷ more
 
-  author-same : (past : Bool) (more : List Check) (drawn : List Upload → Drawn)
-      → judged (before ++ behind past (shown.withdrawn p) more) (drawn (shown.uploads p))
-      ≡ judged (before ++ behind past (tabled.withdrawn p) more) (drawn (tabled.uploads p))
-  author-same past more drawn =
-      judged-behind before (behind past (shown.withdrawn p) more) (behind past (tabled.withdrawn p) more) (drawn (shown.uploads p)) (drawn (tabled.uploads p))
+  author-same : (late : Bool) (more : List Check) (drawn : List Upload → Drawn)
+      → judged (before ++ behind late (shown.withdrawn p) more) (drawn (shown.uploads p))
+      ≡ judged (before ++ behind late (tabled.withdrawn p) more) (drawn (tabled.uploads p))
+  author-same late more drawn =
+      judged-behind before (behind late (shown.withdrawn p) more) (behind late (tabled.withdrawn p) more) (drawn (shown.uploads p)) (drawn (tabled.uploads p))
       (λ none.
-      ap (λ (withdrawn : Bool). judged (behind past withdrawn more) (drawn (shown.uploads p))) (same.withdrawn p (told-author by_author (drawn []) none.1.0))
-      ∙ ap (λ (uploads : List Upload). judged (behind past (tabled.withdrawn p) more) (drawn uploads)) (same.uploads p (not-false by_author.author none.1.0)))
+      ap (λ (withdrawn : Bool). judged (behind late withdrawn more) (drawn (shown.uploads p))) (same.withdrawn p (told-author by_author (drawn []) none.1.0))
+      ∙ ap (λ (uploads : List Upload). judged (behind late (tabled.withdrawn p) more) (drawn uploads)) (same.uploads p (not-false by_author.author none.1.0)))
 
 -- and matters to a conflict's judgement no further
 conflict-same : (facts : Facts) (shown tabled : Shown) (stamp : Stamp) (paper target : Option ℕ) (on : Bool) → Agree facts shown tabled
@@ -213,11 +213,11 @@ conflict-same facts shown tabled stamp (Some p) target on same = by (role_among 
     bidding : Bool
     bidding = authors_have_declared standing.phase
 
-    late : Bool
-    late = conflicts_are_final standing.phase
+    final : Bool
+    final = conflicts_are_final standing.phase
 
-    past : Bool
-    past = is_late facts stamp.at
+    late : Bool
+    late = is_late facts stamp.at
 
     herself : Bool
     herself = is_number target stamp.maker
@@ -235,16 +235,16 @@ conflict-same facts shown tabled stamp (Some p) target on same = by (role_among 
     judged_by source role =
         judged
         (conflict_checks standing (paper_named facts source (Some p))
-        (option_map (λ (r : Role). named r herself (wrote source) (clash source) (reviews source)) role) on past)
+        (option_map (λ (r : Role). named r herself (wrote source) (clash source) (reviews source)) role) on late)
         drawn
 
     by : (role : Option Role) → judged_by shown role ≡ judged_by tabled role
     by None = refl
     by (Some role) =
         ap (λ (row : Result Drawn Rule). cond (not (has_paper facts (Some p))) (Err rules.NoPaper) row)
-        (case-withdrawn standing drawn on bidding late past (named role herself (wrote shown) (clash shown) (reviews shown)) (shown.withdrawn p)
+        (case-withdrawn standing drawn on bidding final late (named role herself (wrote shown) (clash shown) (reviews shown)) (shown.withdrawn p)
         (tabled.withdrawn p) refl (same.withdrawn p)
-        ∙ case-author standing drawn on bidding late past (tabled.withdrawn p) herself role (wrote shown) (wrote tabled) (clash shown) (clash tabled)
+        ∙ case-author standing drawn on bidding final late (tabled.withdrawn p) herself role (wrote shown) (wrote tabled) (clash shown) (clash tabled)
         (reviews shown) (reviews tabled)
         (λ told. ap (list_any (is_number target)) (same.authors p told)))
 
@@ -262,10 +262,10 @@ module _ (facts : Facts) (shown tabled : Shown) (same : Agree facts shown tabled
 
   -- it is told from each of these phases on
   at_phase : (first : Phase) → nat_le 2 (phase_rank first) ≡ true → is_phase by_member.phase first ≡ true → is_from Bidding by_member.phase ≡ true
-  at_phase first late is = begun (phase_rank by_member.phase) (phase_rank first) late is
+  at_phase first since is = begun (phase_rank by_member.phase) (phase_rank first) since is
     where
       begun : (n m : ℕ) → nat_le 2 m ≡ true → eqb n m ≡ true → nat_le 2 n ≡ true
-      begun n m late is = grind (arith, nat_tests)
+      begun n m since is = grind (arith, nat_tests)
 
   withdrawn-same : (before : List Check) (drawn : Drawn)
       → (NoneBroken before → (not (is_member by_member.role) ≡ false) × (is_from Bidding by_member.phase ≡ true))
@@ -274,20 +274,20 @@ module _ (facts : Facts) (shown tabled : Shown) (same : Agree facts shown tabled
       asked-behind before (shown.withdrawn p) (tabled.withdrawn p) rules.Withdrawn [] drawn
       (λ none. let is = may none in same.withdrawn p (told-member by_member drawn is.0 is.1))
 
-  bid-same : (past : Bool) (drawn : Drawn)
-      → judged (bid_checks by_member (paper_named facts shown (Some p)) past) drawn
-      ≡ judged (bid_checks by_member (paper_named facts tabled (Some p)) past) drawn
-  bid-same past drawn =
-      withdrawn-same (for_members (not (bids_are_taken by_member.phase) breaks rules.WrongPhase ∷ past breaks rules.Late ∷ [])) drawn
+  bid-same : (late : Bool) (drawn : Drawn)
+      → judged (bid_checks by_member (paper_named facts shown (Some p)) late) drawn
+      ≡ judged (bid_checks by_member (paper_named facts tabled (Some p)) late) drawn
+  bid-same late drawn =
+      withdrawn-same (for_members (not (bids_are_taken by_member.phase) breaks rules.WrongPhase ∷ late breaks rules.Late ∷ [])) drawn
       (λ none. (none.1.0, at_phase Bidding refl (not-false (bids_are_taken by_member.phase) none.1.1.1.0)))
 
-  review-same : (past : Bool) (drawn : Drawn)
-      → judged (review_checks by_member (paper_named facts shown (Some p)) past) drawn
-      ≡ judged (review_checks by_member (paper_named facts tabled (Some p)) past) drawn
-  review-same past drawn =
+  review-same : (late : Bool) (drawn : Drawn)
+      → judged (review_checks by_member (paper_named facts shown (Some p)) late) drawn
+      ≡ judged (review_checks by_member (paper_named facts tabled (Some p)) late) drawn
+  review-same late drawn =
       withdrawn-same
       (for_members (not by_member.reviewer breaks rules.NotReviewer
-      ∷ not (reviews_are_written by_member.phase) breaks rules.WrongPhase ∷ past breaks rules.Late ∷ [])) drawn
+      ∷ not (reviews_are_written by_member.phase) breaks rules.WrongPhase ∷ late breaks rules.Late ∷ [])) drawn
       (λ none. (none.1.0, begun (is_phase by_member.phase Reviewing) (is_phase by_member.phase Discussion) refl refl none.1.1.1.1.0))
     where
       begun : (r d : Bool) → is_phase by_member.phase Reviewing ≡ r → is_phase by_member.phase Discussion ≡ d → not (r || d) ≡ false
@@ -320,11 +320,11 @@ module _ (facts : Facts) (shown tabled : Shown) (same : Agree facts shown tabled
       same.withdrawn p (told-chair by_member drawn none.1.0 begun))
 
   -- so it is of a comment, and how many there are is counted only behind those that let through members from the discussion on
-  comment-same : (own : ℕ) (past : Bool) (drawn : ℕ → Drawn)
-      → judged (comment_checks by_member (paper_named facts shown (Some p)) own past) (drawn (length (shown.comments p)))
-      ≡ judged (comment_checks by_member (paper_named facts tabled (Some p)) own past) (drawn (length (tabled.comments p)))
-  comment-same own past drawn =
-      judged-behind (for_members (not (comments_are_written by_member.phase) breaks rules.WrongPhase ∷ past breaks rules.Late ∷ []))
+  comment-same : (own : ℕ) (late : Bool) (drawn : ℕ → Drawn)
+      → judged (comment_checks by_member (paper_named facts shown (Some p)) own late) (drawn (length (shown.comments p)))
+      ≡ judged (comment_checks by_member (paper_named facts tabled (Some p)) own late) (drawn (length (tabled.comments p)))
+  comment-same own late drawn =
+      judged-behind (for_members (not (comments_are_written by_member.phase) breaks rules.WrongPhase ∷ late breaks rules.Late ∷ []))
       (behind (shown.withdrawn p)) (behind (tabled.withdrawn p))
       (drawn (length (shown.comments p))) (drawn (length (tabled.comments p)))
       (λ none.

@@ -14,8 +14,7 @@ use Rattle.cr_base.specs.Bulk.{bulk_by_role}
 use Rattle.cr_base.specs.Judging.{judge_by_role}
 use Rattle.cr_base.specs.Sources.{Facts, facts_of_tables}
 use Rattle.cr_base.specs.Tables.{no_tables, tables_of, FitInTurn}
-use Rattle.cr_base.specs.Moments.{IsMoment}
-use Rattle.cr_history.specs.Groups.{Adds, adds}
+use Rattle.cr_history.specs.Groups.{IsBoundedStamp, Adds, adds}
 use Rattle.cr_history.specs.Invariants.{IsRegistered, Invariants, IsWhole, DeclaresInTime}
 use Rattle.cr_history.specs.Laws.{AreTold}
 use Rattle.cr_history.proofs.CallerLaws.{caller-registered}
@@ -26,8 +25,8 @@ use Rattle.cr_history.proofs.InOrder.{whole-append}
 use Rattle.cr_history.proofs.TableAgreement.{FitInTurn-behind}
 use Rattle.cr_policy.specs.View.{view}
 use Rattle.cr_policy.specs.Judge.{judge, judge_bulk, answer, needs_login}
-use Rattle.cr_policy.specs.Legal.{IsUser, IsAllowed, followed_by, step, IsBulkAllowed, Move, calls, bulks, IsMoveAllowed, moved, LeadsTo, Legal}
-use Rattle.cr_policy.specs.Laws.{ViewSuffices, DeclaredFromView, IsKept, LegalKeeps, DigestsAreOwn}
+use Rattle.cr_policy.specs.Legal.{IsUser, IsGiven, IsAllowed, followed_by, step, IsBulkGiven, IsBulkAllowed, Move, calls, bulks, IsMoveAllowed, moved, LeadsTo, Legal}
+use Rattle.cr_policy.specs.Laws.{DeclaredFromView, IsKept, LegalKeeps, DigestsAreOwn}
 use Rattle.cr_policy.specs.Triggers.{reader}
 use Rattle.cr_policy.proofs.AcceptedLaws.{Kept-told, accepted-adds, accepted-fits}
 use Rattle.cr_policy.proofs.BulkLaws.{bulk-same, bulk-draws, rows-keep}
@@ -71,37 +70,41 @@ Legal-bulk_accepted H bulk drawn legal allowed accepted =
 -- ---- what a legal history keeps
 
 -- a history that a command follows keeps them
-call-keeps : (H : History) (call : Call) → IsKept H → IsAllowed H call → (r : Result Drawn Rule)
+call-keeps : (H : History) (call : Call) → IsKept H → IsGiven H call → (r : Result Drawn Rule)
     → judge (view call.caller H) call ≡ r → IsKept (followed_by H r)
-call-keeps H call kept allowed (Err rule) is = kept
-call-keeps H call kept allowed (Ok drawn) is =
+call-keeps H call kept given (Err rule) is = kept
+call-keeps H call kept given (Ok drawn) is =
     let invariants : Invariants H = kept.invariants in
-    let added : Adds H drawn.group = accepted-adds H call drawn allowed is in
-    let fits = accepted-fits H call drawn invariants (Kept-told H invariants) (forms_tell H invariants) allowed.caller is in
+    let added : Adds H drawn.group = accepted-adds H call drawn given is in
+    let fits = accepted-fits H call drawn invariants (Kept-told H invariants) (forms_tell H invariants) given.caller is in
     record {
       invariants = growth_keeps.more H drawn.group invariants (adds drawn.group added) fits;
       whole = growth_keeps.whole H drawn.group kept.whole added;
     }
 
 -- and so does one that a bulk follows
-bulk-drawn_keeps : (H : History) (bulk : BulkCall) (drawn : Drawn) → IsKept H → IsRegistered H bulk.stamp.maker → IsMoment bulk.stamp.at
+bulk-drawn_keeps : (H : History) (bulk : BulkCall) (drawn : Drawn) → IsKept H → IsRegistered H bulk.stamp.maker → IsBoundedStamp bulk.stamp
     → judge_bulk (view (Some bulk.stamp.maker) H) bulk ≡ Ok drawn → IsKept (H ++ drawn.group)
-bulk-drawn_keeps H bulk drawn kept registered moment accepted =
+bulk-drawn_keeps H bulk drawn kept registered bounds accepted =
     let draws = bulk-draws bulk.stamp H bulk.rows drawn accepted in
     let group : History = grouped bulk.stamp draws.entries in
     subst (λ (d : Drawn). IsKept (H ++ d.group)) draws.drawn_is (record {
-      invariants = rows-keep bulk.stamp bulk.rows 1 H draws.entries (record { kept = kept.invariants; registered = registered; moment = moment }) draws.accepted;
+      invariants = rows-keep bulk.stamp bulk.rows 1 H draws.entries (record { kept = kept.invariants; registered = registered; bounds = bounds }) draws.accepted;
       whole = whole-append H group kept.whole (grouped-whole bulk.stamp draws.entries);
     })
 
-bulk-keeps : (H : History) (bulk : BulkCall) → IsKept H → IsBulkAllowed H bulk → (r : Result Drawn Broken)
+-- the stamp of a bulk that may be given is within its bounds
+pub given-bounded : (H : History) (bulk : BulkCall) → IsBulkGiven H bulk → IsBoundedStamp bulk.stamp
+given-bounded H bulk given = record { moment = given.moment; key = given.key }
+
+bulk-keeps : (H : History) (bulk : BulkCall) → IsKept H → IsBulkGiven H bulk → (r : Result Drawn Broken)
     → judge_bulk (view (Some bulk.stamp.maker) H) bulk ≡ r → IsKept (followed_by H r)
-bulk-keeps H bulk kept allowed (Err refusal) is = kept
-bulk-keeps H bulk kept allowed (Ok drawn) is = bulk-drawn_keeps H bulk drawn kept allowed.caller allowed.moment is
+bulk-keeps H bulk kept given (Err refusal) is = kept
+bulk-keeps H bulk kept given (Ok drawn) is = bulk-drawn_keeps H bulk drawn kept given.caller (given-bounded H bulk given) is
 
 move-keeps : (H : History) (move : Move) → IsKept H → IsMoveAllowed H move → IsKept (moved H move)
-move-keeps H (calls call) kept allowed = call-keeps H call kept allowed (judge (view call.caller H) call) refl
-move-keeps H (bulks bulk) kept allowed = bulk-keeps H bulk kept allowed (judge_bulk (view (Some bulk.stamp.maker) H) bulk) refl
+move-keeps H (calls call) kept allowed = call-keeps H call kept allowed.given (judge (view call.caller H) call) refl
+move-keeps H (bulks bulk) kept allowed = bulk-keeps H bulk kept allowed.given (judge_bulk (view (Some bulk.stamp.maker) H) bulk) refl
 
 leads-keeps : (from to : History) (moves : List Move) → IsKept from → LeadsTo from moves to → IsKept to
 leads-keeps from to [] kept leads = subst (λ (H : History). IsKept H) leads kept
@@ -128,7 +131,7 @@ Legal-told H legal = Kept-told H (legal_invariants H legal)
 
 -- before the bidding of a legal history authors alone declare conflicts, and from it on no author declares another user
 pub Legal-in_time : (H : History) → Legal H → DeclaresInTime H
-Legal-in_time H legal = (legal_invariants H legal).in_time
+Legal-in_time H legal = (legal_invariants H legal).declared_in_time
 
 -- a reader sees no digest but her own
 pub digests-own : DigestsAreOwn
@@ -155,16 +158,16 @@ pub Legal-answer : (u : Option ℕ) (H : History) (query : Query) → Legal H �
 Legal-answer u H query legal = let kept = legal_invariants H legal in answer-tables u H kept (Kept-told H kept) (forms_tell H kept) query
 
 -- so it is of bulks
-pub Legal-judge_bulk : (H : History) (bulk : BulkCall) → Legal H → IsRegistered H bulk.stamp.maker → IsMoment bulk.stamp.at
+pub Legal-judge_bulk : (H : History) (bulk : BulkCall) → Legal H → IsRegistered H bulk.stamp.maker → IsBoundedStamp bulk.stamp
     → judge_bulk (view (Some bulk.stamp.maker) H) bulk ≡ bulk_by_role (tables_of H) bulk
-Legal-judge_bulk H bulk legal registered moment =
-    bulk-same bulk.stamp H bulk.rows (record { kept = legal_invariants H legal; registered = registered; moment = moment })
+Legal-judge_bulk H bulk legal registered bounds =
+    bulk-same bulk.stamp H bulk.rows (record { kept = legal_invariants H legal; registered = registered; bounds = bounds })
 
 -- and what an accepted bulk adds, the tables take
-pub Legal-bulk_fits : (H : History) (bulk : BulkCall) (drawn : Drawn) → Legal H → IsRegistered H bulk.stamp.maker → IsMoment bulk.stamp.at
+pub Legal-bulk_fits : (H : History) (bulk : BulkCall) (drawn : Drawn) → Legal H → IsRegistered H bulk.stamp.maker → IsBoundedStamp bulk.stamp
     → judge_bulk (view (Some bulk.stamp.maker) H) bulk ≡ Ok drawn → FitInTurn (tables_of H) drawn.group
-Legal-bulk_fits H bulk drawn legal registered moment accepted =
-    FitInTurn-behind no_tables H drawn.group (bulk-drawn_keeps H bulk drawn (Legal-kept H legal) registered moment accepted).invariants.fits
+Legal-bulk_fits H bulk drawn legal registered bounds accepted =
+    FitInTurn-behind no_tables H drawn.group (bulk-drawn_keeps H bulk drawn (Legal-kept H legal) registered bounds accepted).invariants.fits
 
 -- so is whether a query wants a login
 pub Legal-needs_login : (H : History) (query : Query) → Legal H → needs_login (view None H) query ≡ login_wanted (facts_of_tables (tables_of H) None) query
@@ -175,10 +178,3 @@ Legal-needs_login H query legal =
 -- an author's view tells whom the paper's authors declared
 pub Legal-declared : DeclaredFromView
 Legal-declared u p H legal author = declared-seen_by_author u p H (Legal-in_time H legal) author
-
-pub view_suffices : ViewSuffices
-view_suffices = record {
-  commands = λ H call legal may. Legal-judge H call legal;
-  bulks = λ H bulk legal registered moment. Legal-judge_bulk H bulk legal registered moment;
-  queries = λ u H query legal may. Legal-answer u H query legal;
-}

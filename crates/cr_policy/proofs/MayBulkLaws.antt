@@ -18,7 +18,7 @@ use Rattle.cr_base.specs.Bulk.{assigns, unassigns, turns_conflict, turns_tag}
 use Rattle.cr_base.specs.Bulk.{Action, command_told_by, row_command, turns_own_conflict, row_told_judged, entries_of, and_rows, and_behind, rows_judged}
 use Rattle.cr_base.specs.Bulk.{bulk_checks, bulk_of_rows, bulk_behind}
 use Rattle.cr_base.specs.Checks.{judged}
-use Rattle.cr_base.specs.Calls.{BulkCall, call_by}
+use Rattle.cr_base.specs.Calls.{BulkCall, stamp_by, call_by}
 use Rattle.cr_base.specs.Drawn.{Drawn, stamped}
 use Rattle.cr_base.specs.History.{History}
 use Rattle.cr_base.specs.HistoryFacts.{phase_of, role_of}
@@ -29,15 +29,16 @@ use Rattle.cr_base.specs.Words.{is_chair}
 use Rattle.cr_history.proofs.RuleLaws.{facts_of}
 use Rattle.cr_policy.specs.Added.{added}
 use Rattle.cr_policy.specs.Judge.{judge, view_basis, own_sightings, judge_bulk}
-use Rattle.cr_policy.specs.Legal.{Legal}
+use Rattle.cr_policy.specs.Legal.{unnumbered, Legal}
 use Rattle.cr_policy.specs.MayBulk.{RowsAsSaid, a_row, is_of_herself, may_row, with_row, may_rows, may_bulk, BulksAsSaid}
 use Rattle.cr_policy.specs.Sentences.{committee_at_work, chairs, of_some, user_named}
 use Rattle.cr_policy.specs.View.{View, view}
 use Rattle.cr_policy.specs.ViewFacts.{facts_in_view, shown_in_view}
 use Rattle.cr_policy.proofs.AddedLaws.{adds_as_said, user-same}
-use Rattle.cr_policy.proofs.BulkLaws.{row_seen, seen, IsReady, RowCalls, row-calls, RowAdds, row-adds, next, next-ready, next-seen}
+use Rattle.cr_policy.proofs.BulkLaws.{row_seen, seen, IsReady, RowCalls, row-calls, row-given, RowAdds, row-adds, next, next-ready, next-seen}
 use Rattle.cr_policy.proofs.FactAgreement.{facts_in_view-tables}
-use Rattle.cr_policy.proofs.LegalLaws.{Legal-accepted, legal_invariants}
+use Rattle.cr_policy.proofs.KeptStamps.{ready-unnumbered, seen-unnumbered}
+use Rattle.cr_policy.proofs.LegalLaws.{Legal-accepted, legal_invariants, given-bounded}
 use Rattle.cr_policy.proofs.MayDoLaws.{permissions_as_said}
 use Rattle.cr_policy.proofs.SentenceLaws.{none_broken, judged-none_broken, chair-same, in_committee-same, facts-same, told, forms}
 
@@ -81,9 +82,10 @@ rows_as_said = record {
 
 -- ---- one row
 
-module _ (stamp : Stamp) where
-  abbrev user : ℕ
-  user = stamp.maker
+-- under a stamp without a number
+module _ (user moment : ℕ) where
+  abbrev stamp : Stamp
+  stamp = stamp_by user moment None
 
   abbrev u : Option ℕ
   u = Some user
@@ -159,7 +161,7 @@ module _ (stamp : Stamp) where
           legal_after : Legal after
           legal_after =
               subst (λ (g : History). Legal (H ++ g)) first.group
-              (Legal-accepted H (call_by stamp calls.command) drawn legal (record { caller = calls.caller; bounded = calls.told.bounded; moment = ready.moment }) calls.accepted)
+              (Legal-accepted H (call_by stamp calls.command) drawn legal (record { given = row-given stamp H row drawn ready calls; unused = tt }) calls.accepted)
 
           -- the one entry is what the command adds
           one : added u H calls.command ≡ first.entry ∷ []
@@ -172,25 +174,38 @@ module _ (stamp : Stamp) where
               ap (λ (es : List Entry). H ++ map (λ (e : Entry). stamped stamp false e) es) (sym one)
               ∙ ap (with_row stamp H) (sym calls.is)
 
-  -- ---- the bulk
+-- ---- the bulk
 
-  abbrev bulk : List BulkRow → BulkCall
-  bulk rows = record { stamp = stamp; rows = rows }
+module _ (stamp : Stamp) (H : History) (rows : List BulkRow) (legal : Legal H) (ready : IsReady stamp H) where
+  abbrev user' : ℕ
+  user' = stamp.maker
 
-  bulk-ok : (H : History) (rows : List BulkRow) → Legal H → IsReady stamp H → is_ok (judge_bulk (view u H) (bulk rows)) ≡ may_bulk H (bulk rows)
-  bulk-ok H rows legal ready =
-      behind (judged (bulk_checks ((seen_facts H).standing None)) tt)
-      ∙ (λ i. (judged-none_broken (bulk_checks ((seen_facts H).standing None)) tt
-      ∙ ap (λ (facts : Facts). none_broken (bulk_checks (facts.standing None))) (facts-seen H legal)
-      ∙ said (is_chair (role_of u H)) (chairs user H) (committee_works (phase_of H)) (committee_at_work H)
-      (chair-same (role_of u H)) (in_committee-same (phase_of H))) i && rows-ok rows 1 H legal ready i)
-      ∙ together (chairs user H) (committee_at_work H) (may_rows stamp H rows)
+  abbrev bulk : BulkCall
+  bulk = record { stamp = stamp; rows = rows }
+
+  abbrev facts : Facts
+  facts = facts_in_view (Some user') (view (Some user') H)
+
+  -- its rows are judged as they are without its number
+  rows-may : is_ok (seen stamp H 1 rows) ≡ may_rows (unnumbered stamp) H rows
+  rows-may =
+      ap (λ (r : Result (List Entry) Broken). is_ok r) (sym (seen-unnumbered stamp H ready 1 rows))
+      ∙ rows-ok user' stamp.at rows 1 H legal (ready-unnumbered stamp H ready)
+
+  bulk-ok : is_ok (judge_bulk (view (Some user') H) bulk) ≡ may_bulk H bulk
+  bulk-ok =
+      behind (judged (bulk_checks (facts.standing None)) tt)
+      ∙ (λ i. (judged-none_broken (bulk_checks (facts.standing None)) tt
+      ∙ ap (λ (facts : Facts). none_broken (bulk_checks (facts.standing None))) (facts-seen user' stamp.at H legal)
+      ∙ said (is_chair (role_of (Some user') H)) (chairs user' H) (committee_works (phase_of H)) (committee_at_work H)
+      (chair-same (role_of (Some user') H)) (in_committee-same (phase_of H))) i && rows-may i)
+      ∙ together (chairs user' H) (committee_at_work H) (may_rows (unnumbered stamp) H rows)
     where
       of_rows : (r : Result (List Entry) Broken) → is_ok (bulk_of_rows stamp (length rows) r) ≡ is_ok r
       of_rows (Ok es) = refl
       of_rows (Err refusal) = refl
 
-      behind : (r : Result (Unit {0}) Rule) → is_ok (bulk_behind (view_basis user) (view u H) (bulk rows) r) ≡ (is_ok r && is_ok (seen stamp H 1 rows))
+      behind : (r : Result (Unit {0}) Rule) → is_ok (bulk_behind (view_basis user') (view (Some user') H) bulk r) ≡ (is_ok r && is_ok (seen stamp H 1 rows))
       behind (Err rule) = refl
       behind (Ok done) = of_rows (seen stamp H 1 rows)
 
@@ -202,4 +217,5 @@ module _ (stamp : Stamp) where
 
 pub bulks_as_said : BulksAsSaid
 bulks_as_said H bulk legal allowed =
-    bulk-ok bulk.stamp H bulk.rows legal (record { kept = legal_invariants H legal; registered = allowed.caller; moment = allowed.moment })
+    bulk-ok bulk.stamp H bulk.rows legal
+    (record { kept = legal_invariants H legal; registered = allowed.given.caller; bounds = given-bounded H bulk allowed.given })

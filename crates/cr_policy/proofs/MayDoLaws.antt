@@ -14,6 +14,7 @@ use Rattle.cr_base.specs.declared.target.Target.{Target}
 use Rattle.cr_base.specs.declared.words.Kind.{Kind}
 use Rattle.cr_base.specs.declared.words.Mode.{Mode}
 use Rattle.cr_base.specs.declared.reply.Rule.TheVariants as rules
+use Rattle.cr_base.specs.declared.retry.RetryKey.{RetryKey}
 use Rattle.cr_base.specs.declared.standing.Standing.{Standing}
 use Rattle.cr_base.specs.declared.words.Phase.{Phase}
 use Rattle.cr_base.specs.declared.words.Phase.TheVariants.{Setup, Submission, Bidding, Reviewing, Discussion}
@@ -42,7 +43,7 @@ use Rattle.cr_policy.specs.View.{view}
 use Rattle.cr_policy.proofs.LegalLaws.{Legal-told}
 use Rattle.cr_policy.specs.MayDo.{may_register, may_name, may_set_mode, may_open, may_set_deadline, may_submit, may_change, may_upload, may_declare, may_take_back, may_bid, may_assign}
 use Rattle.cr_policy.specs.MayDo.{has_written, may_unassign, may_review, may_comment, may_tag, may_decide, may_do, is_accepted_from, PermissionsAsSaid}
-use Rattle.cr_policy.specs.Sentences.{now, comes_behind, in_time, isnt_over, committee_at_work, is_over, is_members, is_chairs, is_above, is_paper, stands}
+use Rattle.cr_policy.specs.Sentences.{now, comes_behind, in_time, lasts_or_comes, committee_at_work, is_over, is_members, is_chairs, is_above, is_paper, stands}
 use Rattle.cr_policy.specs.Sentences.{administers, of_some, user_named, is_somebody, is_for_chairs_alone}
 use Rattle.cr_policy.proofs.SentenceLaws.{none_broken, judged-none_broken, phase-same, next-same, ahead-same, time-same, member-same, chair-same, in_committee-same, above-same, over-same, early-same, none-same, at-same, fewer, up_to}
 use Rattle.cr_policy.proofs.SentenceLaws.{shown_of, accepted-as, accepted-checks, number-same, by_name, all_somebody}
@@ -50,13 +51,13 @@ use Rattle.cr_policy.proofs.SentenceLaws.{shown_of, accepted-as, accepted-checks
 -- ---- conflicts
 
 -- an author's, before the bidding
-early-said : (t a p w m m' x : Bool) → m ≡ m'
-    → (not (not t) && (not (not a) && (not p && (not w && (not (not m) && true))))) ≡ ((t && not w) && m' && ((not p && a) || (false && x)))
-early-said t a p w m m' x hm = grind arith
+early-said : (t a late w m m' x : Bool) → m ≡ m'
+    → (not (not t) && (not (not a) && (not late && (not w && (not (not m) && true))))) ≡ ((t && not w) && m' && ((not late && a) || (false && x)))
+early-said t a late w m m' x hm = grind arith
 
 -- never, behind the discussion
-late-said : (t w m x y : Bool) → (not (not t) && false) ≡ ((t && not w) && m && ((false && x) || (false && y)))
-late-said t w m x y = grind arith
+final-said : (t w m x y : Bool) → (not (not t) && false) ≡ ((t && not w) && m && ((false && x) || (false && y)))
+final-said t w m x y = grind arith
 
 own-said : (t w m m' x y : Bool) → m ≡ m' → (not (not t) && (not (not m) && (not w && true))) ≡ ((t && not w) && m' && ((false && x) || (true || y)))
 own-said t w m m' x y hm = grind arith
@@ -66,24 +67,24 @@ other-said : (t w k k' c m m' x : Bool) → k ≡ k' → m ≡ m'
 other-said t w k k' c m m' x hk hm = grind arith
 
 -- all of them: by whether it is the bidding or later, and whether it is later than the discussion
-declared-said : (b l t w p : Bool) (by : Standing) (user : Target) → (user.herself ≡ true → by.role ≡ user.role)
-    → (not (not t) && none_broken (conflict_case true b l by w user p))
+declared-said : (b final t w late : Bool) (by : Standing) (user : Target) → (user.herself ≡ true → by.role ≡ user.role)
+    → (not (not t) && none_broken (conflict_case true b final by w user late))
     ≡ ((t && not w) && is_members user.role
-    && ((not b && not p && by.author) || ((b && not l) && (user.herself || (is_chairs by.role && not by.conflicted)))))
-declared-said false l t w p by user same =
-    early-said t by.author p w (is_member user.role) (is_members user.role) (user.herself || (is_chairs by.role && not by.conflicted)) (member-same user.role)
-declared-said true true t w p by user same =
-    late-said t w (is_members user.role) (not p && by.author) (user.herself || (is_chairs by.role && not by.conflicted))
-declared-said true false t w p by user same = by_user user.herself same
+    && ((not b && not late && by.author) || ((b && not final) && (user.herself || (is_chairs by.role && not by.conflicted)))))
+declared-said false final t w late by user same =
+    early-said t by.author late w (is_member user.role) (is_members user.role) (user.herself || (is_chairs by.role && not by.conflicted)) (member-same user.role)
+declared-said true true t w late by user same =
+    final-said t w (is_members user.role) (not late && by.author) (user.herself || (is_chairs by.role && not by.conflicted))
+declared-said true false t w late by user same = by_user user.herself same
   where
     by_user : (h : Bool) → (h ≡ true → by.role ≡ user.role)
         → (not (not t) && none_broken (cond h (own_checks by w) (other_checks by w user)))
-        ≡ ((t && not w) && is_members user.role && ((false && (not p && by.author)) || (h || (is_chairs by.role && not by.conflicted))))
+        ≡ ((t && not w) && is_members user.role && ((false && (not late && by.author)) || (h || (is_chairs by.role && not by.conflicted))))
     by_user true same =
-        own-said t w (is_member by.role) (is_members user.role) (not p && by.author) (is_chairs by.role && not by.conflicted)
+        own-said t w (is_member by.role) (is_members user.role) (not late && by.author) (is_chairs by.role && not by.conflicted)
         (member-same by.role ∙ ap is_members (same refl))
     by_user false same =
-        other-said t w (is_chair by.role) (is_chairs by.role) by.conflicted (is_member user.role) (is_members user.role) (not p && by.author)
+        other-said t w (is_chair by.role) (is_chairs by.role) by.conflicted (is_member user.role) (is_members user.role) (not late && by.author)
         (chair-same by.role) (member-same user.role)
 
 -- ---- tags for chairs
@@ -99,23 +100,23 @@ for_chairs-same (b ∷ c ∷ rest) = refl
 
 -- ---- registrations, whoever calls, and whenever
 
-module _ (u : Option ℕ) (H : History) (legal : Legal H) (m : ℕ) where
-  registrations : (name digest : List ℕ) → is_ok (judge (view u H) (call_of u m (commands.Register name digest))) ≡ may_register H name
+module _ (u : Option ℕ) (H : History) (legal : Legal H) (m : ℕ) (key : Option RetryKey) where
+  registrations : (name digest : List ℕ) → is_ok (judge (view u H) (call_of u m key (commands.Register name digest))) ≡ may_register H name
   registrations name digest =
-      accepted-checks u H legal m (commands.Register name digest) (register_checks (is_some (number_in (accounts_of H) name)) (length (accounts_of H))) _ refl
+      accepted-checks u H legal m key (commands.Register name digest) (register_checks (is_some (number_in (accounts_of H) name)) (length (accounts_of H))) _ refl
       ∙ said (is_some (number_in (accounts_of H) name)) (is_none (number_of name H)) (nat_le 9999 (length (accounts_of H))) (nat_lt (length (accounts_of H)) 9999)
       (none-same (number_in (accounts_of H) name) ∙ ap (λ (o : Option ℕ). is_none o) (number-same u H legal name)) (fewer 9999 (length (accounts_of H)))
     where
       said : (x x' q q' : Bool) → not x ≡ x' → not q ≡ q' → (not x && (not q && true)) ≡ (x' && q')
       said x x' q q' hx hq = grind arith
 
--- the commands of a user, at this moment
-module _ (w : ℕ) (H : History) (legal : Legal H) (m : ℕ) where
+-- the commands of a user, at this moment and by this key
+module _ (w : ℕ) (H : History) (legal : Legal H) (m : ℕ) (key : Option RetryKey) where
   abbrev u : Option ℕ
   u = Some w
 
   abbrev stamp : Stamp
-  stamp = stamp_by w m
+  stamp = stamp_by w m key
 
   -- it is too late for what the phase opens, or in time
   abbrev late : Bool
@@ -125,28 +126,28 @@ module _ (w : ℕ) (H : History) (legal : Legal H) (m : ℕ) where
   time = time-same (deadline_of (phase_of H) H) m
 
   deadlines : (phase : Phase) (until : Option ℕ)
-      → is_ok (judge (view u H) (call_of u m (commands.SetDeadline phase until))) ≡ may_set_deadline w H phase
+      → is_ok (judge (view u H) (call_of u m key (commands.SetDeadline phase until))) ≡ may_set_deadline w H phase
   deadlines phase until =
-      accepted-checks u H legal m (commands.SetDeadline phase until) (deadline_checks (standing_of u None H) (phase_of H) phase) _ refl
-      ∙ said (is_chair (role_of u H)) (is_from (phase_of H) phase) (is_chairs (role_of u H)) (isnt_over phase H)
+      accepted-checks u H legal m key (commands.SetDeadline phase until) (deadline_checks (standing_of u None H) (phase_of H) phase) _ refl
+      ∙ said (is_chair (role_of u H)) (is_from (phase_of H) phase) (is_chairs (role_of u H)) (lasts_or_comes phase H)
       (chair-same (role_of u H)) (ahead-same phase (phase_of H))
     where
       said : (c n c' n' : Bool) → c ≡ c' → n ≡ n' → (not (not c) && (not (not n) && true)) ≡ (c' && n')
       said c n c' n' hc hn = grind arith
 
-  phases : (to : Phase) → is_ok (judge (view u H) (call_of u m (commands.SetPhase to))) ≡ may_open w H to
+  phases : (to : Phase) → is_ok (judge (view u H) (call_of u m key (commands.SetPhase to))) ≡ may_open w H to
   phases to =
-      accepted-checks u H legal m (commands.SetPhase to) (phase_checks (standing_of u None H) (phase_of H) to) _ refl
+      accepted-checks u H legal m key (commands.SetPhase to) (phase_checks (standing_of u None H) (phase_of H) to) _ refl
       ∙ said (is_chair (role_of u H)) (is_next (phase_of H) to) (is_chairs (role_of u H)) (comes_behind (phase_of H) to)
       (chair-same (role_of u H)) (next-same (phase_of H) to)
     where
       said : (c n c' n' : Bool) → c ≡ c' → n ≡ n' → (not (not c) && (not (not n) && true)) ≡ (c' && n')
       said c n c' n' hc hn = grind arith
 
-  bids : (paper : Option ℕ) (value : ℕ) → is_ok (judge (view u H) (call_of u m (commands.Bid paper value))) ≡ of_some paper (may_bid w m H)
-  bids None value = accepted-as u H legal m (commands.Bid None value)
+  bids : (paper : Option ℕ) (value : ℕ) → is_ok (judge (view u H) (call_of u m key (commands.Bid paper value))) ≡ of_some paper (may_bid w m H)
+  bids None value = accepted-as u H legal m key (commands.Bid None value)
   bids (Some p) value =
-      accepted-checks u H legal m (commands.Bid (Some p) value) (bid_checks (standing_of u (Some p) H) (paper_named (facts_of u H) (shown_of H) (Some p)) late) _ refl
+      accepted-checks u H legal m key (commands.Bid (Some p) value) (bid_checks (standing_of u (Some p) H) (paper_named (facts_of u H) (shown_of H) (Some p)) late) _ refl
       ∙ said (is_paper p H) (is_member (role_of u H)) (is_conflicted u p H) (bids_are_taken (phase_of H)) late (is_withdrawn p H)
       (is_members (role_of u H)) (now Bidding H) (in_time m H) (member-same (role_of u H)) (phase-same Bidding (phase_of H)) time
     where
@@ -154,9 +155,9 @@ module _ (w : ℕ) (H : History) (legal : Legal H) (m : ℕ) where
           → (not (not t) && (not (not m) && (not c && (not (not n) && (not l && (not w && true)))))) ≡ ((t && not w) && (m' && not c) && n' && l')
       said t m c n l w m' n' l' hm hn hl = grind arith
 
-  modes : (to : Mode) → is_ok (judge (view u H) (call_of u m (commands.SetMode to))) ≡ may_set_mode w H
+  modes : (to : Mode) → is_ok (judge (view u H) (call_of u m key (commands.SetMode to))) ≡ may_set_mode w H
   modes to =
-      accepted-checks u H legal m (commands.SetMode to) (mode_checks (standing_of u None H) (phase_of H)) _ refl
+      accepted-checks u H legal m key (commands.SetMode to) (mode_checks (standing_of u None H) (phase_of H)) _ refl
       ∙ said (is_chair (role_of u H)) (mode_may_be_set (phase_of H)) (is_chairs (role_of u H)) (now Setup H)
       (chair-same (role_of u H)) (phase-same Setup (phase_of H))
     where
@@ -174,22 +175,22 @@ module _ (w : ℕ) (H : History) (legal : Legal H) (m : ℕ) where
           → (not (not t) && (not (not a) && (not (not n) && (not l && (not w && true))))) ≡ ((t && not w) && a && n' && l')
       said t a n l w n' l' hn hl = grind arith
 
-  revisions : (paper : Option ℕ) (title abstract : List ℕ) → is_ok (judge (view u H) (call_of u m (commands.Revise paper title abstract))) ≡ of_some paper (may_change w m H)
-  revisions None title abstract = accepted-as u H legal m (commands.Revise None title abstract)
+  revisions : (paper : Option ℕ) (title abstract : List ℕ) → is_ok (judge (view u H) (call_of u m key (commands.Revise paper title abstract))) ≡ of_some paper (may_change w m H)
+  revisions None title abstract = accepted-as u H legal m key (commands.Revise None title abstract)
   revisions (Some p) title abstract =
-      accepted-checks u H legal m (commands.Revise (Some p) title abstract) (revise_checks (standing_of u (Some p) H) (paper_named (facts_of u H) (shown_of H) (Some p)) late) _ refl
+      accepted-checks u H legal m key (commands.Revise (Some p) title abstract) (revise_checks (standing_of u (Some p) H) (paper_named (facts_of u H) (shown_of H) (Some p)) late) _ refl
       ∙ by_author p
 
-  withdrawals : (paper : Option ℕ) → is_ok (judge (view u H) (call_of u m (commands.Withdraw paper))) ≡ of_some paper (may_change w m H)
-  withdrawals None = accepted-as u H legal m (commands.Withdraw None)
+  withdrawals : (paper : Option ℕ) → is_ok (judge (view u H) (call_of u m key (commands.Withdraw paper))) ≡ of_some paper (may_change w m H)
+  withdrawals None = accepted-as u H legal m key (commands.Withdraw None)
   withdrawals (Some p) =
-      accepted-checks u H legal m (commands.Withdraw (Some p)) (revise_checks (standing_of u (Some p) H) (paper_named (facts_of u H) (shown_of H) (Some p)) late) _ refl
+      accepted-checks u H legal m key (commands.Withdraw (Some p)) (revise_checks (standing_of u (Some p) H) (paper_named (facts_of u H) (shown_of H) (Some p)) late) _ refl
       ∙ by_author p
 
-  uploads : (paper : Option ℕ) (content : List ℕ) → is_ok (judge (view u H) (call_of u m (commands.Upload paper content))) ≡ of_some paper (may_upload w m H (length content))
-  uploads None content = accepted-as u H legal m (commands.Upload None content)
+  uploads : (paper : Option ℕ) (content : List ℕ) → is_ok (judge (view u H) (call_of u m key (commands.Upload paper content))) ≡ of_some paper (may_upload w m H (length content))
+  uploads None content = accepted-as u H legal m key (commands.Upload None content)
   uploads (Some p) content =
-      accepted-checks u H legal m (commands.Upload (Some p) content)
+      accepted-checks u H legal m key (commands.Upload (Some p) content)
       (upload_checks (standing_of u (Some p) H) (paper_named (facts_of u H) (shown_of H) (Some p)) (own_bytes_of u H) (length content) late) _ refl
       ∙ said (is_paper p H) (is_author u p H) (papers_may_change (phase_of H)) late (is_withdrawn p H) (now Submission H) (in_time m H)
       (nat_lt 67108864 (own_bytes_of u H + length content)) (nat_le (own_bytes_of u H + length content) 67108864)
@@ -199,10 +200,10 @@ module _ (w : ℕ) (H : History) (legal : Legal H) (m : ℕ) where
           → (not (not t) && (not (not a) && (not (not n) && (not l && (not w && (not q && true)))))) ≡ (((t && not w) && a && n' && l') && q')
       said t a n l w n' l' q q' hn hl hq = grind arith
 
-  reviewing : (paper : Option ℕ) (form : Form) → is_ok (judge (view u H) (call_of u m (commands.Review paper form))) ≡ of_some paper (may_review w m H)
-  reviewing None form = accepted-as u H legal m (commands.Review None form)
+  reviewing : (paper : Option ℕ) (form : Form) → is_ok (judge (view u H) (call_of u m key (commands.Review paper form))) ≡ of_some paper (may_review w m H)
+  reviewing None form = accepted-as u H legal m key (commands.Review None form)
   reviewing (Some p) form =
-      accepted-checks u H legal m (commands.Review (Some p) form) (review_checks (standing_of u (Some p) H) (paper_named (facts_of u H) (shown_of H) (Some p)) late) _ refl
+      accepted-checks u H legal m key (commands.Review (Some p) form) (review_checks (standing_of u (Some p) H) (paper_named (facts_of u H) (shown_of H) (Some p)) late) _ refl
       ∙ said (is_paper p H) (is_member (role_of u H)) (is_conflicted u p H) (is_reviewer u p H) (is_phase (phase_of H) Reviewing)
       (is_phase (phase_of H) Discussion) late (is_withdrawn p H)
       (is_members (role_of u H)) (now Reviewing H) (now Discussion H) (in_time m H)
@@ -213,10 +214,10 @@ module _ (w : ℕ) (H : History) (legal : Legal H) (m : ℕ) where
           ≡ ((t && not w) && (m' && not c) && r && (x' || y') && l')
       said t m c r x y l w m' x' y' l' hm hx hy hl = grind arith
 
-  comments : (paper : Option ℕ) (text : List ℕ) → is_ok (judge (view u H) (call_of u m (commands.Comment paper text))) ≡ of_some paper (may_comment w m H)
-  comments None text = accepted-as u H legal m (commands.Comment None text)
+  comments : (paper : Option ℕ) (text : List ℕ) → is_ok (judge (view u H) (call_of u m key (commands.Comment paper text))) ≡ of_some paper (may_comment w m H)
+  comments None text = accepted-as u H legal m key (commands.Comment None text)
   comments (Some p) text =
-      accepted-checks u H legal m (commands.Comment (Some p) text)
+      accepted-checks u H legal m key (commands.Comment (Some p) text)
       (comment_checks (standing_of u (Some p) H) (paper_named (facts_of u H) (shown_of H) (Some p)) (own_comments_of u H) late) _ refl
       ∙ said (is_paper p H) (is_member (role_of u H)) (is_conflicted u p H) (comments_are_written (phase_of H)) late (is_withdrawn p H)
       (nat_le 1000 (own_comments_of u H)) (is_members (role_of u H)) (now Discussion H) (in_time m H) (nat_lt (own_comments_of u H) 1000)
@@ -227,10 +228,10 @@ module _ (w : ℕ) (H : History) (legal : Legal H) (m : ℕ) where
           ≡ ((t && not w) && (m' && not c) && n' && l' && q')
       said t m c n l w q m' n' l' q' hm hn hl hq = grind arith
 
-  tags : (paper : Option ℕ) (tag : List ℕ) (on : Bool) → is_ok (judge (view u H) (call_of u m (commands.Tag paper tag on))) ≡ of_some paper (may_tag w H tag)
-  tags None tag on = accepted-as u H legal m (commands.Tag None tag on)
+  tags : (paper : Option ℕ) (tag : List ℕ) (on : Bool) → is_ok (judge (view u H) (call_of u m key (commands.Tag paper tag on))) ≡ of_some paper (may_tag w H tag)
+  tags None tag on = accepted-as u H legal m key (commands.Tag None tag on)
   tags (Some p) tag on =
-      accepted-checks u H legal m (commands.Tag (Some p) tag on)
+      accepted-checks u H legal m key (commands.Tag (Some p) tag on)
       (tag_checks (standing_of u (Some p) H) (paper_named (facts_of u H) (shown_of H) (Some p)) (is_for_chairs tag)) _ refl
       ∙ said (is_paper p H) (is_for_chairs tag) (is_for_chairs_alone tag) (is_chair (role_of u H)) (is_member (role_of u H)) (is_conflicted u p H)
       (committee_works (phase_of H)) (is_withdrawn p H) (is_chairs (role_of u H)) (is_members (role_of u H)) (committee_at_work H)
@@ -241,10 +242,10 @@ module _ (w : ℕ) (H : History) (legal : Legal H) (m : ℕ) where
           ≡ ((t && not w) && (m' && not c) && n' && (k' || not f'))
       said t f f' k m c n w k' m' n' hk hm hn hf = grind arith
 
-  decisions : (paper : Option ℕ) (decision : Decision) → is_ok (judge (view u H) (call_of u m (commands.Decide paper decision))) ≡ of_some paper (may_decide w H)
-  decisions None decision = accepted-as u H legal m (commands.Decide None decision)
+  decisions : (paper : Option ℕ) (decision : Decision) → is_ok (judge (view u H) (call_of u m key (commands.Decide paper decision))) ≡ of_some paper (may_decide w H)
+  decisions None decision = accepted-as u H legal m key (commands.Decide None decision)
   decisions (Some p) decision =
-      accepted-checks u H legal m (commands.Decide (Some p) decision) (decide_checks (standing_of u (Some p) H) (paper_named (facts_of u H) (shown_of H) (Some p))) _ refl
+      accepted-checks u H legal m key (commands.Decide (Some p) decision) (decide_checks (standing_of u (Some p) H) (paper_named (facts_of u H) (shown_of H) (Some p))) _ refl
       ∙ said (is_paper p H) (is_chair (role_of u H)) (is_conflicted u p H) (decisions_are_made (phase_of H)) (is_withdrawn p H)
       (is_chairs (role_of u H)) (now Discussion H) (chair-same (role_of u H)) (phase-same Discussion (phase_of H))
     where
@@ -252,9 +253,9 @@ module _ (w : ℕ) (H : History) (legal : Legal H) (m : ℕ) where
           → (not (not t) && (not (not m) && (not c && (not (not n) && (not w && true))))) ≡ ((t && not w) && (m' && not c) && n')
       said t m c n w m' n' hm hn = grind arith
 
-  submissions : (title abstract : List ℕ) (names : List (Option (List ℕ))) → is_ok (judge (view u H) (call_of u m (commands.Submit title abstract names))) ≡ may_submit w m H names
+  submissions : (title abstract : List ℕ) (names : List (Option (List ℕ))) → is_ok (judge (view u H) (call_of u m key (commands.Submit title abstract names))) ≡ may_submit w m H names
   submissions title abstract names =
-      accepted-checks u H legal m (commands.Submit title abstract names)
+      accepted-checks u H legal m key (commands.Submit title abstract names)
       (submit_checks (list_any is_none (users_among (accounts_of H) names)) (standing_of u None H) (length (papers_of H)) (own_papers_of u H) late) _ refl
       ∙ said (list_any is_none (users_among (accounts_of H) names)) (list_all (λ name. is_somebody name H) names)
       (accepts_submissions (phase_of H)) (now Submission H) late (in_time m H) (nat_le 9999 (length (papers_of H))) (nat_lt (length (papers_of H)) 9999)
@@ -265,9 +266,9 @@ module _ (w : ℕ) (H : History) (legal : Legal H) (m : ℕ) where
           → (not x && (not (not n) && (not l && (not q && (not o && true))))) ≡ (n' && l' && x' && q' && o')
       said x x' n n' l l' q q' o o' hx hn hl hq ho = grind arith
 
-  namings : (name : Option (List ℕ)) (role : Role) → is_ok (judge (view u H) (call_of u m (commands.Name name role))) ≡ of_some (user_named name H) (may_name w H role)
+  namings : (name : Option (List ℕ)) (role : Role) → is_ok (judge (view u H) (call_of u m key (commands.Name name role))) ≡ of_some (user_named name H) (may_name w H role)
   namings name role =
-      accepted-as u H legal m (commands.Name name role)
+      accepted-as u H legal m key (commands.Name name role)
       ∙ by_name u H legal (λ (target : Option ℕ). is_ok (name_judged (facts_of u H) stamp target (unwrap_or name []) role)) (may_name w H role) name refl each
     where
       said : (c c' o o' b b' : Bool) → c ≡ c' → o ≡ o' → not b ≡ b' → (not (not c) && (not o && (not b && true))) ≡ (c' && not o' && b')
@@ -320,11 +321,11 @@ module _ (w : ℕ) (H : History) (legal : Legal H) (m : ℕ) where
   same_user v h = ap (λ (n : ℕ). role_of (Some n) H) (sym (eqb-true v w h))
 
   declarations : (paper : Option ℕ) (name : Option (List ℕ))
-      → is_ok (judge (view (Some w) H) (call_of (Some w) m (commands.SetConflict paper name true)))
+      → is_ok (judge (view (Some w) H) (call_of (Some w) m key (commands.SetConflict paper name true)))
       ≡ of_some paper (λ p. of_some (user_named name H) (may_declare w m H p))
-  declarations None name = accepted-as (Some w) H legal m (commands.SetConflict None name true)
+  declarations None name = accepted-as (Some w) H legal m key (commands.SetConflict None name true)
   declarations (Some p) name =
-      accepted-as (Some w) H legal m (commands.SetConflict (Some p) name true)
+      accepted-as (Some w) H legal m key (commands.SetConflict (Some p) name true)
       ∙ by_name (Some w) H legal (λ (target : Option ℕ). is_ok (conflict_judged (facts_of (Some w) H) (shown_of H) stamp (Some p) target true))
       (may_declare w m H p) name (nobody p [] (conflict_drawn stamp p 0 true)) each
     where
@@ -352,10 +353,10 @@ module _ (w : ℕ) (H : History) (legal : Legal H) (m : ℕ) where
       (is_chairs (role_of (Some w) H)) (committee_at_work H) rest (chair-same (role_of (Some w) H)) (in_committee-same (phase_of H))
 
   taken_back : (paper : Option ℕ) (name : Option (List ℕ))
-      → is_ok (judge (view (Some w) H) (call_of (Some w) m (commands.SetConflict paper name false))) ≡ of_some paper (λ p. of_some (user_named name H) (may_take_back w H p))
-  taken_back None name = accepted-as (Some w) H legal m (commands.SetConflict None name false)
+      → is_ok (judge (view (Some w) H) (call_of (Some w) m key (commands.SetConflict paper name false))) ≡ of_some paper (λ p. of_some (user_named name H) (may_take_back w H p))
+  taken_back None name = accepted-as (Some w) H legal m key (commands.SetConflict None name false)
   taken_back (Some p) name =
-      accepted-as (Some w) H legal m (commands.SetConflict (Some p) name false)
+      accepted-as (Some w) H legal m key (commands.SetConflict (Some p) name false)
       ∙ by_name (Some w) H legal (λ (target : Option ℕ). is_ok (conflict_judged (facts_of (Some w) H) (shown_of H) stamp (Some p) target false))
       (may_take_back w H p) name (nobody p [] (conflict_drawn stamp p 0 false)) each
     where
@@ -372,10 +373,10 @@ module _ (w : ℕ) (H : History) (legal : Legal H) (m : ℕ) where
           (is_author (Some v) p H) (member-same (role_of (Some v) H))
 
   assignments : (paper : Option ℕ) (name : Option (List ℕ)) (kind : Kind)
-      → is_ok (judge (view (Some w) H) (call_of (Some w) m (commands.Assign paper name kind))) ≡ of_some paper (λ p. of_some (user_named name H) (may_assign w H p))
-  assignments None name kind = accepted-as (Some w) H legal m (commands.Assign None name kind)
+      → is_ok (judge (view (Some w) H) (call_of (Some w) m key (commands.Assign paper name kind))) ≡ of_some paper (λ p. of_some (user_named name H) (may_assign w H p))
+  assignments None name kind = accepted-as (Some w) H legal m key (commands.Assign None name kind)
   assignments (Some p) name kind =
-      accepted-as (Some w) H legal m (commands.Assign (Some p) name kind)
+      accepted-as (Some w) H legal m key (commands.Assign (Some p) name kind)
       ∙ by_name (Some w) H legal (λ (target : Option ℕ). is_ok (assignment_judged (facts_of (Some w) H) (shown_of H) stamp (Some p) target kind))
       (may_assign w H p) name (nobody p [] (assignment_drawn stamp p 0 kind 0)) each
     where
@@ -396,10 +397,10 @@ module _ (w : ℕ) (H : History) (legal : Legal H) (m : ℕ) where
           (member-same (role_of (Some v) H)) (clash-same p v) (fewer 26 (length (seats_of p H)))
 
   unassignments : (paper : Option ℕ) (name : Option (List ℕ))
-      → is_ok (judge (view (Some w) H) (call_of (Some w) m (commands.Unassign paper name))) ≡ of_some paper (λ p. of_some (user_named name H) (may_unassign w H p))
-  unassignments None name = accepted-as (Some w) H legal m (commands.Unassign None name)
+      → is_ok (judge (view (Some w) H) (call_of (Some w) m key (commands.Unassign paper name))) ≡ of_some paper (λ p. of_some (user_named name H) (may_unassign w H p))
+  unassignments None name = accepted-as (Some w) H legal m key (commands.Unassign None name)
   unassignments (Some p) name =
-      accepted-as (Some w) H legal m (commands.Unassign (Some p) name)
+      accepted-as (Some w) H legal m key (commands.Unassign (Some p) name)
       ∙ by_name (Some w) H legal (λ (target : Option ℕ). is_ok (unassignment_judged (facts_of (Some w) H) (shown_of H) stamp (Some p) target))
       (may_unassign w H p) name (nobody p [] (unassignment_drawn stamp p 0 0)) each
     where
@@ -422,28 +423,28 @@ module _ (w : ℕ) (H : History) (legal : Legal H) (m : ℕ) where
 pub permissions_as_said : PermissionsAsSaid
 permissions_as_said H call legal = by call.caller call.command
   where
-    by : (caller : Option ℕ) (command : Command) → is_accepted_from H (call_of caller call.at command) ≡ may_do caller call.at H command
-    by None (commands.Register name digest) = registrations None H legal call.at name digest
+    by : (caller : Option ℕ) (command : Command) → is_accepted_from H (call_of caller call.at call.key command) ≡ may_do caller call.at H command
+    by None (commands.Register name digest) = registrations None H legal call.at call.key name digest
     by None (commands.SetConflict paper name true) = refl
     by None (commands.SetConflict paper name false) = refl
     by None (commands.Tag paper tag true) = refl
     by None (commands.Tag paper tag false) = refl
     by None _ = refl
-    by (Some w) (commands.Register name digest) = registrations (Some w) H legal call.at name digest
-    by (Some w) (commands.SetPhase to) = phases w H legal call.at to
-    by (Some w) (commands.SetDeadline phase until) = deadlines w H legal call.at phase until
-    by (Some w) (commands.Submit title abstract names) = submissions w H legal call.at title abstract names
-    by (Some w) (commands.Revise paper title abstract) = revisions w H legal call.at paper title abstract
-    by (Some w) (commands.Upload paper content) = uploads w H legal call.at paper content
-    by (Some w) (commands.Withdraw paper) = withdrawals w H legal call.at paper
-    by (Some w) (commands.Name name role) = namings w H legal call.at name role
-    by (Some w) (commands.SetMode to) = modes w H legal call.at to
-    by (Some w) (commands.SetConflict paper name true) = declarations w H legal call.at paper name
-    by (Some w) (commands.SetConflict paper name false) = taken_back w H legal call.at paper name
-    by (Some w) (commands.Bid paper value) = bids w H legal call.at paper value
-    by (Some w) (commands.Assign paper name kind) = assignments w H legal call.at paper name kind
-    by (Some w) (commands.Unassign paper name) = unassignments w H legal call.at paper name
-    by (Some w) (commands.Review paper form) = reviewing w H legal call.at paper form
-    by (Some w) (commands.Comment paper text) = comments w H legal call.at paper text
-    by (Some w) (commands.Tag paper tag on) = tags w H legal call.at paper tag on
-    by (Some w) (commands.Decide paper decision) = decisions w H legal call.at paper decision
+    by (Some w) (commands.Register name digest) = registrations (Some w) H legal call.at call.key name digest
+    by (Some w) (commands.SetPhase to) = phases w H legal call.at call.key to
+    by (Some w) (commands.SetDeadline phase until) = deadlines w H legal call.at call.key phase until
+    by (Some w) (commands.Submit title abstract names) = submissions w H legal call.at call.key title abstract names
+    by (Some w) (commands.Revise paper title abstract) = revisions w H legal call.at call.key paper title abstract
+    by (Some w) (commands.Upload paper content) = uploads w H legal call.at call.key paper content
+    by (Some w) (commands.Withdraw paper) = withdrawals w H legal call.at call.key paper
+    by (Some w) (commands.Name name role) = namings w H legal call.at call.key name role
+    by (Some w) (commands.SetMode to) = modes w H legal call.at call.key to
+    by (Some w) (commands.SetConflict paper name true) = declarations w H legal call.at call.key paper name
+    by (Some w) (commands.SetConflict paper name false) = taken_back w H legal call.at call.key paper name
+    by (Some w) (commands.Bid paper value) = bids w H legal call.at call.key paper value
+    by (Some w) (commands.Assign paper name kind) = assignments w H legal call.at call.key paper name kind
+    by (Some w) (commands.Unassign paper name) = unassignments w H legal call.at call.key paper name
+    by (Some w) (commands.Review paper form) = reviewing w H legal call.at call.key paper form
+    by (Some w) (commands.Comment paper text) = comments w H legal call.at call.key paper text
+    by (Some w) (commands.Tag paper tag on) = tags w H legal call.at call.key paper tag on
+    by (Some w) (commands.Decide paper decision) = decisions w H legal call.at call.key paper decision

@@ -160,7 +160,7 @@ module _ (u : Option ℕ) (H : History) (kept : Invariants H) (told : AreTold H)
         authors = λ may. ap names (authors-tables u H told p may);
         conflicts = λ may. ap names (conflicts-tables u H p kept.fits told (ap gets_conflicts stands ∙ may));
         decision = λ may. decision_by-tables u H told p may;
-        declared = λ may. ap names (declared-tables u H p kept.fits told kept.in_time (ap gets_declared stands ∙ may));
+        declared = λ may. ap names (declared-tables u H p kept.fits told kept.declared_in_time (ap gets_declared stands ∙ may));
         bids = λ may. ap bidders (bids-tables u H told kept.in_order p may);
         reviewers = λ may. reviewers-tables u H told p facts.accounts may;
         tags = λ may. tags-tables u H told p may;

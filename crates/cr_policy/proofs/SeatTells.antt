@@ -12,7 +12,6 @@ use Rattle.cr_base.specs.Lists.{given, listed, is_number}
 use Rattle.cr_base.specs.Drawn.{stamped}
 use Rattle.cr_base.specs.History.{SeatTold, bid_told, ordinal_told, assigned_told, unassigned_told}
 use Rattle.cr_policy.specs.Part as part
-use Rattle.cr_policy.specs.Part.{Part}
 use Rattle.cr_policy.specs.Sighting.{Sighting, where_shown}
 use Rattle.cr_policy.specs.Triggers.{Reader, Around}
 use Rattle.cr_policy.specs.View.{sight, is_seen, joined}

@@ -13,6 +13,7 @@ use Rattle.cr_base.specs.declared.command.Query.{Query}
 use Rattle.cr_base.specs.declared.reply.AccountLine.{AccountLine}
 use Rattle.cr_base.specs.declared.reply.Reply.{Reply}
 use Rattle.cr_base.specs.declared.reply.Rule.{Rule}
+use Rattle.cr_base.specs.declared.retry.RetryKey.{RetryKey}
 use Rattle.cr_base.specs.declared.words.Phase.{Phase}
 use Rattle.cr_base.specs.declared.words.Phase.TheVariants.{Setup, Submission, Bidding, Reviewing, Discussion, Notification, Closed}
 use Rattle.cr_base.specs.declared.words.Role.{Role}
@@ -42,7 +43,7 @@ use Rattle.cr_policy.specs.View.{view}
 use Rattle.cr_policy.proofs.LegalLaws.{Legal-judge, Legal-answer, Legal-told, legal_invariants}
 use Rattle.cr_policy.specs.Judge.{answer}
 use Rattle.cr_policy.specs.MayRead.{is_told}
-use Rattle.cr_policy.specs.Sentences.{is_it, comes_behind, meets, isnt_over_in, is_members, is_chairs, is_above}
+use Rattle.cr_policy.specs.Sentences.{is_it, comes_behind, meets, lasts_or_comes_in, is_members, is_chairs, is_above}
 use Rattle.cr_policy.specs.Sentences.{of_some, user_named, is_somebody}
 
 -- ---- lists of checks
@@ -94,7 +95,7 @@ next-same Notification Closed = refl
 next-same Closed Setup = refl
 next-same _ _ = refl
 
-pub ahead-same : (phase a : Phase) → is_from a phase ≡ isnt_over_in phase a
+pub ahead-same : (phase a : Phase) → is_from a phase ≡ lasts_or_comes_in phase a
 ahead-same Setup Setup = refl
 ahead-same Submission Submission = refl
 ahead-same Bidding Bidding = refl
@@ -279,22 +280,22 @@ module _ (u : Option ℕ) (H : History) (legal : Legal H) where
     written = λ p o. is_written-tables p o H i;
   }
 
-  -- judgement by the view is that by the facts of the history, at whatever moment the command comes
-  module _ (m : ℕ) where
+  -- judgement by the view is that by the facts of the history, at whatever moment the command comes, and whatever its key
+  module _ (m : ℕ) (key : Option RetryKey) where
     abbrev pub judged_on : Command → Result Drawn Rule
-    judged_on command = judge_by (facts_of u H) (shown_of H) (stamp_of (call_of u m command)) command
+    judged_on command = judge_by (facts_of u H) (shown_of H) (stamp_of (call_of u m key command)) command
 
-    pub judge-history : (command : Command) → judge (view u H) (call_of u m command) ≡ judged_on command
+    pub judge-history : (command : Command) → judge (view u H) (call_of u m key command) ≡ judged_on command
     judge-history command =
-        let stamp : Stamp = stamp_of (call_of u m command) in
-        Legal-judge H (call_of u m command) legal ∙ sym (λ i. judge_by (facts-same i) (shown-same i) stamp command)
+        let stamp : Stamp = stamp_of (call_of u m key command) in
+        Legal-judge H (call_of u m key command) legal ∙ sym (λ i. judge_by (facts-same i) (shown-same i) stamp command)
 
-    pub accepted-as : (command : Command) → is_ok (judge (view u H) (call_of u m command)) ≡ is_ok (judged_on command)
+    pub accepted-as : (command : Command) → is_ok (judge (view u H) (call_of u m key command)) ≡ is_ok (judged_on command)
     accepted-as command = ap (λ (r : Result Drawn Rule). is_ok r) (judge-history command)
 
     -- and accepts what breaks none of these checks
     pub accepted-checks : (command : Command) (checks : List Check) (drawn : Drawn)
-        → judged_on command ≡ judged checks drawn → is_ok (judge (view u H) (call_of u m command)) ≡ none_broken checks
+        → judged_on command ≡ judged checks drawn → is_ok (judge (view u H) (call_of u m key command)) ≡ none_broken checks
     accepted-checks command checks drawn is =
         accepted-as command ∙ ap (λ (r : Result Drawn Rule). is_ok r) is ∙ judged-none_broken checks drawn
 

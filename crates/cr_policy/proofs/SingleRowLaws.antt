@@ -13,49 +13,48 @@ use Rattle.cr_base.specs.declared.entry.Stamped.{Stamped}
 use Rattle.cr_base.specs.declared.reply.Rule.{Rule}
 use Rattle.cr_base.specs.Bulk.{entries_of, and_rows, and_behind, rows_judged, bulk_checks, bulk_of_rows, bulk_behind}
 use Rattle.cr_base.specs.Checks.{judged}
-use Rattle.cr_base.specs.Calls.{BulkCall, call_by}
+use Rattle.cr_base.specs.Calls.{BulkCall, stamp_by, call_by}
 use Rattle.cr_base.specs.Drawn.{Drawn, stamped, grouped}
 use Rattle.cr_base.specs.History.{History}
 use Rattle.cr_policy.specs.Judge.{view_basis, own_sightings, judge_bulk}
-use Rattle.cr_policy.specs.Legal.{followed_by, step}
+use Rattle.cr_policy.specs.Legal.{unnumbered, followed_by, step, IsBulkAllowed, Legal}
 use Rattle.cr_policy.specs.SingleRows.{call_told, row_calls, IsAccepted, AcceptedInTurn, LeadSingly, unmarked, BulkIsItsRows}
 use Rattle.cr_policy.specs.View.{View, view}
 use Rattle.cr_policy.specs.ViewFacts.{facts_in_view}
-use Rattle.cr_policy.proofs.BulkLaws.{row_seen, seen, IsReady, RowCalls, row-calls, RowAdds, row-adds, next, next-ready, next-seen, AreAccepted, rows-accepted, bulk-draws, no_rows}
-use Rattle.cr_policy.proofs.LegalLaws.{legal_invariants}
+use Rattle.cr_policy.proofs.BulkLaws.{row_seen, seen, IsReady, RowCalls, row-calls, row-given, RowAdds, row-adds, next, next-ready, next-seen, AreAccepted, rows-accepted, bulk-draws, no_rows}
+use Rattle.cr_policy.proofs.KeptStamps.{ready-unnumbered, seen-unnumbered}
+use Rattle.cr_policy.proofs.LegalLaws.{legal_invariants, given-bounded}
 
--- ---- marks
+-- ---- marks and numbers
 
 -- entries under one stamp, each of a command of its own
 abbrev alone : Stamp → List Entry → History
 alone stamp es = map (λ (e : Entry). stamped stamp false e) es
 
-unmarked-grouped : (stamp : Stamp) (es : List Entry) → unmarked (grouped stamp es) ≡ alone stamp es
+unmarked-grouped : (stamp : Stamp) (es : List Entry) → unmarked (grouped stamp es) ≡ alone (unnumbered stamp) es
 unmarked-grouped stamp [] = refl
 unmarked-grouped stamp (e ∷ []) = refl
-unmarked-grouped stamp (e ∷ next ∷ es) = ap (λ (g : History). stamped stamp false e ∷ g) (unmarked-grouped stamp (next ∷ es))
+unmarked-grouped stamp (e ∷ next ∷ es) = ap (λ (g : History). stamped (unnumbered stamp) false e ∷ g) (unmarked-grouped stamp (next ∷ es))
 
-unmarked-alone : (stamp : Stamp) (es : List Entry) → unmarked (alone stamp es) ≡ alone stamp es
+unmarked-alone : (stamp : Stamp) (es : List Entry) → unmarked (alone (unnumbered stamp) es) ≡ alone (unnumbered stamp) es
 unmarked-alone stamp [] = refl
-unmarked-alone stamp (e ∷ es) = ap (λ (g : History). stamped stamp false e ∷ g) (unmarked-alone stamp es)
+unmarked-alone stamp (e ∷ es) = ap (λ (g : History). stamped (unnumbered stamp) false e ∷ g) (unmarked-alone stamp es)
 
 abbrev unmark : Stamped → Stamped
-unmark e = stamped e.stamp false e.entry
+unmark e = stamped (unnumbered e.stamp) false e.entry
 
-same-unmarked : (stamp : Stamp) (H : History) (es : List Entry) → unmarked (H ++ grouped stamp es) ≡ unmarked (H ++ alone stamp es)
+same-unmarked : (stamp : Stamp) (H : History) (es : List Entry) → unmarked (H ++ grouped stamp es) ≡ unmarked (H ++ alone (unnumbered stamp) es)
 same-unmarked stamp H es =
     map-append unmark H (grouped stamp es)
     ∙ ap (λ (g : History). unmarked H ++ g) (unmarked-grouped stamp es ∙ sym (unmarked-alone stamp es))
-    ∙ sym (map-append unmark H (alone stamp es))
+    ∙ sym (map-append unmark H (alone (unnumbered stamp) es))
 
 -- ---- one row before others
 
-module _ (stamp : Stamp) where
-  abbrev user : ℕ
-  user = stamp.maker
-
-  abbrev bulk : List BulkRow → BulkCall
-  bulk rows = record { stamp = stamp; rows = rows }
+-- under a stamp without a number
+module _ (user at : ℕ) where
+  abbrev stamp : Stamp
+  stamp = stamp_by user at None
 
   -- an accepted row's command leads to the history with its entry behind it
   row-leads : (H : History) (row : BulkRow) (rows : List BulkRow) (drawn : Drawn) (ready : IsReady stamp H) (first : RowAdds stamp H drawn) (to : History)
@@ -73,7 +72,7 @@ module _ (stamp : Stamp) where
       call = call_by stamp calls.command
 
       call_accepted : IsAccepted H call
-      call_accepted = record { allowed = record { caller = calls.caller; bounded = calls.told.bounded; moment = ready.moment }; drawn = drawn; accepted = calls.accepted }
+      call_accepted = record { allowed = record { given = row-given stamp H row drawn ready calls; unused = tt }; drawn = drawn; accepted = calls.accepted }
 
       behind : AcceptedInTurn (step H call) (row_calls stamp rows) to
       behind = subst (λ (G : History). AcceptedInTurn G (row_calls stamp rows) to)
@@ -166,17 +165,23 @@ module _ (stamp : Stamp) where
               (ap (λ (V : View). rows_judged (view_basis user) stamp V (n + 1) rows) (sym (next-seen stamp H drawn ready first false))
               ∙ goes ∙ ap (λ (b : Broken). Err b) same))
 
-  -- a bulk that is refused for a row is refused by its rows
-  refused-by_rows : (H : History) (rows : List BulkRow) (n : ℕ) (rule : Rule) → judge_bulk (view (Some user) H) (bulk rows) ≡ Err (broken.Row n rule)
+-- ---- a bulk that is refused for a row
+
+module _ (stamp : Stamp) where
+  abbrev bulk : List BulkRow → BulkCall
+  bulk rows = record { stamp = stamp; rows = rows }
+
+  -- it is refused by its rows
+  refused-by_rows : (H : History) (rows : List BulkRow) (n : ℕ) (rule : Rule) → judge_bulk (view (Some stamp.maker) H) (bulk rows) ≡ Err (broken.Row n rule)
       → seen stamp H 1 rows ≡ Err (broken.Row n rule)
-  refused-by_rows H rows n rule refused = by (judged (bulk_checks ((facts_in_view (Some user) (view (Some user) H)).standing None)) tt) refused
+  refused-by_rows H rows n rule refused = by (judged (bulk_checks ((facts_in_view (Some stamp.maker) (view (Some stamp.maker) H)).standing None)) tt) refused
     where
       all : (r : Result (List Entry) Broken) → ◌≡◌ {A = Result Drawn Broken} (bulk_of_rows stamp (length rows) r) (Err (broken.Row n rule))
           → r ≡ Err (broken.Row n rule)
       all (Ok es) refused = cc
       all (Err refusal) refused = cc
 
-      by : (r : Result (Unit {0}) Rule) → bulk_behind (view_basis user) (view (Some user) H) (bulk rows) r ≡ Err (broken.Row n rule)
+      by : (r : Result (Unit {0}) Rule) → bulk_behind (view_basis stamp.maker) (view (Some stamp.maker) H) (bulk rows) r ≡ Err (broken.Row n rule)
           → seen stamp H 1 rows ≡ Err (broken.Row n rule)
       by (Err first) refused = cc
       by (Ok done) refused = all (seen stamp H 1 rows) refused
@@ -187,15 +192,18 @@ pub bulk_is_its_rows : BulkIsItsRows
 bulk_is_its_rows = record {
   accepted = λ H bulk drawn legal allowed accepted.
       let draws = bulk-draws bulk.stamp H bulk.rows drawn accepted in
+      let ready : IsReady bulk.stamp H = is_ready H bulk legal allowed in
       record {
-        singly = H ++ alone bulk.stamp draws.entries;
-        leads = rows-lead bulk.stamp bulk.rows 1 H draws.entries (record { kept = legal_invariants H legal; registered = allowed.caller; moment = allowed.moment }) draws.accepted;
+        singly = H ++ alone (unnumbered bulk.stamp) draws.entries;
+        leads = rows-lead bulk.stamp.maker bulk.stamp.at bulk.rows 1 H draws.entries (ready-unnumbered bulk.stamp H ready)
+            (seen-unnumbered bulk.stamp H ready 1 bulk.rows ∙ draws.accepted);
         same = ap (λ (d : Drawn). unmarked (H ++ d.group)) (sym draws.drawn_is) ∙ same-unmarked bulk.stamp H draws.entries;
         receipt = ap (λ (d : Drawn). d.receipt) (sym draws.drawn_is);
       };
   refused = λ H bulk n rule legal allowed refused.
-      let first = first-broken bulk.stamp bulk.rows 1 H (broken.Row n rule) (record { kept = legal_invariants H legal; registered = allowed.caller; moment = allowed.moment })
-      (refused-by_rows bulk.stamp H bulk.rows n rule refused) in
+      let ready : IsReady bulk.stamp H = is_ready H bulk legal allowed in
+      let first = first-broken bulk.stamp.maker bulk.stamp.at bulk.rows 1 H (broken.Row n rule) (ready-unnumbered bulk.stamp H ready)
+      (seen-unnumbered bulk.stamp H ready 1 bulk.rows ∙ refused-by_rows bulk.stamp H bulk.rows n rule refused) in
       record {
         before = first.before;
         row = first.row;
@@ -208,6 +216,10 @@ bulk_is_its_rows = record {
       };
 }
   where
+    is_ready : (H : History) (bulk : BulkCall) → Legal H → IsBulkAllowed H bulk → IsReady bulk.stamp H
+    is_ready H bulk legal allowed =
+        record { kept = legal_invariants H legal; registered = allowed.given.caller; bounds = given-bounded H bulk allowed.given }
+
     same_number : (n k : ℕ) (rule first : Rule) → broken.Row n rule ≡ broken.Row k first → n ≡ k
     same_number n k rule first h = cc
 

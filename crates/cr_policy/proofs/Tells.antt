@@ -110,7 +110,7 @@ seen_where r at p e h = by (is_seen r at e) refl
     by false is = absurd (true≢false (sym h ∙ hidden (rows_at r at e) p is))
 
 -- what the reader made is seen, whatever the other rows say
-own_seen : (r : Reader) (at : Around) (stamp : Stamp) (more : Bool) (e : Entry) → is_number r.number stamp.maker ≡ true
+pub own_seen : (r : Reader) (at : Around) (stamp : Stamp) (more : Bool) (e : Entry) → is_number r.number stamp.maker ≡ true
     → is_seen r at (stamped stamp more e) ≡ true
 own_seen r at stamp more e own =
     let others : List TriggerRow = rows r (position_of at e) stamp.maker e in
@@ -123,7 +123,7 @@ module _ (r : Reader) (at : Around) (stamp : Stamp) (more : Bool) where
   silent f e h = flat_map-given f (is_seen r at (stamped stamp more e)) (joined r at (stamped stamp more e)) ∙ ap (only (is_seen r at (stamped stamp more e))) h
 
   -- what a sighting tells where this holds, of an entry that may show nothing: it doesn't hold then
-  told_if : {A : Type 0} (f : Sighting → List A) (c : Bool) (e : Entry) (xs : List A) → (is_seen r at (stamped stamp more e) ≡ false → c ≡ false)
+  pub told_if : {A : Type 0} (f : Sighting → List A) (c : Bool) (e : Entry) (xs : List A) → (is_seen r at (stamped stamp more e) ≡ false → c ≡ false)
       → f (joined r at (stamped stamp more e)) ≡ only c xs → flat_map f (sight r at (stamped stamp more e)) ≡ only c xs
   told_if {A} f c e xs none h =
       flat_map-given f (is_seen r at (stamped stamp more e)) (joined r at (stamped stamp more e))

@@ -1,13 +1,13 @@
 -- A small conference, from its first registration to its close: eight users, three papers, and every kind of entry. In
 -- its twin alice assigns another member to paper 1. What the committee says that no author reads is whatever it is,
 -- and its chairs may decide otherwise than they do.
-use Rattle.std.specs.Prelude.{ℕ, ◌≡◌, true, false, List, [], ◌∷◌, ◌++◌, length}
+use Rattle.std.specs.Prelude.{ℕ, ◌≡◌, ◌+◌, true, false, List, [], ◌∷◌, ◌++◌, length}
 use Rattle.std.specs.Prelude.{Option, Some, None, codes, ◌==◌, if◌then◌else◌, IsTrue}
 use Rattle.cr_base.specs.declared.entry.Entry.{Entry}
 use Rattle.cr_base.specs.declared.entry.Entry.TheVariants.{Registered, Named, PhaseSet, ModeSet, Submitted}
 use Rattle.cr_base.specs.declared.entry.Entry.TheVariants.{Coauthor, Revised, Uploaded, Withdrawn, Conflict}
 use Rattle.cr_base.specs.declared.entry.Entry.TheVariants.{Bid, Assigned, Unassigned, Reviewed}
-use Rattle.cr_base.specs.declared.entry.Entry.TheVariants.{Commented, Tagged, Decided}
+use Rattle.cr_base.specs.declared.entry.Entry.TheVariants.{Commented, Tagged, Decided, DeadlineSet}
 use Rattle.cr_base.specs.declared.entry.Stamped.{Stamped}
 use Rattle.cr_base.specs.declared.form.Form.{Form}
 use Rattle.cr_base.specs.declared.words.Decision.{Decision}
@@ -20,7 +20,7 @@ use Rattle.cr_base.specs.declared.words.Role.TheVariants.{Member, Chair}
 use Rattle.cr_base.specs.Calls.{stamp_by}
 use Rattle.cr_base.specs.Drawn.{stamped}
 use Rattle.cr_base.specs.History.{History}
-use Rattle.cr_policy.specs.Witness.{morning}
+use Rattle.cr_policy.specs.Witness.{morning, some_key}
 use Rattle.cr_base.specs.TagTexts.{is_tag}
 use Rattle.cr_base.specs.Texts.{IsReviewText, IsCommentText}
 
@@ -167,15 +167,19 @@ pub record AreAsides (a : Asides) : Type 0 where
 
 -- ---- what they do
 
+-- a day after the moment of every request here
+abbrev pub next_morning : ℕ
+next_morning = morning + 86400
+
 -- an entry that is all of its command
 infix 90 ◌adds◌
 abbrev pub ◌adds◌ : ℕ → Entry → Stamped
-user adds entry = stamped (stamp_by user morning) false entry
+user adds entry = stamped (stamp_by user morning None) false entry
 
 -- all register; alice, the first, is a chair by that
 abbrev pub registered : Digests → History
 registered d =
-    stamped (stamp_by alice morning) true (Registered alice (codes "alice") d.alice)
+    stamped (stamp_by alice morning None) true (Registered alice (codes "alice") d.alice)
     ∷ alice adds Named alice Chair
     ∷ bob adds Registered bob (codes "bob") d.bob
     ∷ carol adds Registered carol (codes "carol") d.carol
@@ -186,7 +190,7 @@ registered d =
     ∷ hal adds Registered hal (codes "hal") d.hal
     ∷ []
 
--- alice names the others of the committee, sets the mode and opens submission
+-- alice names the others of the committee, sets the mode, opens submission and sets its deadline
 abbrev pub opened : Digests → Mode → History
 opened d mode =
     registered d
@@ -196,14 +200,15 @@ opened d mode =
     ∷ alice adds Named hal Member
     ∷ alice adds ModeSet mode
     ∷ alice adds PhaseSet Submission
+    ∷ alice adds DeadlineSet Submission (Some next_morning)
     ∷ []
 
--- bob submits paper 1 with gus, who submits two of his own
+-- bob submits paper 1 with gus, by a number of his own, and gus submits two of his
 abbrev pub submitted : Digests → Mode → History
 submitted d mode =
     opened d mode
-    ++ stamped (stamp_by bob morning) true (Submitted 1 proofs we_prove)
-    ∷ bob adds Coauthor 1 gus
+    ++ stamped (stamp_by bob morning (Some some_key)) true (Submitted 1 proofs we_prove)
+    ∷ stamped (stamp_by bob morning (Some some_key)) false (Coauthor 1 gus)
     ∷ gus adds Submitted 2 types we_type
     ∷ gus adds Submitted 3 drafts we_draft
     ∷ []

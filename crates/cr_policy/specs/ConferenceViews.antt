@@ -12,14 +12,14 @@ use Rattle.cr_base.specs.declared.words.Phase.{Phase}
 use Rattle.cr_base.specs.declared.words.Phase.TheVariants.{Submission, Bidding, Reviewing}
 use Rattle.cr_base.specs.declared.words.Role.{Role}
 use Rattle.cr_base.specs.declared.words.Role.TheVariants.{Member, Chair}
-use Rattle.cr_policy.specs.Conference.{alice, bob, carol, dave, erin, fay, gus, hal}
+use Rattle.cr_policy.specs.Conference.{alice, bob, carol, dave, erin, fay, gus, hal, next_morning}
 use Rattle.cr_policy.specs.Conference.{Digests, proofs, we_prove, types, we_type}
 use Rattle.cr_policy.specs.Conference.{drafts, we_draft, fewer_proofs, we_prove_less, more_proofs, we_prove_more}
 use Rattle.cr_policy.specs.Conference.{first_version, second_version, only_version, Asides, hot, own_tag, chairs_tag}
 use Rattle.cr_policy.specs.Conference.{first_form, second_form, alices_form}
 use Rattle.cr_policy.specs.Sighting.{Sighting, blank}
 use Rattle.cr_policy.specs.View.{View}
-use Rattle.cr_policy.specs.Witness.{morning}
+use Rattle.cr_policy.specs.Witness.{morning, some_key}
 
 -- ---- what a line may show
 
@@ -29,7 +29,8 @@ account user name = record (blank kinds.Registered) { user = Some user; name = S
 
 -- the reader's own, with it
 abbrev pub own_account : ℕ → List ℕ → List ℕ → Sighting
-own_account user name digest = record (account user name) { mine = true; digest = Some digest; at = Some morning }
+own_account user name digest =
+    record (account user name) { mine = true; digest = Some digest; at = Some morning; key = Some None }
 
 abbrev pub role_given : ℕ → Role → Sighting
 role_given user role = record (blank kinds.Named) { user = Some user; role = Some role }
@@ -39,6 +40,9 @@ mode_set mode = record (blank kinds.ModeSet) { mode = Some mode }
 
 abbrev pub phase_set : Phase → Sighting
 phase_set phase = record (blank kinds.PhaseSet) { phase = Some phase }
+
+abbrev pub deadline_set : Phase → ℕ → Sighting
+deadline_set phase until = record (blank kinds.DeadlineSet) { phase = Some phase; until = Some (Some until) }
 
 -- that there is this paper, and nothing of it
 abbrev pub bare_paper : ℕ → Sighting
@@ -153,6 +157,7 @@ own_comment mode user ordinal paper n text =
       mine = true;
       ordinal = Some ordinal;
       at = Some morning;
+      key = Some None;
     }
 
 -- that a tag is turned on or off at the paper
@@ -175,7 +180,11 @@ acceptance paper = as_accepted (record (blank kinds.Decided) { paper = Some pape
 
 -- the line of an entry that the reader made
 abbrev pub mine : Sighting → Sighting
-mine line = record line { mine = true; at = Some morning }
+mine line = record line { mine = true; at = Some morning; key = Some None }
+
+-- and which she made by the command with the number
+abbrev pub mine_by_number : Sighting → Sighting
+mine_by_number line = record (mine line) { key = Some (Some some_key) }
 
 -- ---- a view for each kind of reader
 
@@ -204,7 +213,8 @@ opened_to phase seen = record {
   conflicted_chair = seen.conflicted_chair ++ phase_set phase ∷ [];
 }
 
--- ---- registrations, roles, mode and phase: all is public but the digests, and each reader's own lines are marked
+-- ---- registrations, roles, mode, phase and deadline: all is public but the digests, and each reader's own lines are
+-- marked
 
 abbrev pub opening_to_nobody : Mode → View
 opening_to_nobody mode =
@@ -223,6 +233,7 @@ opening_to_nobody mode =
     ∷ role_given hal Member
     ∷ mode_set mode
     ∷ phase_set Submission
+    ∷ deadline_set Submission next_morning
     ∷ []
 
 -- the reader's own account is shown with its digest
@@ -250,6 +261,7 @@ opening_to reader d mode =
     ∷ of_alice_to reader (role_given hal Member)
     ∷ of_alice_to reader (mode_set mode)
     ∷ of_alice_to reader (phase_set Submission)
+    ∷ of_alice_to reader (deadline_set Submission next_morning)
     ∷ []
 
 -- ---- before the bidding
@@ -264,8 +276,8 @@ bare_papers = bare_paper 1 ∷ bare_paper 2 ∷ bare_paper 3 ∷ []
 abbrev pub bob_with : Digests → Mode → Sighting → View → View
 bob_with d mode second content =
     opening_to bob d mode
-    ++ mine (both_texts_by bob 1 proofs we_prove)
-    ∷ mine (coauthor 1 gus)
+    ++ mine_by_number (both_texts_by bob 1 proofs we_prove)
+    ∷ mine_by_number (coauthor 1 gus)
     ∷ second
     ∷ bare_paper 3
     ∷ mine (upload 1 1 first_version)

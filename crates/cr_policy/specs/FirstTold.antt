@@ -1,7 +1,7 @@
 -- Which rule is told, where more than one is broken: for each two that stand next to one another in what a command
 -- or a query asks, and that can be broken at once, a case of the small conference in which both are. Beside each
 -- case stands the rule that isn't told.
-use Rattle.std.specs.Prelude.{ℕ, ◌≡◌, ◌+◌, true, false, List, [], ◌∷◌, ◌++◌, Option, Some, codes, Err}
+use Rattle.std.specs.Prelude.{ℕ, ◌≡◌, ◌+◌, true, false, List, [], ◌∷◌, ◌++◌, Option, Some, None, codes, Err}
 use Rattle.cr_base.specs.declared.bulk.Broken.{Broken}
 use Rattle.cr_base.specs.declared.bulk.Broken.TheVariants as broken
 use Rattle.cr_base.specs.declared.bulk.BulkRow.{BulkRow}
@@ -60,21 +60,21 @@ gus_a_chair d a = bidding d a ++ alice adds Named gus Chair ∷ []
 abbrev pub dave_in_conflict : Digests → Asides → History
 dave_in_conflict d a = bidding d a ++ dave adds Conflict 1 dave true ∷ []
 
--- and in others the phase that it is has a deadline, which is past by noon
+-- and in others the current phase has a deadline, which is past by noon
 abbrev pub noon : ℕ
 noon = morning + 10800
 
-abbrev pub with_deadline : Phase → History → History
-with_deadline phase H = H ++ alice adds DeadlineSet phase (Some morning) ∷ []
+abbrev pub due_by_morning : Phase → History → History
+due_by_morning phase H = H ++ alice adds DeadlineSet phase (Some morning) ∷ []
 
 abbrev pub submission_due : Digests → Asides → History
-submission_due d a = with_deadline Submission (submission d a)
+submission_due d a = due_by_morning Submission (submission d a)
 
 abbrev pub bidding_due : Digests → Asides → History
-bidding_due d a = with_deadline Bidding (bidding d a)
+bidding_due d a = due_by_morning Bidding (bidding d a)
 
 abbrev pub discussion_due : Digests → Asides → History
-discussion_due d a = with_deadline Discussion (discussion d a)
+discussion_due d a = due_by_morning Discussion (discussion d a)
 
 -- all of these are legal
 pub record AreStagesLegal (d : Digests) (a : Asides) : Type 0 where
@@ -92,17 +92,17 @@ pub record AreStagesLegal (d : Digests) (a : Asides) : Type 0 where
 -- ---- who asks, where, for what, and what she is told
 
 abbrev pub Refused : ℕ → History → Command → Rule → Type 0
-Refused u H command rule = judge (view (Some u) H) (call_of (Some u) morning command) ≡ Err rule
+Refused u H command rule = judge (view (Some u) H) (call_of (Some u) morning None command) ≡ Err rule
 
--- the same, by noon
-abbrev pub RefusedByNoon : ℕ → History → Command → Rule → Type 0
-RefusedByNoon u H command rule = judge (view (Some u) H) (call_of (Some u) noon command) ≡ Err rule
+-- the same, at noon
+abbrev pub RefusedAtNoon : ℕ → History → Command → Rule → Type 0
+RefusedAtNoon u H command rule = judge (view (Some u) H) (call_of (Some u) noon None command) ≡ Err rule
 
 abbrev pub Unanswered : ℕ → History → Query → Rule → Type 0
 Unanswered u H query rule = answer (Some u) (view (Some u) H) query ≡ replies.Refused rule
 
 abbrev pub BulkRefused : ℕ → History → List BulkRow → Broken → Type 0
-BulkRefused u H rows refusal = judge_bulk (view (Some u) H) (bulk_by u morning rows) ≡ Err refusal
+BulkRefused u H rows refusal = judge_bulk (view (Some u) H) (bulk_by u morning None rows) ≡ Err refusal
 
 abbrev pub zoe : Option (List ℕ)
 zoe = Some (codes "zoe")
@@ -116,7 +116,8 @@ pub record OfTheConference (d : Digests) (a : Asides) : Type 0 where
   -- naming: no_user, not_chair, wrong_phase, already_named
   pub name_nobody : Refused erin (submission d a) (commands.Name zoe Member) rules.NoUser
   pub name_by_account : Refused erin (notification d a) (commands.Name (named (codes "bob")) Member) rules.NotChair
-  pub name_late : Refused alice (notification d a) (commands.Name (named (codes "carol")) Member) rules.WrongPhase
+  pub name_out_of_phase :
+      Refused alice (notification d a) (commands.Name (named (codes "carol")) Member) rules.WrongPhase
   -- the mode, the phase and deadlines: not_chair, wrong_phase
   pub mode_by_account : Refused erin (submission d a) (commands.SetMode Overt) rules.NotChair
   pub phase_by_account : Refused erin (submission d a) (commands.SetPhase Closed) rules.NotChair
@@ -128,24 +129,24 @@ pub record OfTheConference (d : Digests) (a : Asides) : Type 0 where
 pub record OfPapers (d : Digests) (a : Asides) : Type 0 where
   -- submitting: no_user, wrong_phase, late
   pub submit_with_nobody : Refused erin (bidding d a) (commands.Submit types we_type (zoe ∷ [])) rules.NoUser
-  pub submit_behind : RefusedByNoon erin (bidding_due d a) (commands.Submit types we_type []) rules.WrongPhase
+  pub submit_behind : RefusedAtNoon erin (bidding_due d a) (commands.Submit types we_type []) rules.WrongPhase
   -- revising and withdrawing: no_paper, not_author, wrong_phase, late, withdrawn
   pub revise_none : Refused erin (submission d a) (commands.Revise (Some 9) types we_type) rules.NoPaper
   pub revise_others : Refused dave (bidding d a) (commands.Revise (Some 1) types we_type) rules.NotAuthor
-  pub revise_late : Refused gus (bidding d a) (commands.Revise (Some 3) types we_type) rules.WrongPhase
-  pub revise_behind : RefusedByNoon gus (bidding_due d a) (commands.Revise (Some 2) types we_type) rules.WrongPhase
-  pub revise_past : RefusedByNoon gus (submission_due d a) (commands.Revise (Some 3) types we_type) rules.Late
+  pub revise_out_of_phase : Refused gus (bidding d a) (commands.Revise (Some 3) types we_type) rules.WrongPhase
+  pub revise_behind : RefusedAtNoon gus (bidding_due d a) (commands.Revise (Some 2) types we_type) rules.WrongPhase
+  pub revise_late : RefusedAtNoon gus (submission_due d a) (commands.Revise (Some 3) types we_type) rules.Late
   pub withdraw_none : Refused erin (submission d a) (commands.Withdraw (Some 9)) rules.NoPaper
   pub withdraw_others : Refused dave (bidding d a) (commands.Withdraw (Some 1)) rules.NotAuthor
-  pub withdraw_late : Refused gus (bidding d a) (commands.Withdraw (Some 3)) rules.WrongPhase
-  pub withdraw_behind : RefusedByNoon gus (bidding_due d a) (commands.Withdraw (Some 2)) rules.WrongPhase
-  pub withdraw_past : RefusedByNoon gus (submission_due d a) (commands.Withdraw (Some 3)) rules.Late
+  pub withdraw_out_of_phase : Refused gus (bidding d a) (commands.Withdraw (Some 3)) rules.WrongPhase
+  pub withdraw_behind : RefusedAtNoon gus (bidding_due d a) (commands.Withdraw (Some 2)) rules.WrongPhase
+  pub withdraw_late : RefusedAtNoon gus (submission_due d a) (commands.Withdraw (Some 3)) rules.Late
   -- uploading: the same, and then quota_bytes, however much it is
   pub upload_none : Refused erin (submission d a) (commands.Upload (Some 9) []) rules.NoPaper
   pub upload_others : Refused dave (bidding d a) (commands.Upload (Some 1) []) rules.NotAuthor
-  pub upload_late : Refused gus (bidding d a) (commands.Upload (Some 3) []) rules.WrongPhase
-  pub upload_behind : RefusedByNoon gus (bidding_due d a) (commands.Upload (Some 2) []) rules.WrongPhase
-  pub upload_past : RefusedByNoon gus (submission_due d a) (commands.Upload (Some 3) []) rules.Late
+  pub upload_out_of_phase : Refused gus (bidding d a) (commands.Upload (Some 3) []) rules.WrongPhase
+  pub upload_behind : RefusedAtNoon gus (bidding_due d a) (commands.Upload (Some 2) []) rules.WrongPhase
+  pub upload_late : RefusedAtNoon gus (submission_due d a) (commands.Upload (Some 3) []) rules.Late
   pub upload_withdrawn :
       (content : List ℕ) → Refused gus (submission d a) (commands.Upload (Some 3) content) rules.Withdrawn
 
@@ -158,10 +159,10 @@ pub record OfConflicts (d : Digests) (a : Asides) : Type 0 where
   pub declare_others :
       Refused dave (submission d a) (commands.SetConflict (Some 3) (named (codes "carol")) true) rules.NotAuthor
   pub declare_others_past :
-      RefusedByNoon dave (submission_due d a) (commands.SetConflict (Some 2) (named (codes "carol")) true)
+      RefusedAtNoon dave (submission_due d a) (commands.SetConflict (Some 2) (named (codes "carol")) true)
       rules.NotAuthor
-  pub declare_past :
-      RefusedByNoon gus (submission_due d a) (commands.SetConflict (Some 3) (named (codes "carol")) true) rules.Late
+  pub declare_late :
+      RefusedAtNoon gus (submission_due d a) (commands.SetConflict (Some 3) (named (codes "carol")) true) rules.Late
   pub declare_withdrawn :
       Refused gus (submission d a) (commands.SetConflict (Some 3) (named (codes "erin")) true) rules.Withdrawn
   -- on, by the user named: not_member, withdrawn
@@ -199,8 +200,8 @@ pub record OfReviewers (d : Digests) (a : Asides) : Type 0 where
   pub bid_by_account : Refused bob (bidding d a) (commands.Bid (Some 1) 20) rules.NotMember
   pub bid_in_conflict : Refused carol (submission d a) (commands.Bid (Some 1) 20) rules.Conflict
   pub bid_early : Refused dave (submission d a) (commands.Bid (Some 3) 20) rules.WrongPhase
-  pub bid_behind : RefusedByNoon dave (discussion_due d a) (commands.Bid (Some 1) 20) rules.WrongPhase
-  pub bid_past : RefusedByNoon dave (bidding_due d a) (commands.Bid (Some 3) 20) rules.Late
+  pub bid_behind : RefusedAtNoon dave (discussion_due d a) (commands.Bid (Some 1) 20) rules.WrongPhase
+  pub bid_late : RefusedAtNoon dave (bidding_due d a) (commands.Bid (Some 3) 20) rules.Late
   -- assigning: no_paper, no_user, not_chair, conflict, wrong_phase, withdrawn, not_a_member, target_conflict,
   -- already_assigned
   pub assign_none : Refused erin (bidding d a) (commands.Assign (Some 9) zoe Primary) rules.NoPaper
@@ -239,14 +240,14 @@ pub record OfTheDiscussion (d : Digests) (a : Asides) : Type 0 where
   pub review_in_conflict : Refused carol (reviewing d a) (commands.Review (Some 1) first_form) rules.Conflict
   pub review_others : Refused hal (bidding d a) (commands.Review (Some 1) first_form) rules.NotReviewer
   pub review_withdrawn : Refused hal (reviewing d a) (commands.Review (Some 3) first_form) rules.NotReviewer
-  pub review_behind : RefusedByNoon dave (bidding_due d a) (commands.Review (Some 1) first_form) rules.WrongPhase
+  pub review_behind : RefusedAtNoon dave (bidding_due d a) (commands.Review (Some 1) first_form) rules.WrongPhase
   -- commenting: no_paper, not_member, conflict, wrong_phase, late, withdrawn
   pub comment_none : Refused erin (discussion d a) (commands.Comment (Some 9) agreed) rules.NoPaper
   pub comment_by_author : Refused bob (discussion d a) (commands.Comment (Some 1) agreed) rules.NotMember
   pub comment_in_conflict : Refused carol (bidding d a) (commands.Comment (Some 1) agreed) rules.Conflict
   pub comment_early : Refused dave (bidding d a) (commands.Comment (Some 3) agreed) rules.WrongPhase
-  pub comment_behind : RefusedByNoon dave (bidding_due d a) (commands.Comment (Some 1) agreed) rules.WrongPhase
-  pub comment_past : RefusedByNoon dave (discussion_due d a) (commands.Comment (Some 3) agreed) rules.Late
+  pub comment_behind : RefusedAtNoon dave (bidding_due d a) (commands.Comment (Some 1) agreed) rules.WrongPhase
+  pub comment_late : RefusedAtNoon dave (discussion_due d a) (commands.Comment (Some 3) agreed) rules.Late
   -- tagging: no_paper, not_chair, not_member, conflict, wrong_phase, withdrawn
   pub tag_none : Refused erin (bidding d a) (commands.Tag (Some 9) chairs_tag true) rules.NoPaper
   pub tag_for_chairs : Refused erin (bidding d a) (commands.Tag (Some 1) chairs_tag true) rules.NotChair

@@ -1,7 +1,8 @@
 -- No conference gets stuck: from its first account on it has a chair, and before its end she can open its next
 -- phase.
-use Rattle.std.specs.Prelude.{ℕ, Some, is_ok, IsTrue, IsFalse}
+use Rattle.std.specs.Prelude.{ℕ, Option, Some, is_ok, IsTrue, IsFalse}
 use Rattle.cr_base.specs.declared.command.Command.TheVariants.{SetPhase}
+use Rattle.cr_base.specs.declared.retry.RetryKey.{RetryKey}
 use Rattle.cr_base.specs.declared.words.Phase.{Phase}
 use Rattle.cr_base.specs.declared.words.Phase.TheVariants.{Closed}
 use Rattle.cr_base.specs.Calls.{call_of}
@@ -13,11 +14,12 @@ use Rattle.cr_policy.specs.Legal.{Legal}
 use Rattle.cr_policy.specs.Sentences.{now, comes_behind, chairs}
 use Rattle.cr_policy.specs.View.{view}
 
--- there is a next phase, and this user's request for it is accepted, whenever it comes
+-- there is a next phase, and this user's request for it is accepted, whenever it comes and whatever its number
 pub record CanGoOn (H : History) (u : ℕ) : Type 0 where
   pub next : Phase
   pub comes : IsTrue (comes_behind (phase_of H) next)
-  pub accepted : (at : ℕ) → IsTrue (is_ok (judge (view (Some u) H) (call_of (Some u) at (SetPhase next))))
+  pub accepted : (at : ℕ) (key : Option RetryKey)
+      → IsTrue (is_ok (judge (view (Some u) H) (call_of (Some u) at key (SetPhase next))))
 
 -- the first user has registered and is a chair; and before the end she can go on
 pub record HasChair (H : History) : Type 0 where

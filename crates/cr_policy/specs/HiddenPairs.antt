@@ -26,7 +26,7 @@ use Rattle.cr_policy.specs.HiddenPayload.{DiffersHidden, AcceptedAlike}
 use Rattle.cr_policy.specs.Legal.{Legal}
 use Rattle.cr_policy.specs.Triggers.{reader}
 use Rattle.cr_policy.specs.View.{sight, view}
-use Rattle.cr_policy.specs.Witness.{morning}
+use Rattle.cr_policy.specs.Witness.{morning, some_key}
 
 -- ---- pairs
 
@@ -109,7 +109,13 @@ DeadlineSetterHidden =
 abbrev pub MomentHidden : Type 0
 MomentHidden =
     AlikeTo bob alice in_papers (alice adds PhaseSet Bidding)
-    (stamped (stamp_by alice (morning + 60)) false (PhaseSet Bidding)) []
+    (stamped (stamp_by alice (morning + 60) None) false (PhaseSet Bidding)) []
+
+-- by which number she does
+abbrev pub KeyHidden : Type 0
+KeyHidden =
+    AlikeTo bob alice in_papers (alice adds PhaseSet Bidding)
+    (stamped (stamp_by alice morning (Some some_key)) false (PhaseSet Bidding)) []
 
 -- ---- papers
 
@@ -131,7 +137,7 @@ SubmitterHidden = AlikeTo dave alice (in_submission Anonymous)
 
 abbrev pub submitted_with : ℕ → History
 submitted_with coauthor =
-    stamped (stamp_by bob morning) true (Submitted 1 proofs we_prove) ∷ bob adds Coauthor 1 coauthor ∷ []
+    stamped (stamp_by bob morning None) true (Submitted 1 proofs we_prove) ∷ bob adds Coauthor 1 coauthor ∷ []
 
 abbrev pub CoauthorHidden : Type 0
 CoauthorHidden = AllAlikeTo dave alice (in_submission Anonymous) (submitted_with gus) (submitted_with erin) bids_open

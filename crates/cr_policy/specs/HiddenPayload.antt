@@ -93,16 +93,16 @@ pub record DiffersHidden (u : Option ℕ) (H H' : History) : Type 0 where
 abbrev pub HiddenPayload : Type 0
 HiddenPayload = (u : Option ℕ) (H H' : History) → DiffersHidden u H H' → view u H ≡ view u H'
 
--- the entries are the same, their marks aside; and when they were made, where the user made them
-pub record IsSameButWhen (u : Option ℕ) (e other : Stamped) : Type 0 where
+-- the entries are the same, their marks aside; and when they were made and by which number, where the user made them
+pub record IsSameButStamp (u : Option ℕ) (e other : Stamped) : Type 0 where
   pub entry : e.entry ≡ other.entry
   pub maker : e.stamp.maker ≡ other.stamp.maker
-  pub own : IsTrue (is_number u e.stamp.maker) → e.stamp.at ≡ other.stamp.at
+  pub own : IsTrue (is_number u e.stamp.maker) → e.stamp ≡ other.stamp
 
--- MomentsUnseen: so she sees the same whenever others made theirs
-abbrev pub MomentsUnseen : Type 0
-MomentsUnseen = (u : Option ℕ) (H H' : History)
-    → PlaceByPlace (λ at e other. IsSameButWhen u e other) [] H H' → view u H ≡ view u H'
+-- StampsUnseen: so she sees the same whenever others made theirs, and by whatever numbers
+abbrev pub StampsUnseen : Type 0
+StampsUnseen = (u : Option ℕ) (H H' : History)
+    → PlaceByPlace (λ at e other. IsSameButStamp u e other) [] H H' → view u H ≡ view u H'
 
 -- Removal: she sees the same without an entry that shows her nothing, where the same papers stay accepted
 abbrev pub Removal : Type 0

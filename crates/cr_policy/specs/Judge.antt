@@ -1,6 +1,8 @@
--- Judge and Answer: a command's and a bulk's judgement and a query's answer, computed from the caller's view alone.
-use Rattle.std.specs.Prelude.{ℕ, Bool, true, ◌++◌, map, Option, Some, None, Result}
+-- Judge and Answer: a command's and a bulk's judgement, what they come to where they have a number, and a query's
+-- answer, computed from the caller's view alone.
+use Rattle.std.specs.Prelude.{ℕ, Bool, true, false, ◌++◌, map, Option, Some, None, Result}
 use Rattle.cr_base.specs.declared.bulk.Broken.{Broken}
+use Rattle.cr_base.specs.declared.bulk.Broken.TheVariants as broken
 use Rattle.cr_base.specs.declared.bulk.BulkRow.{BulkRow}
 use Rattle.cr_base.specs.declared.command.Call.{Call}
 use Rattle.cr_base.specs.declared.command.Query.{Query}
@@ -8,21 +10,29 @@ use Rattle.cr_base.specs.declared.entry.Stamp.{Stamp}
 use Rattle.cr_base.specs.declared.entry.Stamped.{Stamped}
 use Rattle.cr_base.specs.declared.reply.Reply.{Reply}
 use Rattle.cr_base.specs.declared.reply.Rule.{Rule}
+use Rattle.cr_base.specs.declared.reply.Rule.TheVariants as rules
 use Rattle.cr_base.specs.Answering.{answer_by, login_wanted}
 use Rattle.cr_base.specs.Bulk.{Basis, row_judged, bulk_judged}
 use Rattle.cr_base.specs.Calls.{BulkCall, stamp_of}
 use Rattle.cr_base.specs.Drawn.{Drawn}
 use Rattle.cr_base.specs.History.{History}
 use Rattle.cr_base.specs.Judging.{judge_by}
+use Rattle.cr_base.specs.Retries.{Outcome, settled}
 use Rattle.cr_policy.specs.Part.{own_parts}
 use Rattle.cr_policy.specs.Sighting.{sighting}
 use Rattle.cr_policy.specs.View.{View}
 use Rattle.cr_policy.specs.ViewFacts.{facts_in_view, shown_in_view}
+use Rattle.cr_policy.specs.ViewRetries.{kept_in_view}
 
--- Judge, on the caller's view: the first broken rule of the command's list, or the entries that it adds and its receipt
+-- Judge, on the caller's view: the first broken rule of the command's list, or the entries that it adds and its
+-- receipt
 abbrev pub judge : View → Call → Result Drawn Rule
 judge V call =
     judge_by (facts_in_view call.caller V) (shown_in_view call.caller V) (stamp_of call) call.command
+
+-- what a command comes to: before Judge stands the look-up of its number among the caller's own entries
+abbrev pub decide : View → Call → Outcome Rule
+decide V call = settled rules.NumberUsed false call.key (kept_in_view V) (judge V call)
 
 -- Answer: the answer to the query
 abbrev pub answer : Option ℕ → View → Query → Reply
@@ -34,7 +44,7 @@ needs_login V query = login_wanted (facts_in_view None V) query
 
 -- ---- bulks
 
--- what entries of her own show their maker: they are whole with their moments, and hers
+-- what entries of her own show their maker: they are whole with their moments and keys, and hers
 abbrev pub own_sightings : History → View
 own_sightings group = map (λ (e : Stamped). sighting own_parts true e) group
 
@@ -55,3 +65,8 @@ judge_row V stamp row =
 -- entries of all rows and the receipt
 abbrev pub judge_bulk : View → BulkCall → Result Drawn Broken
 judge_bulk V bulk = bulk_judged (view_basis bulk.stamp.maker) V bulk
+
+-- what a bulk comes to, by the same look-up
+abbrev pub decide_bulk : View → BulkCall → Outcome Broken
+decide_bulk V bulk =
+    settled (broken.Rule rules.NumberUsed) true bulk.stamp.key (kept_in_view V) (judge_bulk V bulk)

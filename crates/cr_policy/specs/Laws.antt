@@ -1,9 +1,13 @@
 -- The laws of views: what can be read off one, that it suffices to judge and to answer, and what every legal
 -- history keeps.
-use Rattle.std.specs.Prelude.{ℕ, ◌≡◌, List, Option, Some, None, is_some, IsTrue}
+use Rattle.std.specs.Prelude.{ℕ, true, false, ◌≡◌, List, [], ◌∷◌, ◌++◌, Option, Some, None, is_some, IsTrue}
 use Rattle.std.specs.List.{AllByRecursion}
+use Rattle.cr_base.specs.declared.bulk.Broken.TheVariants as broken
 use Rattle.cr_base.specs.declared.command.Call.{Call}
 use Rattle.cr_base.specs.declared.command.Query.{Query}
+use Rattle.cr_base.specs.declared.entry.Entry.{Entry}
+use Rattle.cr_base.specs.declared.entry.Stamped.{Stamped}
+use Rattle.cr_base.specs.declared.reply.Rule.TheVariants as rules
 use Rattle.cr_base.specs.declared.words.Phase.{Phase}
 use Rattle.cr_base.specs.History.{History}
 use Rattle.cr_base.specs.HistoryFacts.{standing_of, deadline_of, is_author, declared_by_authors, accounts_of}
@@ -13,16 +17,20 @@ use Rattle.cr_base.specs.Tables.{tables_of}
 use Rattle.cr_base.specs.Answering.{answer_by_role}
 use Rattle.cr_base.specs.Bulk.{bulk_by_role}
 use Rattle.cr_base.specs.Calls.{BulkCall}
+use Rattle.cr_base.specs.Drawn.{grouped}
 use Rattle.cr_base.specs.Judging.{judge_by_role}
+use Rattle.cr_base.specs.Keys.{kept_under}
 use Rattle.cr_base.specs.Logins.{command_wants_login}
-use Rattle.cr_base.specs.Moments.{IsMoment}
+use Rattle.cr_base.specs.Retries.{kept_of, settled}
+use Rattle.cr_history.specs.Groups.{IsBoundedStamp}
 use Rattle.cr_history.specs.Invariants.{IsRegistered, Invariants, IsWhole}
 use Rattle.cr_policy.specs.Sighting.{Sighting}
 use Rattle.cr_policy.specs.View.{view}
 use Rattle.cr_policy.specs.ViewFacts.{is_user, standing_in_view, deadline_in_view, accounts_in_view, papers_in_view}
 use Rattle.cr_policy.specs.ViewFacts.{own_papers_in_view, own_bytes_in_view, own_comments_in_view}
 use Rattle.cr_policy.specs.ViewFacts.{number_in_view, is_accepted_in_view, declared_in_view}
-use Rattle.cr_policy.specs.Judge.{judge, judge_bulk, answer, needs_login}
+use Rattle.cr_policy.specs.ViewRetries.{kept_in_view}
+use Rattle.cr_policy.specs.Judge.{judge, decide, judge_bulk, decide_bulk, answer, needs_login}
 use Rattle.cr_policy.specs.Legal.{Legal, MayAsk}
 
 -- StandingFromView: how a user stands, to any paper too, can be read off what she sees, whatever the history
@@ -30,8 +38,8 @@ abbrev pub StandingFromView : Type 0
 StandingFromView = (u paper : Option ℕ) (H : History) → standing_in_view u paper (view u H) ≡ standing_of u paper H
 
 -- PublicFacts can be read off what anybody sees, whatever the history: the deadlines, who has registered, in which
--- role, under which name, the papers, and which of them are accepted; and so can how many of them are the reader's own,
--- how many bytes she has uploaded, and how many comments she has written
+-- role, under which name, the papers, and which of them are accepted; and so can how many of them are the reader's
+-- own, how many bytes she has uploaded, and how many comments she has written
 pub record PublicFactsFromView (u : Option ℕ) (H : History) : Type 0 where
   pub deadlines : (phase : Phase) → deadline_in_view phase (view u H) ≡ deadline_of phase H
   pub accounts : accounts_in_view (view u H) ≡ accounts_of H
@@ -43,14 +51,39 @@ pub record PublicFactsFromView (u : Option ℕ) (H : History) : Type 0 where
   pub number : (name : List ℕ) → number_in_view name (view u H) ≡ number_of name H
 
 -- ViewSuffices: on a legal history, what checks of role on the tables give of a command, of a bulk or of a query is
--- what the caller's view alone gives
+-- what the caller's view alone gives; and so is what a command or a bulk comes to that may have a number, by these and
+-- by what the history keeps of it
 pub record ViewSuffices : Type 0 where
   pub commands : (H : History) (call : Call) → Legal H → MayAsk H (command_wants_login call.command) call.caller
       → judge (view call.caller H) call ≡ judge_by_role (tables_of H) call
-  pub bulks : (H : History) (bulk : BulkCall) → Legal H → IsRegistered H bulk.stamp.maker → IsMoment bulk.stamp.at
+  pub bulks : (H : History) (bulk : BulkCall) → Legal H → IsRegistered H bulk.stamp.maker → IsBoundedStamp bulk.stamp
       → judge_bulk (view (Some bulk.stamp.maker) H) bulk ≡ bulk_by_role (tables_of H) bulk
+  pub outcomes : (H : History) (call : Call) → Legal H → MayAsk H (command_wants_login call.command) call.caller
+      → decide (view call.caller H) call
+      ≡ settled rules.NumberUsed false call.key (kept_of call.caller H) (judge_by_role (tables_of H) call)
+  pub bulk_outcomes : (H : History) (bulk : BulkCall) → Legal H → IsRegistered H bulk.stamp.maker
+      → IsBoundedStamp bulk.stamp
+      → decide_bulk (view (Some bulk.stamp.maker) H) bulk
+      ≡ settled (broken.Rule rules.NumberUsed) true bulk.stamp.key (kept_of (Some bulk.stamp.maker) H)
+      (bulk_by_role (tables_of H) bulk)
   pub queries : (u : Option ℕ) (H : History) (query : Query) → Legal H
       → MayAsk H (needs_login (view None H) query) u → answer u (view u H) query ≡ answer_by_role (tables_of H) u query
+
+-- KeptFromView: what was accepted under a number of hers can be read off what a user sees, whatever the history
+abbrev pub KeptFromView : Type 0
+KeptFromView = (u : Option ℕ) (H : History) (number : ℕ) → kept_in_view (view u H) number ≡ kept_of u H number
+
+-- these entries of the history, if any, are one command's, and stand one behind another
+abbrev pub IsOneGroup : History → List Stamped → Type 0
+IsOneGroup H [] = Unit {0}
+IsOneGroup H (e ∷ es) =
+    (before : History) × (entries : List Entry) × (after : History)
+    × (e ∷ es ≡ grouped e.stamp entries) × (H ≡ before ++ (e ∷ es) ++ after)
+
+-- NumbersOnce: on a legal history all entries that a user made by commands of one number are one command's: of what
+-- was accepted each number of hers was given once
+abbrev pub NumbersOnce : Type 0
+NumbersOnce = (H : History) (user number : ℕ) → Legal H → IsOneGroup H (kept_under user number H)
 
 -- DeclaredFromView: on a legal history, whom a paper's authors declared in conflict with it can be
 -- read off what an author of it sees

@@ -3,12 +3,15 @@ use Rattle.std.specs.Prelude.{ℕ, Bool, true, false, ◌≡◌, List, [], ◌�
 use Rattle.std.specs.Prelude.{Option, Some, None, Result, Ok, Err, IsFalse}
 use Rattle.cr_base.specs.declared.command.Call.{Call}
 use Rattle.cr_base.specs.declared.command.Command.{Command}
+use Rattle.cr_base.specs.declared.entry.Stamp.{Stamp}
+use Rattle.cr_base.specs.declared.retry.RetryKey.{RetryKey}
 use Rattle.cr_base.specs.History.{History}
-use Rattle.cr_base.specs.Calls.{BulkCall}
+use Rattle.cr_base.specs.Calls.{BulkCall, stamp_by}
 use Rattle.cr_base.specs.Drawn.{Drawn}
 use Rattle.cr_base.specs.Logins.{command_wants_login}
 use Rattle.cr_base.specs.Bounds.{IsBoundedCommand}
 use Rattle.cr_base.specs.Bulk.{IsBoundedBulk}
+use Rattle.cr_base.specs.Keys.{IsRetryKey, IsKeyOrNone, IsUnused}
 use Rattle.cr_base.specs.Moments.{IsMoment}
 use Rattle.cr_history.specs.Invariants.{IsRegistered}
 use Rattle.cr_policy.specs.View.{view}
@@ -37,11 +40,33 @@ IsCaller H caller command = CallsAs H (command_wants_login command) caller
 
 -- ---- one call
 
--- the caller may give it, and its parts and its moment are within the bounds
-pub record IsAllowed (H : History) (call : Call) : Type 0 where
+-- a key is within its bounds, and a user's; nobody gives any, so that a registration has none
+abbrev pub IsKeyOf : Option ℕ → Option RetryKey → Type 0
+IsKeyOf caller None = Unit {0}
+IsKeyOf None (Some key) = ⊥
+IsKeyOf (Some user) (Some key) = IsRetryKey key
+
+-- its number is new: she has made no entry by a command of that number
+abbrev pub IsNewKey : History → Option ℕ → Option RetryKey → Type 0
+IsNewKey H caller None = Unit {0}
+IsNewKey H None (Some key) = ⊥
+IsNewKey H (Some user) (Some key) = IsUnused H user key.number
+
+-- the stamp of a command that has none, so that its number is always new
+abbrev pub unnumbered : Stamp → Stamp
+unnumbered stamp = stamp_by stamp.maker stamp.at None
+
+-- the caller may give it, and its parts, its moment and its key are within the bounds
+pub record IsGiven (H : History) (call : Call) : Type 0 where
   pub caller : IsCaller H call.caller call.command
   pub bounded : IsBoundedCommand call.command
   pub moment : IsMoment call.at
+  pub key : IsKeyOf call.caller call.key
+
+-- so it is, and its number is new
+pub record IsAllowed (H : History) (call : Call) : Type 0 where
+  pub given : IsGiven H call
+  pub unused : IsNewKey H call.caller call.key
 
 -- a history, and behind it the group that is drawn; as it is where a rule is broken
 abbrev pub followed_by : {E : Type 0} → History → Result Drawn E → History
@@ -54,11 +79,17 @@ step H call = followed_by H (judge (view call.caller H) call)
 
 -- ---- one bulk
 
--- she is a user who has registered, there are no more rows than a bulk may have, and there is such a moment
-pub record IsBulkAllowed (H : History) (bulk : BulkCall) : Type 0 where
+-- she is a user who has registered, there are no more rows than a bulk may have, and there are such a moment and key
+pub record IsBulkGiven (H : History) (bulk : BulkCall) : Type 0 where
   pub caller : IsRegistered H bulk.stamp.maker
   pub bounded : IsBoundedBulk bulk.rows
   pub moment : IsMoment bulk.stamp.at
+  pub key : IsKeyOrNone bulk.stamp.key
+
+-- so it is, and its number is new
+pub record IsBulkAllowed (H : History) (bulk : BulkCall) : Type 0 where
+  pub given : IsBulkGiven H bulk
+  pub unused : IsNewKey H (Some bulk.stamp.maker) bulk.stamp.key
 
 -- Step of a bulk: the history behind it, by what Judge gives on the caller's view
 abbrev pub bulk_step : History → BulkCall → History

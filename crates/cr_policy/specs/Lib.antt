@@ -4,6 +4,7 @@ pub mod Sighting
 pub mod Triggers
 pub mod View
 pub mod ViewFacts
+pub mod ViewRetries
 pub mod Judge
 pub mod Legal
 -- ---- the same said a second time, as a committee says it: who may do and read what, what it adds, who is shown what

@@ -19,7 +19,7 @@ use Rattle.cr_base.specs.Parse.{parse_paper, parse_name}
 use Rattle.cr_base.specs.TagTexts.{is_tag}
 use Rattle.cr_policy.specs.Added.{added}
 use Rattle.cr_policy.specs.Judge.{judge_bulk}
-use Rattle.cr_policy.specs.Legal.{IsBulkAllowed, Legal}
+use Rattle.cr_policy.specs.Legal.{unnumbered, IsBulkAllowed, Legal}
 use Rattle.cr_policy.specs.MayDo.{may_do}
 use Rattle.cr_policy.specs.Sentences.{committee_at_work, chairs, of_some, user_named}
 use Rattle.cr_policy.specs.View.{view}
@@ -93,9 +93,11 @@ may_rows stamp H [] = true
 may_rows stamp H (row ∷ rows) =
     may_row stamp H (row_command row) && may_rows stamp (with_row stamp H (row_command row)) rows
 
--- a chair sends a bulk while the committee works, where she may do each of its rows in its turn
+-- a chair sends a bulk while the committee works, where she may do each of its rows in its turn; that it has a number
+-- doesn't matter
 abbrev pub may_bulk : History → BulkCall → Bool
-may_bulk H bulk = chairs bulk.stamp.maker H && committee_at_work H && may_rows bulk.stamp H bulk.rows
+may_bulk H bulk =
+    chairs bulk.stamp.maker H && committee_at_work H && may_rows (unnumbered bulk.stamp) H bulk.rows
 
 -- BulksAsSaid: on a legal history a user's bulk is accepted exactly where it is so
 abbrev pub BulksAsSaid : Type 0

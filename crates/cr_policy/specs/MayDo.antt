@@ -16,7 +16,7 @@ use Rattle.cr_base.specs.Logins.{command_wants_login}
 use Rattle.cr_policy.specs.Judge.{judge}
 use Rattle.cr_policy.specs.Legal.{Legal}
 use Rattle.cr_policy.specs.Sentences.{now, comes_behind, before_bidding, committee_at_work, is_over, is_above}
-use Rattle.cr_policy.specs.Sentences.{in_time, isnt_over}
+use Rattle.cr_policy.specs.Sentences.{in_time, lasts_or_comes}
 use Rattle.cr_policy.specs.Sentences.{on_committee, chairs, stands}
 use Rattle.cr_policy.specs.Sentences.{wrote, is_eligible, administers, reviews, of_some, user_named, is_somebody}
 use Rattle.cr_policy.specs.Sentences.{is_for_chairs_alone}
@@ -40,11 +40,11 @@ may_set_mode u H = chairs u H && now Setup H
 abbrev pub may_open : ℕ → History → Phase → Bool
 may_open u H to = chairs u H && comes_behind (phase_of H) to
 
--- a chair sets the deadline of a phase that isn't over, or takes it away
+-- a chair sets the deadline of a phase that lasts or is yet to come, or takes it away
 abbrev pub may_set_deadline : ℕ → History → Phase → Bool
-may_set_deadline u H phase = chairs u H && isnt_over phase H
+may_set_deadline u H phase = chairs u H && lasts_or_comes phase H
 
--- What is done in a phase until its deadline: whoever does it says so at a moment.
+-- What is done in a phase until its deadline; `at` is the moment of the request.
 
 -- ---- what authors do
 
@@ -108,8 +108,8 @@ abbrev pub may_review : ℕ → ℕ → History → ℕ → Bool
 may_review u at H p =
     stands p H && is_eligible u p H && reviews u p H && (now Reviewing H || now Discussion H) && in_time at H
 
--- a member in no conflict with a paper that isn't withdrawn comments on it, in the discussion until its deadline, while
--- she has written fewer than 1,000 comments
+-- a member in no conflict with a paper that isn't withdrawn comments on it, in the discussion until its deadline,
+-- while she has written fewer than 1,000 comments
 abbrev pub may_comment : ℕ → ℕ → History → ℕ → Bool
 may_comment u at H p =
     stands p H && is_eligible u p H && now Discussion H && in_time at H && nat_lt (own_comments_of (Some u) H) 1000
@@ -160,7 +160,8 @@ abbrev pub is_accepted_from : History → Call → Bool
 is_accepted_from H call =
     (is_some call.caller || not (command_wants_login call.command)) && is_ok (judge (view call.caller H) call)
 
--- PermissionsAsSaid: on a legal history a command is accepted, whoever calls and when, exactly where its sentence holds
+-- PermissionsAsSaid: on a legal history a command is accepted, whoever calls and when, exactly where its sentence
+-- holds
 abbrev pub PermissionsAsSaid : Type 0
 PermissionsAsSaid =
     (H : History) (call : Call) → Legal H → is_accepted_from H call ≡ may_do call.caller call.at H call.command

@@ -67,8 +67,8 @@ reads_content caller H version p =
     && (is_public p H || of_some caller (λ u. may_read_content u H p))
     && has_version (of_some caller (λ u. wrote u p H)) version (uploads_of p H)
 
--- by query. Who registered, how the conference stands, its deadlines, and the accepted papers are told to everyone, and
--- so are the page and the content of a published paper; what is her own, and what a search finds, to every user
+-- by query. Who registered, how the conference stands, its deadlines, and the accepted papers are told to everyone,
+-- and so are the page and the content of a published paper; what is her own, and what a search finds, to every user
 abbrev pub may_read : Option ℕ → History → Query → Bool
 may_read caller H queries.Accounts = true
 may_read caller H queries.Phase = true

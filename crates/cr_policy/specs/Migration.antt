@@ -1,26 +1,41 @@
--- Migration: what a store that kept no moments of requests is read as, once it keeps them.
-use Rattle.std.specs.Prelude.{◌≡◌, ◌≤◌, map}
+-- Migration: what a store of an older version is read as: one that kept no moments of requests, or no numbers of
+-- commands.
+use Rattle.std.specs.Prelude.{ℕ, ◌≡◌, ◌≤◌, map, None}
 use Rattle.std.specs.List.{AllByRecursion}
+use Rattle.cr_base.specs.declared.entry.Stamp.{Stamp}
 use Rattle.cr_base.specs.declared.entry.Stamped.{Stamped}
+use Rattle.cr_base.specs.declared.row.OldVersion.{OldVersion}
+use Rattle.cr_base.specs.declared.row.OldVersion.TheVariants.{First, Second}
 use Rattle.cr_base.specs.Calls.{stamp_by}
 use Rattle.cr_base.specs.Drawn.{stamped}
 use Rattle.cr_base.specs.History.{History}
 use Rattle.cr_base.specs.Rows.{kind_number, kind_of, rows_of, migrated}
-use Rattle.cr_policy.specs.Legal.{Legal}
+use Rattle.cr_policy.specs.Legal.{unnumbered, Legal}
 
--- the entry as if its request had come at the first moment of all
-abbrev pub at_first : Stamped → Stamped
-at_first e = stamped (stamp_by e.stamp.maker 0) e.more e.entry
+-- what such a store keeps of a stamp: no number, and in the first version the first moment of all
+abbrev pub stamp_kept : OldVersion → Stamp → Stamp
+stamp_kept First stamp = stamp_by stamp.maker 0 None
+stamp_kept Second stamp = unnumbered stamp
 
-abbrev pub all_at_first : History → History
-all_at_first H = map at_first H
+-- and so of an entry, and of a history
+abbrev pub kept_as : OldVersion → Stamped → Stamped
+kept_as version e = stamped (stamp_kept version e.stamp) e.more e.entry
 
--- the entries are of the kinds that stores without moments have, whose numbers are 1 to 17
-abbrev pub HasFirstKinds : History → Type 0
-HasFirstKinds H = AllByRecursion (λ (e : Stamped). kind_number (kind_of e.entry) ≤ 17) H
+abbrev pub all_kept_as : OldVersion → History → History
+all_kept_as version H = map (kept_as version) H
 
--- Migrates: of a legal history of these kinds, whenever its requests came, the same at the first moment is legal; and
--- its rows are those of the history, each migrated
+-- the greatest number of a kind of entry that it may have
+abbrev pub last_kind_of : OldVersion → ℕ
+last_kind_of First = 17
+last_kind_of Second = 18
+
+abbrev pub HasKindsOf : OldVersion → History → Type 0
+HasKindsOf version H = AllByRecursion (λ (e : Stamped). kind_number (kind_of e.entry) ≤ last_kind_of version) H
+
+-- Migrates: of a legal history of the version's kinds, whenever its requests came and by whatever numbers, what such a
+-- store keeps is legal; and its rows are those of the history, each migrated
 pub record Migrates : Type 0 where
-  pub legal : (H : History) → HasFirstKinds H → Legal H → Legal (all_at_first H)
-  pub rows : (H : History) → rows_of (all_at_first H) ≡ map migrated (rows_of H)
+  pub legal : (version : OldVersion) (H : History) → HasKindsOf version H → Legal H → Legal (all_kept_as version H)
+  pub rows :
+      (version : OldVersion) (H : History)
+      → rows_of (all_kept_as version H) ≡ map (migrated version) (rows_of H)

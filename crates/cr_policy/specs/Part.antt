@@ -3,9 +3,10 @@ use Rattle.std.specs.Prelude.{ℕ, Bool, true, false, List, [], ◌∷◌, ◌==
 use Rattle.std.specs.List.{list_any}
 
 -- the parts that an entry may have beside its kind and its paper, which are never hidden; `by` is who made it,
--- `at` when, `value` that of a bid, `review_kind` what a reviewer is to the paper, `n` a comment's number; the others
--- are marks: `done` that under the label is a form, `outcome` that the decision is what became of the reader's paper,
--- `accepted` that the paper is accepted
+-- `at` when, `key` the number of the command that did, with the mark of its request, `value` that of a bid,
+-- `review_kind` what a reviewer is to the paper, `n` a comment's number; the others are marks: `done` that under the
+-- label is a form, `outcome` that the decision is what became of the reader's paper, `accepted` that the paper is
+-- accepted
 pub data Part : Type 0 where
   user : Part
   name : Part
@@ -35,6 +36,7 @@ pub data Part : Type 0 where
   accepted : Part
   at : Part
   until : Part
+  key : Part
 
 -- a number of its own for each part
 abbrev pub part_number : Part → ℕ
@@ -66,13 +68,14 @@ part_number outcome = 24
 part_number accepted = 25
 part_number at = 26
 part_number until = 27
+part_number key = 28
 
 -- the part is one of these
 abbrev pub these : List Part → Part → Bool
 these parts part = list_any (λ p. part_number p == part_number part) parts
 
 -- the part belongs to the whole of an entry, whatever its kind: to its numbers and bytes, so it
--- isn't who made it or when, and no mark
+-- isn't who made it, when or by which number, and no mark
 abbrev pub whole : Part → Bool
 whole user = true
 whole name = true
@@ -102,11 +105,12 @@ whole outcome = false
 whole accepted = false
 whole at = false
 whole until = true
+whole key = false
 
 -- it does, or is one of these besides
 abbrev pub whole_and : List Part → Part → Bool
 whole_and parts part = whole part || these parts part
 
--- what is for its maker: the whole of it, and when it was made
+-- what is for its maker: the whole of it, when it was made, and by which number
 abbrev pub own_parts : Part → Bool
-own_parts = whole_and (at ∷ [])
+own_parts = whole_and (at ∷ key ∷ [])

@@ -1,5 +1,6 @@
--- The words in which it is said who may do what: of a history and of nothing else, as a committee says them. No list
--- of checks is read here, nor what these lists read of phases, of roles, and of when a paper is accepted.
+-- The words in which it is said who may do what, as a committee says them: of a history, and of the moment of the
+-- request. No list of checks is read here, nor what these lists read of phases, of roles, and of when a paper is
+-- accepted.
 use Rattle.std.specs.Prelude.{ℕ, Bool, true, false, not, ◌&&◌, ◌||◌, ◌==◌, nat_le, List, [], ◌∷◌, Option, Some, None}
 use Rattle.std.specs.List.{list_any}
 use Rattle.cr_base.specs.declared.words.Decision.{Decision}
@@ -64,22 +65,23 @@ abbrev pub meets : ℕ → Option ℕ → Bool
 meets at None = true
 meets at (Some deadline) = nat_le at deadline
 
--- it isn't too late for what is done in the phase that it is
+-- it isn't too late for what is done in the current phase
 abbrev pub in_time : ℕ → History → Bool
 in_time at H = meets at (deadline_of (phase_of H) H)
 
--- the phase isn't over: it is that phase, or an earlier one
-abbrev pub isnt_over_in : Phase → Phase → Bool
-isnt_over_in Setup at = is_it Setup at
-isnt_over_in Submission at = is_it Setup at || is_it Submission at
-isnt_over_in Bidding at = is_it Setup at || is_it Submission at || is_it Bidding at
-isnt_over_in Reviewing at = is_it Setup at || is_it Submission at || is_it Bidding at || is_it Reviewing at
-isnt_over_in Discussion at = not (is_it Notification at || is_it Closed at)
-isnt_over_in Notification at = not (is_it Closed at)
-isnt_over_in Closed at = true
+-- the phase lasts, or is yet to come: the current one is that phase, or an earlier one
+abbrev pub lasts_or_comes_in : Phase → Phase → Bool
+lasts_or_comes_in Setup current = is_it Setup current
+lasts_or_comes_in Submission current = is_it Setup current || is_it Submission current
+lasts_or_comes_in Bidding current = is_it Setup current || is_it Submission current || is_it Bidding current
+lasts_or_comes_in Reviewing current =
+    is_it Setup current || is_it Submission current || is_it Bidding current || is_it Reviewing current
+lasts_or_comes_in Discussion current = not (is_it Notification current || is_it Closed current)
+lasts_or_comes_in Notification current = not (is_it Closed current)
+lasts_or_comes_in Closed current = true
 
-abbrev pub isnt_over : Phase → History → Bool
-isnt_over phase H = isnt_over_in phase (phase_of H)
+abbrev pub lasts_or_comes : Phase → History → Bool
+lasts_or_comes phase H = lasts_or_comes_in phase (phase_of H)
 
 -- ---- roles
 

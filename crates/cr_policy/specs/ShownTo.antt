@@ -16,6 +16,7 @@ use Rattle.cr_base.specs.declared.entry.Entry.TheVariants.{Commented, Tagged, De
 use Rattle.cr_base.specs.declared.entry.EntryKind.{EntryKind}
 use Rattle.cr_base.specs.declared.entry.Stamped.{Stamped}
 use Rattle.cr_base.specs.declared.entry.Stamp.{Stamp}
+use Rattle.cr_base.specs.declared.retry.RetryKey.{RetryKey}
 use Rattle.cr_base.specs.declared.words.Decision.{Decision}
 use Rattle.cr_base.specs.declared.words.Decision.TheVariants.{Accept, Reject}
 use Rattle.cr_base.specs.declared.words.Kind.{Kind}
@@ -233,17 +234,17 @@ owns u H maker paper = is_number u maker || is_author u paper H
 abbrev pub is_party : Option ℕ → History → ℕ → ℕ → ℕ → Bool
 is_party u H maker paper user = is_number u user || is_number u maker || administers u paper H
 
--- accounts, roles, phases, modes, deadlines and submissions, all of them. Of a paper's other entries her own and, as an
--- author, all but conflicts that no author made; co-authors where she oversees the paper, where she is eligible for it
--- unless authors are hidden, and where it is in the programme; a revision that none has replaced where she serves, or
--- the paper is in the programme; an upload that none has superseded where she is eligible for the paper, or it appears;
--- a withdrawal where she serves; of conflicts the ones that name her, and all where she oversees the paper; of bids her
--- own, and all where she oversees the paper; of assignments those that she is a party to, all where she discusses the
--- paper, and those to her own paper where she is named its reviewers; of forms her own, the first of each label where
--- she administers the paper, those that are discussed where she discusses it, and of her own paper the last of each
--- label where she is notified; of comments her own, and all where she discusses the paper; of tags those that she set,
--- and those that she reads; and of decisions those that she reads, the last one by which she learns what became of her
--- paper, and the last one of a paper in the programme
+-- accounts, roles, phases, modes, deadlines and submissions, all of them. Of a paper's other entries her own and, as
+-- an author, all but conflicts that no author made; co-authors where she oversees the paper, where she is eligible
+-- for it unless authors are hidden, and where it is in the programme; a revision that none has replaced where she
+-- serves, or the paper is in the programme; an upload that none has superseded where she is eligible for the paper,
+-- or it appears; a withdrawal where she serves; of conflicts the ones that name her, and all where she oversees the
+-- paper; of bids her own, and all where she oversees the paper; of assignments those that she is a party to, all
+-- where she discusses the paper, and those to her own paper where she is named its reviewers; of forms her own, the
+-- first of each label where she administers the paper, those that are discussed where she discusses it, and of her
+-- own paper the last of each label where she is notified; of comments her own, and all where she discusses the paper;
+-- of tags those that she set, and those that she reads; and of decisions those that she reads, the last one by which
+-- she learns what became of her paper, and the last one of a paper in the programme
 abbrev pub is_told : Option ℕ → History → History → History → ℕ → Entry → Bool
 is_told u H before later maker (Registered user name digest) = true
 is_told u H before later maker (Named user role) = true
@@ -301,6 +302,10 @@ mark_for u H before later stamp e = is_number u stamp.maker
 -- when: to whoever made it
 abbrev pub moment_for : PartFor (Option ℕ)
 moment_for u H before later stamp e = where_known (is_number u stamp.maker) stamp.at
+
+-- by which number, and of which request, where there is one: to whoever made it
+abbrev pub key_for : PartFor (Option (Option RetryKey))
+key_for u H before later stamp e = where_known (is_number u stamp.maker) stamp.key
 
 -- the paper's number: always
 abbrev pub paper_for : PartFor (Option ℕ)

@@ -9,6 +9,7 @@ use Rattle.cr_base.specs.declared.entry.Entry.TheVariants.{Bid, Assigned, Unassi
 use Rattle.cr_base.specs.declared.entry.Entry.TheVariants.{Commented, Tagged, Decided, DeadlineSet}
 use Rattle.cr_base.specs.declared.entry.Stamp.{Stamp}
 use Rattle.cr_base.specs.declared.entry.Stamped.{Stamped}
+use Rattle.cr_base.specs.declared.retry.RetryKey.{RetryKey}
 use Rattle.cr_base.specs.declared.words.Decision.{Decision}
 use Rattle.cr_base.specs.declared.words.Kind.{Kind}
 use Rattle.cr_base.specs.declared.words.Phase.{Phase}
@@ -51,6 +52,7 @@ pub record Sighting : Type 0 where
   pub accepted : Option Bool
   pub at : Option ℕ
   pub until : Option (Option ℕ)
+  pub key : Option (Option RetryKey)
 
 -- ---- an entry with all its parts
 
@@ -88,11 +90,12 @@ blank kind = record {
   accepted = None;
   at = None;
   until = None;
+  key = None;
 }
 
--- one of this kind with the moment of its request, which every entry has
-abbrev pub dated : Stamp → EntryKind → Sighting
-dated stamp kind = record (blank kind) { at = Some stamp.at }
+-- one of this kind with the moment of its request and the key of its command, or that it has none, as every entry does
+abbrev pub under : Stamp → EntryKind → Sighting
+under stamp kind = record (blank kind) { at = Some stamp.at; key = Some stamp.key }
 
 -- The other parts that each kind of entry has; `by` is who made it, the ordinal of a comment without a label is 0, and
 -- `until` is a phase's deadline, or that it has none any more.
@@ -101,36 +104,36 @@ dated stamp kind = record (blank kind) { at = Some stamp.at }
 -- reject, or of one that isn't the last on its paper, none of them shows `accepted`.
 abbrev pub entire : Stamp → Entry → Sighting
 entire stamp (Registered user name digest) =
-    record (dated stamp kinds.Registered) { user = Some user; name = Some name; digest = Some digest }
-entire stamp (Named user role) = record (dated stamp kinds.Named) { user = Some user; role = Some role }
-entire stamp (PhaseSet phase) = record (dated stamp kinds.PhaseSet) { phase = Some phase }
-entire stamp (ModeSet mode) = record (dated stamp kinds.ModeSet) { mode = Some mode }
+    record (under stamp kinds.Registered) { user = Some user; name = Some name; digest = Some digest }
+entire stamp (Named user role) = record (under stamp kinds.Named) { user = Some user; role = Some role }
+entire stamp (PhaseSet phase) = record (under stamp kinds.PhaseSet) { phase = Some phase }
+entire stamp (ModeSet mode) = record (under stamp kinds.ModeSet) { mode = Some mode }
 entire stamp (Submitted paper title abstract) =
-    record (dated stamp kinds.Submitted) {
+    record (under stamp kinds.Submitted) {
       paper = Some paper;
       by = Some stamp.maker;
       title = Some title;
       abstract = Some abstract;
     }
-entire stamp (Coauthor paper user) = record (dated stamp kinds.Coauthor) { paper = Some paper; user = Some user }
+entire stamp (Coauthor paper user) = record (under stamp kinds.Coauthor) { paper = Some paper; user = Some user }
 entire stamp (Revised paper title abstract) =
-    record (dated stamp kinds.Revised) { paper = Some paper; title = Some title; abstract = Some abstract }
+    record (under stamp kinds.Revised) { paper = Some paper; title = Some title; abstract = Some abstract }
 entire stamp (Uploaded paper version content) =
-    record (dated stamp kinds.Uploaded) { paper = Some paper; version = Some version; content = Some content }
-entire stamp (Withdrawn paper) = record (dated stamp kinds.Withdrawn) { paper = Some paper }
+    record (under stamp kinds.Uploaded) { paper = Some paper; version = Some version; content = Some content }
+entire stamp (Withdrawn paper) = record (under stamp kinds.Withdrawn) { paper = Some paper }
 entire stamp (Conflict paper user on) =
-    record (dated stamp kinds.Conflict) { paper = Some paper; user = Some user; on = Some on }
+    record (under stamp kinds.Conflict) { paper = Some paper; user = Some user; on = Some on }
 entire stamp (Bid paper value) =
-    record (dated stamp kinds.Bid) { paper = Some paper; by = Some stamp.maker; value = Some value }
-entire stamp (Assigned paper user review_kind ordinal) = record (dated stamp kinds.Assigned) {
+    record (under stamp kinds.Bid) { paper = Some paper; by = Some stamp.maker; value = Some value }
+entire stamp (Assigned paper user review_kind ordinal) = record (under stamp kinds.Assigned) {
   paper = Some paper;
   user = Some user;
   review_kind = Some review_kind;
   ordinal = Some ordinal;
 }
 entire stamp (Unassigned paper user ordinal) =
-    record (dated stamp kinds.Unassigned) { paper = Some paper; user = Some user; ordinal = Some ordinal }
-entire stamp (Reviewed paper ordinal version form) = record (dated stamp kinds.Reviewed) {
+    record (under stamp kinds.Unassigned) { paper = Some paper; user = Some user; ordinal = Some ordinal }
+entire stamp (Reviewed paper ordinal version form) = record (under stamp kinds.Reviewed) {
   paper = Some paper;
   version = Some version;
   ordinal = Some ordinal;
@@ -141,7 +144,7 @@ entire stamp (Reviewed paper ordinal version form) = record (dated stamp kinds.R
   done = Some true;
 }
 entire stamp (Commented paper n ordinal text) =
-    record (dated stamp kinds.Commented) {
+    record (under stamp kinds.Commented) {
       paper = Some paper;
       by = Some stamp.maker;
       n = Some n;
@@ -149,16 +152,16 @@ entire stamp (Commented paper n ordinal text) =
       text = Some text;
     }
 entire stamp (Tagged paper tag on) =
-    record (dated stamp kinds.Tagged) { paper = Some paper; tag = Some tag; on = Some on }
+    record (under stamp kinds.Tagged) { paper = Some paper; tag = Some tag; on = Some on }
 entire stamp (Decided paper decision) =
-    record (dated stamp kinds.Decided) {
+    record (under stamp kinds.Decided) {
       paper = Some paper;
       decision = Some decision;
       outcome = Some true;
       accepted = Some true;
     }
 entire stamp (DeadlineSet phase until) =
-    record (dated stamp kinds.DeadlineSet) { phase = Some phase; until = Some until }
+    record (under stamp kinds.DeadlineSet) { phase = Some phase; until = Some until }
 
 -- ---- the parts that are shown
 
@@ -201,6 +204,7 @@ masked shows mine s = record {
   accepted = where_shown (shows part.accepted) s.accepted;
   at = where_shown (shows part.at) s.at;
   until = where_shown (shows part.until) s.until;
+  key = where_shown (shows part.key) s.key;
 }
 
 -- the entry with those parts alone

@@ -1,4 +1,4 @@
--- A bulk is its rows' commands, given one after another.
+-- A bulk is its rows' commands, given one after another. A bulk's number is one; its rows' commands have none.
 use Rattle.std.specs.Prelude.{ℕ, false, ◌≡◌, ◌+◌, List, [], ◌∷◌, ◌++◌, length, map, Some, Result, Ok, Err}
 use Rattle.std.specs.List.{flat_map}
 use Rattle.cr_base.specs.declared.bulk.Broken.TheVariants as broken
@@ -14,12 +14,12 @@ use Rattle.cr_base.specs.Calls.{BulkCall, call_by}
 use Rattle.cr_base.specs.Drawn.{Drawn, stamped}
 use Rattle.cr_base.specs.History.{History}
 use Rattle.cr_policy.specs.Judge.{judge, judge_row, judge_bulk}
-use Rattle.cr_policy.specs.Legal.{IsAllowed, step, IsBulkAllowed, Legal}
+use Rattle.cr_policy.specs.Legal.{unnumbered, IsAllowed, step, IsBulkAllowed, Legal}
 use Rattle.cr_policy.specs.View.{view}
 
 -- ---- the commands of rows
 
--- the command that a row tells, given under the bulk's stamp; nothing where it tells none
+-- the command that a row tells, given under this stamp; nothing where it tells none
 abbrev pub call_told : Stamp → Result Command Rule → List Call
 call_told stamp (Ok command) = call_by stamp command ∷ []
 call_told stamp (Err rule) = []
@@ -45,14 +45,15 @@ pub record LeadSingly (from : History) (stamp : Stamp) (rows : List BulkRow) (to
 
 -- ---- the bulk
 
--- the history, the marks that others follow aside
+-- the history, the marks that others follow and the numbers of its commands aside
 abbrev pub unmarked : History → History
-unmarked H = map (λ (e : Stamped). stamped e.stamp false e.entry) H
+unmarked H = map (λ (e : Stamped). stamped (unnumbered e.stamp) false e.entry) H
 
--- what the bulk adds is, marks aside, what its rows' commands add one after another, and its receipt counts them
+-- what the bulk adds is, these aside, what its rows' commands add one after another, without a number, at its moment;
+-- and its receipt counts them
 pub record IsItsRows (H : History) (bulk : BulkCall) (drawn : Drawn) : Type 0 where
   pub singly : History
-  pub leads : LeadSingly H bulk.stamp bulk.rows singly
+  pub leads : LeadSingly H (unnumbered bulk.stamp) bulk.rows singly
   pub same : unmarked (H ++ drawn.group) ≡ unmarked singly
   pub receipt : drawn.receipt ≡ receipts.Rows (length bulk.rows)
 
@@ -65,8 +66,8 @@ pub record IsFirstBroken (H : History) (bulk : BulkCall) (n : ℕ) (rule : Rule)
   pub rows : bulk.rows ≡ before ++ row ∷ after
   pub number : n ≡ length before + 1
   pub singly : History
-  pub leads : LeadSingly H bulk.stamp before singly
-  pub breaks : judge_row (view (Some bulk.stamp.maker) singly) bulk.stamp row ≡ Err rule
+  pub leads : LeadSingly H (unnumbered bulk.stamp) before singly
+  pub breaks : judge_row (view (Some bulk.stamp.maker) singly) (unnumbered bulk.stamp) row ≡ Err rule
 
 -- BulkIsItsRows: on a legal history a bulk that is accepted is its rows one after another, and one that is refused for
 -- a row is refused for the first that is broken behind those before it

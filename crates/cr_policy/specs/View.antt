@@ -8,7 +8,7 @@ use Rattle.cr_policy.specs.Sighting.{Sighting, sighting}
 use Rattle.cr_policy.specs.Triggers.{Reader, reader, Around, position_of, TriggerRow}
 use Rattle.cr_policy.specs.Triggers.{rows, user_named, ◌see◌, applies_any, shows}
 
--- the rows of the table, and last the entry's own maker's, who sees it whole, and when she made it
+-- the rows of the table, and last the entry's own maker's, who sees it whole, and when she made it and by which number
 abbrev pub rows_at : Reader → Around → Stamped → List TriggerRow
 rows_at r at e = rows r (position_of at e.entry) e.stamp.maker e.entry ++ user_named r e.stamp.maker see own_parts ∷ []
 

@@ -18,7 +18,7 @@ use Rattle.cr_policy.specs.ViewFacts.{only, is_user, is_kind}
 use Rattle.cr_policy.specs.ShownTo.{PartFor, each_told, chairs_committee, is_past_reviewing}
 use Rattle.cr_policy.specs.ShownTo.{is_past_discussion, hides_reviewers, names_reviewers}
 use Rattle.cr_policy.specs.ShownTo.{serves, is_eligible, oversees, administers, discusses, is_in_programme, appears}
-use Rattle.cr_policy.specs.ShownTo.{is_chairs, is_setters, kind_for, mark_for, moment_for, paper_for}
+use Rattle.cr_policy.specs.ShownTo.{is_chairs, is_setters, kind_for, mark_for, moment_for, key_for, paper_for}
 use Rattle.cr_policy.specs.ShownTo.{user_for, name_for}
 use Rattle.cr_policy.specs.ShownTo.{digest_for, role_for, phase_for, until_for, mode_for, maker_for}
 use Rattle.cr_policy.specs.ShownTo.{title_for, abstract_for, version_for, content_for}
@@ -43,6 +43,10 @@ MarksShown = Shows (λ (s : Sighting). s.mine) mark_for
 -- and of these alone she is shown the moment of the request
 abbrev pub MomentsShown : Type 0
 MomentsShown = Shows (λ (s : Sighting). s.at) moment_for
+
+-- and of these alone the number of the command and the mark of its request, or that it has none
+abbrev pub KeysShown : Type 0
+KeysShown = Shows (λ (s : Sighting). s.key) key_for
 
 abbrev pub PapersShown : Type 0
 PapersShown = Shows (λ (s : Sighting). s.paper) paper_for
@@ -273,9 +277,15 @@ pub record Outsider : Type 0 where
   pub announced : Bool
   pub appearing : Bool
 
--- a sighting of this kind with its paper alone, and where it is hers that and its moment
+-- a sighting of this kind with its paper alone, and where it is hers that, its moment and its number
 abbrev pub as_hers : EntryKind → Sighting → Sighting
-as_hers kind s = record (blank kind) { mine = s.mine; paper = s.paper; at = if s.mine then s.at else None }
+as_hers kind s =
+    record (blank kind) {
+      mine = s.mine;
+      paper = s.paper;
+      at = if s.mine then s.at else None;
+      key = if s.mine then s.key else None;
+    }
 
 -- all that a sighting on a paper has for her: the number; the title where she serves, and that it is withdrawn; the
 -- whole of a conflict or an assignment that names her; the whole of what she made; where she administers the paper

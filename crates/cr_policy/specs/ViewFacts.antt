@@ -43,11 +43,11 @@ is_text text None = false
 is_text text (Some shown) = bytes_eq shown text
 
 -- the phase that is shown is this one
-abbrev pub opens_phase : Phase → Option Phase → Bool
-opens_phase first None = false
-opens_phase first (Some phase) = is_phase phase first
+abbrev pub shows_phase : Phase → Option Phase → Bool
+shows_phase first None = false
+shows_phase first (Some phase) = is_phase phase first
 
--- the deadline that is shown, of a phase that is
+-- the deadline that is shown, of the phase that is shown
 abbrev pub deadline_shown : Phase → Option Phase → Option (Option ℕ) → List (Option ℕ)
 deadline_shown phase (Some set) (Some until) = deadline_given phase set until
 deadline_shown phase _ _ = []
@@ -206,11 +206,11 @@ accepted_seen p s = only (is_number s.paper p) (of_kind kinds.Decided s (listed 
 
 -- whether it opens the bidding
 abbrev pub bidding_seen : Sighting → Bool
-bidding_seen s = is_kind kinds.PhaseSet s && opens_phase Bidding s.phase
+bidding_seen s = is_kind kinds.PhaseSet s && shows_phase Bidding s.phase
 
 -- and whether it opens the discussion
 abbrev pub discussion_seen : Sighting → Bool
-discussion_seen s = is_kind kinds.PhaseSet s && opens_phase Discussion s.phase
+discussion_seen s = is_kind kinds.PhaseSet s && shows_phase Discussion s.phase
 
 -- the title, the abstract that it gives the paper
 abbrev pub title_seen : ℕ → Sighting → List (List ℕ)

@@ -5,6 +5,7 @@ use Rattle.cr_base.specs.declared.bulk.BulkRow.{BulkRow}
 use Rattle.cr_base.specs.declared.entry.Entry.TheVariants.{Registered, Named, PhaseSet, ModeSet, Submitted}
 use Rattle.cr_base.specs.declared.entry.Entry.TheVariants.{Conflict, Assigned, Unassigned, Tagged}
 use Rattle.cr_base.specs.declared.entry.EntryKind.TheVariants as kinds
+use Rattle.cr_base.specs.declared.retry.RetryKey.{RetryKey}
 use Rattle.cr_base.specs.declared.words.Kind.TheVariants.{Primary, Pc}
 use Rattle.cr_base.specs.declared.words.Mode.TheVariants.{Anonymous}
 use Rattle.cr_base.specs.declared.words.Phase.TheVariants.{Submission, Bidding}
@@ -25,12 +26,20 @@ morning = 1772442000
 abbrev pub morning_of_own : Bool → Option ℕ
 morning_of_own mine = if mine then Some morning else None
 
+-- no command here has a number, and that is shown there too
+abbrev pub no_key_of_own : Bool → Option (Option RetryKey)
+no_key_of_own mine = if mine then Some None else None
+
+-- one that a command of the small conference has (Conference)
+abbrev pub some_key : RetryKey
+some_key = record { number = 7; mark = codes "thirty-two bytes of bob's digest" }
+
 -- alice registers and so is a chair, then bob registers; these are the digests of their secrets
 abbrev pub two_registrations : List ℕ → List ℕ → History
 two_registrations alice bob =
-    stamped (stamp_by 1 morning) true (Registered 1 (codes "alice") alice)
-    ∷ stamped (stamp_by 1 morning) false (Named 1 Chair)
-    ∷ stamped (stamp_by 2 morning) false (Registered 2 (codes "bob") bob)
+    stamped (stamp_by 1 morning None) true (Registered 1 (codes "alice") alice)
+    ∷ stamped (stamp_by 1 morning None) false (Named 1 Chair)
+    ∷ stamped (stamp_by 2 morning None) false (Registered 2 (codes "bob") bob)
     ∷ []
 
 -- what a registration shows: the digest to its maker alone
@@ -42,11 +51,18 @@ account_shown user name digest mine =
       name = Some name;
       digest = digest;
       at = morning_of_own mine;
+      key = no_key_of_own mine;
     }
 
 abbrev pub named_chair : ℕ → Bool → Sighting
 named_chair user mine =
-    record (blank kinds.Named) { mine = mine; user = Some user; role = Some Chair; at = morning_of_own mine }
+    record (blank kinds.Named) {
+      mine = mine;
+      user = Some user;
+      role = Some Chair;
+      at = morning_of_own mine;
+      key = no_key_of_own mine;
+    }
 
 -- what nobody sees of the two registrations: no digest
 abbrev pub seen_by_nobody : View
@@ -64,25 +80,27 @@ seen_by_alice digest =
 -- then alice sets the mode
 abbrev pub made_anonymous : List ℕ → List ℕ → History
 made_anonymous alice bob =
-    two_registrations alice bob ++ stamped (stamp_by 1 morning) false (ModeSet Anonymous) ∷ []
+    two_registrations alice bob ++ stamped (stamp_by 1 morning None) false (ModeSet Anonymous) ∷ []
 
 -- and the phase
 abbrev pub submission_opened : List ℕ → List ℕ → History
 submission_opened alice bob =
-    made_anonymous alice bob ++ stamped (stamp_by 1 morning) false (PhaseSet Submission) ∷ []
+    made_anonymous alice bob ++ stamped (stamp_by 1 morning None) false (PhaseSet Submission) ∷ []
 
 -- and bob submits a paper
 abbrev pub one_submission : List ℕ → List ℕ → History
 one_submission alice bob =
     submission_opened alice bob
-    ++ stamped (stamp_by 2 morning) false (Submitted 1 (codes "Proofs") (codes "We prove.")) ∷ []
+    ++ stamped (stamp_by 2 morning None) false (Submitted 1 (codes "Proofs") (codes "We prove.")) ∷ []
 
 -- the mode and the phase that alice set, as she sees them
 abbrev pub mode_shown : Sighting
-mode_shown = record (blank kinds.ModeSet) { mine = true; mode = Some Anonymous; at = Some morning }
+mode_shown =
+    record (blank kinds.ModeSet) { mine = true; mode = Some Anonymous; at = Some morning; key = Some None }
 
 abbrev pub submission_set : Sighting
-submission_set = record (blank kinds.PhaseSet) { mine = true; phase = Some Submission; at = Some morning }
+submission_set =
+    record (blank kinds.PhaseSet) { mine = true; phase = Some Submission; at = Some morning; key = Some None }
 
 -- a submission of which its kind and its paper are shown, and nothing else
 abbrev pub paper_seen_alone : Sighting
@@ -98,6 +116,7 @@ paper_seen_by_author =
       title = Some (codes "Proofs");
       abstract = Some (codes "We prove.");
       at = Some morning;
+      key = Some None;
     }
 
 -- what alice sees, a chair, before the bidding
@@ -110,8 +129,8 @@ submission_seen_by_bob digest =
     account_shown 1 (codes "alice") None false
     ∷ named_chair 1 false
     ∷ account_shown 2 (codes "bob") (Some digest) true
-    ∷ record mode_shown { mine = false; at = None }
-    ∷ record submission_set { mine = false; at = None }
+    ∷ record mode_shown { mine = false; at = None; key = None }
+    ∷ record submission_set { mine = false; at = None; key = None }
     ∷ paper_seen_by_author
     ∷ []
 
@@ -121,27 +140,27 @@ submission_seen_by_bob digest =
 abbrev pub four_registrations : List ℕ → List ℕ → List ℕ → List ℕ → History
 four_registrations alice bob carol dave =
     one_submission alice bob
-    ++ stamped (stamp_by 3 morning) false (Registered 3 (codes "carol") carol)
-    ∷ stamped (stamp_by 4 morning) false (Registered 4 (codes "dave") dave)
+    ++ stamped (stamp_by 3 morning None) false (Registered 3 (codes "carol") carol)
+    ∷ stamped (stamp_by 4 morning None) false (Registered 4 (codes "dave") dave)
     ∷ []
 
 -- alice names both members
 abbrev pub two_members : List ℕ → List ℕ → List ℕ → List ℕ → History
 two_members alice bob carol dave =
     four_registrations alice bob carol dave
-    ++ stamped (stamp_by 1 morning) false (Named 3 Member)
-    ∷ stamped (stamp_by 1 morning) false (Named 4 Member)
+    ++ stamped (stamp_by 1 morning None) false (Named 3 Member)
+    ∷ stamped (stamp_by 1 morning None) false (Named 4 Member)
     ∷ []
 
 -- bob, the author, declares carol in conflict with his paper
 abbrev pub one_conflict : List ℕ → List ℕ → List ℕ → List ℕ → History
 one_conflict alice bob carol dave =
-    two_members alice bob carol dave ++ stamped (stamp_by 2 morning) false (Conflict 1 3 true) ∷ []
+    two_members alice bob carol dave ++ stamped (stamp_by 2 morning None) false (Conflict 1 3 true) ∷ []
 
 -- and alice opens the bidding
 abbrev pub bidding_opened : List ℕ → List ℕ → List ℕ → List ℕ → History
 bidding_opened alice bob carol dave =
-    one_conflict alice bob carol dave ++ stamped (stamp_by 1 morning) false (PhaseSet Bidding) ∷ []
+    one_conflict alice bob carol dave ++ stamped (stamp_by 1 morning None) false (PhaseSet Bidding) ∷ []
 
 -- ---- a bulk
 
@@ -160,10 +179,10 @@ four_rows =
 -- the entries of the bulk: dave's second label is another
 abbrev pub rows_added : History
 rows_added =
-    stamped (stamp_by 1 morning) true (Assigned 1 4 Primary 1)
-    ∷ stamped (stamp_by 1 morning) true (Unassigned 1 4 1)
-    ∷ stamped (stamp_by 1 morning) true (Assigned 1 4 Pc 2)
-    ∷ stamped (stamp_by 1 morning) false (Tagged 1 (codes "odd") true)
+    stamped (stamp_by 1 morning None) true (Assigned 1 4 Primary 1)
+    ∷ stamped (stamp_by 1 morning None) true (Unassigned 1 4 1)
+    ∷ stamped (stamp_by 1 morning None) true (Assigned 1 4 Pc 2)
+    ∷ stamped (stamp_by 1 morning None) false (Tagged 1 (codes "odd") true)
     ∷ []
 
 -- rows of which the third breaks a rule: dave is assigned already

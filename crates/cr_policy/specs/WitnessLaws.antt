@@ -69,10 +69,10 @@ OneConflict =
 -- with a bulk of the chair's after that the history is legal; another bulk is refused for its third row, which
 -- breaks a rule only behind the second
 pub record IsBulkWitness (before after : History) : Type 0 where
-  pub accepted : judge_bulk (view (Some 1) before) (bulk_by 1 morning four_rows)
+  pub accepted : judge_bulk (view (Some 1) before) (bulk_by 1 morning None four_rows)
       ≡ Ok (record { group = rows_added; receipt = receipts.Rows 4 })
   pub legal : Legal after
-  pub refused : judge_bulk (view (Some 1) before) (bulk_by 1 morning twice_assigned)
+  pub refused : judge_bulk (view (Some 1) before) (bulk_by 1 morning None twice_assigned)
       ≡ Err (broken.Row 3 rules.AlreadyAssigned)
 
 -- whatever the digests are

@@ -13,11 +13,11 @@ ghost use Rattle.cr_policy.specs.ConferenceLaws.{ViewsInBidding, ViewsInReviewin
 ghost use Rattle.cr_policy.specs.ConferenceLaws.{ViewsInDiscussion, ViewsAtNotification, ViewsAtClose};
 ghost use Rattle.cr_policy.specs.ConferenceLaws.{ViewsReversed, TwinsAlike, AsidesHidden};
 ghost use Rattle.cr_policy.specs.ConferenceLaws.{VerdictsHidden};
-ghost use Rattle.cr_policy.specs.HiddenPayload.{HiddenPayload, MomentsUnseen, Removal};
+ghost use Rattle.cr_policy.specs.HiddenPayload.{HiddenPayload, StampsUnseen, Removal};
 ghost use Rattle.cr_policy.specs.Migration.{Migrates};
 ghost use Rattle.cr_policy.specs.HiddenPairs.{CommentRemovable, VersionRemovable};
 ghost use Rattle.cr_policy.specs.HiddenPairs.{DigestHidden, NamerHidden, ModeSetterHidden};
-ghost use Rattle.cr_policy.specs.HiddenPairs.{PhaseSetterHidden, DeadlineSetterHidden, MomentHidden};
+ghost use Rattle.cr_policy.specs.HiddenPairs.{PhaseSetterHidden, DeadlineSetterHidden, MomentHidden, KeyHidden};
 ghost use Rattle.cr_policy.specs.HiddenPairs.{TitleHidden, AbstractHidden};
 ghost use Rattle.cr_policy.specs.HiddenPairs.{SubmitterHidden, CoauthorHidden, RevisionHidden};
 ghost use Rattle.cr_policy.specs.HiddenPairs.{ReviserHidden, ContentHidden, UploaderHidden};
@@ -28,6 +28,7 @@ ghost use Rattle.cr_policy.specs.HiddenPairs.{SeatHidden, AssignerHidden, Unassi
 ghost use Rattle.cr_policy.specs.HiddenPairs.{UnassignerHidden, FormHidden, FormHiddenFromMembers};
 ghost use Rattle.cr_policy.specs.HiddenPairs.{ToPcHidden, ReviewerHidden, CommentHidden};
 ghost use Rattle.cr_policy.specs.HiddenPairs.{WriterHidden, DecisionHidden, DeciderHidden};
+ghost use Rattle.cr_policy.specs.Laws.{KeptFromView, NumbersOnce};
 ghost use Rattle.cr_policy.specs.Laws.{StandingFromView, PublicFactsFromView};
 ghost use Rattle.cr_policy.specs.Laws.{ViewSuffices, DeclaredFromView, LegalKeeps};
 ghost use Rattle.cr_policy.specs.SingleRows.{BulkIsItsRows};
@@ -39,7 +40,7 @@ ghost use Rattle.cr_policy.specs.MayDo.{PermissionsAsSaid};
 ghost use Rattle.cr_policy.specs.MayRead.{ReadingAsSaid};
 ghost use Rattle.cr_policy.specs.Laws.{DigestsAreOwn};
 ghost use Rattle.cr_policy.specs.WitnessLaws.{TwoRegistrations, DigestsHidden, OneSubmission, OneConflict, OneBulk};
-ghost use Rattle.cr_policy.specs.ViewBounds.{EntriesShown, MarksShown, MomentsShown, PapersShown};
+ghost use Rattle.cr_policy.specs.ViewBounds.{EntriesShown, MarksShown, MomentsShown, KeysShown, PapersShown};
 ghost use Rattle.cr_policy.specs.ViewBounds.{UsersShown, NamesShown, DigestsShown};
 ghost use Rattle.cr_policy.specs.ViewBounds.{RolesShown, PhasesShown, DeadlinesShown, ModesShown};
 ghost use Rattle.cr_policy.specs.ViewBounds.{MakersShown, TitlesShown, AbstractsShown};
@@ -67,35 +68,37 @@ pub fn law_standing()
     ensures public { (u : Option ℕ) (H : History) → PublicFactsFromView u H }
 {}
 
-/// What checks of role on the tables of a legal history give is what the caller's view alone gives:
-/// of every command and of every bulk its broken rule, with the number of a bulk's row that breaks one, or the entries
-/// that it adds and its receipt, of every query its answer, for every registered user, and for nobody where no login
-/// is wanted. A bulk's rows are judged one behind the other, each on the view with the entries of those before it,
-/// which are the caller's own. The accepted papers, a paper's page, its content, its reviews and the comments on it
-/// are among the answers: what the caller's standing lets her have, its texts, its authors, its versions, whether it
-/// is withdrawn, who is declared in conflict with it and whom its authors declared, her own bid, label and forms, all
-/// bids, who reviews it and has written of it, the forms that are hers to read, the comments with their writers or
-/// their labels, and the tags that are for her, is in her view, and no more is needed.
+/// What checks of role on the tables of a legal history give is what the caller's view alone gives: of every command
+/// and of every bulk its broken rule, with the number of a bulk's row that breaks one, or the entries that it adds and
+/// its receipt, of every query its answer, for every registered user, and for nobody where no login is wanted; and so
+/// is what a command or a bulk comes to that has a number, by these and by what the history keeps of it. A bulk's rows
+/// are judged one behind the other, each on the view with the entries of those before it, which are the caller's own.
+/// The accepted papers, a paper's page, its content, its reviews and the comments on it are among the answers: what
+/// the caller's standing lets her have, its texts, its authors, its versions, whether it is withdrawn, who is declared
+/// in conflict with it and whom its authors declared, her own bid, label and forms, all bids, who reviews it and has
+/// written of it, the forms that are hers to read, the comments with their writers or their labels, and the tags that
+/// are for her, is in her view, and no more is needed.
 pub fn law_view_suffices()
     ensures { ViewSuffices }
 {}
 
 /// A bulk is its rows one after another, on a legal history. Where it is accepted, each row tells a command; given
-/// singly, one after another, these are all accepted, and what they add is what the bulk adds, but for the marks that
-/// another entry follows. Where it is refused for a row, the commands of those before it are accepted singly, and
-/// behind them that row breaks the rule that is told.
+/// singly, one after another, without a number, these are all accepted, and what they add is what the bulk adds, but
+/// for the marks that another entry follows and for its number. Where it is refused for a row, the commands of those
+/// before it are accepted singly, and behind them that row breaks the rule that is told.
 pub fn law_bulk()
     ensures { BulkIsItsRows }
 {}
 
 /// Who may do what, and what comes of it, said a second time and in a committee's words: a sentence for each command,
-/// each query and each bulk, over the facts of a history. On every legal history, whoever calls, and when: a command is
-/// accepted, and a query answered, exactly where its sentence holds; and a bulk exactly where its caller is a chair,
-/// the committee works, and she may do what each row asks for when its turn comes, of which none is a conflict of her
-/// own. An accepted command adds the entries that its line says, by its maker and at its moment, all but the last
-/// with the mark that another follows, and is answered what its line says. Each of the eight actions of a row asks
-/// for the command that its line says. No list of checks is read there, nor what these lists read of phases, roles
-/// and accepted papers; which of the rules is told, where a sentence doesn't hold, is left open.
+/// each query and each bulk, over the facts of a history. On every legal history, whoever calls, when, and by whatever
+/// number: a command is accepted, and a query answered, exactly where its sentence holds; and a bulk exactly where its
+/// caller is a chair, the committee works, and she may do what each row asks for when its turn comes, of which none is
+/// a conflict of her own. An accepted command adds the entries that its line says, by its maker, at its moment and by
+/// its number, all but the last with the mark that another follows, and is answered what its line says. Each of the
+/// eight actions of a row asks for the command that its line says. No list of checks is read there, nor what these
+/// lists read of phases, roles and accepted papers; which of the rules is told, where a sentence doesn't hold, is left
+/// open.
 pub fn law_permissions()
     ensures commands { PermissionsAsSaid }
     ensures reading { ReadingAsSaid }
@@ -126,12 +129,13 @@ pub fn law_declared()
     ensures { DeclaredFromView }
 {}
 
-/// What every legal history keeps. Each entry is within its bounds, so that its row spells it; each fits the tables
-/// of what stands before it; each is in order there: who registers makes the entry herself and every other maker has
-/// registered before, users and papers are numbered as they come, names are new, phases go on by one, and what is
-/// set, submitted, named or declared is so in its phase, by whom may. No command's entries are cut off, nor a bulk's,
-/// and all of them are of one maker and one moment; and authors declare conflicts before the bidding. A history is
-/// legal that commands and bulks lead to. So a digest is its user's alone: no view shows it to anybody else.
+/// What every legal history keeps. Each entry is within its bounds, so that its row spells it; each fits the tables of
+/// what stands before it; each is in order there: who registers makes the entry herself and every other maker has
+/// registered before, users and papers are numbered as they come, names are new, phases go on by one, and what is set,
+/// submitted, named or declared is so in its phase, by whom may. No command's entries are cut off, nor a bulk's, and
+/// all of them are of one maker, one moment and one number; and authors declare conflicts before the bidding. A
+/// history is legal that commands and bulks lead to. So a digest is its user's alone: no view shows it to anybody
+/// else.
 pub fn law_legal()
     ensures invariants { LegalKeeps }
     ensures own_digests { DigestsAreOwn }
@@ -152,17 +156,17 @@ pub fn law_witness()
     ensures bulk { OneBulk }
 {}
 
-/// What each kind of reader sees of a small conference, entry by entry and all of it: nobody, an
-/// account, an author, a co-author, a member in no conflict, one who reviews, a chair who does, and a member and a
-/// chair in conflict, of three papers with every kind of entry, in each mode, before the bidding, in it, in the
-/// reviewing, in the discussion, at the notification and at the close. A paper is rejected first and accepted then,
-/// one is rejected, and one is withdrawn; and where the two are decided the other way round, it is told what is seen
-/// at the close by who isn't on the committee.
+/// What each kind of reader sees of a small conference, entry by entry and all of it: nobody, an account, an author, a
+/// co-author, a member in no conflict, one who reviews, a chair who does, and a member and a chair in conflict, of
+/// three papers with every kind of entry, in each mode, before the bidding, in it, in the reviewing, in the
+/// discussion, at the notification and at the close. A paper is rejected first and accepted then, one is rejected, and
+/// one is withdrawn; and where the two are decided the other way round, it is told what is seen at the close by who
+/// isn't on the committee. One submission has a number, which its maker alone is shown.
 ///
-/// It has a twin, in which another member reviews a paper and writes its forms in the
-/// first one's place: what the paper's authors see of the two is the same, up to the discussion, and later but in
-/// the open mode; and so is what a member and a chair in conflict with the paper see, in all phases. Whatever a
-/// private tag, what a form tells the committee alone and a comment are, all four see the same in all phases.
+/// It has a twin, in which another member reviews a paper and writes its forms in the first one's place: what the
+/// paper's authors see of the two is the same, up to the discussion, and later but in the open mode; and so is what a
+/// member and a chair in conflict with the paper see, in all phases. Whatever a private tag, what a form tells the
+/// committee alone and a comment are, all four see the same in all phases.
 ///
 /// Whatever the chairs decide, nobody, accounts and authors see the same before the notification, and so do a member
 /// and a chair in conflict with a paper, whatever is decided of that one. From the notification on they all do where
@@ -185,20 +189,22 @@ pub fn law_views()
 /// What a view shows, neither more nor less, of every history, legal or not, for every user and for nobody. The first
 /// clauses go part by part: a view has one sighting of each entry that the user is told of, and of each part exactly
 /// what she may know, by who wrote the paper, who is on the committee, who is declared in conflict, phase and mode;
-/// when an entry was made, its maker alone. The last say what that leaves: of bids and of who reviews a paper little,
-/// for all but the chairs in no conflict with it; nothing that stands in another's review before the discussion, and
-/// for authors none before the notification and never what is for the committee; no comments and tags of others for
-/// authors; who comments, in the anonymous mode, for such chairs alone; private tags for whoever sets them, and tags
-/// for chairs for such chairs; no decision before the notification for all but those who discuss the paper, and for
-/// all but them and its authors never more than that it is accepted; of a paper's titles, abstracts and contents the
-/// last one, for all but its authors, and of decisions for all but those who discuss it; little of a paper for
-/// outsiders, who neither wrote it nor are eligible for it, so in conflict, or on no committee, or before the
-/// bidding; for strangers what is public and their own entries; and for nobody what is public, an accepted paper's
-/// title and authors among it, and once the conference is closed its abstract and its content.
+/// when an entry was made, and by a command of which number, its maker alone. The last say what that leaves: of bids
+/// and of who reviews a paper little, for all but the chairs in no conflict with it; nothing that stands in another's
+/// review before the discussion, and for authors none before the notification and never what is for the committee; no
+/// comments and tags of others for authors; who comments, in the anonymous mode, for such chairs alone; private tags
+/// for whoever sets them, and tags for chairs for such chairs; no decision before the notification for all but those
+/// who discuss the paper, and for all but them and its authors never more than that it is accepted; of a paper's
+/// titles, abstracts and contents the last one, for all but its authors, and of decisions for all but those who
+/// discuss it; little of a paper for outsiders, who neither wrote it nor are eligible for it, so in conflict, or on no
+/// committee, or before the bidding; for strangers what is public and their own entries; and for nobody what is
+/// public, an accepted paper's title and authors among it, and once the conference is closed its abstract and its
+/// content.
 pub fn law_bounds()
     ensures entries { EntriesShown }
     ensures marks { MarksShown }
     ensures moments { MomentsShown }
+    ensures keys { KeysShown }
     ensures papers { PapersShown }
     ensures users { UsersShown }
     ensures names { NamesShown }
@@ -252,11 +258,12 @@ pub fn law_bounds()
 /// unauthenticated caller, of what she isn't shown. Their entries are alike one by one: of the same kind and on the
 /// same paper, with the same label, version, number and tag. What differs is a part that the table doesn't show her,
 /// or who made an entry or is named by it, where she is neither. The same papers are accepted, and of each conflict
-/// with a paper of hers it is the same whether an author of that declared it. They need not be legal. The second clause
-/// says it of moments: whenever others made their entries, she sees the same.
+/// with a paper of hers it is the same whether an author of that declared it. They need not be legal. The second
+/// clause says it of moments and of the numbers of commands: whenever others made their entries, and by whatever
+/// numbers, she sees the same.
 pub fn law_hidden_payload()
     ensures payload { HiddenPayload }
-    ensures moments { MomentsUnseen }
+    ensures stamps { StampsUnseen }
 {}
 
 /// An entry that shows a user nothing can be taken out of a history, where the same papers stay accepted: she sees the
@@ -267,22 +274,32 @@ pub fn law_removed()
     ensures { Removal }
 {}
 
-/// A store that kept no moments of requests is migrated to one that does: a legal history of the kinds that it has is
-/// legal as well where each request came at the first moment of all, and its rows are those of the history with that
-/// moment in each. So what such a store has is opened as it was.
+/// What a user had accepted under the numbers of her commands can be read off what she sees, whatever the history: the
+/// mark of the request, what it is answered, and how many entries it added. On a legal history each of her numbers is
+/// that of one command's entries, which stand one behind another.
+pub fn law_retries()
+    ensures kept { KeptFromView }
+    ensures once { NumbersOnce }
+{}
+
+/// A store that kept no moments of requests, or no numbers of commands, is migrated to one that does: a legal history
+/// of the kinds that it has is legal as well where no command had a number and, of the first version, each request
+/// came at the first moment of all, and its rows are those of the history so changed. So what such a store has is
+/// opened as it was.
 pub fn law_migrated()
     ensures { Migrates }
 {}
 
-/// For each kind of entry, and each part of it that is hidden from some, two legal histories that differ there and meet
-/// the conditions of [`law_hidden_payload`] for one user, who sees the same of both, while another user doesn't: the
-/// digest of a registration; who named a member, and who set a mode, a phase or a deadline, and when; a paper's title
-/// and abstract, and in the anonymous mode its authors; a revision's texts and an upload's content, where others
-/// follow, and who made them; who withdrew; whom an author declares in conflict, whether a chair turns that off, and
-/// which author declared; a bid and whose it is; whether a private tag is on and whose it is; who is assigned, as what
-/// and by whom, and who is unassigned and by whom; a form before it is read, what it tells the committee alone, and in
-/// the anonymous mode who wrote it; a comment and who wrote it; and a decision and who made it. The last two clauses
-/// are of [`law_removed`]: a comment, and the last version of a content, whose place another takes.
+/// For each kind of entry, and each part of it that is hidden from some, two legal histories that differ there and
+/// meet the conditions of [`law_hidden_payload`] for one user, who sees the same of both, while another user doesn't:
+/// the digest of a registration; who named a member, and who set a mode, a phase or a deadline, when, and by a command
+/// of which number; a paper's title and abstract, and in the anonymous mode its authors; a revision's texts and an
+/// upload's content, where others follow, and who made them; who withdrew; whom an author declares in conflict,
+/// whether a chair turns that off, and which author declared; a bid and whose it is; whether a private tag is on and
+/// whose it is; who is assigned, as what and by whom, and who is unassigned and by whom; a form before it is read,
+/// what it tells the committee alone, and in the anonymous mode who wrote it; a comment and who wrote it; and a
+/// decision and who made it. The last two clauses are of [`law_removed`]: a comment, and the last version of a
+/// content, whose place another takes.
 pub fn law_hidden_pairs()
     ensures digests { DigestHidden }
     ensures namers { NamerHidden }
@@ -290,6 +307,7 @@ pub fn law_hidden_pairs()
     ensures phase_setters { PhaseSetterHidden }
     ensures deadline_setters { DeadlineSetterHidden }
     ensures moments { MomentHidden }
+    ensures keys { KeyHidden }
     ensures titles { TitleHidden }
     ensures abstracts { AbstractHidden }
     ensures submitters { SubmitterHidden }

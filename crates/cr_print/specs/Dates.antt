@@ -6,7 +6,7 @@ use Rattle.httpdate.specs.Text.{imf_fixdate}
 use Rattle.httpdate.specs.declared.parts.Parts.{Parts}
 use Rattle.cr_json.specs.Times.{CivilTime, civil_of}
 
--- a day and a time as `httpdate` has them, with the day's place in its week: so many days since 1970-01-01 are before it
+-- a day and a time as `httpdate` has them, with the day's place in its week; `days` since 1970-01-01 are before it
 abbrev pub parts_on : ℕ → CivilTime → Parts
 parts_on days t = record {
   year = t.year;

@@ -9,13 +9,14 @@ use Rattle.cr_base.specs.declared.reply.Rule.TheVariants.{NotAMember, Conflict, 
 use Rattle.cr_base.specs.declared.reply.Rule.TheVariants.{NoContent, AuthorConflict, TargetConflict}
 use Rattle.cr_base.specs.declared.reply.Rule.TheVariants.{AlreadyAssigned, LabelsSpent, NotAssigned}
 use Rattle.cr_base.specs.declared.reply.Rule.TheVariants.{HasReview, NotReviewer, QuotaComments}
-use Rattle.cr_base.specs.declared.reply.Rule.TheVariants.{BadAction, BadTag, BulkSelf, Late}
+use Rattle.cr_base.specs.declared.reply.Rule.TheVariants.{BadAction, BadTag, BulkSelf, Late, NumberUsed}
 use Rattle.cr_http.specs.declared.refusal.Refusal.{Refusal}
 use Rattle.cr_http.specs.declared.refusal.Refusal.TheVariants.{HeadTooLarge, BadHttp, NoHost}
 use Rattle.cr_http.specs.declared.refusal.Refusal.TheVariants.{LengthRequired, BadLength, TooLarge}
 use Rattle.cr_print.specs.declared.refused.Refused.{Refused}
 use Rattle.cr_print.specs.declared.refused.Refused.TheVariants.{Closing, NoRoute, WrongMethod, Unauthorized}
-use Rattle.cr_print.specs.declared.refused.Refused.TheVariants.{BadBody, BadQuery, Rule, Row, KeeperFault, NoMemory}
+use Rattle.cr_print.specs.declared.refused.Refused.TheVariants.{BadNumber, BadBody, BadQuery, Rule, Row}
+use Rattle.cr_print.specs.declared.refused.Refused.TheVariants.{KeeperFault, NoMemory}
 use Rattle.cr_print.specs.declared.head.Extra.{Extra}
 use Rattle.cr_print.specs.declared.head.Extra.TheVariants.{Nothing, Challenge, Allow}
 use Rattle.cr_print.specs.declared.status.Status.{Status}
@@ -59,12 +60,14 @@ rule_name BadAction = codes "bad_action"
 rule_name BadTag = codes "bad_tag"
 rule_name BulkSelf = codes "bulk_self"
 rule_name Late = codes "late"
+rule_name NumberUsed = codes "number_used"
 
 unfoldable pub refused_name : Refused → List ℕ
 refused_name (Closing refusal) = closing_name refusal
 refused_name NoRoute = codes "no_route"
 refused_name (WrongMethod resource) = codes "wrong_method"
 refused_name Unauthorized = codes "unauthorized"
+refused_name BadNumber = codes "bad_number"
 refused_name BadBody = codes "bad_body"
 refused_name (BadQuery offset) = codes "bad_query"
 refused_name (Rule rule) = rule_name rule
@@ -109,12 +112,14 @@ rule_status BadAction = statuses.Conflict
 rule_status BadTag = statuses.Conflict
 rule_status BulkSelf = statuses.Conflict
 rule_status Late = statuses.Conflict
+rule_status NumberUsed = statuses.Conflict
 
 unfoldable pub refused_status : Refused → Status
 refused_status (Closing refusal) = closing_status refusal
 refused_status NoRoute = statuses.NotFound
 refused_status (WrongMethod resource) = statuses.MethodNotAllowed
 refused_status Unauthorized = statuses.Unauthorized
+refused_status BadNumber = statuses.BadRequest
 refused_status BadBody = statuses.BadRequest
 refused_status (BadQuery offset) = statuses.BadRequest
 refused_status (Rule rule) = rule_status rule
@@ -128,6 +133,7 @@ extra_of (Closing refusal) = Nothing
 extra_of NoRoute = Nothing
 extra_of (WrongMethod resource) = Allow resource
 extra_of Unauthorized = Challenge
+extra_of BadNumber = Nothing
 extra_of BadBody = Nothing
 extra_of (BadQuery offset) = Nothing
 extra_of (Rule rule) = Nothing
@@ -141,6 +147,7 @@ further_members (Closing refusal) = []
 further_members NoRoute = []
 further_members (WrongMethod resource) = []
 further_members Unauthorized = []
+further_members BadNumber = []
 further_members BadBody = []
 further_members (BadQuery offset) = member_of (codes "place") (Some (decimal offset))
 further_members (Rule rule) = []

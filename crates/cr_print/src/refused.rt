@@ -29,6 +29,8 @@ pub enum Refused {
     /// The request names no user by her name and secret, and what it asks for wants one (401); the answer
     /// has a challenge (RFC 9110, section 11.6.1), and is the same whatever was wrong.
     Unauthorized,
+    /// The field Command-Number tells no number, or is there more than once (400).
+    BadNumber,
     /// The body doesn't spell what the request asks for (400).
     BadBody,
     /// The search spells nothing that can be searched for (400); the answer tells where.
@@ -86,6 +88,7 @@ fn rule_name(rule: Rule) -> &'static str
         Rule::BadTag => "bad_tag",
         Rule::BulkSelf => "bulk_self",
         Rule::Late => "late",
+        Rule::NumberUsed => "number_used",
     }
 }
 
@@ -114,6 +117,7 @@ fn name(refused: Refused) -> &'static str
         Refused::NoRoute => "no_route",
         Refused::WrongMethod(_) => "wrong_method",
         Refused::Unauthorized => "unauthorized",
+        Refused::BadNumber => "bad_number",
         Refused::BadBody => "bad_body",
         Refused::BadQuery { .. } => "bad_query",
         Refused::Rule(rule) => rule_name(rule),
@@ -150,7 +154,8 @@ fn rule_status(rule: Rule) -> Status
         | Rule::BadAction
         | Rule::BadTag
         | Rule::BulkSelf
-        | Rule::Late => Status::Conflict,
+        | Rule::Late
+        | Rule::NumberUsed => Status::Conflict,
     }
 }
 
@@ -175,7 +180,7 @@ fn status(refused: Refused) -> Status
         Refused::NoRoute => Status::NotFound,
         Refused::WrongMethod(_) => Status::MethodNotAllowed,
         Refused::Unauthorized => Status::Unauthorized,
-        Refused::BadBody | Refused::BadQuery { .. } => Status::BadRequest,
+        Refused::BadNumber | Refused::BadBody | Refused::BadQuery { .. } => Status::BadRequest,
         Refused::Rule(rule) => rule_status(rule),
         Refused::Row { .. } => Status::Conflict,
         Refused::KeeperFault => Status::ServiceUnavailable,

@@ -3,7 +3,8 @@ ghost use Rattle.std.specs.Prelude.{◌≡◌, OnErr, map};
 ghost use Rattle.cr_json.specs.Put.{HasRoom, Puts};
 ghost use Rattle.cr_print.specs.Prints.{Prints};
 ghost use Rattle.cr_print.specs.Answers.{bytes_head, content_front, text_head, report_front, served_text, list_text};
-ghost use Rattle.cr_print.specs.Answers.{papers_text, found_text, page_text, me_text, front_text, block_text, IsBrief};
+ghost use Rattle.cr_print.specs.Answers.{accounts_text, deadlines_text, papers_text, reviews_text, comments_text};
+ghost use Rattle.cr_print.specs.Answers.{found_text, page_text, me_text, front_text, block_text, IsBrief};
 
 use crate::brief::ANSWER_ROOM;
 use crate::conference::print_conference;
@@ -16,7 +17,10 @@ use crate::receipt::print_receipt;
 use crate::refused::{Refused, print_refusal};
 use crate::sending::Sending;
 use crate::status::Status;
-use cr_base::{AcceptedPapers, FoundPapers, Me, Page, Reply};
+use cr_base::{
+    AcceptedPapers, AccountLines, CommentLines, FoundPapers, Me, Page, PhaseDeadlines, Reply,
+    ReviewLines,
+};
 use cr_json::{Value, append_list_alone};
 use std::alloc::AllocError;
 
@@ -54,6 +58,30 @@ fn print_list<T: Value>(
     print_content(into, content.as_slice(), sending)
 }
 
+// Each list has a function of its own, so that no proof has all of their texts before it.
+
+#[tactic(auto, unfolding(crate::specs::Answers::accounts_text))]
+fn print_accounts(
+    into: &mut Vec<u8>,
+    accounts: &AccountLines,
+    sending: Sending,
+) -> Result<(), AllocError>
+    ensures { Prints result into.old into.new (accounts_text accounts.now sending) }
+{
+    print_list(into, "accounts", accounts.as_slice(), sending)
+}
+
+#[tactic(auto, unfolding(crate::specs::Answers::deadlines_text))]
+fn print_deadlines(
+    into: &mut Vec<u8>,
+    deadlines: &PhaseDeadlines,
+    sending: Sending,
+) -> Result<(), AllocError>
+    ensures { Prints result into.old into.new (deadlines_text deadlines.now sending) }
+{
+    print_list(into, "deadlines", deadlines.as_slice(), sending)
+}
+
 #[tactic(auto, unfolding(crate::specs::Answers::papers_text))]
 fn print_accepted(
     into: &mut Vec<u8>,
@@ -63,6 +91,28 @@ fn print_accepted(
     ensures { Prints result into.old into.new (papers_text papers.now sending) }
 {
     print_list(into, "papers", papers.as_slice(), sending)
+}
+
+#[tactic(auto, unfolding(crate::specs::Answers::reviews_text))]
+fn print_reviews(
+    into: &mut Vec<u8>,
+    reviews: &ReviewLines,
+    sending: Sending,
+) -> Result<(), AllocError>
+    ensures { Prints result into.old into.new (reviews_text reviews.now sending) }
+{
+    print_list(into, "reviews", reviews.as_slice(), sending)
+}
+
+#[tactic(auto, unfolding(crate::specs::Answers::comments_text))]
+fn print_comments(
+    into: &mut Vec<u8>,
+    comments: &CommentLines,
+    sending: Sending,
+) -> Result<(), AllocError>
+    ensures { Prints result into.old into.new (comments_text comments.now sending) }
+{
+    print_list(into, "comments", comments.as_slice(), sending)
 }
 
 #[tactic(auto, unfolding(crate::specs::Answers::found_text))]
@@ -139,7 +189,6 @@ fn print_report_front(into: &mut Vec<u8>, length: usize, sending: Sending)
 /// have grown. It never comes for a receipt, a refusal, the conference, a count, a content or a report where room for
 /// 512 bytes is there. The content of a list, a page, what was found or what one is told of oneself is made in a
 /// vector of its own, to HEAD too, and copied once.
-#[tactic(auto, unfolding(crate::specs::Answers::accounts_text, crate::specs::Answers::deadlines_text, crate::specs::Answers::reviews_text, crate::specs::Answers::comments_text))]
 pub fn print_reply(into: &mut Vec<u8>, reply: &Reply, sending: Sending) -> Result<(), AllocError>
     ensures prints { Prints result into.old into.new (front_text sending reply.now) }
     ensures sure { OnErr result (IsBrief reply.now → HasRoom into.old 512 → ⊥) }
@@ -164,11 +213,11 @@ pub fn print_reply(into: &mut Vec<u8>, reply: &Reply, sending: Sending) -> Resul
             print_refusal(into, refused, sending);
             Ok(())
         }
-        Reply::Accounts(accounts) => print_list(into, "accounts", accounts.as_slice(), sending),
-        Reply::Deadlines(deadlines) => print_list(into, "deadlines", deadlines.as_slice(), sending),
+        Reply::Accounts(accounts) => print_accounts(into, accounts, sending),
+        Reply::Deadlines(deadlines) => print_deadlines(into, deadlines, sending),
         Reply::AcceptedPapers(papers) => print_accepted(into, papers, sending),
-        Reply::Reviews(reviews) => print_list(into, "reviews", reviews.as_slice(), sending),
-        Reply::Comments(comments) => print_list(into, "comments", comments.as_slice(), sending),
+        Reply::Reviews(reviews) => print_reviews(into, reviews, sending),
+        Reply::Comments(comments) => print_comments(into, comments, sending),
         Reply::Found(papers) => print_found(into, papers, sending),
         Reply::Count(count) => {
             into.reserve(ANSWER_ROOM)?;

@@ -11,6 +11,6 @@ pub struct Sending {
     pub is_head: bool,
     /// The connection ends behind the answer, which says so.
     pub closes: bool,
-    /// The date that it has: of the second in which its request was whole, or was seen to be none.
+    /// The date that it has: of the second in which its request was whole, or was refused.
     pub date: Date,
 }

@@ -134,8 +134,8 @@ impl Reviews {
     /// The version that a form under this label of this paper would be now, the count of forms under the
     /// label plus 1, or the first broken rule. `by` is the caller's standing at the paper, `ordinal` that of
     /// the label under which she reviews it, if she does; `paper` is none where there is no such paper.
-    /// Whether it is withdrawn stands in none of the forms. One read by number, and a walk over the paper's
-    /// forms; takes no memory.
+    /// Whether it is withdrawn stands in none of the forms. `late` is what `Stage::is_late` says at the request's
+    /// moment. One read by number, and a walk over the paper's forms; takes no memory.
     ///
     /// In this order: `NoPaper`, `NotMember`, `Conflict`, `NotReviewer` where she doesn't review the paper,
     /// `WrongPhase` where it is neither the reviewing nor the discussion, `Late` where it is too late, `Withdrawn`.

@@ -66,48 +66,58 @@ pub enum Resource {
 }
 
 impl Resource {
-    ghost use Rattle.cr_routes.specs.Asks.{ask_at, allow_text};
+    ghost use Rattle.cr_routes.specs.Asks.{ask_at, allow_text, route_at};
+
+    /// What a GET asks for at this path, and so a HEAD, or None where the path answers neither.
+    fn read(self) -> Option<Ask>
+        ensures { result ≡ route_at self Method.Get }
+    {
+        match self {
+            Resource::Accepted => Some(Ask::AcceptedPapers),
+            Resource::Accounts => Some(Ask::Accounts),
+            Resource::Deadlines => Some(Ask::Deadlines),
+            Resource::Phase => Some(Ask::Phase),
+            Resource::Paper => Some(Ask::Page),
+            Resource::Content => Some(Ask::Content),
+            Resource::Version => Some(Ask::Version),
+            Resource::Reviews => Some(Ask::Reviews),
+            Resource::Comments => Some(Ask::Comments),
+            Resource::Me => Some(Ask::Me),
+            Resource::Search => Some(Ask::Search),
+            Resource::PapersReport => Some(Ask::PapersReport),
+            Resource::ScoresReport => Some(Ask::ScoresReport),
+            Resource::LoadReport => Some(Ask::LoadReport),
+            Resource::DecisionsReport => Some(Ask::DecisionsReport),
+            Resource::Letter => Some(Ask::Letter),
+            _ => None,
+        }
+    }
 
     /// What a method asks for at this path, or None where the path doesn't answer that method.
     pub fn ask(self, method: Method) -> Option<Ask>
         ensures { result ≡ ask_at self method }
     {
         match (self, method) {
+            (_, Method::Get | Method::Head) => self.read(),
             (Resource::Register, Method::Post) => Some(Ask::Register),
-            (Resource::Accepted, Method::Get | Method::Head) => Some(Ask::AcceptedPapers),
-            (Resource::Accounts, Method::Get | Method::Head) => Some(Ask::Accounts),
-            (Resource::Deadlines, Method::Get | Method::Head) => Some(Ask::Deadlines),
             (Resource::Deadlines, Method::Post) => Some(Ask::SetDeadline),
             (Resource::Members, Method::Post) => Some(Ask::Name),
             (Resource::Mode, Method::Post) => Some(Ask::SetMode),
-            (Resource::Phase, Method::Get | Method::Head) => Some(Ask::Phase),
             (Resource::Phase, Method::Post) => Some(Ask::SetPhase),
             (Resource::Papers, Method::Post) => Some(Ask::Submit),
-            (Resource::Paper, Method::Get | Method::Head) => Some(Ask::Page),
             (Resource::Paper, Method::Put) => Some(Ask::Revise),
             (Resource::Paper, Method::Delete) => Some(Ask::Withdraw),
-            (Resource::Content, Method::Get | Method::Head) => Some(Ask::Content),
             (Resource::Content, Method::Put) => Some(Ask::Upload),
-            (Resource::Version, Method::Get | Method::Head) => Some(Ask::Version),
             (Resource::Conflicts, Method::Post) => Some(Ask::SetConflict),
             (Resource::Bid, Method::Put) => Some(Ask::Bid),
             (Resource::Reviewers, Method::Post) => Some(Ask::Assign),
             (Resource::Reviewer, Method::Delete) => Some(Ask::Unassign),
             (Resource::Review, Method::Put) => Some(Ask::Review),
-            (Resource::Reviews, Method::Get | Method::Head) => Some(Ask::Reviews),
-            (Resource::Comments, Method::Get | Method::Head) => Some(Ask::Comments),
             (Resource::Comments, Method::Post) => Some(Ask::Comment),
             (Resource::Tag, Method::Put) => Some(Ask::Tag),
             (Resource::Tag, Method::Delete) => Some(Ask::Untag),
             (Resource::Decision, Method::Put) => Some(Ask::Decide),
-            (Resource::Me, Method::Get | Method::Head) => Some(Ask::Me),
-            (Resource::Search, Method::Get | Method::Head) => Some(Ask::Search),
             (Resource::Bulk, Method::Post) => Some(Ask::Bulk),
-            (Resource::PapersReport, Method::Get | Method::Head) => Some(Ask::PapersReport),
-            (Resource::ScoresReport, Method::Get | Method::Head) => Some(Ask::ScoresReport),
-            (Resource::LoadReport, Method::Get | Method::Head) => Some(Ask::LoadReport),
-            (Resource::DecisionsReport, Method::Get | Method::Head) => Some(Ask::DecisionsReport),
-            (Resource::Letter, Method::Get | Method::Head) => Some(Ask::Letter),
             _ => None,
         }
     }

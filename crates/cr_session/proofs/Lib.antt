@@ -8,6 +8,9 @@ pub mod Passes
 pub mod Alone
 pub mod Endings
 pub mod TurnLaws
+pub mod Accepting
+pub mod Repeating
+pub mod RetriesLaws
 pub mod Sendings
 pub mod Requests
 pub mod NoFurther

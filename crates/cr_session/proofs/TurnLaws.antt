@@ -1,24 +1,28 @@
 -- What one turn does is what Told and Step say.
-use Rattle.std.proofs.Common.{◌≡◌, ◌∙◌, ℕ, Bool, List, true, false, cond, Option, Some, None, Result, Ok, Err, refl, sym, ap, subst, append-nil, IsSome, IsOk, [], ◌≤◌, arith}
+use Rattle.std.proofs.Common.{◌≡◌, ◌∙◌, ℕ, Bool, List, true, false, cond, Option, Some, None, Ok, Err, refl, sym, ap, subst, append-nil, IsSome, [], ◌++◌, ◌≤◌, arith}
 use mathlib.Core.List.{IsPrefix}
 use Rattle.std.proofs.lemmas.Bool.{true≢false}
 use Rattle.cr_base.specs.declared.command.Command.TheVariants.{Register, Tag}
 use Rattle.cr_base.specs.declared.ask.Ask.{Ask}
 use Rattle.cr_routes.specs.declared.resource.Resource.{Resource}
-use Rattle.cr_policy.specs.Legal.{IsCaller, IsUser, MayAsk}
+use Rattle.cr_policy.specs.Legal.{IsCaller, IsUser, CallsAs, IsKeyOf, MayAsk}
 use Rattle.cr_base.specs.declared.bulk.Broken.{Broken}
 use Rattle.cr_base.specs.declared.bulk.Broken.TheVariants as broken
 use Rattle.cr_base.specs.declared.bulk.BulkRow.{BulkRow}
 use Rattle.cr_base.specs.declared.command.Command.{Command}
 use Rattle.cr_base.specs.declared.command.Query.{Query}
+use Rattle.cr_base.specs.declared.reply.Receipt.{Receipt}
 use Rattle.cr_base.specs.declared.reply.Rule.{Rule}
+use Rattle.cr_base.specs.declared.retry.RetryKey.{RetryKey}
 use Rattle.cr_base.specs.History.{History}
 use Rattle.cr_base.specs.Calls.{call_of, bulk_by, maker_of}
 use Rattle.cr_base.specs.Moments.{IsMoment}
 use Rattle.cr_base.specs.Drawn.{Drawn}
 use Rattle.cr_base.specs.Logins.{command_wants_login}
 use Rattle.cr_base.specs.Bulk.{IsBoundedBulk}
-use Rattle.cr_policy.specs.Judge.{judge, judge_bulk, answer, needs_login}
+use Rattle.cr_base.specs.Keys.{IsKeyOrNone}
+use Rattle.cr_base.specs.Retries.{Outcome, Repeats, Judged, drawn_by}
+use Rattle.cr_policy.specs.Judge.{decide, decide_bulk, answer, needs_login}
 use Rattle.cr_policy.specs.View.{view}
 use Rattle.cr_policy.proofs.LegalLaws.{Legal-caller_registered}
 use Rattle.cr_bodies.specs.declared.credentials.Credentials.{Credentials}
@@ -29,10 +33,12 @@ use Rattle.cr_print.specs.Answers.{refusal_text, receipt_text, reply_text}
 use Rattle.cr_wire.specs.declared.what.What.{What}
 use Rattle.cr_wire.specs.declared.what.What.TheVariants as whats
 use Rattle.cr_wire.specs.declared.what.Wish.{Wish}
+use Rattle.cr_wire.specs.Bounds.{IsKeyFor}
 use Rattle.cr_wire.specs.Caller.{caller, reads_credentials, user_told}
+use Rattle.cr_book.specs.Sound.{Acts}
 use Rattle.cr_session.specs.declared.turn.TurnResult.{TurnResult}
 use Rattle.cr_session.specs.declared.turn.TurnResult.TheVariants as turns
-use Rattle.cr_session.specs.Told.{sending_of, told, told_to, served_to, as_bulk, is_unauthorized, refusal_of, reply_of, drawn, drawn_for, drawn_of, accepted, and_drawn}
+use Rattle.cr_session.specs.Told.{sending_of, told, told_sent, told_to, served_to, as_bulk, is_unauthorized, refusal_of, reply_of, drawn, drawn_for, drawn_of, and_drawn}
 use Rattle.cr_session.specs.Replay.{Ledger}
 use Rattle.cr_session.specs.Turning.{Turns, AnswersWish, IsBulkCaller, JudgesChange, refused_for, AnswersQuery, WantsRoom, MayWantFor, MayWantMemory}
 use Rattle.cr_print.specs.Answers.{IsBrief}
@@ -52,15 +58,19 @@ may-wish H w u what test is by tested passed =
     record { is = is; by = by; may = ap (λ (x : What). is_unauthorized u (view u H) x) (sym is) ∙ sym tested ∙ passed }
 
 -- what a wish is told, by what it is and who gives it
-told-by : (H : History) (w : Wish) (u : Option ℕ) (what : What) (close : Bool) → MayWish H w u what
+pub sent-by : (H : History) (w : Wish) (u : Option ℕ) (what : What) (sending : Sending) → MayWish H w u what
+    → told_sent H w sending ≡ served_to u (view u H) w.at sending what
+sent-by H w u what sending wishes =
+    ap (told_to (caller H w) (view (caller H w) H) w.at sending) wishes.is
+    ∙ ap (λ v. told_to v (view v H) w.at sending what) (sym wishes.by)
+    ∙ ap (λ b. cond b (refusal_text refused.Unauthorized sending) (served_to u (view u H) w.at sending what)) wishes.may
+
+pub told-by : (H : History) (w : Wish) (u : Option ℕ) (what : What) (close : Bool) → MayWish H w u what
     → told H w close ≡ served_to u (view u H) w.at (sending_of w close) what
 unfolding told
-told-by H w u what close wishes =
-    ap (told_to (caller H w) (view (caller H w) H) w.at (sending_of w close)) wishes.is
-    ∙ ap (λ v. told_to v (view v H) w.at (sending_of w close) what) (sym wishes.by)
-    ∙ ap (λ b. cond b (refusal_text refused.Unauthorized (sending_of w close)) (served_to u (view u H) w.at (sending_of w close) what)) wishes.may
+told-by H w u what close wishes = sent-by H w u what (sending_of w close) wishes
 
-drawn-by : (H : History) (w : Wish) (u : Option ℕ) (what : What) → MayWish H w u what → drawn H w ≡ drawn_of u (view u H) w.at what
+pub drawn-by : (H : History) (w : Wish) (u : Option ℕ) (what : What) → MayWish H w u what → drawn H w ≡ drawn_of u (view u H) w.at what
 unfolding drawn
 drawn-by H w u what wishes =
     ap (drawn_for (caller H w) (view (caller H w) H) w.at) wishes.is
@@ -107,6 +117,10 @@ pub wrong_method : (w : Wish) (u : Option ℕ) (b : Ledger) (resource : Resource
     → AnswersWish (turns.Refused (refused.WrongMethod resource)) w b b
 wrong_method w u b resource wishes = refused-turn (refused.WrongMethod resource) w u (whats.WrongMethod resource) b wishes (λ close. refl) refl
 
+pub bad_number : (w : Wish) (u : Option ℕ) (b : Ledger) (ask : Ask) → MayWish b.history w u (whats.BadNumber ask)
+    → AnswersWish (turns.Refused refused.BadNumber) w b b
+bad_number w u b ask wishes = refused-turn refused.BadNumber w u (whats.BadNumber ask) b wishes (λ close. refl) refl
+
 pub bad_body : (w : Wish) (u : Option ℕ) (b : Ledger) (ask : Ask) → MayWish b.history w u (whats.BadBody ask)
     → AnswersWish (turns.Refused refused.BadBody) w b b
 bad_body w u b ask wishes = refused-turn refused.BadBody w u (whats.BadBody ask) b wishes (λ close. refl) refl
@@ -117,56 +131,86 @@ bad_query w u b offset wishes = refused-turn (refused.BadQuery offset) w u (what
 
 -- ---- commands and bulks
 
-is_ok-accepted : (r : Result Drawn Broken) → IsOk r → IsSome (accepted r)
-is_ok-accepted (Ok d) h = refl
-is_ok-accepted (Err refusal) h = h
+-- what a command draws, it draws as a bulk too
+drawn_by-as_bulk : (outcome : Outcome Rule) → drawn_by outcome ≡ drawn_by (as_bulk outcome)
+drawn_by-as_bulk (Repeats receipt) = refl
+drawn_by-as_bulk (Judged (Ok drawn)) = refl
+drawn_by-as_bulk (Judged (Err rule)) = refl
 
 -- a refusal's bytes are those of its reply
 refusal-told : (refusal : Broken) (sending : Sending) → refusal_text (refused_for refusal) sending ≡ reply_text (refusal_of refusal) sending
 refusal-told (broken.Rule rule) sending = sym (append-nil (refusal_text (refused.Rule rule) sending))
 refusal-told (broken.Row row rule) sending = sym (append-nil (refusal_text (refused.Row row rule) sending))
 
--- a wish of which Judge gives this, where that is what she who wishes it is served, and what it draws
-pub change-turn : (turn : TurnResult) (w : Wish) (u : Option ℕ) (what : What) (judged : Result Drawn Broken) (b b' : Ledger)
+-- and so are a receipt's, of what was judged as of what repeats another
+receipt-told : (receipt told : Receipt) (sending : Sending) → receipt ≡ told → receipt_text receipt sending ≡ reply_text (replies.Accepted told) sending
+receipt-told receipt told sending is = ap (λ x. receipt_text x sending) is ∙ sym (append-nil (receipt_text told sending))
+
+acts-told : (outcome : Outcome Broken) (H H' : History) (receipt : Receipt) (sending : Sending) → Acts outcome H H' receipt
+    → receipt_text receipt sending ≡ reply_text (reply_of outcome) sending
+acts-told (Repeats repeated) H H' receipt sending a = receipt-told receipt repeated sending a.0
+acts-told (Judged (Ok drawn)) H H' receipt sending a = receipt-told receipt drawn.receipt sending a.0
+acts-told (Judged (Err refusal)) H H' receipt sending a = absurd a
+
+acts-adds : (outcome : Outcome Broken) (H H' : History) (receipt : Receipt) → Acts outcome H H' receipt → H' ≡ and_drawn H (drawn_by outcome)
+acts-adds (Repeats repeated) H H' receipt a = a.1
+acts-adds (Judged (Ok drawn)) H H' receipt a = a.1
+acts-adds (Judged (Err refusal)) H H' receipt a = absurd a
+
+-- what a command does, it does as a bulk too
+pub acts-as_bulk : (outcome : Outcome Rule) (H H' : History) (receipt : Receipt) → Acts outcome H H' receipt → Acts (as_bulk outcome) H H' receipt
+acts-as_bulk (Repeats repeated) H H' receipt a = a
+acts-as_bulk (Judged (Ok drawn)) H H' receipt a = a
+acts-as_bulk (Judged (Err rule)) H H' receipt a = absurd a
+
+pub draws-as_bulk : (outcome : Outcome Rule) → IsSome (drawn_by outcome) → IsSome (drawn_by (as_bulk outcome))
+draws-as_bulk outcome some = subst (λ (o : Option Drawn). IsSome o) (drawn_by-as_bulk outcome) some
+
+-- a wish that comes to this, where that is what she who wishes it is served, and what it draws
+pub change-turn : (turn : TurnResult) (w : Wish) (u : Option ℕ) (what : What) (outcome : Outcome Broken) (b b' : Ledger)
     → MayWish b.history w u what
-    → ((sending : Sending) → served_to u (view u b.history) w.at sending what ≡ reply_text (reply_of judged) sending)
-    → drawn_of u (view u b.history) w.at what ≡ accepted judged
-    → (IsOk judged → WantsRoom u (view u b.history) w.at what)
-    → JudgesChange turn judged b b' → Turns turn w b b'
-change-turn (turns.Refused r) w u what judged b b' wishes served draws wants j = record {
+    → ((sending : Sending) → served_to u (view u b.history) w.at sending what ≡ reply_text (reply_of outcome) sending)
+    → drawn_of u (view u b.history) w.at what ≡ drawn_by outcome
+    → (IsSome (drawn_of u (view u b.history) w.at what) → WantsRoom u (view u b.history) w.at what)
+    → JudgesChange turn outcome b b' → Turns turn w b b'
+change-turn (turns.Refused r) w u what outcome b b' wishes served draws wants j = record {
   told_is = λ close.
       let sending : Sending = sending_of w close in
-      ap (λ x. refusal_text x sending) j.refused_is ∙ refusal-told j.refusal sending ∙ ap (λ x. reply_text (reply_of x) sending) (sym j.judged_is) ∙ sym (served sending)
+      ap (λ x. refusal_text x sending) j.refused_is ∙ refusal-told j.refusal sending ∙ ap (λ x. reply_text (reply_of x) sending) (sym j.outcome_is) ∙ sym (served sending)
       ∙ sym (told-by b.history w u what close wishes);
   stepped = ap (λ (x : Ledger). x.history) j.same
-      ∙ sym (ap (and_drawn b.history) (drawn-by b.history w u what wishes ∙ draws ∙ ap accepted j.judged_is));
+      ∙ sym (ap (and_drawn b.history) (drawn-by b.history w u what wishes ∙ draws ∙ ap drawn_by j.outcome_is));
   steady = ap (λ (x : Ledger). x.faults) j.same;
 }
-change-turn (turns.Accepted receipt) w u what judged b b' wishes served draws wants j = record {
+change-turn (turns.Accepted receipt) w u what outcome b b' wishes served draws wants j = record {
   told_is = λ close.
       let sending : Sending = sending_of w close in
-      ap (λ x. receipt_text x sending) j.receipt_is ∙ sym (append-nil (receipt_text j.drawn.receipt sending)) ∙ ap (λ x. reply_text (reply_of x) sending) (sym j.judged_is)
-      ∙ sym (served sending) ∙ sym (told-by b.history w u what close wishes);
-  stepped = j.added ∙ sym (ap (and_drawn b.history) (drawn-by b.history w u what wishes ∙ draws ∙ ap accepted j.judged_is));
-  steady = j.steady;
+      acts-told outcome b.history b'.history receipt sending j.0 ∙ sym (served sending) ∙ sym (told-by b.history w u what close wishes);
+  stepped = acts-adds outcome b.history b'.history receipt j.0 ∙ sym (ap (and_drawn b.history) (drawn-by b.history w u what wishes ∙ draws));
+  steady = j.1;
 }
-change-turn (turns.Answered reply) w u what judged b b' wishes served draws wants j = absurd j
-change-turn turns.Lost w u what judged b b' wishes served draws wants j = (
-  subst (λ (o : Option Drawn). IsSome o) (sym (drawn-by b.history w u what wishes ∙ draws)) (is_ok-accepted judged j.0),
+change-turn (turns.Answered reply) w u what outcome b b' wishes served draws wants j = absurd j
+change-turn turns.Lost w u what outcome b b' wishes served draws wants j = (
+  subst (λ (o : Option Drawn). IsSome o) (sym (drawn-by b.history w u what wishes ∙ draws)) j.0,
   j.1,
   j.2,
 )
-change-turn turns.OutOfMemory w u what judged b b' wishes served draws wants j = (j.0, may-want b.history w u what wishes (wants j.1))
+change-turn turns.OutOfMemory w u what outcome b b' wishes served draws wants j =
+    (j.0, may-want b.history w u what wishes (wants (subst (λ (o : Option Drawn). IsSome o) (sym draws) j.1)))
 
-pub command-turn : (turn : TurnResult) (w : Wish) (u : Option ℕ) (command : Command) (b b' : Ledger) → MayWish b.history w u (whats.Command command)
-    → JudgesChange turn (as_bulk (judge (view u b.history) (call_of u w.at command))) b b' → Turns turn w b b'
-command-turn turn w u command b b' wishes j =
-    change-turn turn w u (whats.Command command) (as_bulk (judge (view u b.history) (call_of u w.at command))) b b' wishes (λ sending. refl) refl (λ ok. ok) j
+pub command-turn : (turn : TurnResult) (w : Wish) (u : Option ℕ) (key : Option RetryKey) (command : Command) (b b' : Ledger)
+    → MayWish b.history w u (whats.Command key command)
+    → JudgesChange turn (as_bulk (decide (view u b.history) (call_of u w.at key command))) b b' → Turns turn w b b'
+command-turn turn w u key command b b' wishes j =
+    let outcome : Outcome Rule = decide (view u b.history) (call_of u w.at key command) in
+    change-turn turn w u (whats.Command key command) (as_bulk outcome) b b' wishes (λ sending. refl) (drawn_by-as_bulk outcome) (λ some. some) j
 
-pub bulk-turn : (turn : TurnResult) (w : Wish) (u : Option ℕ) (rows : List BulkRow) (b b' : Ledger) → MayWish b.history w u (whats.Bulk rows)
-    → JudgesChange turn (judge_bulk (view u b.history) (bulk_by (maker_of u) w.at rows)) b b' → Turns turn w b b'
-bulk-turn turn w u rows b b' wishes j =
-    change-turn turn w u (whats.Bulk rows) (judge_bulk (view u b.history) (bulk_by (maker_of u) w.at rows)) b b' wishes (λ sending. refl) refl (λ ok. ok) j
+pub bulk-turn : (turn : TurnResult) (w : Wish) (u : Option ℕ) (key : Option RetryKey) (rows : List BulkRow) (b b' : Ledger)
+    → MayWish b.history w u (whats.Bulk key rows)
+    → JudgesChange turn (decide_bulk (view u b.history) (bulk_by (maker_of u) w.at key rows)) b b' → Turns turn w b b'
+bulk-turn turn w u key rows b b' wishes j =
+    change-turn turn w u (whats.Bulk key rows) (decide_bulk (view u b.history) (bulk_by (maker_of u) w.at key rows)) b b' wishes (λ sending. refl) refl
+    (λ some. some) j
 
 -- ---- queries
 
@@ -211,25 +255,33 @@ may-query H w None query wishes = wishes.may
 may-query H w (Some v) query wishes = caller-registered H w v (sym wishes.by)
 
 -- who gives a command that wants a login has registered
-is-user : (H : History) (w : Wish) (u : Option ℕ) (command : Command) → command_wants_login command ≡ true
-    → MayWish H w u (whats.Command command) → IsUser H u
-is-user H w None command wants wishes = absurd (true≢false (sym wants ∙ wishes.may))
-is-user H w (Some v) command wants wishes = caller-registered H w v (sym wishes.by)
+is-user : (H : History) (w : Wish) (u : Option ℕ) (key : Option RetryKey) (command : Command) → command_wants_login command ≡ true
+    → MayWish H w u (whats.Command key command) → IsUser H u
+is-user H w None key command wants wishes = absurd (true≢false (sym wants ∙ wishes.may))
+is-user H w (Some v) key command wants wishes = caller-registered H w v (sym wishes.by)
 
 -- nobody registers, and every other command is a registered user's
-pub caller-command : (H : History) (w : Wish) (u : Option ℕ) (command : Command) → MayWish H w u (whats.Command command) → IsCaller H u command
-caller-command H w u (Register name digest) wishes =
+pub caller-command : (H : History) (w : Wish) (u : Option ℕ) (key : Option RetryKey) (command : Command) → MayWish H w u (whats.Command key command)
+    → IsCaller H u command
+caller-command H w u key (Register name digest) wishes =
     wishes.by ∙ ap (λ (x : What). cond (reads_credentials x) (user_told w.credentials H) None) wishes.is
-caller-command H w u (Tag paper tag true) wishes = is-user H w u (Tag paper tag true) refl wishes
-caller-command H w u (Tag paper tag false) wishes = is-user H w u (Tag paper tag false) refl wishes
-caller-command H w u command wishes = is-user H w u command refl wishes
+caller-command H w u key (Tag paper tag true) wishes = is-user H w u key (Tag paper tag true) refl wishes
+caller-command H w u key (Tag paper tag false) wishes = is-user H w u key (Tag paper tag false) refl wishes
+caller-command H w u key command wishes = is-user H w u key command refl wishes
+
+-- and so is every key
+pub caller-key : (H : History) (u : Option ℕ) (login : Bool) (key : Option RetryKey) → CallsAs H login u → IsKeyFor login key → IsKeyOf u key
+caller-key H u false key calls bounded = subst (λ (k : Option RetryKey). IsKeyOf u k) (sym bounded) tt
+caller-key H None true key calls bounded = absurd calls
+caller-key H (Some v) true None calls bounded = tt
+caller-key H (Some v) true (Some key) calls bounded = bounded
 
 -- a bulk is a registered user's
-pub caller-bulk : (H : History) (w : Wish) (u : Option ℕ) (rows : List BulkRow) → MayWish H w u (whats.Bulk rows)
-    → IsBoundedBulk rows → IsMoment w.at → IsBulkCaller H u w.at rows
-caller-bulk H w None rows wishes few moment = absurd (true≢false wishes.may)
-caller-bulk H w (Some user) rows wishes few moment =
-    record { caller = caller-registered H w user (sym wishes.by); moment = moment; bounded = few }
+pub caller-bulk : (H : History) (w : Wish) (u : Option ℕ) (key : Option RetryKey) (rows : List BulkRow) → MayWish H w u (whats.Bulk key rows)
+    → IsBoundedBulk rows × IsKeyOrNone key → IsMoment w.at → IsBulkCaller H u w.at key rows
+caller-bulk H w None key rows wishes bounded moment = absurd (true≢false wishes.may)
+caller-bulk H w (Some user) key rows wishes bounded moment =
+    record { caller = caller-registered H w user (sym wishes.by); bounded = bounded.0; moment = moment; key = bounded.1 }
 
 -- ---- what a turn leaves
 

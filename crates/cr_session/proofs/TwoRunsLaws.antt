@@ -18,7 +18,7 @@ answer_at u m = told_to u m.seen m.wish.at (sending_of m.wish m.closes) m.wish.w
 equal_numbers : (m n : ℕ) → m == n ≡ true → m ≡ n
 equal_numbers m n e = grind (arith, nat_tests)
 
-same_user : (u v : Option ℕ) → is_same u v ≡ true → v ≡ u
+pub same_user : (u v : Option ℕ) → is_same u v ≡ true → v ≡ u
 same_user None None e = refl
 same_user None (Some n) e = cc
 same_user (Some m) None e = cc

@@ -6,5 +6,6 @@ pub mod Replay
 pub mod Passing
 pub mod Wishes
 pub mod Turning
+pub mod Retries
 pub mod Reading
 pub mod Serving

@@ -1,6 +1,6 @@
 -- What a wish is answered, and what it makes of the history. Both look at who calls and at her view, and at
 -- nothing else of the history.
-use Rattle.std.specs.Prelude.{ℕ, List, ◌++◌, Option, Some, None, Bool, false, if◌then◌else◌, Result, Ok, Err}
+use Rattle.std.specs.Prelude.{ℕ, List, ◌++◌, Option, Some, None, Bool, false, if◌then◌else◌, Ok, Err}
 use Rattle.cr_base.specs.declared.reply.Reply.{Reply}
 use Rattle.cr_base.specs.declared.reply.Reply.TheVariants as replies
 use Rattle.cr_base.specs.declared.reply.Rule.{Rule}
@@ -9,32 +9,37 @@ use Rattle.cr_base.specs.declared.bulk.Broken.TheVariants as broken
 use Rattle.cr_base.specs.History.{History}
 use Rattle.cr_base.specs.Calls.{call_of, bulk_by, maker_of}
 use Rattle.cr_base.specs.Drawn.{Drawn}
-use Rattle.cr_policy.specs.Judge.{judge, judge_bulk, answer, needs_login}
+use Rattle.cr_base.specs.Retries.{Outcome, Repeats, Judged, drawn_by}
+use Rattle.cr_policy.specs.Judge.{decide, decide_bulk, answer, needs_login}
 use Rattle.cr_policy.specs.View.{View, view}
 use Rattle.cr_print.specs.declared.sending.Sending.{Sending}
 use Rattle.cr_print.specs.declared.refused.Refused.TheVariants as refused
 use Rattle.cr_print.specs.Answers.{refusal_text, reply_text}
 use Rattle.cr_wire.specs.declared.what.What.{What}
-use Rattle.cr_wire.specs.declared.what.What.TheVariants.{NoRoute, WrongMethod, BadBody, BadQuery, Command, Bulk, Query}
+use Rattle.cr_wire.specs.declared.what.What.TheVariants.{NoRoute, WrongMethod, BadNumber, BadBody, BadQuery}
+use Rattle.cr_wire.specs.declared.what.What.TheVariants.{Command, Bulk, Query}
 use Rattle.cr_wire.specs.declared.what.Wish.{Wish}
 use Rattle.cr_wire.specs.Caller.{caller, wants_login}
 
 -- ---- what is answered
 
--- a command's judgement as a bulk's, which may be refused for a row too
-abbrev pub as_bulk : Result Drawn Rule → Result Drawn Broken
-as_bulk (Ok drawn) = Ok drawn
-as_bulk (Err rule) = Err (broken.Rule rule)
+-- what a command comes to, as what a bulk does, which may be refused for a row too
+abbrev pub as_bulk : Outcome Rule → Outcome Broken
+as_bulk (Repeats receipt) = Repeats receipt
+as_bulk (Judged (Ok drawn)) = Judged (Ok drawn)
+as_bulk (Judged (Err rule)) = Judged (Err (broken.Rule rule))
 
 -- what breaks a rule is told which one, and of a bulk in which row, where it is one row's
 abbrev pub refusal_of : Broken → Reply
 refusal_of (broken.Rule rule) = replies.Refused rule
 refusal_of (broken.Row row rule) = replies.RowRefused row rule
 
--- the answer to a command or a bulk: its receipt, or the first rule that it breaks
-abbrev pub reply_of : Result Drawn Broken → Reply
-reply_of (Ok drawn) = replies.Accepted drawn.receipt
-reply_of (Err refusal) = refusal_of refusal
+-- the answer to a command or a bulk: its receipt, also where it repeats one that was accepted, or the first rule that
+-- it breaks
+abbrev pub reply_of : Outcome Broken → Reply
+reply_of (Repeats receipt) = replies.Accepted receipt
+reply_of (Judged (Ok drawn)) = replies.Accepted drawn.receipt
+reply_of (Judged (Err refusal)) = refusal_of refusal
 
 -- nobody wishes what wants a login; of a query her view says so, since everyone is served what is published
 abbrev pub is_unauthorized : Option ℕ → View → What → Bool
@@ -50,10 +55,13 @@ sending_of w close = record { is_head = w.is_head; closes = close; date = w.at }
 abbrev pub served_to : Option ℕ → View → ℕ → Sending → What → List ℕ
 served_to u V at sending NoRoute = refusal_text refused.NoRoute sending
 served_to u V at sending (WrongMethod resource) = refusal_text (refused.WrongMethod resource) sending
+served_to u V at sending (BadNumber ask) = refusal_text refused.BadNumber sending
 served_to u V at sending (BadBody ask) = refusal_text refused.BadBody sending
 served_to u V at sending (BadQuery offset) = refusal_text (refused.BadQuery offset) sending
-served_to u V at sending (Command command) = reply_text (reply_of (as_bulk (judge V (call_of u at command)))) sending
-served_to u V at sending (Bulk rows) = reply_text (reply_of (judge_bulk V (bulk_by (maker_of u) at rows))) sending
+served_to u V at sending (Command key command) =
+    reply_text (reply_of (as_bulk (decide V (call_of u at key command)))) sending
+served_to u V at sending (Bulk key rows) =
+    reply_text (reply_of (decide_bulk V (bulk_by (maker_of u) at key rows))) sending
 served_to u V at sending (Query query) = reply_text (answer u V query) sending
 
 -- the answer's bytes to what a caller wishes at this moment: whoever can't be told from nobody is answered one and the
@@ -62,9 +70,13 @@ abbrev pub told_to : Option ℕ → View → ℕ → Sending → What → List �
 told_to u V at sending what =
     if is_unauthorized u V what then refusal_text refused.Unauthorized sending else served_to u V at sending what
 
--- the answer's bytes to a wish, computed from its caller's view
+-- the answer's bytes to a wish, computed from its caller's view, where it is sent so
+abbrev pub told_sent : History → Wish → Sending → List ℕ
+told_sent H w sending = told_to (caller H w) (view (caller H w) H) w.at sending w.what
+
+-- and as it is sent
 unfoldable pub told : History → Wish → Bool → List ℕ
-told H w close = told_to (caller H w) (view (caller H w) H) w.at (sending_of w close) w.what
+told H w close = told_sent H w (sending_of w close)
 
 -- the answer's bytes where what the wish adds was not kept
 unfoldable pub unkept : Wish → Bool → List ℕ
@@ -72,19 +84,16 @@ unkept w close = refusal_text refused.KeeperFault (sending_of w close)
 
 -- ---- what is added
 
--- what a judgement drew, where it accepted
-abbrev pub accepted : Result Drawn Broken → Option Drawn
-accepted (Ok drawn) = Some drawn
-accepted (Err refusal) = None
-
--- what the wish of a caller who may adds at this moment, where it is a command or a bulk that Judge accepts
+-- what the wish of a caller who may adds at this moment, where it is a command or a bulk that Judge accepts; one that
+-- repeats another isn't judged, and adds nothing
 abbrev pub drawn_of : Option ℕ → View → ℕ → What → Option Drawn
 drawn_of u V at NoRoute = None
 drawn_of u V at (WrongMethod resource) = None
+drawn_of u V at (BadNumber ask) = None
 drawn_of u V at (BadBody ask) = None
 drawn_of u V at (BadQuery offset) = None
-drawn_of u V at (Command command) = accepted (as_bulk (judge V (call_of u at command)))
-drawn_of u V at (Bulk rows) = accepted (judge_bulk V (bulk_by (maker_of u) at rows))
+drawn_of u V at (Command key command) = drawn_by (decide V (call_of u at key command))
+drawn_of u V at (Bulk key rows) = drawn_by (decide_bulk V (bulk_by (maker_of u) at key rows))
 drawn_of u V at (Query query) = None
 
 -- what a caller's wish adds: nothing, where a login is wanted and nobody calls

@@ -1,22 +1,23 @@
 -- What one turn and one request do.
 use mathlib.Core.List.{IsPrefix}
 use Rattle.std.specs.Prelude.{◌≡◌, ◌≢◌, ℕ, List, [], ◌∷◌, ◌++◌, Bool, true, false}
-use Rattle.std.specs.Prelude.{Option, Some, None, IsSome, Result, Ok, Err, IsOk}
+use Rattle.std.specs.Prelude.{Option, Some, None, IsSome, Err}
 use Rattle.cr_base.specs.declared.bulk.Broken.{Broken}
 use Rattle.cr_base.specs.declared.bulk.Broken.TheVariants as broken
 use Rattle.cr_base.specs.declared.bulk.BulkRow.{BulkRow}
 use Rattle.cr_base.specs.declared.command.Query.{Query}
 use Rattle.cr_base.specs.declared.reply.Reply.TheVariants as replies
-use Rattle.cr_base.specs.declared.reply.Receipt.{Receipt}
 use Rattle.cr_base.specs.declared.reply.Rule.{Rule}
+use Rattle.cr_base.specs.declared.retry.RetryKey.{RetryKey}
 use Rattle.cr_base.specs.Calls.{call_of, bulk_by, maker_of}
 use Rattle.cr_base.specs.Moments.{IsMoment}
-use Rattle.cr_base.specs.Drawn.{Drawn}
-use Rattle.cr_policy.specs.Judge.{judge, judge_bulk, answer}
-use Rattle.cr_policy.specs.Legal.{IsBulkAllowed}
+use Rattle.cr_base.specs.Retries.{Outcome, Judged, drawn_by}
+use Rattle.cr_policy.specs.Judge.{decide, decide_bulk, answer}
+use Rattle.cr_policy.specs.Legal.{IsBulkGiven}
 use Rattle.cr_policy.specs.View.{View, view}
 use Rattle.cr_base.specs.History.{History}
 use Rattle.cr_book.specs.Seen.{SeenBook}
+use Rattle.cr_book.specs.Sound.{Acts}
 use Rattle.cr_print.specs.declared.sending.Sending.{Sending}
 use Rattle.cr_print.specs.declared.refused.Refused.{Refused}
 use Rattle.cr_print.specs.declared.refused.Refused.TheVariants as refused
@@ -30,7 +31,7 @@ use Rattle.cr_session.specs.declared.turn.TurnResult.{TurnResult}
 use Rattle.cr_session.specs.declared.turn.TurnResult.TheVariants as turns
 use Rattle.cr_session.specs.declared.serve.RequestOutcome.{RequestOutcome}
 use Rattle.cr_session.specs.declared.serve.RequestOutcome.TheVariants as served
-use Rattle.cr_session.specs.Told.{sending_of, told, as_bulk, is_unauthorized, drawn, after_wish}
+use Rattle.cr_session.specs.Told.{sending_of, told, is_unauthorized, drawn, after_wish}
 use Rattle.cr_lock.specs.Passes.{after_turn}
 use Rattle.cr_session.specs.Replay.{JudgedWish, Ledger, CountsLoss, answer_to, ledger_of}
 use Rattle.cr_session.specs.Passing.{KnownPass, TakesTurn}
@@ -39,7 +40,7 @@ use Rattle.cr_wire.specs.Wishes.{closes}
 
 -- ---- one turn
 
--- a wish's command is within the bounds on commands, and its moment is one
+-- a wish's command and its key are within their bounds, and its moment is one
 pub record IsBoundedWish (w : Wish) : Type 0 where
   pub what : IsBoundedWhat w.what
   pub moment : IsMoment w.at
@@ -66,15 +67,16 @@ turn_block turn sending = []
 abbrev pub IsUnrefused : Option ℕ → View → Query → Type 0
 IsUnrefused u V query = (rule : Rule) → answer u V query ≢ replies.Refused rule
 
--- memory may run out in the turn of what a caller wishes on her view at this moment: for a command or a bulk that Judge
--- accepts, and for a query that Answer doesn't refuse
+-- memory may run out in the turn of what a caller wishes on her view at this moment: for a command or a bulk that is
+-- judged and accepted, so not for one that repeats another, and for a query that Answer doesn't refuse
 abbrev pub WantsRoom : Option ℕ → View → ℕ → What → Type 0
 WantsRoom u V at whats.NoRoute = ⊥
 WantsRoom u V at (whats.WrongMethod resource) = ⊥
+WantsRoom u V at (whats.BadNumber ask) = ⊥
 WantsRoom u V at (whats.BadBody ask) = ⊥
 WantsRoom u V at (whats.BadQuery offset) = ⊥
-WantsRoom u V at (whats.Command command) = IsOk (as_bulk (judge V (call_of u at command)))
-WantsRoom u V at (whats.Bulk rows) = IsOk (judge_bulk V (bulk_by (maker_of u) at rows))
+WantsRoom u V at (whats.Command key command) = IsSome (drawn_by (decide V (call_of u at key command)))
+WantsRoom u V at (whats.Bulk key rows) = IsSome (drawn_by (decide_bulk V (bulk_by (maker_of u) at key rows)))
 WantsRoom u V at (whats.Query query) = IsUnrefused u V query
 
 -- and only for a caller who may
@@ -104,37 +106,32 @@ abbrev pub refused_for : Broken → Refused
 refused_for (broken.Rule rule) = refused.Rule rule
 refused_for (broken.Row row rule) = refused.Row row rule
 
--- it was refused, as Judge says, and nothing changed
-pub record RefusesChange (r : Refused) (judged : Result Drawn Broken) (b b' : Ledger) : Type 0 where
+-- it was refused, as the look-up of its number says or Judge, and nothing changed
+pub record RefusesChange (r : Refused) (outcome : Outcome Broken) (b b' : Ledger) : Type 0 where
   pub refusal : Broken
-  pub judged_is : judged ≡ Err refusal
+  pub outcome_is : outcome ≡ Judged (Err refusal)
   pub refused_is : r ≡ refused_for refusal
   pub same : b' ≡ b
 
--- it was accepted, as Judge says, and what it adds stands behind the history
-pub record AcceptsChange (receipt : Receipt) (judged : Result Drawn Broken) (b b' : Ledger) : Type 0 where
-  pub drawn : Drawn
-  pub judged_is : judged ≡ Ok drawn
-  pub receipt_is : receipt ≡ drawn.receipt
-  pub added : b'.history ≡ b.history ++ drawn.group
-  pub steady : b'.faults ≡ b.faults
-
--- a command or a bulk, of which Judge gives this, was judged
-abbrev pub JudgesChange : TurnResult → Result Drawn Broken → Ledger → Ledger → Type 0
-JudgesChange (turns.Refused r) judged b b' = RefusesChange r judged b b'
-JudgesChange (turns.Accepted receipt) judged b b' = AcceptsChange receipt judged b b'
-JudgesChange (turns.Answered reply) judged b b' = ⊥
-JudgesChange turns.Lost judged b b' = IsOk judged × (b'.history ≡ b.history) × CountsLoss true b.faults b'.faults
-JudgesChange turns.OutOfMemory judged b b' = (b' ≡ b) × IsOk judged
+-- a command or a bulk that comes to this was judged, or looked up where it repeats another: one that adds nothing is
+-- never lost, and wants no memory
+abbrev pub JudgesChange : TurnResult → Outcome Broken → Ledger → Ledger → Type 0
+JudgesChange (turns.Refused r) outcome b b' = RefusesChange r outcome b b'
+JudgesChange (turns.Accepted receipt) outcome b b' =
+    Acts outcome b.history b'.history receipt × (b'.faults ≡ b.faults)
+JudgesChange (turns.Answered reply) outcome b b' = ⊥
+JudgesChange turns.Lost outcome b b' =
+    IsSome (drawn_by outcome) × (b'.history ≡ b.history) × CountsLoss true b.faults b'.faults
+JudgesChange turns.OutOfMemory outcome b b' = (b' ≡ b) × IsSome (drawn_by outcome)
 
 -- the same of a book, by what its ledger was and is
-abbrev pub ChangesBook : {K : Type 0} → (K → ℕ) → TurnResult → Result Drawn Broken → SeenBook K → SeenBook K → Type 0
-ChangesBook faults turn judged old new = JudgesChange turn judged (ledger_of faults old) (ledger_of faults new)
+abbrev pub ChangesBook : {K : Type 0} → (K → ℕ) → TurnResult → Outcome Broken → SeenBook K → SeenBook K → Type 0
+ChangesBook faults turn outcome old new = JudgesChange turn outcome (ledger_of faults old) (ledger_of faults new)
 
--- a bulk's caller is a registered user, and it has no more rows than it may
-abbrev pub IsBulkCaller : History → Option ℕ → ℕ → List BulkRow → Type 0
-IsBulkCaller H None at rows = ⊥
-IsBulkCaller H (Some user) at rows = IsBulkAllowed H (bulk_by user at rows)
+-- a bulk's caller is a registered user, who may give it
+abbrev pub IsBulkCaller : History → Option ℕ → ℕ → Option RetryKey → List BulkRow → Type 0
+IsBulkCaller H None at key rows = ⊥
+IsBulkCaller H (Some user) at key rows = IsBulkGiven H (bulk_by user at key rows)
 
 -- a query was answered for this caller
 abbrev pub AnswersQuery : TurnResult → Option ℕ → Query → History → Type 0

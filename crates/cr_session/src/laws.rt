@@ -4,6 +4,7 @@ ghost use Rattle.cr_lock.specs.Turns.{marks};
 ghost use Rattle.cr_session.specs.Passing.{KnownPass, TakesTurns};
 ghost use Rattle.cr_session.specs.Replay.{JudgedWish, Ledger, Replays, lost_count};
 ghost use Rattle.cr_session.specs.HiddenBytes.{HiddenBytes};
+ghost use Rattle.cr_session.specs.Retries.{RetriesActOnce};
 ghost use Rattle.cr_session.specs.TwoRuns.{TwoRuns};
 
 /// Two runs that agree in a user's wishes, with their moments, and in what she sees at each of them agree in every byte
@@ -20,6 +21,17 @@ pub fn law_two_runs()
 /// come to be alike in several such steps. Whoever else may ask whatever else.
 pub fn law_hidden_bytes()
     ensures { HiddenBytes }
+{}
+
+/// A command or a bulk that its caller sends again, with the number and the mark that it had, acts once. On every
+/// legal history, whoever asks whatever: where each wish is left out whose caller, number and mark an earlier one has
+/// that was accepted and added something, all ends in the same history. A wish so left out is answered by what the
+/// earlier one added: a bulk by how many entries, every other command by the first of them. Where both are bulks, or
+/// neither is, these are the bytes of the earlier one's answer, its Date and its Connection aside. It is so whatever
+/// comes between, also where the caller has lost the right meanwhile. Nothing that is accepted is lost in it. Earlier
+/// are the wishes of the list: a repeat of a command that the history began with is answered as `decide` says.
+pub fn law_repeats()
+    ensures { RetriesActOnce }
 {}
 
 /// Over any turns at most as many commands are lost as the keeper's count of faults rose by, its last value

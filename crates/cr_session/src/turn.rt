@@ -2,8 +2,8 @@
 ghost use Rattle.std.specs.Prelude.{◌≡◌, ◌≤◌, ◌<◌, ◌^◌, [], Some, None, OnOk, OnErr, vec_capacity};
 ghost use mathlib.Core.List.{IsPrefix};
 ghost use Rattle.cr_lock.specs.Passes.{after_turn};
-ghost use Rattle.cr_policy.specs.Judge.{judge, judge_bulk, needs_login};
-ghost use Rattle.cr_policy.specs.Legal.{IsAllowed, IsBulkAllowed, MayAsk};
+ghost use Rattle.cr_policy.specs.Judge.{decide, decide_bulk, needs_login};
+ghost use Rattle.cr_policy.specs.Legal.{IsGiven, IsBulkGiven, MayAsk};
 ghost use Rattle.cr_policy.specs.View.{view};
 ghost use Rattle.cr_base.specs.Calls.{call_of, bulk_by, maker_of};
 ghost use Rattle.cr_json.specs.Put.{HasRoom};
@@ -14,7 +14,7 @@ ghost use Rattle.cr_session.specs.Turning.{IsBoundedWish, Turns, IsBulkCaller, C
 ghost use Rattle.cr_session.specs.Turning.{refused_for, turn_block, turn_front, MayWantToPrint};
 
 use crate::server::Server;
-use cr_base::{Broken, BulkRows, Command, Moment, Query, Receipt, Reply, UserNo};
+use cr_base::{Broken, BulkRows, Command, Moment, Query, Receipt, Reply, RetryKey, UserNo};
 use cr_book::{AnswerError, Book, BookError};
 use cr_lock::Pass;
 use cr_ports::Keeper;
@@ -28,7 +28,7 @@ use std::sync::Wait;
 pub(crate) enum TurnResult {
     /// The request is refused.
     Refused(Refused),
-    /// The command or the bulk was accepted, kept and applied.
+    /// The command or the bulk was accepted, kept and applied; or it repeats one that was, and nothing changed.
     Accepted(Receipt),
     /// The query's answer.
     Answered(Reply),
@@ -57,9 +57,10 @@ pub(crate) fn in_turn<R: Wait, K: Keeper>(
     lock.turn(server.rt, pass, |book: &mut Book<K>| take_turn(book, wish))
 }
 
-/// Judges or answers a wish. Takes no memory on a refusal: `TurnResult::OutOfMemory` comes only for a command or a
-/// bulk that is accepted and for a query that isn't refused, and then nothing changed. Who calls is asked first, by
-/// one look-up by name; whoever can't be told from nobody is refused alike where a login is wanted.
+/// Judges or answers a wish. Takes no memory on a refusal, nor for a command or a bulk that repeats one of its
+/// caller's: `TurnResult::OutOfMemory` comes only for a command or a bulk that is judged and accepted and for a query
+/// that isn't refused, and then nothing changed. Who calls is asked first, by one look-up by name; whoever can't be
+/// told from nobody is refused alike where a login is wanted.
 pub(crate) fn take_turn<K: Keeper>(book: &mut Book<K>, wish: Wish) -> TurnResult
     requires { IsBoundedWish wish }
     ensures { Turns result wish (ledger_of K.faults book.old) (ledger_of K.faults book.new) }
@@ -75,10 +76,11 @@ pub(crate) fn take_turn<K: Keeper>(book: &mut Book<K>, wish: Wish) -> TurnResult
     match what {
         What::NoRoute => TurnResult::Refused(Refused::NoRoute),
         What::WrongMethod(resource) => TurnResult::Refused(Refused::WrongMethod(resource)),
+        What::BadNumber(_) => TurnResult::Refused(Refused::BadNumber),
         What::BadBody(_) => TurnResult::Refused(Refused::BadBody),
         What::BadQuery { offset } => TurnResult::Refused(Refused::BadQuery { offset }),
-        What::Command(command) => judge(book, &caller, command, at),
-        What::Bulk(rows) => judge_bulk(book, &caller, rows, at),
+        What::Command { key, command } => judge(book, &caller, command, at, key),
+        What::Bulk { key, rows } => judge_bulk(book, &caller, rows, at, key),
         What::Query(query) => answer(book, &caller, &query),
     }
 }
@@ -106,18 +108,20 @@ fn caller_of<K: Keeper>(book: &Book<K>, wish: &Wish) -> Option<UserNo>
     book.caller(&credentials.name, &credentials.digest)
 }
 
-/// Judges a command of this moment.
+/// Judges a command of this moment, with this key, if any: one that repeats a command of its caller's is answered as
+/// that.
 fn judge<K: Keeper>(
     book: &mut Book<K>,
     caller: &Option<UserNo>,
     command: Command,
     at: Moment,
+    key: Option<RetryKey>,
 ) -> TurnResult
-    requires { IsAllowed book.old.log (call_of caller.now at command) }
+    requires { IsGiven book.old.log (call_of caller.now at key command) }
     ensures { ChangesBook K.faults result
-        (as_bulk (judge (view caller.now book.old.log) (call_of caller.now at command))) book.old book.new }
+        (as_bulk (decide (view caller.now book.old.log) (call_of caller.now at key command))) book.old book.new }
 {
-    match book.command(caller, command, at) {
+    match book.command(caller, command, at, key) {
         Ok(receipt) => TurnResult::Accepted(receipt),
         Err(BookError::Broken(rule)) => TurnResult::Refused(Refused::Rule(rule)),
         Err(BookError::KeeperFault) => TurnResult::Lost,
@@ -125,30 +129,38 @@ fn judge<K: Keeper>(
     }
 }
 
-/// Judges a bulk of this moment, of which a registered user is the caller.
+/// Judges a bulk of this moment, with this key, if any, of which a registered user is the caller.
 fn judge_bulk<K: Keeper>(
     book: &mut Book<K>,
     caller: &Option<UserNo>,
     rows: BulkRows,
     at: Moment,
+    key: Option<RetryKey>,
 ) -> TurnResult
-    requires { IsBulkCaller book.old.log caller.now at rows }
+    requires { IsBulkCaller book.old.log caller.now at key rows }
     ensures { ChangesBook K.faults result
-        (judge_bulk (view caller.now book.old.log) (bulk_by (maker_of caller.now) at rows)) book.old book.new }
+        (decide_bulk (view caller.now book.old.log) (bulk_by (maker_of caller.now) at key rows)) book.old book.new }
 {
     match caller {
-        Some(user) => judge_rows(book, *user, rows, at),
+        Some(user) => judge_rows(book, *user, rows, at, key),
         None => unreachable!(),
     }
 }
 
-/// Judges a bulk of this user and this moment.
-fn judge_rows<K: Keeper>(book: &mut Book<K>, user: UserNo, rows: BulkRows, at: Moment) -> TurnResult
-    requires { IsBulkAllowed book.old.log (bulk_by user at rows) }
+/// Judges a bulk of this user and this moment, with this key, if any: one that repeats a command or a bulk of hers is
+/// answered as that.
+fn judge_rows<K: Keeper>(
+    book: &mut Book<K>,
+    user: UserNo,
+    rows: BulkRows,
+    at: Moment,
+    key: Option<RetryKey>,
+) -> TurnResult
+    requires { IsBulkGiven book.old.log (bulk_by user at key rows) }
     ensures { ChangesBook K.faults result
-        (judge_bulk (view (Some user) book.old.log) (bulk_by user at rows)) book.old book.new }
+        (decide_bulk (view (Some user) book.old.log) (bulk_by user at key rows)) book.old book.new }
 {
-    match book.bulk(user, rows, at) {
+    match book.bulk(user, rows, at, key) {
         Ok(count_told) => TurnResult::Accepted(count_told),
         Err(BookError::Broken(broken)) => TurnResult::Refused(refused_for(broken)),
         Err(BookError::KeeperFault) => TurnResult::Lost,

@@ -6,6 +6,7 @@ use Rattle.hex.specs.Hex.{encode_lower}
 use Rattle.json.specs.Print.{quoted}
 use Rattle.cr_base.specs.declared.entry.EntryKind.{EntryKind}
 use Rattle.cr_base.specs.declared.entry.EntryKind.TheVariants as kinds
+use Rattle.cr_base.specs.declared.retry.RetryKey.{RetryKey}
 use Rattle.cr_base.specs.declared.words.Phase.{Phase}
 use Rattle.cr_base.specs.declared.words.Mode.{Mode}
 use Rattle.cr_base.specs.declared.words.Role.{Role}
@@ -27,8 +28,12 @@ abbrev pub content_text : List ℕ → List ℕ
 content_text content = decimal (length content)
 
 -- a deadline by its seconds, and that there is none by 0
-abbrev pub until_text : Option ℕ → List ℕ
-until_text until = decimal (unwrap_or until 0)
+abbrev pub until_decimal : Option ℕ → List ℕ
+until_decimal until = decimal (unwrap_or until 0)
+
+-- the number that its client gave the command, where the key is shown and there is one; no line tells the mark
+abbrev pub number_told : Option (Option RetryKey) → Option ℕ
+number_told key = option_map (λ (k : RetryKey). k.number) (unwrap_or key None)
 
 -- a phase, a mode and a role by their words
 abbrev pub phase_text : Phase → List ℕ
@@ -83,6 +88,7 @@ third_members s =
     ++ member_of (codes "mode") (option_map mode_text s.mode)
     ++ member_of (codes "n") (option_map decimal s.n)
     ++ member_of (codes "name") (option_map quoted s.name)
+    ++ member_of (codes "num") (option_map decimal (number_told s.key))
     ++ member_of (codes "on") (option_map truth_text s.on)
 
 unfoldable pub fourth_members : Sighting → List Member
@@ -105,7 +111,7 @@ fifth_members s =
 unfoldable pub last_members : Sighting → List Member
 last_members s =
     member_of (codes "to_pc") (option_map quoted s.to_pc)
-    ++ member_of (codes "until") (option_map until_text s.until)
+    ++ member_of (codes "until") (option_map until_decimal s.until)
     ++ member_of (codes "user") (option_map decimal (user_told s.kind s.by s.user))
     ++ member_of (codes "value") (option_map bid_text s.value)
     ++ member_of (codes "version") (option_map decimal s.version)

@@ -4,13 +4,13 @@ ghost use Rattle.std.specs.Option.{option_copied};
 ghost use Rattle.cr_base.specs.Lists.{listed};
 ghost use Rattle.cr_json.specs.Json.{AddsMembers};
 ghost use Rattle.cr_json.specs.Put.{Appends};
-ghost use Rattle.cr_sights.specs.Lines.{by_told, line_text, lines_text, user_told, writer_told};
+ghost use Rattle.cr_sights.specs.Lines.{by_told, line_text, lines_text, number_told, user_told, writer_told};
 ghost use Rattle.cr_sights.specs.Lines.{first_members, second_members, third_members, fourth_members};
 ghost use Rattle.cr_sights.specs.Lines.{fifth_members, last_members};
 
 use crate::members::add;
 use crate::sighting::Sighting;
-use cr_base::{EntryKind, UserNo};
+use cr_base::{CommandNumber, EntryKind, UserNo};
 use cr_json::Object;
 use std::alloc::AllocError;
 
@@ -41,6 +41,16 @@ fn by_told<'a>(sighting: &'a Sighting) -> Option<&'a UserNo>
     match sighting.kind {
         EntryKind::Bid | EntryKind::Commented => None,
         _ => sighting.by.as_ref(),
+    }
+}
+
+/// The number that its client gave the command of the reader's own entry, where it gave one.
+fn number_told<'a>(sighting: &'a Sighting) -> Option<&'a CommandNumber>
+    ensures { option_copied result ≡ number_told (sighting.now).key }
+{
+    match &sighting.key {
+        Some(Some(key)) => Some(&key.number),
+        _ => None,
     }
 }
 
@@ -83,6 +93,7 @@ fn add_third(object: &mut Object, into: &mut Vec<u8>, sighting: &Sighting) -> Re
     add(object, into, "mode", sighting.mode.as_ref())?;
     add(object, into, "n", sighting.n.as_ref())?;
     add(object, into, "name", sighting.name)?;
+    add(object, into, "num", number_told(sighting))?;
     object.truth(into, "on", sighting.on)?;
     Ok(())
 }

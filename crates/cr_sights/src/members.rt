@@ -4,11 +4,11 @@ ghost use Rattle.std.specs.Option.{option_copied};
 ghost use Rattle.hex.specs.Hex.{encode_lower};
 ghost use Rattle.json.specs.Print.{quoted};
 ghost use Rattle.cr_json.specs.Json.{AddsMembers, bid_text, decision_text, member_of, review_kind_text};
-ghost use Rattle.cr_sights.specs.Lines.{content_text, digest_text, mode_text, phase_text, role_text, until_text};
+ghost use Rattle.cr_sights.specs.Lines.{content_text, digest_text, mode_text, phase_text, role_text, until_decimal};
 
 use cr_base::{
-    Bid, Blob, Deadline, Decision, Digest, Grade, Kind, Mode, Moment, PaperNo, Phase, Role, Short,
-    Tag, Text, UserNo,
+    Bid, Blob, CommandNumber, Deadline, Decision, Digest, Grade, Kind, Mode, Moment, PaperNo,
+    Phase, Role, Short, Tag, Text, UserNo,
 };
 use cr_json::Object;
 use std::alloc::AllocError;
@@ -76,9 +76,18 @@ impl Part for Moment {
     }
 }
 
+/// The number of a command.
+impl Part for CommandNumber {
+    ghost text = { decimal };
+
+    fn write(&self, object: &mut Object, into: &mut Vec<u8>, key: &str) -> Result<(), AllocError> {
+        object.number(into, key, self.number())
+    }
+}
+
 /// A deadline by its seconds, or that there is none by 0.
 impl Part for Option<Deadline> {
-    ghost text = { until_text };
+    ghost text = { until_decimal };
 
     fn write(&self, object: &mut Object, into: &mut Vec<u8>, key: &str) -> Result<(), AllocError> {
         match self {

@@ -4,7 +4,7 @@ ghost use Rattle.cr_sights.specs.Stamps.{stamp_shown};
 
 use cr_base::{
     Bid, Blob, Deadline, Decision, Digest, EntryKind, Grade, Kind, Mode, Moment, PaperNo, Phase,
-    Role, Short, Stamp, Tag, Text, UserNo,
+    RetryKey, Role, Short, Stamp, Tag, Text, UserNo,
 };
 use std::marker::Model;
 
@@ -77,6 +77,8 @@ pub struct Sighting<'a> {
     pub at: Option<Moment>,
     /// The deadline that a phase has from then on, or that it has none any more.
     pub until: Option<Option<Deadline>>,
+    /// The key of its command, or that it has none, where the reader made it.
+    pub key: Option<Option<RetryKey>>,
 }
 
 impl<'a> Model for Sighting<'a> {
@@ -117,10 +119,12 @@ impl<'a> Model for Sighting<'a> {
       accepted = s.accepted;
       at = s.at;
       until = s.until;
+      key = s.key;
     } };
 }
 
-/// What an entry of this kind shows her by its stamp alone: that it is her own, where she made it, and then when.
+/// What an entry of this kind shows her by its stamp alone: that it is her own, where she made it, and then when, and
+/// by which number.
 pub(crate) fn of_stamp<'a>(kind: EntryKind, reader: UserNo, stamp: &Stamp) -> Sighting<'a>
     ensures { result ≡ stamp_shown reader stamp.now kind }
 {
@@ -157,5 +161,6 @@ pub(crate) fn of_stamp<'a>(kind: EntryKind, reader: UserNo, stamp: &Stamp) -> Si
         accepted: None,
         at: mine.then_some(stamp.at),
         until: None,
+        key: mine.then_some(stamp.key),
     }
 }

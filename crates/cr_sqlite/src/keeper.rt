@@ -53,8 +53,8 @@ impl<S: Alter> Model for SqliteKeeper<S> {
     ghost view = { λ k. k.faults };
 }
 
-/// Makes the store's tables where the database has none or those of version 1, and else looks at them. The cursors,
-/// and how many rows there are.
+/// Makes the store's tables where the database has none or those of an older version, and else looks at them. The
+/// cursors, and how many rows there are.
 fn prepare<S: Alter>(
     alloc: Global,
     conn: &mut Connection<S>,
@@ -132,11 +132,12 @@ fn insert_one<S: Alter>(
 
 impl<S: Alter> SqliteKeeper<S> {
     /// A keeper of the rows that the connection's database has as a store, with no fault counted.
-    /// A database without tables becomes a store without rows, in one transaction, and a store of version 1 one of
-    /// version 2, in one transaction as well, which gives each row the moment 0; any other is left as it is.
+    /// A database without tables becomes a store without rows, in one transaction, and a store of version 1 or 2 one
+    /// of version 3, in one transaction as well, which moves each row as `migrate_row` says; any other is left as it
+    /// is.
     ///
     /// `Failed` comes only where `faults` rose, or stands at its last value: the database isn't a
-    /// store of either version, or a statement failed. `OutOfMemory` comes only where it is as it was.
+    /// store of one of these versions, or a statement failed. `OutOfMemory` comes only where it is as it was.
     /// Counts the rows; what they are is looked at as they are read. Where each of the first that
     /// many places then has one row, there is no other. Standard error is told nothing.
     pub fn adopt(

@@ -1,21 +1,28 @@
-//! From version 1 to version 2: each row gets the moment 0.
+//! From an older version to this one: what a row of it didn't keep is 0, or empty.
 ghost use Rattle.std.specs.Prelude.{◌≡◌, false};
 ghost use Rattle.sqlite.specs.Held.{state};
 ghost use Rattle.cr_sqlite.specs.Migration.{CommitsNothing, CommitsOnce};
 
 use crate::cursors::behind;
 use crate::reason::{Reason, StoreError};
-use crate::schema::{PAPERS, PEOPLE, TALK, TIES};
+use crate::schema::{PAPERS, PEOPLE, TALK, TIES, VERSION};
+use crate::table::naming;
+use cr_base::OldVersion;
+use sqlite::types::ValueRef;
 use sqlite::{Alter, Connection, Error, Row, Transaction, params};
 
-/// The text that moves so many rows of a table of version 1, from a place on, and gives their places.
+/// The text that moves so many rows of an older table, from a place on, and gives their places; `$since` are the
+/// values of the columns that version 1 hasn't.
 macro_rules! move_page {
-    ($from:literal, $to:literal, $most:literal) => {
-        concat!(
+    ($table:literal, $end:literal, $since:literal, $most:literal) => {
+        naming!(
             "INSERT INTO ",
-            $to,
-            " SELECT place, kind, maker, more, 0, n1, n2, n3, n4, n5, b1, b2 FROM ",
-            $from,
+            $table,
+            " SELECT place, kind, maker, more, ",
+            $since,
+            ", n1, n2, n3, n4, n5, b1, b2 FROM ",
+            $table,
+            $end,
             " WHERE place >= ?1 ORDER BY place LIMIT ",
             $most,
             " RETURNING place"
@@ -26,54 +33,74 @@ macro_rules! move_page {
 /// The texts that move a table's rows.
 #[derive(Clone, Copy)]
 struct Move {
-    /// Makes the table of version 2.
+    /// Makes the table of this version.
     make: &'static str,
     /// Moves a page of rows.
     page: &'static str,
-    /// Drops the table of version 1.
+    /// Drops the older table.
     drop: &'static str,
 }
 
-/// A table at a time, so that the pages of one that was dropped serve the next. As many rows at once as are read at
-/// once.
-const MOVES: [Move; 4] = [
-    Move {
-        make: PEOPLE,
-        page: move_page!("people", "people_v2", "1000"),
-        drop: "DROP TABLE people",
-    },
-    Move {
-        make: PAPERS,
-        page: move_page!("papers", "papers_v2", "16"),
-        drop: "DROP TABLE papers",
-    },
-    Move {
-        make: TIES,
-        page: move_page!("ties", "ties_v2", "1000"),
-        drop: "DROP TABLE ties",
-    },
-    Move {
-        make: TALK,
-        page: move_page!("talk", "talk_v2", "1000"),
-        drop: "DROP TABLE talk",
-    },
-];
+/// How the rows of an older version are moved: a table at a time, so that the pages of one that was dropped serve the
+/// next; as many rows at once as are read at once.
+macro_rules! moves {
+    ($end:literal, $since:literal) => {
+        [
+            Move {
+                make: PEOPLE,
+                page: move_page!("people", $end, $since, "1000"),
+                drop: concat!("DROP TABLE people", $end),
+            },
+            Move {
+                make: PAPERS,
+                page: move_page!("papers", $end, $since, "16"),
+                drop: concat!("DROP TABLE papers", $end),
+            },
+            Move {
+                make: TIES,
+                page: move_page!("ties", $end, $since, "1000"),
+                drop: concat!("DROP TABLE ties", $end),
+            },
+            Move {
+                make: TALK,
+                page: move_page!("talk", $end, $since, "1000"),
+                drop: concat!("DROP TABLE talk", $end),
+            },
+        ]
+    };
+}
 
-/// Makes a store of version 1 one of version 2 in one transaction, which moves each row as it is, with the moment 0.
-pub(crate) fn migrate<S: Alter>(conn: &mut Connection<S>) -> Result<(), StoreError> {
+/// Version 1 kept neither a moment nor a command's number.
+const FROM_FIRST: [Move; 4] = moves!("", "0, 0, x''");
+
+/// Version 2 kept moments.
+const FROM_SECOND: [Move; 4] = moves!("_v2", "at, 0, x''");
+
+fn moves_from(from: OldVersion) -> [Move; 4] {
+    match from {
+        OldVersion::First => FROM_FIRST,
+        OldVersion::Second => FROM_SECOND,
+    }
+}
+
+/// Makes a store of an older version one of this in one transaction, which moves each row as `migrate_row` says.
+pub(crate) fn migrate<S: Alter>(
+    conn: &mut Connection<S>,
+    from: OldVersion,
+) -> Result<(), StoreError> {
     if !conn.is_autocommit() {
         return Err(StoreError::Failed(Reason::InTransaction));
     }
-    move_all(conn)?;
+    move_all(conn, &moves_from(from))?;
     Ok(())
 }
 
-fn move_all<S: Alter>(conn: &mut Connection<S>) -> Result<(), Error>
+fn move_all<S: Alter>(conn: &mut Connection<S>, moves: &[Move]) -> Result<(), Error>
     requires { conn.old.in_transaction ≡ false }
     ensures one { CommitsOnce (state S.Store conn.old) (state S.Store conn.new) }
 {
     let mut transaction = conn.transaction();
-    move_tables(&mut transaction, &MOVES)?;
+    move_tables(&mut transaction, moves)?;
     transaction.commit()
 }
 
@@ -85,23 +112,32 @@ fn move_tables<S: Alter>(transaction: &mut Transaction<'_, S>, moves: &[Move]) -
     'tables: for table in moves {
         move_table(transaction, *table)?;
     }
-    run(transaction, "UPDATE meta SET version = 2")
+    run(
+        transaction,
+        "UPDATE meta SET version = ?1",
+        params![VERSION],
+    )
 }
 
 fn move_table<S: Alter>(transaction: &mut Transaction<'_, S>, table: Move) -> Result<(), Error>
     ensures same { transaction.new.conn.ghost_name ≡ transaction.old.conn.ghost_name }
     ensures inside { CommitsNothing (state S.Store transaction.old.conn.now) (state S.Store transaction.new.conn.now) }
 {
-    run(transaction, table.make)?;
+    run(transaction, table.make, &[])?;
     move_rows(transaction, table.page)?;
-    run(transaction, table.drop)
+    run(transaction, table.drop, &[])
 }
 
-fn run<S: Alter>(transaction: &mut Transaction<'_, S>, sql: &str) -> Result<(), Error>
+/// Runs one statement and leaves its count of rows.
+pub(crate) fn run<S: Alter>(
+    transaction: &mut Transaction<'_, S>,
+    sql: &str,
+    params: &[ValueRef<'_>],
+) -> Result<(), Error>
     ensures same { transaction.new.conn.ghost_name ≡ transaction.old.conn.ghost_name }
     ensures inside { CommitsNothing (state S.Store transaction.old.conn.now) (state S.Store transaction.new.conn.now) }
 {
-    match transaction.execute(sql, &[]) {
+    match transaction.execute(sql, params) {
         Ok(_) => Ok(()),
         Err(error) => Err(error),
     }

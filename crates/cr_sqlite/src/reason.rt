@@ -7,9 +7,9 @@ use std::fmt;
 pub enum Reason {
     /// The crate `sqlite` refused the file, the disk failed, or another process holds the file.
     Database(Error),
-    /// The file has other tables, or one of the store's has other columns.
+    /// The file has other tables than a store of this version or of an older one, or one of them has other columns.
     OtherTables,
-    /// The version that the store says isn't that of its tables, which is 2, or 1 for tables without moments.
+    /// The version that the store says isn't that of its tables.
     OtherVersion,
     /// No row stands at this place, which is below the number of rows.
     MissingPlace(u64),
@@ -29,8 +29,12 @@ impl fmt::Display for Reason {
     fn fmt<W: fmt::Write>(&self, f: &mut fmt::Formatter<W>) -> fmt::Result {
         match self {
             Reason::Database(error) => write!(f, "{error}"),
-            Reason::OtherTables => f.write_str("the tables are not those of a store"),
-            Reason::OtherVersion => f.write_str("the version is not that of the tables"),
+            Reason::OtherTables => f.write_str(
+                "the tables are not those of a store that this confd reads",
+            ),
+            Reason::OtherVersion => f.write_str(
+                "the store says another version than that of its tables",
+            ),
             Reason::MissingPlace(place) => write!(f, "no row stands at place {place}"),
             Reason::TakenPlace(place) => write!(f, "two rows stand at place {place}"),
             Reason::OtherTable(place) => write!(

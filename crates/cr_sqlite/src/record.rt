@@ -21,11 +21,12 @@ pub(crate) fn insert<S: Alter>(
 }
 
 /// The numbers of a row's columns; none where one is past 2^63 - 1.
-fn numbers_of(place: u64, row: &Row) -> Option<[i64; 10]> {
+fn numbers_of(place: u64, row: &Row) -> Option<[i64; 11]> {
     let unsigned = [
-        place, row.kind, row.maker, row.more, row.at, row.n1, row.n2, row.n3, row.n4, row.n5,
+        place, row.kind, row.maker, row.more, row.at, row.num, row.n1, row.n2, row.n3, row.n4,
+        row.n5,
     ];
-    let mut numbers = [0; 10];
+    let mut numbers = [0; 11];
     for (number, from) in numbers.iter_mut().zip(unsigned) {
         *number = i64::try_from(from).ok()?;
     }
@@ -35,15 +36,17 @@ fn numbers_of(place: u64, row: &Row) -> Option<[i64; 10]> {
 fn put<S: Alter>(
     transaction: &mut Transaction<'_, S>,
     statement: &Statement,
-    n: &[i64; 10],
+    numbers: &[i64; 11],
     row: &Row,
 ) -> Result<usize, Error> {
+    let [place, kind, maker, more, at, num, n1, n2, n3, n4, n5] = *numbers;
+    let mark = row.mark.as_slice();
     let b1 = row.b1.as_slice();
     let b2 = row.b2.as_slice();
     transaction.execute_prepared(
         statement,
         params![
-            n[0], n[1], n[2], n[3], n[4], n[5], n[6], n[7], n[8], n[9], b1, b2
+            place, kind, maker, more, at, num, mark, n1, n2, n3, n4, n5, b1, b2
         ],
     )
 }
@@ -92,14 +95,17 @@ fn is_of(table: Table, kind: u64) -> bool {
 }
 
 fn fields_of(alloc: Global, row: &sqlite::Row) -> Result<Row, Error> {
-    let [kind, maker, more, at, n1, n2, n3, n4, n5] = numbers_in(row)?;
-    let b1 = blob_at(alloc, row, 10)?;
-    let b2 = blob_at(alloc, row, 11)?;
+    let [kind, maker, more, at, num, n1, n2, n3, n4, n5] = numbers_in(row)?;
+    let mark = blob_at(alloc, row, 6)?;
+    let b1 = blob_at(alloc, row, 12)?;
+    let b2 = blob_at(alloc, row, 13)?;
     Ok(Row {
         kind,
         maker,
         more,
         at,
+        num,
+        mark,
         n1,
         n2,
         n3,
@@ -110,10 +116,12 @@ fn fields_of(alloc: Global, row: &sqlite::Row) -> Result<Row, Error> {
     })
 }
 
-/// The numbers behind the place.
-fn numbers_in(row: &sqlite::Row) -> Result<[u64; 9], Error> {
-    let mut numbers = [0; 9];
-    for (number, column) in numbers.iter_mut().zip(1..10) {
+/// The columns of the numbers behind the place, among which the mark stands.
+const NUMBERS: [usize; 10] = [1, 2, 3, 4, 5, 7, 8, 9, 10, 11];
+
+fn numbers_in(row: &sqlite::Row) -> Result<[u64; 10], Error> {
+    let mut numbers = [0; 10];
+    for (number, column) in numbers.iter_mut().zip(NUMBERS) {
         *number = number_at(row, column)?;
     }
     Ok(numbers)

@@ -1,33 +1,62 @@
-//! The tables of a store: made where a file has none, brought to this version where they are of the first one, else
+//! The tables of a store: made where a file has none, brought to this version where they are of an older one, else
 //! looked at.
 ghost use Rattle.std.specs.Prelude.{◌≡◌, false};
 
-use crate::migrate::migrate;
+use crate::migrate::{migrate, run};
 use crate::reason::{Reason, StoreError};
-use sqlite::{Alter, Connection, Error, Row, Transaction};
+use cr_base::OldVersion;
+use sqlite::{Alter, Connection, Error, Row, Transaction, params};
 
-/// The text that makes a table of rows; `$at` is the column that version 2 has and version 1 hasn't.
+/// The text that makes a table of rows, whose name is of two parts; `$since` are the columns that version 1 hasn't.
 macro_rules! table_of_rows {
-    ($name:literal, $at:literal) => {
+    ($table:literal, $end:literal, $since:literal) => {
         concat!(
             "CREATE TABLE ",
-            $name,
+            $table,
+            $end,
             " (place INTEGER PRIMARY KEY, kind INTEGER NOT NULL, maker INTEGER NOT NULL, more INTEGER NOT NULL,",
-            $at,
+            $since,
             " n1 INTEGER NOT NULL, n2 INTEGER NOT NULL, n3 INTEGER NOT NULL, n4 INTEGER NOT NULL,",
             " n5 INTEGER NOT NULL, b1 BLOB NOT NULL, b2 BLOB NOT NULL) STRICT"
         )
     };
 }
 
-/// What makes each of the four tables of rows.
-pub(crate) const PEOPLE: &str = table_of_rows!("people_v2", " at INTEGER NOT NULL,");
+/// The same of this version.
+macro_rules! table_of_today {
+    ($table:literal) => {
+        table_of_rows!(
+            $table,
+            "_v3",
+            " at INTEGER NOT NULL, num INTEGER NOT NULL, mark BLOB NOT NULL,"
+        )
+    };
+}
 
-pub(crate) const PAPERS: &str = table_of_rows!("papers_v2", " at INTEGER NOT NULL,");
+/// The texts that make the tables of an older version.
+macro_rules! older_tables {
+    ($end:literal, $since:literal) => {
+        [
+            META,
+            table_of_rows!("papers", $end, $since),
+            table_of_rows!("people", $end, $since),
+            table_of_rows!("talk", $end, $since),
+            table_of_rows!("ties", $end, $since),
+        ]
+    };
+}
 
-pub(crate) const TIES: &str = table_of_rows!("ties_v2", " at INTEGER NOT NULL,");
+/// What makes the table of `Table::People`.
+pub(crate) const PEOPLE: &str = table_of_today!("people");
 
-pub(crate) const TALK: &str = table_of_rows!("talk_v2", " at INTEGER NOT NULL,");
+/// What makes that of `Table::Papers`.
+pub(crate) const PAPERS: &str = table_of_today!("papers");
+
+/// What makes that of `Table::Ties`.
+pub(crate) const TIES: &str = table_of_today!("ties");
+
+/// What makes that of `Table::Talk`.
+pub(crate) const TALK: &str = table_of_today!("talk");
 
 const META: &str = "CREATE TABLE meta (version INTEGER NOT NULL) STRICT";
 
@@ -36,30 +65,32 @@ const META: &str = "CREATE TABLE meta (version INTEGER NOT NULL) STRICT";
 const TABLES: [&str; 5] = [META, PAPERS, PEOPLE, TALK, TIES];
 
 /// Those of version 1, whose rows have no moment.
-const FIRST_TABLES: [&str; 5] = [
-    META,
-    table_of_rows!("papers", ""),
-    table_of_rows!("people", ""),
-    table_of_rows!("talk", ""),
-    table_of_rows!("ties", ""),
-];
+const FIRST_TABLES: [&str; 5] = older_tables!("", "");
 
-/// The version of the tables that are made.
-const VERSION: i64 = 2;
+/// Those of version 2, whose rows have no command's number.
+const SECOND_TABLES: [&str; 5] = older_tables!("_v2", " at INTEGER NOT NULL,");
 
-/// The version of those without moments.
-const FIRST_VERSION: i64 = 1;
+/// What a store says of its tables: the version of those that are made.
+pub(crate) const VERSION: i64 = 3;
 
-/// Makes the tables in one transaction where there are none, and in one those of this version out of those of
-/// version 1; else tests that they are those of a store of this version. A database that isn't taken is as it was.
+/// What an older store says.
+fn said_by(from: OldVersion) -> i64 {
+    match from {
+        OldVersion::First => 1,
+        OldVersion::Second => 2,
+    }
+}
+
+/// Makes the tables in one transaction where there are none, and in one those of this version out of those of an
+/// older one; else tests that they are those of a store of this version. A database that isn't taken is as it was.
 pub(crate) fn bring_up_to_date<S: Alter>(conn: &mut Connection<S>) -> Result<(), StoreError> {
     match tables_in(conn)? {
         Found::Nothing => make(conn),
         Found::Others => Err(StoreError::Failed(Reason::OtherTables)),
         Found::Store => check_version(conn, VERSION),
-        Found::FirstStore => {
-            check_version(conn, FIRST_VERSION)?;
-            migrate(conn)
+        Found::OldStore(from) => {
+            check_version(conn, said_by(from))?;
+            migrate(conn, from)
         }
     }
 }
@@ -70,8 +101,8 @@ enum Found {
     Nothing,
     /// Those of a store.
     Store,
-    /// Those of a store of version 1.
-    FirstStore,
+    /// Those of a store of an older version.
+    OldStore(OldVersion),
     /// Any others.
     Others,
 }
@@ -90,7 +121,10 @@ fn found_in(rows: &[Row]) -> Result<Found, Error> {
         return Ok(Found::Store);
     }
     if are_texts(rows, &FIRST_TABLES)? {
-        return Ok(Found::FirstStore);
+        return Ok(Found::OldStore(OldVersion::First));
+    }
+    if are_texts(rows, &SECOND_TABLES)? {
+        return Ok(Found::OldStore(OldVersion::Second));
     }
     Ok(Found::Others)
 }
@@ -160,12 +194,11 @@ fn make_all<S: Alter>(conn: &mut Connection<S>) -> Result<(), Error>
 /// Makes the tables of these texts, and tells their version.
 fn run_all<S: Alter>(transaction: &mut Transaction<'_, S>, texts: &[&str]) -> Result<(), Error> {
     for text in texts {
-        run(transaction, text)?;
+        run(transaction, text, &[])?;
     }
-    run(transaction, "INSERT INTO meta VALUES (2)")?;
-    Ok(())
-}
-
-fn run<S: Alter>(transaction: &mut Transaction<'_, S>, sql: &str) -> Result<usize, Error> {
-    transaction.execute(sql, &[])
+    run(
+        transaction,
+        "INSERT INTO meta VALUES (?1)",
+        params![VERSION],
+    )
 }

@@ -188,9 +188,9 @@ impl Shelf for SqliteShelf {
 
     ghost faults = { λ s. s };
 
-    /// Makes the file where it is missing, and so its log, for the owner alone. A store of version 1 becomes one of
-    /// version 2. All of it is looked at, and a file that isn't taken is left as it is, but for a version 1 that was
-    /// brought to 2 before. Where others may read a file that is taken, standard error is told so in a line.
+    /// Makes the file where it is missing, and so its log, for the owner alone. A store of version 1 or 2 becomes one
+    /// of version 3. All of it is looked at, and a file that isn't taken is left as it is, but for an older version
+    /// that was brought to 3 before. Where others may read a file that is taken, standard error is told so in a line.
     fn open(&mut self, path: &str) -> Result<SqliteKeeper<FileStore<File>>, KeeperError> {
         let conn = connect(&self.rt, path);
         let keeper = self.connected(conn)?;

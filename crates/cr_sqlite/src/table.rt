@@ -1,22 +1,31 @@
 //! The four tables of rows.
 
+/// A text with the name of a table, which ends with the version of the tables.
+macro_rules! naming {
+    ($before:literal, $table:literal $(, $behind:literal)*) => {
+        concat!($before, $table, "_v3" $(, $behind)*)
+    };
+}
+
+pub(crate) use naming;
+
 /// The text that adds a row to a table.
 macro_rules! insert {
-    ($name:literal) => {
-        concat!(
+    ($table:literal) => {
+        naming!(
             "INSERT INTO ",
-            $name,
-            " VALUES (?1, ?2, ?3, ?4, ?5, ?6, ?7, ?8, ?9, ?10, ?11, ?12)"
+            $table,
+            " VALUES (?1, ?2, ?3, ?4, ?5, ?6, ?7, ?8, ?9, ?10, ?11, ?12, ?13, ?14)"
         )
     };
 }
 
 /// The text that reads so many rows of a table from a place on.
 macro_rules! page {
-    ($name:literal, $most:literal) => {
-        concat!(
+    ($table:literal, $most:literal) => {
+        naming!(
             "SELECT * FROM ",
-            $name,
+            $table,
             " WHERE place >= ?1 ORDER BY place LIMIT ",
             $most
         )
@@ -51,30 +60,30 @@ impl Table {
     /// Adds a row: its place, then its fields in their order.
     pub fn insert(self) -> &'static str {
         match self {
-            Table::People => insert!("people_v2"),
-            Table::Papers => insert!("papers_v2"),
-            Table::Ties => insert!("ties_v2"),
-            Table::Talk => insert!("talk_v2"),
+            Table::People => insert!("people"),
+            Table::Papers => insert!("papers"),
+            Table::Ties => insert!("ties"),
+            Table::Talk => insert!("talk"),
         }
     }
 
     /// Reads a page of rows from a place on: 1,000, and 16 where contents of 4 MiB may stand.
     pub fn page(self) -> &'static str {
         match self {
-            Table::People => page!("people_v2", "1000"),
-            Table::Papers => page!("papers_v2", "16"),
-            Table::Ties => page!("ties_v2", "1000"),
-            Table::Talk => page!("talk_v2", "1000"),
+            Table::People => page!("people", "1000"),
+            Table::Papers => page!("papers", "16"),
+            Table::Ties => page!("ties", "1000"),
+            Table::Talk => page!("talk", "1000"),
         }
     }
 
     /// Counts the rows.
     pub fn count(self) -> &'static str {
         match self {
-            Table::People => "SELECT count(*) FROM people_v2",
-            Table::Papers => "SELECT count(*) FROM papers_v2",
-            Table::Ties => "SELECT count(*) FROM ties_v2",
-            Table::Talk => "SELECT count(*) FROM talk_v2",
+            Table::People => naming!("SELECT count(*) FROM ", "people"),
+            Table::Papers => naming!("SELECT count(*) FROM ", "papers"),
+            Table::Ties => naming!("SELECT count(*) FROM ", "ties"),
+            Table::Talk => naming!("SELECT count(*) FROM ", "talk"),
         }
     }
 }

@@ -72,8 +72,8 @@ impl Talk {
 
     /// The number that a comment by this maker on this paper would have now, the count of those on it plus
     /// 1, or the first broken rule. `by` is the maker's standing at the paper; `paper` is none where there
-    /// is no such paper. Whether it is withdrawn stands in none of the comments. Two reads by number at most;
-    /// takes no memory.
+    /// is no such paper. Whether it is withdrawn stands in none of the comments. `late` is what `Stage::is_late`
+    /// says at the request's moment. Two reads by number at most; takes no memory.
     ///
     /// In this order: `NoPaper`, `NotMember`, `Conflict`, `WrongPhase` where it isn't the discussion, `Late`
     /// where it is too late, `Withdrawn`, `QuotaComments` where she has written 1,000 comments.

@@ -79,10 +79,10 @@ all-known H legal = by H (all-there H kept.in_order) (by-authors H kept.in_order
       by G there.1 author.1 settled.1 chairs.1 held.1,
     )
 
--- the moment is shown of one's own entry alone
-pub known-own : (own : Bool) (at : ℕ) → is_some (where_known own at) ≡ true → own ≡ true
-known-own true at shown = refl
-known-own false at shown = absurd (true≢false (sym shown))
+-- the moment is shown of one's own entry alone, and so is the key
+pub known-own : {A : Type 0} (own : Bool) (x : A) → is_some (where_known own x) ≡ true → own ≡ true
+known-own true x shown = refl
+known-own false x shown = absurd (true≢false (sym shown))
 
 -- each part of each sighting of this kind is told or left out
 abbrev pub AllOf : EntryKind → Type 0

@@ -179,6 +179,7 @@ module _ (u : Option ℕ) (H : History) (legal : Legal H) (before after : View) 
                     third listed-bid (is_number u stamp.maker) key-same later-bid later-own (is_number u stamp.maker && not (is_eligible u paper H))
                     (λ i. mine none i && not (not-hers i))
         bid part.at shown = known-own (is_number u stamp.maker) stamp.at shown
+        bid part.key shown = known-own (is_number u stamp.maker) stamp.key shown
         bid _ shown = absurd (true≢false (sym shown))
 
 pub bid-all : AllOf kinds.Bid

@@ -173,6 +173,7 @@ module _ (u : Option ℕ) (H : History) (legal : Legal H) (before after : View) 
       conflict-all' part.user shown = conflict
       conflict-all' part.on shown = conflict
       conflict-all' part.at shown = known-own (is_number u stamp.maker) stamp.at shown
+      conflict-all' part.key shown = known-own (is_number u stamp.maker) stamp.key shown
       conflict-all' _ shown = absurd (true≢false (sym shown))
 
 pub conflict-all : AllOf kinds.Conflict

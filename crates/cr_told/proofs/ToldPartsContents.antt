@@ -223,6 +223,7 @@ module _ (u : Option ℕ) (H : History) (legal : Legal H) (before after : View) 
               (λ i. only (eq-eqb paper paper refl i && is_number (where_known (told i) version) version) (listed (where_known (told i) content)))
               ∙ ap (λ b. only b (content ∷ [])) (eq-eqb version version refl)
       uploaded part.at shown = known-own (is_number u stamp.maker) stamp.at shown
+      uploaded part.key shown = known-own (is_number u stamp.maker) stamp.key shown
       uploaded _ shown = absurd (true≢false (sym shown))
 
 pub uploaded-all : AllOf kinds.Uploaded

@@ -512,6 +512,7 @@ module _ (u : Option ℕ) (H : History) (legal : Legal H) (before after : View) 
               (mark
               (counted (reads_form u H earlier later stamp.maker paper o) (administers u paper H) (not (is_reviewed paper o earlier)) (learns_form u H later paper o) told none))
       reviewed part.at shown = known-own (is_number u stamp.maker) stamp.at shown
+      reviewed part.key shown = known-own (is_number u stamp.maker) stamp.key shown
       reviewed _ shown = absurd (true≢false (sym shown))
 
 pub reviewed-all : AllOf kinds.Reviewed

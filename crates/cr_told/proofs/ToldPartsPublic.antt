@@ -30,7 +30,7 @@ use Rattle.cr_policy.specs.Part.{Part}
 use Rattle.cr_policy.specs.ShownTo.{maker_for}
 use Rattle.cr_policy.specs.Sighting.{Sighting}
 use Rattle.cr_policy.specs.View.{View, view}
-use Rattle.cr_policy.specs.ViewFacts.{only, is_user, is_kind, opens_phase, phase_in_view, mode_in_view}
+use Rattle.cr_policy.specs.ViewFacts.{only, is_user, is_kind, shows_phase, phase_in_view, mode_in_view}
 use Rattle.cr_policy.proofs.BoundsWalk.{shown_to}
 use Rattle.cr_told.specs.ToldPages.{shown_on, writers_shown, writer_by, page_told}
 use Rattle.cr_told.specs.ToldParts.{is_name_of, has, accounts_answered, accounts_given, deadlines_answered, has_deadline, agree, lists, same_mode, same_role, is_told as is_part_told, is_left_untold}
@@ -122,6 +122,7 @@ module _ (u : Option ℕ) (H : History) (legal : Legal H) (before after : View) 
         ((λ i. (eq-eqb user user refl i && same-bytes name i) || false)))
     registered user name digest part.digest is shown = refl
     registered user name digest part.at is shown = known-own (is_number u stamp.maker) stamp.at shown
+    registered user name digest part.key is shown = known-own (is_number u stamp.maker) stamp.key shown
     registered user name digest _ is shown = absurd (true≢false (sym shown))
 
     phase-set : (phase : Phase) (what : Part) → Whole what (shown_to u H earlier later stamp (PhaseSet phase))
@@ -130,6 +131,7 @@ module _ (u : Option ℕ) (H : History) (legal : Legal H) (before after : View) 
         (shown_to u H earlier later stamp (PhaseSet phase)) phase Setup (eq-eqb (phase_rank phase) (phase_rank phase) refl) refl (phase_in_view V)
         (ap (last_or Setup) (conference.phases u H) ∙ ap (λ (W : View). last_or Setup (phases_shown W)) is)
     phase-set phase part.at is shown = known-own (is_number u stamp.maker) stamp.at shown
+    phase-set phase part.key is shown = known-own (is_number u stamp.maker) stamp.key shown
     phase-set phase _ is shown = absurd (true≢false (sym shown))
 
     -- a deadline that no later one of its phase follows stands among the deadlines
@@ -142,7 +144,7 @@ module _ (u : Option ℕ) (H : History) (legal : Legal H) (before after : View) 
         s = shown_to u H earlier later stamp (DeadlineSet set (Some n))
 
         shown_in : Sighting → List (Option ℕ)
-        shown_in t = only (opens_phase set t.phase) (listed t.until)
+        shown_in t = only (shows_phase set t.phase) (listed t.until)
 
         lasts : Phase → Option ℕ
         lasts phase = last_or None (deadlines_shown phase V)
@@ -167,10 +169,12 @@ module _ (u : Option ℕ) (H : History) (legal : Legal H) (before after : View) 
     deadline-set set None part.until may is shown =
         or_right (has_deadline u H (shown_to u H earlier later stamp (DeadlineSet set None)) (is_number None)) true refl
     deadline-set set None part.at may is shown = known-own (is_number u stamp.maker) stamp.at shown
+    deadline-set set None part.key may is shown = known-own (is_number u stamp.maker) stamp.key shown
     deadline-set set None _ may is shown = absurd (true≢false (sym shown))
     deadline-set set (Some n) part.phase may is shown = deadline-told set n (λ n. true) may refl is
     deadline-set set (Some n) part.until may is shown = deadline-told set n (is_number (Some n)) may (eq-eqb n n refl) is
     deadline-set set (Some n) part.at may is shown = known-own (is_number u stamp.maker) stamp.at shown
+    deadline-set set (Some n) part.key may is shown = known-own (is_number u stamp.maker) stamp.key shown
     deadline-set set (Some n) _ may is shown = absurd (true≢false (sym shown))
 
     mode-set : (mode : Mode) (what : Part) → Whole what (shown_to u H earlier later stamp (ModeSet mode))
@@ -179,6 +183,7 @@ module _ (u : Option ℕ) (H : History) (legal : Legal H) (before after : View) 
         (shown_to u H earlier later stamp (ModeSet mode)) mode Blind (eq-eqb (mode_number mode) (mode_number mode) refl) refl (mode_in_view V)
         (ap (last_or Blind) (conference.modes u H) ∙ ap (λ (W : View). last_or Blind (all_shown (λ (s : Sighting). s.mode) W)) is)
     mode-set mode part.at is shown = known-own (is_number u stamp.maker) stamp.at shown
+    mode-set mode part.key is shown = known-own (is_number u stamp.maker) stamp.key shown
     mode-set mode _ is shown = absurd (true≢false (sym shown))
 
     named-to : (user : ℕ) (role : Role) (what : Part) → IsRegistered H user → Whole what (shown_to u H earlier later stamp (Named user role))
@@ -204,6 +209,7 @@ module _ (u : Option ℕ) (H : History) (legal : Legal H) (before after : View) 
             (λ r same. (λ i. (swap r.user user ∙ same) i && same_role role (role_of (Some (eqb-true r.user user same i)) H)) ∙ h) refl)
         by false h either = or_right (lists (accounts_given u H) (λ line. eqb user line.user && same_role role line.role)) (not (is_nothing (flat_map f after))) either
     named-to user role part.at there is shown = known-own (is_number u stamp.maker) stamp.at shown
+    named-to user role part.key there is shown = known-own (is_number u stamp.maker) stamp.key shown
     named-to user role _ there is shown = absurd (true≢false (sym shown))
 
     submitted : (paper : ℕ) (title abstract : List ℕ) (what : Part) → IsSubmitted H paper → IsRegistered H stamp.maker
@@ -223,6 +229,7 @@ module _ (u : Option ℕ) (H : History) (legal : Legal H) (before after : View) 
         text-told paper (λ (s : Sighting). s.abstract) (shown_to u H earlier later stamp (Submitted paper title abstract)) abstract is refl (known _ abstract shown) _
         (pages_told u paper H legal there).abstract_
     submitted paper title abstract part.at there registered is shown = known-own (is_number u stamp.maker) stamp.at shown
+    submitted paper title abstract part.key there registered is shown = known-own (is_number u stamp.maker) stamp.key shown
     submitted paper title abstract _ there registered is shown = absurd (true≢false (sym shown))
 
     revised : (paper : ℕ) (title abstract : List ℕ) (what : Part) → IsSubmitted H paper → Whole what (shown_to u H earlier later stamp (Revised paper title abstract))
@@ -233,6 +240,7 @@ module _ (u : Option ℕ) (H : History) (legal : Legal H) (before after : View) 
         text-told paper (λ (s : Sighting). s.abstract) (shown_to u H earlier later stamp (Revised paper title abstract)) abstract is refl (known _ abstract shown) _
         (pages_told u paper H legal there).abstract_
     revised paper title abstract part.at there is shown = known-own (is_number u stamp.maker) stamp.at shown
+    revised paper title abstract part.key there is shown = known-own (is_number u stamp.maker) stamp.key shown
     revised paper title abstract _ there is shown = absurd (true≢false (sym shown))
 
     coauthor : (paper user : ℕ) (what : Part) → IsSubmitted H paper → IsRegistered H user → Whole what (shown_to u H earlier later stamp (Coauthor paper user))
@@ -240,6 +248,7 @@ module _ (u : Option ℕ) (H : History) (legal : Legal H) (before after : View) 
         or_left _ false
         (author-told paper user (shown_to u H earlier later stamp (Coauthor paper user)) is there registered (ap (λ b. only b (user ∷ [])) (eq-eqb paper paper refl)))
     coauthor paper user part.at there registered is shown = known-own (is_number u stamp.maker) stamp.at shown
+    coauthor paper user part.key there registered is shown = known-own (is_number u stamp.maker) stamp.key shown
     coauthor paper user _ there registered is shown = absurd (true≢false (sym shown))
 
 -- ---- the kinds
@@ -319,5 +328,6 @@ withdrawn-all = all-of kinds.Withdrawn each
             || is_left_untold u H (shown_to u H earlier later stamp (Withdrawn paper)) after kinds.Withdrawn what) ≡ true
         none part.user shown = absurd (true≢false (sym shown))
         none part.at shown = known-own (is_number u stamp.maker) stamp.at shown
+        none part.key shown = known-own (is_number u stamp.maker) stamp.key shown
         none _ shown = absurd (true≢false (sym shown))
     each u H legal before after what earlier later stamp more e whole there told is kind shown = absurd (true≢false (sym kind))

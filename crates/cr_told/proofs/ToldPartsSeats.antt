@@ -270,6 +270,7 @@ module _ (u : Option ℕ) (H : History) (legal : Legal H) (before after : View) 
               other lined (is_user u s.user && lists (assigned_given u H) (eqb paper)) (is_taken_off u H s) (is_user u s.user && again) (is_user u s.user)
               m n onc begun c lead past a hides shown-to e f hs hl own
       assigned part.at shown = known-own (is_number u stamp.maker) stamp.at shown
+      assigned part.key shown = known-own (is_number u stamp.maker) stamp.key shown
       assigned _ shown = absurd (true≢false (sym shown))
 
   module _ (earlier later : History) (stamp : Stamp) (more : Bool) (paper user : ℕ) (o : ℕ) (there : IsSubmitted H paper)
@@ -324,6 +325,7 @@ module _ (u : Option ℕ) (H : History) (legal : Legal H) (before after : View) 
               (is_number u stamp.maker) (is_number u user) onc begun (has_conflict u paper H) lead (is_past_reviewing (phase_of H)) (is_answered u paper H)
               (discusses u paper H && not (hides_reviewers (mode_of H))) told none hs (leads-serves (role_of u H)) own
       unassigned part.at shown = known-own (is_number u stamp.maker) stamp.at shown
+      unassigned part.key shown = known-own (is_number u stamp.maker) stamp.key shown
       unassigned _ shown = absurd (true≢false (sym shown))
 
 pub assigned-all : AllOf kinds.Assigned

@@ -305,6 +305,7 @@ module _ (u : Option ℕ) (H : History) (legal : Legal H) (before after : View) 
       tagged-all' part.tag shown = tagged
       tagged-all' part.on shown = tagged
       tagged-all' part.at shown = known-own (is_number u stamp.maker) stamp.at shown
+      tagged-all' part.key shown = known-own (is_number u stamp.maker) stamp.key shown
       tagged-all' _ shown = absurd (true≢false (sym shown))
 
 pub tagged-all : AllOf kinds.Tagged

@@ -150,6 +150,7 @@ module _ (u : Option ℕ) (H : History) (legal : Legal H) (before after : View) 
                 ∙ (λ i. (eq-eqb n n refl i && agree nat_eq (known _ o shown i) (labelled none label i)) || false)
                 ∙ ap (λ b. b || false) (eq-eqb o o refl))
         commented part.at shown = known-own (is_number u stamp.maker) stamp.at shown
+        commented part.key shown = known-own (is_number u stamp.maker) stamp.key shown
         commented _ shown = absurd (true≢false (sym shown))
 
     module _ (paper : ℕ) (decision : Decision) (there : IsSubmitted H paper) (begun : is_from Discussion (phase_of H) ≡ true)
@@ -269,6 +270,7 @@ module _ (u : Option ℕ) (H : History) (legal : Legal H) (before after : View) 
                     second _ again other left
                     ((λ i. (accepted-is ∙ e) i && not (is_some (where_known (unmarked i) true))))
         decided part.at shown = known-own (is_number u stamp.maker) stamp.at shown
+        decided part.key shown = known-own (is_number u stamp.maker) stamp.key shown
         decided _ shown = absurd (true≢false (sym shown))
 
 pub commented-all : AllOf kinds.Commented

@@ -20,7 +20,7 @@ use Rattle.cr_base.specs.Lists.{given, listed, last_or}
 use Rattle.cr_base.specs.Phases.{phase_rank, is_phase, may_have_deadline}
 use Rattle.cr_policy.specs.Sighting.{Sighting}
 use Rattle.cr_policy.specs.View.{view}
-use Rattle.cr_policy.specs.ViewFacts.{only, is_user, is_kind, opens_phase, phase_seen, mode_seen, deadline_seen, paper_seen, role_seen, registration_seen, deadline_in_view, role_in_view, accounts_in_view}
+use Rattle.cr_policy.specs.ViewFacts.{only, is_user, is_kind, shows_phase, phase_seen, mode_seen, deadline_seen, paper_seen, role_seen, registration_seen, deadline_in_view, role_in_view, accounts_in_view}
 use Rattle.cr_policy.proofs.BoundsWalk.{shown_to}
 use Rattle.cr_policy.proofs.Walk.{map-flat_map}
 use Rattle.cr_told.specs.ToldPublic.{all_shown, phases_shown, deadlines_shown, role_shown, account_shown, AccountsTold, ConferenceTold, DeadlinesTold}
@@ -39,7 +39,7 @@ module _ (u : Option ℕ) (H : History) where
   -- of a phase that may have one
   pub deadlines : (phase : Phase) → may_have_deadline phase ≡ true → deadline_in_view phase (view u H) ≡ last_or None (deadlines_shown phase (view u H))
   deadlines phase may =
-      ap (last_or None) (readings u 0 H (deadline_seen phase) (λ (s : Sighting). only (opens_phase phase s.phase) (listed s.until)) one)
+      ap (last_or None) (readings u 0 H (deadline_seen phase) (λ (s : Sighting). only (shows_phase phase s.phase) (listed s.until)) one)
     where
       same : (m b : Bool) (until : Option ℕ) → (b ≡ true → m ≡ true) → given (m && b) until ≡ only b (until ∷ [])
       same true true until h = refl
@@ -49,7 +49,7 @@ module _ (u : Option ℕ) (H : History) where
 
       one : (before later : History) (stamp : Stamp) (e : Entry)
           → deadline_seen phase (shown_to u H before later stamp e)
-          ≡ (let s : Sighting = shown_to u H before later stamp e in only (opens_phase phase s.phase) (listed s.until))
+          ≡ (let s : Sighting = shown_to u H before later stamp e in only (shows_phase phase s.phase) (listed s.until))
       one before later stamp (DeadlineSet set until) =
           same (may_have_deadline set) (is_phase set phase) until
           (λ is. ap (λ n. nat_le 1 n && not (nat_le 5 n)) (eqb-true (phase_rank set) (phase_rank phase) is) ∙ may)

@@ -74,6 +74,7 @@ has part.outcome s = is_some s.outcome
 has part.accepted s = is_some s.accepted
 has part.at s = is_some s.at
 has part.until s = is_some s.until
+has part.key s = is_some s.key
 
 -- ---- when an answer tells a part
 
@@ -315,9 +316,10 @@ is_deadline_left s after =
 -- title, an abstract, a bid, a form, a decision, a conflict or a tag turned on, that a later sighting follows; a
 -- deadline that is taken away; a conflict and a tag that are turned off; a reviewer who is taken off, and who it was;
 -- the reader's own seat, where she is seated anew, and what she is to the paper, before the discussion; her conflict
--- with a paper of her own; the label with a comment whose writer is named, and that she has none; a decision before the
--- one by which the paper was accepted; and the reader's own entries on a paper that she isn't eligible for, and being
--- assigned to it, since she came into conflict with it; and when she made her own entries
+-- with a paper of her own; the label with a comment whose writer is named, and that she has none; a decision before
+-- the one by which the paper was accepted; and the reader's own entries on a paper that she isn't eligible for, and
+-- being assigned to it, since she came into conflict with it; and when she made her own entries, and by
+-- which numbers
 abbrev pub is_left_untold : Option ℕ → History → Sighting → View → EntryKind → Part → Bool
 is_left_untold u H s after kinds.Registered part.digest = true
 is_left_untold u H s after kinds.Named part.role = not (is_nothing (roles_shown s.user after))
@@ -361,6 +363,7 @@ is_left_untold u H s after kinds.Decided part.decision =
     || (is_shown_accepted (paper_of s) (view u H) && not (is_some s.accepted))
     || is_left_behind u (paper_of s) H s
 is_left_untold u H s after _ part.at = s.mine
+is_left_untold u H s after _ part.key = s.mine
 is_left_untold u H s after _ _ = false
 
 -- ---- all of it

@@ -17,7 +17,7 @@ use Rattle.cr_base.specs.History.{History}
 use Rattle.cr_policy.specs.Judge.{answer}
 use Rattle.cr_policy.specs.Sighting.{Sighting}
 use Rattle.cr_policy.specs.View.{View, view}
-use Rattle.cr_policy.specs.ViewFacts.{only, is_user, is_kind, opens_phase}
+use Rattle.cr_policy.specs.ViewFacts.{only, is_user, is_kind, shows_phase}
 
 -- what the sightings show in this part, in order
 abbrev pub all_shown : {A : Type 0} → (Sighting → Option A) → View → List A
@@ -29,7 +29,7 @@ phases_shown V = flat_map (λ (s : Sighting). only (is_kind kinds.PhaseSet s) (l
 
 -- what is shown of the deadline of this phase, in order: each time that it is set, or taken away
 abbrev pub deadlines_shown : Phase → View → List (Option ℕ)
-deadlines_shown phase V = flat_map (λ (s : Sighting). only (opens_phase phase s.phase) (listed s.until)) V
+deadlines_shown phase V = flat_map (λ (s : Sighting). only (shows_phase phase s.phase) (listed s.until)) V
 
 -- the roles to which the user is shown to be named, in order; and the last, else that of an account
 abbrev pub roles_shown : Option ℕ → View → List Role

@@ -14,8 +14,8 @@ ghost use Rattle.cr_told.specs.ToldReviews.{ReviewsTold};
 ghost use Rattle.cr_told.specs.ToldSearches.{SearchesTold};
 
 /// What a view shows, some answer tells, and no more, on a legal history, for every user and for nobody. Each clause
-/// says of an answer when it is given and what it holds, by the parts that the sightings of the caller's view show, and
-/// not by what the answer is made of: each key of a paper's page, contents, reviews, comments, accepted papers,
+/// says of an answer when it is given and what it holds, by the parts that the sightings of the caller's view show,
+/// and not by what the answer is made of: each key of a paper's page, contents, reviews, comments, accepted papers,
 /// accounts, the conference, its deadlines, and what the caller is told of herself; the reports, of which the load
 /// reads who reviews, and the letter the forms, as facts of the view; and searches, which find a paper exactly where
 /// their terms hold of what its page, its reviews and its comments tell.

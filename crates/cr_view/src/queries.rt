@@ -1,11 +1,12 @@
 //! What queries are answered by the tables.
-ghost use Rattle.std.specs.Prelude.{◌≡◌, ◌≢◌, ◌+◌, ◌||◌, IfOk, IsSome, IsTrue, OnErr, Some, length, unwrap_or};
+ghost use Rattle.std.specs.Prelude.{◌≡◌, ◌≢◌, ◌+◌, ◌++◌, ◌||◌, IfOk, IsSome, IsTrue, OnErr, OnOk, Some, length, unwrap_or};
 ghost use Rattle.std.specs.Option.{option_copied, option_map};
 ghost use Rattle.cr_base.specs.Accounts.{lines_of};
 ghost use Rattle.cr_base.specs.Answering.{query_checks, answer_by_role};
 ghost use Rattle.cr_base.specs.Checks.{judged};
-ghost use Rattle.cr_base.specs.Deadlines.{deadline_in, deadlines_told};
+ghost use Rattle.cr_base.specs.Deadlines.{deadline_in, deadlines_told, phase_deadline};
 ghost use Rattle.cr_base.specs.Filed.{filed_of};
+ghost use Rattle.cr_base.specs.Lists.{listed};
 ghost use Rattle.cr_base.specs.Page.{gets_tags, gets_versions, where_told};
 ghost use Rattle.cr_base.specs.Sources.{facts_of_tables, shown_in_tables, has_paper};
 ghost use Rattle.cr_base.specs.Papers.{uploads_at};
@@ -25,8 +26,8 @@ use crate::live::Live;
 use crate::page::{gets_tags, gets_versions, last_alone, shared};
 use crate::page_lists::PageLists;
 use cr_base::{
-    AccountLines, Conference, Names, Page, PaperNo, PhaseDeadlines, Query, Reply, Rule, Steps,
-    TagList, Tie, UserNo, Versions,
+    AccountLines, Conference, Names, Page, PaperNo, Phase, PhaseDeadline, PhaseDeadlines, Query,
+    Reply, Rule, Steps, TagList, Tie, UserNo, Versions,
 };
 use std::alloc::{AllocError, Global};
 use std::sync::ledger::Ledger;
@@ -150,8 +151,8 @@ impl Live {
     /// version and each tag that is told, and, where reviewers are told, one for each who was ever assigned, at
     /// most 26, and a walk over the paper's forms; what she is told of herself a walk over her own papers, over
     /// those with which she is in conflict and over those that she reviews; a content one look-up, whatever its
-    /// length; the accepted papers, reviews and comments as `accepted_papers`, `reviews_for` and `comments_for`
-    /// tell it.
+    /// length; the deadlines four reads; the accepted papers, reviews and comments as `accepted_papers`,
+    /// `reviews_for` and `comments_for` tell it.
     pub fn answer(
         &self,
         alloc: Global,
@@ -189,7 +190,23 @@ impl Live {
     pub fn deadlines(&self, alloc: Global) -> Result<PhaseDeadlines, AllocError>
         ensures { IfOk result (λ told. told ≡ deadlines_told (deadline_in self.now.tables.stage.deadlines)) }
     {
-        self.stage.deadlines(alloc)
+        let mut told = Vec::new(alloc);
+        self.push_deadline(&mut told, Phase::Submission)?;
+        self.push_deadline(&mut told, Phase::Bidding)?;
+        self.push_deadline(&mut told, Phase::Reviewing)?;
+        self.push_deadline(&mut told, Phase::Discussion)?;
+        Ok(PhaseDeadlines::from_vec(told))
+    }
+
+    /// Adds the phase with its deadline, where it has one; an error only for lack of memory.
+    fn push_deadline(&self, told: &mut Vec<PhaseDeadline>, phase: Phase) -> Result<(), AllocError>
+        ensures { OnOk result (told.new.items ≡ told.old.items
+            ++ listed (option_map (phase_deadline phase) (deadline_in self.now.tables.stage.deadlines phase))) }
+    {
+        if let Some(until) = self.stage.deadline(phase) {
+            told.push(PhaseDeadline { phase, until })?;
+        }
+        Ok(())
     }
 
     /// The phase, the mode and the number of papers. Takes no memory and reads no account.

@@ -1,12 +1,13 @@
--- What a wish asks for is what its request does, whatever the body tells.
-use Rattle.std.proofs.Common.{◌≡◌, ℕ, List, Bool, true, false, Option, Some, None, option_map, Result, Ok, Err, IsTrue, refl, ap}
+-- What a wish asks for is what its request does, whatever the body and the number tell.
+use Rattle.std.proofs.Common.{◌≡◌, ℕ, List, Bool, true, false, Option, Some, None, option_map, Result, Ok, Err, IsTrue, refl, ap, subst, sym}
 use Rattle.std.specs.Prelude.{codes}
-use Rattle.cr_base.specs.Logins.{command_ask}
+use Rattle.cr_base.specs.Logins.{ask_wants_login, command_ask, command_wants_login}
 use Rattle.cr_base.specs.declared.ask.Ask.{Ask}
 use Rattle.cr_base.specs.declared.bulk.BulkRow.{BulkRow}
 use Rattle.cr_base.specs.declared.ask.Ask.TheVariants as asks
 use Rattle.cr_base.specs.declared.command.Command.{Command}
 use Rattle.cr_base.specs.declared.command.Command.TheVariants as commands
+use Rattle.cr_base.specs.declared.retry.RetryKey.{RetryKey}
 use Rattle.cr_base.specs.declared.search.Step.{Step}
 use Rattle.cr_bodies.specs.Bodies.{command_in, command_read}
 use Rattle.cr_bodies.specs.Field.{◌>>=◌, abstract_under, bid_under, comment_under, decision_under, digest_under, flag_under, grade_under, kind_under}
@@ -14,11 +15,16 @@ use Rattle.cr_bodies.specs.Field.{mode_under, name_under, names_under, phase_und
 use Rattle.cr_bodies.specs.Json.{json_of}
 use Rattle.cr_bodies.specs.Until.{deadline_phase_under, until_under}
 use Rattle.cr_bulk.specs.Rows.{parse_rows}
+use Rattle.cr_http.specs.Requests.{RequestText}
 use Rattle.cr_routes.specs.Parts.{FoundPath}
-use Rattle.cr_wire.specs.Asked.{LooksBehindPath, ask_has_body, asked, bulk_of, command_of, commanded, tagged}
+use Rattle.cr_wire.specs.Asked.{LooksBehindPath, ask_has_body, asked, bulk_of, command_of, commanded, tagged, with_number}
+use Rattle.cr_wire.specs.Bounds.{IsKeyFor}
 use Rattle.cr_wire.specs.Caller.{ask_of}
+use Rattle.cr_wire.specs.Number.{key_of}
 use Rattle.cr_wire.specs.Paper.{paper_of, tag_of}
 use Rattle.cr_wire.specs.Query.{asks_count, search_read, search_text, searched}
+use Rattle.cr_wire.specs.Target.{query_of}
+use Rattle.cr_wire.specs.declared.number.BadCommandNumber.{BadCommandNumber}
 
 -- what a body tells, if it tells anything, is given by this request
 abbrev GivenBy : Ask → Option Command → Type 0
@@ -83,19 +89,19 @@ given asks.Decide paper body =
     of_each asks.Decide (decision_under (codes "decision") d) _ (λ decision. refl))
 given ask paper body = of_each ask (json_of body) (command_in ask paper) (λ d. tt)
 
-asks_for : (ask : Ask) (told : Option Command) → GivenBy ask told → ask_of (command_of ask told) ≡ Some ask
-asks_for ask None given = refl
-asks_for ask (Some command) given = ap (λ (a : Ask). Some a) given
+asks_for : (ask : Ask) (key : Option RetryKey) (told : Option Command) → GivenBy ask told → ask_of (command_of ask key told) ≡ Some ask
+asks_for ask key None given = refl
+asks_for ask key (Some command) given = ap (λ (a : Ask). Some a) given
 
-by_body : (ask : Ask) (found : FoundPath) (body : List ℕ) → ask_of (commanded ask found body) ≡ Some ask
-by_body ask found body = asks_for ask _ (given ask (paper_of found) body)
+by_body : (ask : Ask) (found : FoundPath) (key : Option RetryKey) (body : List ℕ) → ask_of (commanded ask found key body) ≡ Some ask
+by_body ask found key body = asks_for ask key _ (given ask (paper_of found) body)
 
 -- what a path tells of a tag is given by this request, also where it tells none
-by_tag : (ask : Ask) (found : FoundPath) (on : Bool) → ((tag : List ℕ) → command_ask (commands.Tag (paper_of found) tag on) ≡ ask)
-    → ask_of (tagged ask found on) ≡ Some ask
-by_tag ask found on each = by (tag_of found)
+by_tag : (ask : Ask) (found : FoundPath) (key : Option RetryKey) (on : Bool) → ((tag : List ℕ) → command_ask (commands.Tag (paper_of found) tag on) ≡ ask)
+    → ask_of (tagged ask found key on) ≡ Some ask
+by_tag ask found key on each = by (tag_of found)
   where
-    by : (told : Option (List ℕ)) → ask_of (command_of ask (option_map (λ tag. commands.Tag (paper_of found) tag on) told)) ≡ Some ask
+    by : (told : Option (List ℕ)) → ask_of (command_of ask key (option_map (λ tag. commands.Tag (paper_of found) tag on) told)) ≡ Some ask
     by None = refl
     by (Some tag) = ap (λ (a : Ask). Some a) (each tag)
 
@@ -105,34 +111,51 @@ by_query only_count (Err offset) = refl
 by_query only_count (Ok steps) = refl
 
 -- and what the rows of a bulk are
-by_rows : (rows : Option (List BulkRow)) → ask_of (bulk_of rows) ≡ Some asks.Bulk
-by_rows None = refl
-by_rows (Some rows) = refl
+by_rows : (key : Option RetryKey) (rows : Option (List BulkRow)) → ask_of (bulk_of key rows) ≡ Some asks.Bulk
+by_rows key None = refl
+by_rows key (Some rows) = refl
 
-pub ask_by_ask : (ask : Ask) (found : FoundPath) (query body : List ℕ) → ask_of (asked ask found query body) ≡ Some ask
-ask_by_ask asks.Register found query body = by_body asks.Register found body
-ask_by_ask asks.Name found query body = by_body asks.Name found body
-ask_by_ask asks.SetMode found query body = by_body asks.SetMode found body
-ask_by_ask asks.SetPhase found query body = by_body asks.SetPhase found body
-ask_by_ask asks.SetDeadline found query body = by_body asks.SetDeadline found body
-ask_by_ask asks.Submit found query body = by_body asks.Submit found body
-ask_by_ask asks.Revise found query body = by_body asks.Revise found body
-ask_by_ask asks.SetConflict found query body = by_body asks.SetConflict found body
-ask_by_ask asks.Bid found query body = by_body asks.Bid found body
-ask_by_ask asks.Assign found query body = by_body asks.Assign found body
-ask_by_ask asks.Review found query body = by_body asks.Review found body
-ask_by_ask asks.Comment found query body = by_body asks.Comment found body
-ask_by_ask asks.Decide found query body = by_body asks.Decide found body
-ask_by_ask asks.Tag found query body = by_tag asks.Tag found true (λ tag. refl)
-ask_by_ask asks.Untag found query body = by_tag asks.Untag found false (λ tag. refl)
-ask_by_ask asks.Search found query body = by_query (asks_count query) (search_read (search_text query))
-ask_by_ask asks.Bulk found query body = by_rows (parse_rows body)
-ask_by_ask ask found query body = refl
+ask_by_ask : (ask : Ask) (found : FoundPath) (key : Option RetryKey) (query body : List ℕ) → ask_of (asked ask found key query body) ≡ Some ask
+ask_by_ask asks.Register found key query body = by_body asks.Register found key body
+ask_by_ask asks.Name found key query body = by_body asks.Name found key body
+ask_by_ask asks.SetMode found key query body = by_body asks.SetMode found key body
+ask_by_ask asks.SetPhase found key query body = by_body asks.SetPhase found key body
+ask_by_ask asks.SetDeadline found key query body = by_body asks.SetDeadline found key body
+ask_by_ask asks.Submit found key query body = by_body asks.Submit found key body
+ask_by_ask asks.Revise found key query body = by_body asks.Revise found key body
+ask_by_ask asks.SetConflict found key query body = by_body asks.SetConflict found key body
+ask_by_ask asks.Bid found key query body = by_body asks.Bid found key body
+ask_by_ask asks.Assign found key query body = by_body asks.Assign found key body
+ask_by_ask asks.Review found key query body = by_body asks.Review found key body
+ask_by_ask asks.Comment found key query body = by_body asks.Comment found key body
+ask_by_ask asks.Decide found key query body = by_body asks.Decide found key body
+ask_by_ask asks.Tag found key query body = by_tag asks.Tag found key true (λ tag. refl)
+ask_by_ask asks.Untag found key query body = by_tag asks.Untag found key false (λ tag. refl)
+ask_by_ask asks.Search found key query body = by_query (asks_count query) (search_read (search_text query))
+ask_by_ask asks.Bulk found key query body = by_rows key (parse_rows body)
+ask_by_ask ask found key query body = refl
+
+-- and none of it changes by what the number is told to be
+pub ask_by_number : (ask : Ask) (found : FoundPath) (told : Result (Option ℕ) BadCommandNumber) (r : RequestText) → ask_of (with_number ask found told r) ≡ Some ask
+ask_by_number ask found (Err bad) r = refl
+ask_by_number ask found (Ok number) r = ask_by_ask ask found (key_of number r) (query_of r.head.target) r.body
 
 -- what is told by a body looks at it, whatever it tells
-pub looked : (ask : Ask) (found : FoundPath) (body : List ℕ) → IsTrue (ask_has_body ask) → LooksBehindPath (commanded ask found body)
-looked ask found body has = rw (by_body ask found body, has) refl
+pub looked : (ask : Ask) (found : FoundPath) (key : Option RetryKey) (body : List ℕ) → IsTrue (ask_has_body ask) → LooksBehindPath (commanded ask found key body)
+looked ask found key body has = by (command_read ask (paper_of found) body) (given ask (paper_of found) body)
+  where
+    by : (told : Option Command) → GivenBy ask told → LooksBehindPath (command_of ask key told)
+    by None given = rw has refl
+    by (Some command) given = rw (given, has) refl
 
 -- and so does a bulk
-pub looked_rows : (rows : Option (List BulkRow)) → LooksBehindPath (bulk_of rows)
-looked_rows rows = rw (by_rows rows) refl
+pub looked_rows : (key : Option RetryKey) (rows : Option (List BulkRow)) → LooksBehindPath (bulk_of key rows)
+looked_rows key None = refl
+looked_rows key (Some rows) = refl
+
+-- a key that is one of this request's is one of the command's that it gives
+pub key-given : (ask : Ask) (paper : Option ℕ) (body : List ℕ) (command : Command) (key : Option RetryKey) → command_read ask paper body ≡ Some command
+    → IsKeyFor (ask_wants_login ask) key → IsKeyFor (command_wants_login command) key
+key-given ask paper body command key told fits =
+    let by : GivenBy ask (Some command) = subst (λ (t : Option Command). GivenBy ask t) told (given ask paper body) in
+    subst (λ (a : Ask). IsKeyFor (ask_wants_login a) key) (sym by) fits

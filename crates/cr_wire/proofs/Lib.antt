@@ -2,3 +2,4 @@ pub mod AskLaws
 pub mod Utf8
 pub mod Numbers
 pub mod WishLaws
+pub mod WhatLaws

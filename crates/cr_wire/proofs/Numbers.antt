@@ -1,14 +1,24 @@
--- The numbers that a path may tell.
-use Rattle.std.proofs.Common.{◌≡◌, ℕ, ◌<◌, ◌≤◌, ◌^◌, List, length, Bool, true, false, ◌&&◌, ◌==◌, not, if◌then◌else◌, Err, IsTrue, refl, arith, nat_le, nat_lt}
-use Rattle.std.specs.Prelude.{slice_index}
+-- The numbers that a path and the field Command-Number may tell.
+use Rattle.std.proofs.Common.{◌≡◌, ℕ, ◌<◌, ◌≤◌, ◌^◌, List, [], ◌∷◌, length, Bool, true, false, ◌&&◌, ◌==◌, not, if◌then◌else◌, cond, Option, Some, None, Result, Ok, Err, IsTrue, refl, ap, subst, ◌∙◌, arith, nat_le, nat_lt}
+use Rattle.std.specs.Prelude.{codes, slice_index}
 use Rattle.std.specs.Char.{is_ascii_digit}
 use Rattle.std.specs.List.{list_all}
 use Rattle.std.specs.Str.Parse.{AllDigits, ParsesUnsigned, digits_value}
 use Rattle.std.proofs.lemmas.Bool.{and_parts, ltb-true}
 use Rattle.std.proofs.lemmas.Bool.Decides.{nat_tests}
-use Rattle.std.proofs.lemmas.Str.Parse.{numerals_by_value, parse_digits, tells_digits}
-use Rattle.cr_base.proofs.ParseLaws.{digits}
+use Rattle.std.proofs.lemmas.Str.Parse.{digits_value_short, numerals_by_value, parse_digits, tells_digits}
+use Rattle.cr_base.proofs.ParseLaws.{digits, low_digits}
+use Rattle.cr_base.specs.Keys.{IsKeyOrNone, command_number_of, last_command_number}
+use Rattle.cr_base.specs.Logins.{ask_wants_login}
+use Rattle.cr_base.specs.declared.ask.Ask.{Ask}
+use Rattle.cr_base.specs.declared.ask.Ask.TheVariants as asks
+use Rattle.cr_bodies.proofs.Marks.{mark-length}
+use Rattle.cr_http.specs.Head.{values_of}
+use Rattle.cr_http.specs.Requests.{RequestText}
+use Rattle.cr_wire.specs.Bounds.{IsKeyFor}
+use Rattle.cr_wire.specs.Number.{ask_reads_number, is_command_number, key_of, number_by, number_for, number_of}
 use Rattle.cr_wire.specs.Paper.{is_number}
+use Rattle.cr_wire.specs.declared.number.BadCommandNumber.{BadCommandNumber}
 
 -- a number that isn't read passes what is told
 pub unread : (k : ℕ) (text : List ℕ) → IsTrue (is_number text) → ParsesUnsigned {E = Unit {0}} k 10 text (Err tt)
@@ -27,3 +37,87 @@ unread k text is fails =
     by true true is below never = absurd (never (ltb-true (digits_value 10 text) (2 ^ k) below))
     by true false is above never = refl
     by false b is any never = refl
+
+-- ---- the number of a command
+
+-- its first digit isn't 0, all are digits, and there are at most 18
+number_parts : (value : List ℕ) → IsTrue (is_command_number value)
+    → IsTrue (nat_le 1 (length value)) × IsTrue (not (slice_index value 0 == 48)) × IsTrue (list_all is_ascii_digit value) × IsTrue (nat_le (length value) 18)
+number_parts value is =
+    let all = and_parts (nat_le (length value) 18) (is_number value) is in
+    let digits = and_parts (nat_le 1 (length value) && not (slice_index value 0 == 48)) (list_all is_ascii_digit value) all.1 in
+    let front = and_parts (nat_le 1 (length value)) (not (slice_index value 0 == 48)) digits.0 in
+    (front.0, front.1, digits.1, all.0)
+
+at_most : (n m : ℕ) → IsTrue (nat_le n m) → n ≤ m
+at_most n m h = grind (arith, nat_tests)
+
+-- what its decimal value is read of
+pub number_digits : (value : List ℕ) → IsTrue (is_command_number value) → IsTrue (list_all is_ascii_digit value) × (length value ≤ 18)
+number_digits value is = let all = number_parts value is in (all.2, at_most (length value) 18 all.3)
+
+-- it is one of the numbers that commands may have
+number_low : (value : List ℕ) → IsTrue (is_command_number value) → 1 ≤ digits_value 10 value
+number_low [] is = cc
+number_low (b ∷ rest) is = let all = number_parts (b ∷ rest) is in low_digits b rest all.1 all.2
+
+number_high : (value : List ℕ) → IsTrue (is_command_number value) → digits_value 10 value ≤ last_command_number
+number_high value is =
+    let read = number_digits value is in
+    let below = digits_value_short (numerals_by_value (AllDigits 10) tells_digits) value 18 (digits value read.0) read.1 in
+    omega (arith, below)
+
+tested : (n m : ℕ) → n ≤ m → nat_le n m ≡ true
+tested n m h = grind (arith, nat_tests)
+
+number_there : (value : List ℕ) → IsTrue (is_command_number value) → command_number_of (digits_value 10 value) ≡ Some (digits_value 10 value)
+number_there value is =
+    rw (tested 1 (digits_value 10 value) (number_low value is), tested (digits_value 10 value) last_command_number (number_high value is)) refl
+
+-- so reading it gives it
+pub number_told : (value : List ℕ) (n : ℕ) (read : Option ℕ) → IsTrue (is_command_number value) → n ≡ digits_value 10 value → read ≡ command_number_of n
+    → ◌≡◌ {A = Result (Option ℕ) BadCommandNumber} (Ok read) (number_of value)
+number_told value n read is valued told = rw (is, told ∙ ap command_number_of valued ∙ number_there value is) refl
+
+-- ---- the key of a command
+
+-- no key is one of anything
+no-key : (wanted : Bool) → IsKeyFor wanted None
+no-key false = refl
+no-key true = tt
+
+-- a number that is told makes a key
+told-key : (r : RequestText) (value : List ℕ) (number : Option ℕ) → number_of value ≡ Ok number → IsKeyOrNone (key_of number r)
+told-key r value number told = by (is_command_number value) refl told
+  where
+    by : (b : Bool) → is_command_number value ≡ b → ◌≡◌ {A = Result (Option ℕ) BadCommandNumber} (cond b (Ok (Some (digits_value 10 value))) (Err (record {}))) (Ok number)
+        → IsKeyOrNone (key_of number r)
+    by true is told = let same : Some (digits_value 10 value) ≡ number = cc (told) in
+        subst (λ (n : Option ℕ). IsKeyOrNone (key_of n r)) same (record { low = number_low value is; high = number_high value is; mark = mark-length _ _ _ })
+    by false is told = cc
+
+by-values : (r : RequestText) (values : List (List ℕ)) (number : Option ℕ) → number_by values ≡ Ok number → IsKeyOrNone (key_of number r)
+by-values r [] number told = let same : ◌≡◌ {A = Option ℕ} None number = cc (told) in subst (λ (n : Option ℕ). IsKeyOrNone (key_of n r)) same tt
+by-values r (value ∷ []) number told = told-key r value number told
+by-values r (value ∷ other ∷ values) number told = cc
+
+-- whoever may tell a number is logged in
+reads-wants : (ask : Ask) → IsTrue (ask_reads_number ask) → IsTrue (ask_wants_login ask)
+reads-wants asks.Register reads = reads
+reads-wants asks.Accounts reads = reads
+reads-wants asks.Phase reads = reads
+reads-wants asks.Deadlines reads = reads
+reads-wants asks.AcceptedPapers reads = reads
+reads-wants ask reads = refl
+
+-- so the key that a request tells is one that its command may have
+pub key-fits : (ask : Ask) (r : RequestText) (number : Option ℕ) → number_for ask r.head.fields ≡ Ok number → IsKeyFor (ask_wants_login ask) (key_of number r)
+key-fits ask r number told = by (ask_reads_number ask) refl told
+  where
+    values : List (List ℕ)
+    values = values_of (codes "command-number") r.head.fields
+
+    by : (b : Bool) → ask_reads_number ask ≡ b → cond b (number_by values) (Ok None) ≡ Ok number → IsKeyFor (ask_wants_login ask) (key_of number r)
+    by true reads told = rw (reads-wants ask reads) (by-values r values number told)
+    by false reads told = let same : ◌≡◌ {A = Option ℕ} None number = cc (told) in
+        subst (λ (n : Option ℕ). IsKeyFor (ask_wants_login ask) (key_of n r)) same (no-key (ask_wants_login ask))

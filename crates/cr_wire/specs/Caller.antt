@@ -9,7 +9,7 @@ use Rattle.cr_base.specs.HistoryFacts.{caller_of}
 use Rattle.cr_base.specs.Logins.{ask_reads_credentials, ask_wants_login, command_ask, query_ask}
 use Rattle.cr_bodies.specs.declared.credentials.Credentials.{Credentials}
 use Rattle.cr_wire.specs.declared.what.What.{What}
-use Rattle.cr_wire.specs.declared.what.What.TheVariants.{NoRoute, WrongMethod, BadBody, BadQuery}
+use Rattle.cr_wire.specs.declared.what.What.TheVariants.{NoRoute, WrongMethod, BadNumber, BadBody, BadQuery}
 use Rattle.cr_wire.specs.declared.what.What.TheVariants.{Command as Commands, Query as Queries, Bulk}
 use Rattle.cr_wire.specs.declared.what.Wish.{Wish}
 
@@ -17,14 +17,15 @@ use Rattle.cr_wire.specs.declared.what.Wish.{Wish}
 abbrev pub ask_of : What → Option Ask
 ask_of NoRoute = None
 ask_of (WrongMethod resource) = None
+ask_of (BadNumber ask) = Some ask
 ask_of (BadBody ask) = Some ask
 ask_of (BadQuery offset) = Some asks.Search
-ask_of (Commands command) = Some (command_ask command)
+ask_of (Commands key command) = Some (command_ask command)
 ask_of (Queries query) = Some (query_ask query)
-ask_of (Bulk rows) = Some asks.Bulk
+ask_of (Bulk key rows) = Some asks.Bulk
 
--- whether a login is wanted, also where the body or the query string is a bad one, by what is asked for alone; what is
--- no request of the server's is refused alike to everybody
+-- whether a login is wanted, also where the number, the body or the query string is a bad one, by what is asked for
+-- alone; what is no request of the server's is refused alike to everybody
 abbrev pub wants_login : What → Bool
 wants_login what = option_map_or ask_wants_login (ask_of what) false
 

@@ -1,6 +1,8 @@
 pub mod Connection
 pub mod Outcome
 pub mod Paper
+pub mod Target
+pub mod Number
 pub mod Query
 pub mod Asked
 pub mod Bounds

@@ -1,7 +1,7 @@
 -- What a query string asks a search: its pairs of a name and a value, as web forms write them
 -- (the URL Standard, section 5).
-use Rattle.std.specs.Prelude.{ℕ, List, Bool, ◌&&◌, ◌==◌, Option, Some, None, Result, Ok, Err, codes, find}
-use Rattle.std.specs.List.{after_first, list_any}
+use Rattle.std.specs.Prelude.{ℕ, List, Bool, ◌&&◌, Option, Some, None, Result, Ok, Err, codes, find}
+use Rattle.std.specs.List.{list_any}
 use Rattle.std.specs.Option.{option_map}
 use Rattle.std.specs.Str.{bytes_eq}
 use Rattle.std.specs.Str.Lossy.{utf8_lossy}
@@ -11,10 +11,6 @@ use Rattle.cr_base.specs.declared.search.Step.{Step}
 use Rattle.cr_search_parse.specs.Reading.{text_read}
 use Rattle.cr_wire.specs.declared.what.What.{What}
 use Rattle.cr_wire.specs.declared.what.What.TheVariants.{BadQuery, Query as Queries}
-
--- what follows the first question mark of a target
-abbrev pub query_of : List ℕ → List ℕ
-query_of target = after_first (λ b. b == 63) target
 
 -- a name and a value, still encoded
 abbrev pub Pair : Type 0

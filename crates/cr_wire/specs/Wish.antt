@@ -50,4 +50,4 @@ wish_with h what at = record {
 
 -- what a request wishes, who tells so, and in which form the answer comes, where this is its moment
 abbrev pub wish_text : RequestText → ℕ → Wish
-wish_text r at = wish_with r.head (what_of r.head.method r.head.target r.body) at
+wish_text r at = wish_with r.head (what_of r) at

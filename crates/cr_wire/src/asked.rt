@@ -1,21 +1,26 @@
-//! From a path, a method, and a query string or a body to what is wished.
+//! From a path, a method, a number, and a query string or a body to what is wished.
 ghost use Rattle.std.specs.Prelude.{◌≡◌, option_and_then, option_map, IfOk, IsTrue, OnErr};
+ghost use Rattle.cr_base.specs.Keys.{IsKeyOrNone};
+ghost use Rattle.cr_base.specs.Logins.{ask_wants_login};
 ghost use Rattle.cr_bulk.specs.Rows.{parse_rows};
 ghost use Rattle.cr_routes.specs.Asks.{ask_at as ask_of_resource};
 ghost use Rattle.cr_routes.specs.Methods.{method_of};
 ghost use Rattle.cr_routes.specs.Parts.{seen};
 ghost use Rattle.cr_wire.specs.Asked as spec;
-ghost use Rattle.cr_wire.specs.Bounds.{IsBoundedWhat};
+ghost use Rattle.cr_wire.specs.Asked.{asked_by};
+ghost use Rattle.cr_wire.specs.Bounds.{IsBoundedWhat, IsKeyFor};
+ghost use Rattle.cr_wire.specs.Number.{own_key};
 ghost use Rattle.cr_wire.specs.Outcome.{Gives};
-ghost use Rattle.cr_wire.specs.Query.{query_of};
 
+use crate::number::number_for;
+use crate::numbered::Numbered;
 use crate::paper::{paper_of, tag_of, user_of, version_of};
 use crate::query::search_in;
 use crate::what::What;
 use cr_base::{Ask, Command, DecodeError, PaperNo, Query, Report};
 use cr_bodies::{before_first, read_command};
 use cr_bulk::read_rows;
-use cr_http::Body;
+use cr_http::{Body, Head};
 use cr_routes::{Matched, Method, Resource, Routes};
 use std::alloc::{AllocError, Global};
 use std::str::from_utf8;
@@ -38,35 +43,46 @@ fn ask_at(resource: Resource, method: &[u8]) -> Option<Ask>
 }
 
 /// The command that path and body tell, of what is told by a JSON body.
-fn command(alloc: Global, ask: Ask, found: Matched<'_>, body: &[u8]) -> Result<What, AllocError>
-    requires { IsTrue (spec.ask_has_body ask) }
-    ensures told { Gives result (spec.commanded ask (seen found.entry) body.now) }
+fn command(
+    alloc: Global,
+    ask: Ask,
+    found: Matched<'_>,
+    request: &Numbered<'_>,
+) -> Result<What, AllocError>
+    requires body { IsTrue (spec.ask_has_body ask) }
+    requires key { IsKeyFor (ask_wants_login ask) (own_key request.now) }
+    ensures told { Gives result
+        (spec.commanded ask (seen found.entry) (own_key request.now) (request.now).body.now) }
     ensures bounded { IfOk result IsBoundedWhat }
-    ensures sure { OnErr result (spec.LooksBehindPath (spec.commanded ask (seen found.entry) body.now)) }
+    ensures sure { OnErr result (spec.LooksBehindPath
+        (spec.commanded ask (seen found.entry) (own_key request.now) (request.now).body.now)) }
 {
-    match read_command(alloc, ask, paper_of(found), body) {
-        Ok(command) => Ok(What::Command(command)),
+    match read_command(alloc, ask, paper_of(found), request.body.as_slice()) {
+        Ok(command) => Ok(request.giving(command)),
         Err(DecodeError::Malformed) => Ok(What::BadBody(ask)),
         Err(DecodeError::OutOfMemory) => Err(AllocError),
     }
 }
 
 /// An upload, whose content is the body as it is.
-fn upload(alloc: Global, paper: Option<PaperNo>, body: &Body<'_>) -> Result<What, AllocError>
-    ensures told { Gives result (What.Command (Command.Upload paper body.now)) }
+fn upload(alloc: Global, paper: Option<PaperNo>, request: &Numbered<'_>) -> Result<What, AllocError>
+    requires key { IsKeyOrNone (own_key request.now) }
+    ensures told { Gives result
+        (What.Command (own_key request.now) (Command.Upload paper (request.now).body.now)) }
     ensures bounded { IfOk result IsBoundedWhat }
 {
-    let content = body.to_blob(alloc)?;
-    Ok(What::Command(Command::Upload { paper, content }))
+    let content = request.body.to_blob(alloc)?;
+    Ok(request.giving(Command::Upload { paper, content }))
 }
 
 /// That a tag is on or off, which the path alone tells.
-fn tagged(ask: Ask, found: Matched<'_>, on: bool) -> What
-    ensures told { result ≡ spec.tagged ask (seen found.entry) on }
+fn tagged(ask: Ask, found: Matched<'_>, request: &Numbered<'_>, on: bool) -> What
+    requires key { IsKeyOrNone (own_key request.now) }
+    ensures told { result ≡ spec.tagged ask (seen found.entry) (own_key request.now) on }
     ensures bounded { IsBoundedWhat result }
 {
     match tag_of(found) {
-        Some(tag) => What::Command(Command::Tag {
+        Some(tag) => request.giving(Command::Tag {
             paper: paper_of(found),
             tag,
             on,
@@ -76,13 +92,19 @@ fn tagged(ask: Ask, found: Matched<'_>, on: bool) -> What
 }
 
 /// A bulk, whose rows the body spells.
-fn bulk(alloc: Global, body: &[u8]) -> Result<What, AllocError>
-    ensures told { Gives result (spec.bulk_of (parse_rows body.now)) }
+fn bulk(alloc: Global, request: &Numbered<'_>) -> Result<What, AllocError>
+    requires key { IsKeyOrNone (own_key request.now) }
+    ensures told { Gives result
+        (spec.bulk_of (own_key request.now) (parse_rows (request.now).body.now)) }
     ensures bounded { IfOk result IsBoundedWhat }
-    ensures sure { OnErr result (spec.LooksBehindPath (spec.bulk_of (parse_rows body.now))) }
+    ensures sure { OnErr result
+        (spec.LooksBehindPath (spec.bulk_of (own_key request.now) (parse_rows (request.now).body.now))) }
 {
-    match read_rows(alloc, body) {
-        Ok(rows) => Ok(What::Bulk(rows)),
+    match read_rows(alloc, request.body.as_slice()) {
+        Ok(rows) => Ok(What::Bulk {
+            key: request.key(),
+            rows,
+        }),
         Err(DecodeError::Malformed) => Ok(What::BadBody(Ask::Bulk)),
         Err(DecodeError::OutOfMemory) => Err(AllocError),
     }
@@ -101,13 +123,12 @@ fn asked(
     alloc: Global,
     ask: Ask,
     found: Matched<'_>,
-    target: &[u8],
-    body: &Body<'_>,
+    request: &Numbered<'_>,
 ) -> Result<What, AllocError>
-    ensures told { Gives result (spec.asked ask (seen found.entry) (query_of target.now) body.now) }
+    requires key { IsKeyFor (ask_wants_login ask) (own_key request.now) }
+    ensures told { Gives result (asked_by ask (seen found.entry) request.now) }
     ensures bounded { IfOk result IsBoundedWhat }
-    ensures sure { OnErr result
-        (spec.LooksBehindPath (spec.asked ask (seen found.entry) (query_of target.now) body.now)) }
+    ensures sure { OnErr result (spec.LooksBehindPath (asked_by ask (seen found.entry) request.now)) }
 {
     let paper = paper_of(found);
     match ask {
@@ -122,54 +143,57 @@ fn asked(
             version: version_of(found),
         })),
         Ask::Me => Ok(What::Query(Query::Me)),
-        Ask::Search => search_in(alloc, target),
-        Ask::Withdraw => Ok(What::Command(Command::Withdraw { paper })),
-        Ask::Unassign => Ok(What::Command(Command::Unassign {
-            paper,
-            user: user_of(found),
-        })),
+        Ask::Search => search_in(alloc, request.head.target()),
+        Ask::Withdraw => Ok(request.giving(Command::Withdraw { paper })),
+        Ask::Unassign => {
+            let user = user_of(found);
+            Ok(request.giving(Command::Unassign { paper, user }))
+        }
         Ask::Reviews => Ok(What::Query(Query::Reviews { paper })),
         Ask::Comments => Ok(What::Query(Query::Comments { paper })),
-        Ask::Tag => Ok(tagged(ask, found, true)),
-        Ask::Untag => Ok(tagged(ask, found, false)),
-        Ask::Upload => upload(alloc, paper, body),
-        Ask::Bulk => bulk(alloc, body.as_slice()),
+        Ask::Tag => Ok(tagged(ask, found, request, true)),
+        Ask::Untag => Ok(tagged(ask, found, request, false)),
+        Ask::Upload => upload(alloc, paper, request),
+        Ask::Bulk => bulk(alloc, request),
         Ask::PapersReport => Ok(reported(Report::Papers)),
         Ask::ScoresReport => Ok(reported(Report::Scores)),
         Ask::LoadReport => Ok(reported(Report::Load)),
         Ask::DecisionsReport => Ok(reported(Report::Decisions)),
         Ask::Letter => Ok(reported(Report::Letter { paper })),
         Ask::Register | Ask::Name | Ask::SetMode | Ask::SetPhase => {
-            command(alloc, ask, found, body.as_slice())
+            command(alloc, ask, found, request)
         }
         Ask::SetDeadline | Ask::Submit | Ask::Revise | Ask::SetConflict | Ask::Bid => {
-            command(alloc, ask, found, body.as_slice())
+            command(alloc, ask, found, request)
         }
         Ask::Assign | Ask::Review | Ask::Comment | Ask::Decide => {
-            command(alloc, ask, found, body.as_slice())
+            command(alloc, ask, found, request)
         }
     }
 }
 
-/// What a request of this method, this target and this body wishes. Fails only for lack of memory, which the reading
-/// of a JSON body, of the rows of a bulk or of a search and the keeping of an upload alone take.
+/// What a request of this head and this body wishes. A bad number is told before the body is looked at. Fails only for
+/// lack of memory, which the reading of a JSON body, of the rows of a bulk or of a search and the keeping of an upload
+/// alone take.
 pub(crate) fn what_of(
     alloc: Global,
     routes: &Routes,
-    method: &[u8],
-    target: &[u8],
+    head: &Head<'_>,
     body: &Body<'_>,
 ) -> Result<What, AllocError>
-    ensures told { Gives result (spec.what_of method.now target.now body.now) }
+    ensures told { Gives result (spec.what_of (record { head = head.now; body = body.now })) }
     ensures bounded { IfOk result IsBoundedWhat }
-    ensures sure { OnErr result (spec.LooksBehindPath (spec.what_of method.now target.now body.now)) }
+    ensures sure { OnErr result
+        (spec.LooksBehindPath (spec.what_of (record { head = head.now; body = body.now }))) }
 {
-    let path = before_first(b'?', target);
-    let Some(found) = find(routes, path) else {
+    let Some(found) = find(routes, before_first(b'?', head.target())) else {
         return Ok(What::NoRoute);
     };
-    let Some(ask) = ask_at(found.resource, method) else {
+    let Some(ask) = ask_at(found.resource, head.method()) else {
         return Ok(What::WrongMethod(found.resource));
     };
-    asked(alloc, ask, found, target, body)
+    let Ok(number) = number_for(ask, head) else {
+        return Ok(What::BadNumber(ask));
+    };
+    asked(alloc, ask, found, &Numbered { number, head, body })
 }

@@ -1,20 +1,22 @@
 //! Laws over the definitions alone.
-ghost use Rattle.std.specs.Prelude.{◌≡◌, ℕ, List, Some, length};
-ghost use Rattle.cr_http.specs.Requests.{End};
+ghost use Rattle.std.specs.Prelude.{◌≡◌, ℕ, List, Option, Result, Some, length};
+ghost use Rattle.cr_http.specs.Requests.{End, RequestText};
 ghost use Rattle.cr_base.specs.declared.ask.Ask.{Ask};
-ghost use Rattle.cr_wire.specs.Asked.{asked};
+ghost use Rattle.cr_wire.specs.Asked.{with_number};
 ghost use Rattle.cr_routes.specs.Parts.{FoundPath};
 ghost use Rattle.cr_wire.specs.Caller.{ask_of};
 ghost use Rattle.cr_wire.specs.Wishes.{Wishes, moments_of};
+ghost use Rattle.cr_wire.specs.declared.number.BadCommandNumber.{BadCommandNumber};
 ghost use Rattle.cr_wire.specs.declared.what.Wish.{Wish};
 
 use cr_http::law_one_reading;
 
-/// What a wish asks for is told by path and method alone: no body and no query string, be it a good or a bad one,
-/// changes it. So none changes
-/// whether a login is wanted or whether the field Authorization is read, since both go by what is asked for.
+/// What a wish asks for is told by path and method alone: no body, no query string and no number, be it a good or a
+/// bad one, changes it. So none changes whether a login is wanted or whether the field Authorization is read, since
+/// both go by what is asked for.
 pub fn law_one_ask()
-    ensures { (ask : Ask) (found : FoundPath) (query body : List ℕ) → ask_of (asked ask found query body) ≡ Some ask }
+    ensures { (ask : Ask) (found : FoundPath) (told : Result (Option ℕ) BadCommandNumber) (r : RequestText)
+        → ask_of (with_number ask found told r) ≡ Some ask }
 {}
 
 /// A text has one end, and spells so many wishes, of each of which all but its moment is told by the text.

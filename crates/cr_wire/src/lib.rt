@@ -6,6 +6,8 @@
 mod asked;
 mod connection;
 mod laws;
+mod number;
+mod numbered;
 mod paper;
 mod query;
 mod what;

@@ -8,7 +8,7 @@ use cr_base::{PaperNo, Short, Tag, all_digits, parse_name, parse_paper};
 use cr_routes::Matched;
 
 /// Whether a text is a number in decimal, without a zero in front.
-fn is_number(text: &[u8]) -> bool
+pub(crate) fn is_number(text: &[u8]) -> bool
     ensures { result ≡ spec.is_number text.now }
 {
     !text.is_empty() && text[0] != b'0' && all_digits(text)

@@ -6,6 +6,7 @@ ghost use Rattle.cr_search_parse.specs.Reading.{text_read};
 ghost use Rattle.cr_wire.specs.Bounds.{IsBoundedWhat};
 ghost use Rattle.cr_wire.specs.Outcome.{Gives};
 ghost use Rattle.cr_wire.specs.Query as spec;
+ghost use Rattle.cr_wire.specs.Target.{query_of};
 
 use crate::what::What;
 use cr_base::Query;
@@ -84,7 +85,7 @@ fn searched(alloc: Global, only_count: bool, text: &[u8]) -> Result<What, AllocE
 /// What is wished by what follows the first question mark of a target. Reads each pair twice at most, and copies a
 /// name or a value only where it has something to decode. Fails only for lack of memory.
 pub(crate) fn search_in(alloc: Global, target: &[u8]) -> Result<What, AllocError>
-    ensures told { Gives result (spec.search_in (spec.query_of target.now)) }
+    ensures told { Gives result (spec.search_in (query_of target.now)) }
     ensures bounded { IfOk result IsBoundedWhat }
 {
     let query = after_first(b'?', target);

@@ -1,17 +1,20 @@
 //! What a request wishes.
 ghost use Rattle.std.specs.Prelude.{◌≡◌};
 
-use cr_base::{Ask, BulkRows, Command, Moment, Query};
+use cr_base::{Ask, BulkRows, Command, Moment, Query, RetryKey};
 use cr_bodies::Credentials;
 use cr_routes::Resource;
 
-/// What a whole request wishes, by its path, its method and its body, or its query string.
+/// What a whole request wishes, by its path, its method, its number and its body, or its query string.
 #[derive(Drop)]
 pub enum What {
     /// The path is none of the server's: answered `no_route`.
     NoRoute,
     /// The path doesn't answer this method: answered `wrong_method`, with the methods that it answers.
     WrongMethod(Resource),
+    /// The number of a command or a bulk is none: answered `bad_number`, whatever the body is. Its field Command-Number
+    /// is there more than once, or isn't 1 to 18 digits, the first not 0, the spaces and tabs around them aside.
+    BadNumber(Ask),
     /// The body, or the tag in the path, isn't what the request needs: answered `bad_body`.
     BadBody(Ask),
     /// The query string tells no search: answered `bad_query`.
@@ -21,11 +24,21 @@ pub enum What {
         offset: usize,
     },
     /// To change something.
-    Command(Command),
+    Command {
+        /// The command's number, with the mark of the request; None where it has none; a registration never has one.
+        key: Option<RetryKey>,
+        /// What is to change.
+        command: Command,
+    },
     /// To be told something.
     Query(Query),
     /// To change what these rows tell, all of it or nothing.
-    Bulk(BulkRows),
+    Bulk {
+        /// The bulk's number, with the mark of the request; None where it has none.
+        key: Option<RetryKey>,
+        /// The rows.
+        rows: BulkRows,
+    },
 }
 
 /// What a whole request wishes, who tells so, in which form the answer comes, and of which moment it is.
@@ -38,7 +51,7 @@ pub struct Wish {
     pub is_head: bool,
     /// The request asks that the connection be closed behind its answer.
     pub asks_close: bool,
-    /// When its request was whole, by the clock: its answer has the date of that, and what it adds keeps it.
+    /// When its request was whole, by the clock: its answer is dated by it, and its entries keep it.
     pub at: Moment,
     /// What is wished.
     pub what: What,
@@ -53,20 +66,20 @@ impl What {
     {
         match self {
             What::NoRoute | What::WrongMethod(_) => None,
-            What::BadBody(ask) => Some(*ask),
+            What::BadNumber(ask) | What::BadBody(ask) => Some(*ask),
             What::BadQuery { .. } => Some(Ask::Search),
-            What::Command(command) => Some(command.ask()),
+            What::Command { command, .. } => Some(command.ask()),
             What::Query(query) => Some(query.ask()),
-            What::Bulk(_) => Some(Ask::Bulk),
+            What::Bulk { .. } => Some(Ask::Bulk),
         }
     }
 
     /// Whether a login is wanted, so that nobody is answered `unauthorized`: by each command but a registration and by
-    /// a bulk, also where its body is a bad one, by a paper's page, content, reviews and comments, by searches, also
-    /// by bad ones, by reports, and by what the caller is told of herself. Registration, the list of accounts, the
-    /// state of the conference, its deadlines and the accepted papers want none, and what is no request of these is
-    /// refused alike to everybody. That a published paper's page and content are served to nobody too isn't looked at
-    /// here: the request doesn't tell which papers are.
+    /// a bulk, also where its number or its body is a bad one, by a paper's page, content, reviews and comments, by
+    /// searches, also by bad ones, by reports, and by what the caller is told of herself. Registration, the list of
+    /// accounts, the state of the conference, its deadlines and the accepted papers want none, and what is no request
+    /// of these is refused alike to everybody. That a published paper's page and content are served to nobody too isn't
+    /// looked at here: the request doesn't tell which papers are.
     pub fn wants_login(&self) -> bool
         ensures { result ≡ wants_login self.now }
     {

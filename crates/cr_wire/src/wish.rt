@@ -62,8 +62,10 @@ fn asks_close(head: &Head<'_>) -> bool
 /// The wish of a request, by its head, its body and the moment at which the clock was asked. Fails only for lack of
 /// memory, which the reading of a JSON body, of the rows of a bulk or of a search and the keeping of an upload alone
 /// take. Reads the target's path, the fields' names and the field Connection once, the body and the query string only
-/// where the method and the path want them, and the field Authorization only where `reads_credentials` says so. A
-/// command that is wished is within the bounds on commands, and a bulk has at most 512 rows.
+/// where the method and the path want them, the field Authorization only where `reads_credentials` says so, and the
+/// field Command-Number only of commands but registrations, and of bulks. Where that tells a number and the body is a
+/// good one, the digest of method, path and body is computed, and else never. A command that is wished is within the
+/// bounds on commands, and a bulk has at most 512 rows.
 pub fn wish_of(
     alloc: Global,
     routes: &Routes,
@@ -73,9 +75,9 @@ pub fn wish_of(
 ) -> Result<Wish, AllocError>
     ensures told { Gives result (wish_text (record { head = head.now; body = body.entry }) at) }
     ensures bounded { IfOk result (λ wish. IsBoundedWhat wish.what) }
-    ensures sure { OnErr result (LooksBehindPath (what_text head.now.method head.now.target body.entry)) }
+    ensures sure { OnErr result (LooksBehindPath (what_text (record { head = head.now; body = body.entry }))) }
 {
-    let what = match what_of(alloc, routes, head.method(), head.target(), &body) {
+    let what = match what_of(alloc, routes, head, &body) {
         Ok(what) => what,
         Err(error) => return Err(error),
     };

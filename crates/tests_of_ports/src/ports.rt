@@ -236,6 +236,8 @@ fn row_of(kind: u64) -> Row {
         maker: 0,
         more: 0,
         at: 0,
+        num: 0,
+        mark: Blob::empty(),
         n1: 0,
         n2: 0,
         n3: 0,

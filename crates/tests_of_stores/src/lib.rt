@@ -1,9 +1,9 @@
-//! Stores over SQLite, once with ample memory: that rows come back as they were, also from a store of version 1, and
-//! what a reason's text is.
+//! Stores over SQLite, once with ample memory: that rows come back as they were, also from a store of an older version,
+//! and what a reason's text is.
 #![tactic(auto)]
 
 #[cfg(test)]
-mod first_version;
+mod old_versions;
 #[cfg(test)]
 mod rows;
 #[cfg(test)]

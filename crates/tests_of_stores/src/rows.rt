@@ -1,9 +1,9 @@
 //! Rows that are kept and looked for.
 
-use cr_base::{Blob, Row};
+use cr_base::{Blob, LAST_COMMAND_NUMBER, Row};
 use std::alloc::{AllocError, Global};
 
-/// The digest of alice's secret, as SHA-256's authors publish it for this text.
+/// The digest of alice's secret, as SHA-256's authors publish it for this text; also the mark of a command.
 const DIGEST: [u8; 32] = [
     0x24, 0x8d, 0x6a, 0x61, 0xd2, 0x06, 0x38, 0xb8, 0xe5, 0xc0, 0x26, 0x93, 0x0c, 0x3e, 0x60, 0x39,
     0xa3, 0x3c, 0xe4, 0x59, 0x64, 0xff, 0x21, 0x67, 0xf6, 0xec, 0xed, 0xd4, 0x19, 0xdb, 0x06, 0xc1,
@@ -24,6 +24,8 @@ fn registered(alloc: Global) -> Result<Row, AllocError> {
         maker: 1,
         more: 1,
         at: MOMENT,
+        num: 0,
+        mark: Blob::empty(),
         n1: 1,
         n2: 0,
         n3: 0,
@@ -41,6 +43,8 @@ fn named() -> Row {
         maker: 1,
         more: 0,
         at: MOMENT,
+        num: 0,
+        mark: Blob::empty(),
         n1: 1,
         n2: 2,
         n3: 0,
@@ -51,13 +55,15 @@ fn named() -> Row {
     }
 }
 
-/// A row of this kind, with numbers that tell its fields apart.
+/// A row of this kind, with numbers that tell its fields apart, of a command without a number.
 pub(crate) fn of_kind(kind: u64) -> Row {
     Row {
         kind,
         maker: 1,
         more: 0,
         at: moment_for(kind),
+        num: 0,
+        mark: Blob::empty(),
         n1: 10,
         n2: 9999,
         n3: 30,
@@ -77,18 +83,44 @@ fn moment_for(kind: u64) -> u64 {
     }
 }
 
+/// No command number, the first, the last, or one that no command has, each with its mark. A store keeps them all.
+fn key_for(alloc: Global, kind: u64) -> Result<(u64, Blob), AllocError> {
+    match kind % 4 {
+        0 => Ok((0, Blob::empty())),
+        1 => Ok((1, Blob::from_slice(alloc, DIGEST.as_slice())?)),
+        2 => Ok((
+            LAST_COMMAND_NUMBER,
+            Blob::from_slice(alloc, DIGEST.as_slice())?,
+        )),
+        _ => Ok((
+            LAST_COMMAND_NUMBER + 1,
+            Blob::from_slice(alloc, b"short".as_slice())?,
+        )),
+    }
+}
+
+/// A row of this kind, with numbers that tell its fields apart, of a command that may have a number.
+fn of_command(alloc: Global, kind: u64) -> Result<Row, AllocError> {
+    let (num, mark) = key_for(alloc, kind)?;
+    Ok(Row {
+        num,
+        mark,
+        ..of_kind(kind)
+    })
+}
+
 /// Adds the rows of a first registration, and a row of each kind before `end`, the last one first.
 fn add_each_kind(alloc: Global, rows: &mut Vec<Row>, end: u64) -> Result<(), AllocError> {
     rows.push(registered(alloc)?)?;
     rows.push(named())?;
     for kind in (1..end).rev() {
-        rows.push(of_kind(kind))?;
+        rows.push(of_command(alloc, kind)?)?;
     }
     Ok(())
 }
 
 /// The rows of a first registration, and a row of each kind before `end`, the last one first. A store takes the kinds
-/// before 19; one of version 1 took those before 18.
+/// before 19, as one of version 2 did; one of version 1 took those before 18.
 pub(crate) fn of_each_kind(alloc: Global, end: u64) -> Result<Vec<Row>, AllocError> {
     let mut rows = Vec::new(alloc);
     add_each_kind(alloc, &mut rows, end)?;

@@ -76,10 +76,13 @@ fn reasons_are_one_line(rt: HostRuntime) {
     let busy = Reason::Database(Error::SqliteFailure(ErrorCode::DatabaseBusy));
     let texts = [
         (busy, "database is locked"),
-        (Reason::OtherTables, "the tables are not those of a store"),
+        (
+            Reason::OtherTables,
+            "the tables are not those of a store that this confd reads",
+        ),
         (
             Reason::OtherVersion,
-            "the version is not that of the tables",
+            "the store says another version than that of its tables",
         ),
         (Reason::MissingPlace(3), "no row stands at place 3"),
         (Reason::TakenPlace(3), "two rows stand at place 3"),

@@ -1,4 +1,4 @@
-use Rattle.cr_policy.proofs.BoundsWalk.{entries-shown, marks-shown, moments-shown, papers-shown, users-shown, names-shown, digests-shown, roles-shown}
+use Rattle.cr_policy.proofs.BoundsWalk.{entries-shown, marks-shown, moments-shown, keys-shown, papers-shown, users-shown, names-shown, digests-shown, roles-shown}
 use Rattle.cr_policy.proofs.BoundsWalk.{phases-shown, deadlines-shown, modes-shown, makers-shown, titles-shown, abstracts-shown, versions-shown}
 use Rattle.cr_policy.proofs.BoundsWalk.{contents-shown, switches-shown, values-shown, seats-shown, ordinals-shown}
 use Rattle.cr_policy.proofs.BoundsWalk.{scores-shown, confidences-shown, texts-to-authors-shown, texts-to-pc-shown, done-shown, numbers-shown}
@@ -15,6 +15,7 @@ returns c = record {
   entries = entries-shown;
   marks = marks-shown;
   moments = moments-shown;
+  keys = keys-shown;
   papers = papers-shown;
   users = users-shown;
   names = names-shown;

@@ -1,4 +1,4 @@
-use Rattle.cr_policy.proofs.HiddenPairProofs.{digest-hidden, namer-hidden, mode_setter-hidden, phase_setter-hidden, deadline_setter-hidden, moment-hidden, title-hidden, abstract-hidden}
+use Rattle.cr_policy.proofs.HiddenPairProofs.{digest-hidden, namer-hidden, mode_setter-hidden, phase_setter-hidden, deadline_setter-hidden, moment-hidden, key-hidden, title-hidden, abstract-hidden}
 use Rattle.cr_policy.proofs.HiddenPairProofs.{submitter-hidden, coauthor-hidden, revision-hidden, reviser-hidden, content-hidden, uploader-hidden}
 use Rattle.cr_policy.proofs.HiddenPairProofs.{withdrawer-hidden, declared-hidden, switch-hidden, declarer-hidden, bid-hidden, bidder-hidden}
 use Rattle.cr_policy.proofs.HiddenPairProofs.{tag-hidden, tagger-hidden, assigned-hidden, seat-hidden, assigner-hidden, unassigned-hidden}
@@ -15,6 +15,7 @@ returns c = record {
   phase_setters = phase_setter-hidden;
   deadline_setters = deadline_setter-hidden;
   moments = moment-hidden;
+  keys = key-hidden;
   titles = title-hidden;
   abstracts = abstract-hidden;
   submitters = submitter-hidden;

@@ -1,4 +1,4 @@
-use Rattle.cr_policy.proofs.LegalLaws.{view_suffices}
+use Rattle.cr_policy.proofs.DecideLaws.{view_suffices}
 use Rattle.cr_policy.proofs.law_view_suffices.Goals as goal
 
 pub returns : goal.returns

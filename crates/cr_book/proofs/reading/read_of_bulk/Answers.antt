@@ -15,12 +15,12 @@ goes_on-requires c = record {
 pub with_next-requires-clause-last : goal.with_next-requires-clause-last
 with_next-requires-clause-last c =
     test-last _ _ _ _ _ _ _ c.requires.reading c.requires.bulk c.requires.bounded c.requires.row c.deref.ensures.value _ c.in-Ok-true.ensures.on
-    c.in-Ok-true.field-0-test
+    c.requires.new c.in-Ok-true.field-0-test
 
 pub with_next-requires-clause-more : goal.with_next-requires-clause-more
 with_next-requires-clause-more c =
     test-more _ _ _ _ _ _ _ c.requires.reading c.requires.bulk c.requires.bounded c.requires.row c.deref.ensures.value _ c.in-Ok-true.ensures.on
-    c.in-Ok-true.field-0-test c.in-Ok-true.ensures.earlier
+    c.requires.new c.in-Ok-true.field-0-test c.in-Ok-true.ensures.earlier
 
 pub with_next-requires-clause-fits : goal.with_next-requires-clause-fits
 with_next-requires-clause-fits c =

@@ -6,15 +6,18 @@ use Rattle.cr_base.specs.History.{History}
 use Rattle.cr_base.specs.Rows.{row_of, rows_of, IsBoundedEntry}
 use Rattle.cr_judge.specs.Effects.{drawn_by}
 use Rattle.cr_book.specs.Rebuilding.{authors_told, drawn_told}
+use Rattle.cr_book.proofs.OpeningRows.{first-row}
 use Rattle.cr_book.proofs.rebuilding.begun.Goals as goal
 
 pub returns-clause-some : goal.returns-clause-some
 returns-clause-some c =
     let t = c.args.live.now.tables in
     let first = c.in-Some.first in
+    let spells = subst (λ (o : Option Stamped). IfSome o (λ (s : Stamped). IsBoundedEntry s × (row_of s ≡ c.index-rows-0.result))) c.in-Some.is c.in_ok-first.ensures.spells in
     record {
       first = first;
-      bounded = (subst (λ (o : Option Stamped). IfSome o (λ (s : Stamped). IsBoundedEntry s × (row_of s ≡ c.index-rows-0.result))) c.in-Some.is c.in_ok-first.ensures.spells).0;
+      here = first-row c.args.rows.now c.index-rows-0.result (row_of first) c.requires c.index-rows-0.is spells.1;
+      bounded = spells.0;
       drawn = drawn_by t.accounts c.in-Some-effect_of.effect;
       told = ap (λ (maker : ℕ). drawn_told t (authors_told t maker c.args.rows.now) first) (sym c.maker_of-maker.ensures)
           ∙ ap (λ (authors : List (Option (List ℕ))). drawn_told t authors first) (sym c.in_ok-authors.ensures)

@@ -5,7 +5,7 @@ use Rattle.cr_base.specs.declared.entry.Stamp.{Stamp}
 use Rattle.cr_base.specs.declared.standing.Standing.{Standing}
 use Rattle.cr_base.specs.Checks.{NamedPaper, bid_checks}
 use Rattle.cr_base.specs.Drawn.{Drawn, bid_drawn}
-use Rattle.cr_judge.specs.Named.{late_at}
+use Rattle.cr_base.specs.Stage.{is_late_in}
 use Rattle.cr_judge.proofs.JudgedLaws.{one-entry, passed-up}
 use Rattle.cr_judge.proofs.NamedLaws.{is-there, late-drawn}
 use Rattle.cr_judge.proofs.assigning.bid.Goals as goal
@@ -22,7 +22,7 @@ returns c =
     let named = c.named_paper-named.result in
     one-entry t.accounts stamp (entries.Bid c.held-paper.result c.args.value) c.alone.result _ c.alone.ensures
     (ap (λ (o : Option ℕ). Ok (bid_drawn stamp (unwrap_or o 0) c.args.value)) (sym c.held-paper.ensures)
-    ∙ late-drawn t stamp.maker c.args.paper.now named c.named_paper-named.ensures c.is_late-late.result (late_at t stamp) c.is_late-late.ensures
+    ∙ late-drawn t stamp.maker c.args.paper.now named c.named_paper-named.ensures c.is_late-late.result (is_late_in t.stage stamp.at) c.is_late-late.ensures
     bid_checks (λ (s : Standing) (w late : Bool) (x : Drawn). refl)
     (λ (p : ℕ). bid_drawn stamp p c.args.value) (Ok tt) c.in_ok-judge_bid.ensures)
 
@@ -32,6 +32,6 @@ returns-in_err-judge_bid c =
     let stamp : Stamp = c.args.stamp.now in
     let named = c.named_paper-named.result in
     passed-up t.accounts c.from_residual.result c.in_err-judge_bid.field-0.0 _ c.from_residual.ensures.1
-    (late-drawn t stamp.maker c.args.paper.now named c.named_paper-named.ensures c.is_late-late.result (late_at t stamp) c.is_late-late.ensures
+    (late-drawn t stamp.maker c.args.paper.now named c.named_paper-named.ensures c.is_late-late.result (is_late_in t.stage stamp.at) c.is_late-late.ensures
     bid_checks (λ (s : Standing) (w late : Bool) (x : Drawn). refl)
     (λ (p : ℕ). bid_drawn stamp p c.args.value) (Err c.in_err-judge_bid.field-0.0) c.in_err-judge_bid.ensures)

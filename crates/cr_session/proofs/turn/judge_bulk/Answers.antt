@@ -1,12 +1,12 @@
 use Rattle.std.proofs.Common.{ℕ, Option, subst, sym}
 use Rattle.cr_base.specs.Calls.{bulk_by, maker_of}
-use Rattle.cr_policy.specs.Judge.{judge_bulk}
+use Rattle.cr_policy.specs.Judge.{decide_bulk}
 use Rattle.cr_policy.specs.View.{view}
 use Rattle.cr_session.specs.Turning.{ChangesBook}
 use Rattle.cr_session.proofs.turn.judge_bulk.Goals as goal
 
 pub returns : goal.returns
 returns g c =
-    subst (λ (u : Option ℕ). ChangesBook g.K.Keeper.faults c.judge_rows.result (judge_bulk (view u c.args.book.now.log) (bulk_by (maker_of u) c.args.at c.args.rows))
+    subst (λ (u : Option ℕ). ChangesBook g.K.Keeper.faults c.judge_rows.result (decide_bulk (view u c.args.book.now.log) (bulk_by (maker_of u) c.args.at c.args.key c.args.rows))
     c.args.book.now c.judge_rows.new.book)
     (sym c.in-Some.is) c.judge_rows.ensures

@@ -2,8 +2,8 @@ use Rattle.std.proofs.Common.{◌∙◌, subst, sym}
 use Rattle.cr_wire.specs.Bounds.{IsBoundedWhat}
 use Rattle.cr_wire.specs.declared.what.What.{What}
 use Rattle.cr_session.specs.Replay.{ledger_of}
-use Rattle.cr_session.proofs.TurnLaws.{unauthorized, no_route, wrong_method, bad_body, bad_query, command-turn, bulk-turn, query-turn}
-use Rattle.cr_session.proofs.TurnLaws.{may-wish, caller-command, caller-bulk, may-query}
+use Rattle.cr_session.proofs.TurnLaws.{unauthorized, no_route, wrong_method, bad_number, bad_body, bad_query, command-turn, bulk-turn, query-turn}
+use Rattle.cr_session.proofs.TurnLaws.{may-wish, caller-command, caller-key, caller-bulk, may-query}
 use Rattle.cr_session.proofs.turn.take_turn.Goals as goal
 
 pub returns-then-is_unauthorized : goal.returns-then-is_unauthorized
@@ -20,6 +20,11 @@ returns-in-WrongMethod g c =
     wrong_method _ _ (ledger_of g.K.Keeper.faults c.args.book.now) _
     (may-wish _ c.args.wish _ _ _ c.in-WrongMethod.is c.caller_of-caller.ensures c.is_unauthorized.ensures c.if-is_unauthorized.false)
 
+pub returns-in-BadNumber : goal.returns-in-BadNumber
+returns-in-BadNumber g c =
+    bad_number _ _ (ledger_of g.K.Keeper.faults c.args.book.now) _
+    (may-wish _ c.args.wish _ _ _ c.in-BadNumber.is c.caller_of-caller.ensures c.is_unauthorized.ensures c.if-is_unauthorized.false)
+
 pub returns-in-BadBody : goal.returns-in-BadBody
 returns-in-BadBody g c =
     bad_body _ _ (ledger_of g.K.Keeper.faults c.args.book.now) _
@@ -31,16 +36,20 @@ returns-in-BadQuery g c =
     (may-wish _ c.args.wish _ _ _ c.in-BadQuery.is c.caller_of-caller.ensures c.is_unauthorized.ensures c.if-is_unauthorized.false)
 
 pub judge-requires : goal.judge-requires
-judge-requires g c = record {
-  caller = caller-command _ _ _ _
-      (may-wish _ c.args.wish _ _ _ c.in-Command.is c.caller_of-caller.ensures c.is_unauthorized.ensures c.if-is_unauthorized.false);
-  bounded = subst (λ (x : What). IsBoundedWhat x) c.in-Command.is c.requires.what;
-  moment = c.requires.moment;
-}
+judge-requires g c =
+    let caller = caller-command _ _ _ _ _
+    (may-wish _ c.args.wish _ _ _ c.in-Command.is c.caller_of-caller.ensures c.is_unauthorized.ensures c.if-is_unauthorized.false) in
+    let bounded = subst (λ (x : What). IsBoundedWhat x) c.in-Command.is c.requires.what in
+    record {
+      caller = caller;
+      bounded = bounded.0;
+      moment = c.requires.moment;
+      key = caller-key c.args.book.now.log _ _ _ caller bounded.1;
+    }
 
 pub judge_bulk-requires : goal.judge_bulk-requires
 judge_bulk-requires g c =
-    caller-bulk _ _ _ _
+    caller-bulk _ _ _ _ _
     (may-wish _ c.args.wish _ _ _ c.in-Bulk.is c.caller_of-caller.ensures c.is_unauthorized.ensures c.if-is_unauthorized.false)
     (subst (λ (x : What). IsBoundedWhat x) c.in-Bulk.is c.requires.what) c.requires.moment
 
@@ -51,7 +60,7 @@ answer-requires g c =
 
 pub returns-in-Command : goal.returns-in-Command
 returns-in-Command g c =
-    command-turn _ _ _ _ (ledger_of g.K.Keeper.faults c.args.book.now) (ledger_of g.K.Keeper.faults c.judge.new.book)
+    command-turn _ _ _ _ _ (ledger_of g.K.Keeper.faults c.args.book.now) (ledger_of g.K.Keeper.faults c.judge.new.book)
     (may-wish _ c.args.wish _ _ _ c.in-Command.is c.caller_of-caller.ensures c.is_unauthorized.ensures c.if-is_unauthorized.false)
     c.judge.ensures
 
@@ -63,6 +72,6 @@ returns-in-Query g c =
 
 pub returns-in-Bulk : goal.returns-in-Bulk
 returns-in-Bulk g c =
-    bulk-turn _ _ _ _ (ledger_of g.K.Keeper.faults c.args.book.now) (ledger_of g.K.Keeper.faults c.judge_bulk.new.book)
+    bulk-turn _ _ _ _ _ (ledger_of g.K.Keeper.faults c.args.book.now) (ledger_of g.K.Keeper.faults c.judge_bulk.new.book)
     (may-wish _ c.args.wish _ _ _ c.in-Bulk.is c.caller_of-caller.ensures c.is_unauthorized.ensures c.if-is_unauthorized.false)
     c.judge_bulk.ensures

@@ -1,9 +1,9 @@
 use Rattle.cr_sights.specs.Lines.{third_members}
-use Rattle.cr_sights.proofs.MemberLaws.{five}
+use Rattle.cr_sights.proofs.MemberLaws.{six}
 use Rattle.cr_sights.proofs.line.add_third.Goals as goal
 
 pub returns : goal.returns
 unfolding third_members
 returns c =
-    rw (← c.sighting.view_is, ← c.as_ref.ensures.value, ← c.as_ref-2.ensures.value)
-    (five c.in_ok-fixed.ensures c.in_ok-add.ensures c.in_ok-add-2.ensures c.in_ok-add-3.ensures c.in_ok-truth.ensures)
+    rw (← c.number_told.ensures, ← c.sighting.view_is, ← c.as_ref.ensures.value, ← c.as_ref-2.ensures.value)
+    (six c.in_ok-fixed.ensures c.in_ok-add.ensures c.in_ok-add-2.ensures c.in_ok-add-3.ensures c.in_ok-add-4.ensures c.in_ok-truth.ensures)

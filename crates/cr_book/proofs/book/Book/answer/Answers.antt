@@ -24,7 +24,7 @@ answer-requires g c =
     let q = c.args.query.now in
     let same = ap (λ (v : SeenBook g.row.K.Denot). v.log) c.self.view_is in
     let may = subst (λ (h : History). MayAsk h (needs_login (view None h) q) u) (sym same) c.requires in
-    record { caller = asker-there c.self.inside.log.items u q (record { search = c.in_default.not-Search; report = c.in_default.not-Report }) may }
+    record { caller = asker-there c.self.inside.log.entries u q (record { search = c.in_default.not-Search; report = c.in_default.not-Report }) may }
 
 pub returns-in-Search-clause-answered : goal.returns-in-Search-clause-answered
 returns-in-Search-clause-answered g c =
@@ -42,6 +42,6 @@ returns-in_default-clause-answered g c =
     let q = c.args.query.now in
     let same = ap (λ (v : SeenBook g.row.K.Denot). v.log) c.self.view_is in
     subst (λ (due : Reply). AnswersAsDue c.answer.result due)
-    (answered-by_view g.K.Keeper.rows c.self.inside.log.items c.self.inside.live.tables c.self.inside.keeper u q c.self.invariant
+    (answered-by_view g.K.Keeper.rows c.self.inside.log.entries c.self.inside.live.tables c.self.inside.keeper u q c.self.invariant
     ∙ ap (λ (h : History). answer u (view u h) q) same)
     c.answer.ensures.answered

@@ -15,7 +15,7 @@ answer-requires g c =
     let u = c.args.caller.now in
     let q = queries.Report c.args.report.now in
     let same = ap (λ (v : SeenBook g.row.K.Denot). v.log) c.self.view_is in
-    reporter-there c.self.inside.log.items u c.args.report.now
+    reporter-there c.self.inside.log.entries u c.args.report.now
     (subst (λ (h : History). MayAsk h (needs_login (view None h) q) u) (sym same) c.requires)
 
 pub returns : goal.returns
@@ -24,6 +24,6 @@ returns g c =
     let q = queries.Report c.args.report.now in
     let same = ap (λ (v : SeenBook g.row.K.Denot). v.log) c.self.view_is in
     subst (λ (due : Reply). AnswersAsDue c.answer.result due)
-    (answered-by_view g.K.Keeper.rows c.self.inside.log.items c.self.inside.live.tables c.self.inside.keeper u q c.self.invariant
+    (answered-by_view g.K.Keeper.rows c.self.inside.log.entries c.self.inside.live.tables c.self.inside.keeper u q c.self.invariant
     ∙ ap (λ (h : History). answer u (view u h) q) same)
     c.answer.ensures

@@ -1,76 +1,132 @@
-use Rattle.std.proofs.Common.{arith, ◌≡◌, ◌∙◌, length, ap, sym, subst, Err, Result}
-use Rattle.cr_base.specs.declared.bulk.Broken.{Broken}
-use Rattle.cr_base.specs.declared.reply.Receipt.TheVariants as receipts
+use Rattle.std.proofs.Common.{true, Some, ap, sym, subst, refl}
+use Rattle.cr_base.specs.declared.bulk.Broken.TheVariants as broken
+use Rattle.cr_base.specs.declared.reply.Rule.TheVariants as rules
 use Rattle.cr_base.specs.Calls.{bulk_by}
 use Rattle.cr_base.specs.History.{History}
-use Rattle.cr_base.specs.Drawn.{Drawn}
-use Rattle.cr_policy.specs.Legal.{Legal}
-use Rattle.cr_policy.proofs.LegalLaws.{Legal-bulk_accepted, Legal-bulk_fits}
+use Rattle.cr_policy.specs.Judge.{judge_bulk, decide_bulk}
+use Rattle.cr_policy.specs.Legal.{IsNewKey}
+use Rattle.cr_policy.specs.View.{view}
+use Rattle.cr_book.specs.declared.earlier.Earlier.TheVariants.{Nothing, Same, Other}
 use Rattle.cr_book.specs.Seen.{SeenBook}
-use Rattle.cr_book.specs.declared.book.BookError.TheVariants as errors
-use Rattle.cr_book.proofs.BookLaws.{bulk-by_view, bulk-drawn, drawn-ok, drawn-no_error}
+use Rattle.cr_book.proofs.EarlierLaws.{new-number}
+use Rattle.cr_book.proofs.OutcomeLaws.{bulk-outcome, judged-acts, judged-no_repeat, judged-refused, judged-outcome, judged-drawn}
+use Rattle.cr_book.proofs.OutcomeLaws.{repeat-acts, repeat-told, repeat-not_refused, used-told, used-outcome, used-no_repeat}
 use Rattle.cr_book.proofs.book.Book.bulk.Goals as goal
 
-pub keep-requires-clause-legal : goal.keep-requires-clause-legal
-keep-requires-clause-legal g c =
-    let same = ap (λ (v : SeenBook g.row.K.Denot). v.log) c.self.view_is in
-    let group = c.in-Ok.group.items in
-    let drawn : Drawn = record { group = group; receipt = receipts.Rows (length group) } in
-    Legal-bulk_accepted c.args.self.now.log (bulk_by c.args.caller c.args.at c.args.rows) drawn (subst (λ (h : History). Legal h) same c.self.invariant.legal) c.requires
-    (bulk-drawn g.K.Keeper.rows _ c.args.self.now.log _ _ (bulk_by c.args.caller c.args.at c.args.rows) c.in-Ok.group.items
-    (ap (λ (v : SeenBook g.row.K.Denot). v.log) c.self.view_is) c.self.invariant c.requires c.in-Ok.ensures.group c.in-Ok.ensures.accepted)
-
-pub keep-requires-clause-fits : goal.keep-requires-clause-fits
-keep-requires-clause-fits g c =
-    let same = ap (λ (v : SeenBook g.row.K.Denot). v.log) c.self.view_is in
-    let group = c.in-Ok.group.items in
-    let drawn : Drawn = record { group = group; receipt = receipts.Rows (length group) } in
-    Legal-bulk_fits c.args.self.now.log (bulk_by c.args.caller c.args.at c.args.rows) drawn (subst (λ (h : History). Legal h) same c.self.invariant.legal) c.requires.caller c.requires.moment
-    (bulk-drawn g.K.Keeper.rows _ c.args.self.now.log _ _ (bulk_by c.args.caller c.args.at c.args.rows) c.in-Ok.group.items
-    (ap (λ (v : SeenBook g.row.K.Denot). v.log) c.self.view_is) c.self.invariant c.requires c.in-Ok.ensures.group c.in-Ok.ensures.accepted)
-
-pub returns-in-Err-clause-broken : goal.returns-in-Err-clause-broken
-returns-in-Err-clause-broken g c = λ broken told.
-    let is = bulk-by_view g.K.Keeper.rows _ c.args.self.now.log _ _ (bulk_by c.args.caller c.args.at c.args.rows) (Err c.in-Err.broken)
-    (ap (λ (v : SeenBook g.row.K.Denot). v.log) c.self.view_is) c.self.invariant c.requires c.in-Err.ensures.broken in
-    let same : ◌≡◌ {A = Result Drawn Broken} (Err c.in-Err.broken) (Err broken) = sym is ∙ told in
-    let e : c.in-Err.broken ≡ broken = cc (same) in
-    ap (λ (b : Broken). Err (errors.Broken b)) e
-
-pub returns-in-Err-clause-only_broken : goal.returns-in-Err-clause-only_broken
-returns-in-Err-clause-only_broken g c = λ broken told.
-    let is = bulk-by_view g.K.Keeper.rows _ c.args.self.now.log _ _ (bulk_by c.args.caller c.args.at c.args.rows) (Err c.in-Err.broken)
-    (ap (λ (v : SeenBook g.row.K.Denot). v.log) c.self.view_is) c.self.invariant c.requires c.in-Err.ensures.broken in
-    let e : c.in-Err.broken ≡ broken = cc (told) in
-    is ∙ ap Err e
-
-pub returns-in-Err-keep-clause-broken : goal.returns-in-Err-keep-clause-broken
-returns-in-Err-keep-clause-broken g c = λ broken told.
-    let drawn = bulk-drawn g.K.Keeper.rows _ c.args.self.now.log _ _ (bulk_by c.args.caller c.args.at c.args.rows) c.in-Ok.group.items
-    (ap (λ (v : SeenBook g.row.K.Denot). v.log) c.self.view_is) c.self.invariant c.requires c.in-Ok.ensures.group c.in-Ok.ensures.accepted in
-    absurd (drawn-no_error _ _ broken drawn told)
-
-pub returns-in-Err-keep-clause-memory : goal.returns-in-Err-keep-clause-memory
-returns-in-Err-keep-clause-memory g c = λ is.
-    drawn-ok _ _ (bulk-drawn g.K.Keeper.rows _ c.args.self.now.log _ _ (bulk_by c.args.caller c.args.at c.args.rows) c.in-Ok.group.items
-    (ap (λ (v : SeenBook g.row.K.Denot). v.log) c.self.view_is) c.self.invariant c.requires c.in-Ok.ensures.group c.in-Ok.ensures.accepted)
-
-pub returns-in-Err-keep-clause-lost : goal.returns-in-Err-keep-clause-lost
-returns-in-Err-keep-clause-lost g c = λ is.
-    drawn-ok _ _ (bulk-drawn g.K.Keeper.rows _ c.args.self.now.log _ _ (bulk_by c.args.caller c.args.at c.args.rows) c.in-Ok.group.items
-    (ap (λ (v : SeenBook g.row.K.Denot). v.log) c.self.view_is) c.self.invariant c.requires c.in-Ok.ensures.group c.in-Ok.ensures.accepted)
-
-pub returns-in-Ok-keep-clause-accepted : goal.returns-in-Ok-keep-clause-accepted
-returns-in-Ok-keep-clause-accepted g c = record {
-  drawn = record { group = c.in-Ok.group.items; receipt = receipts.Rows (length c.in-Ok.group.items) };
-  judged = bulk-drawn g.K.Keeper.rows _ c.args.self.now.log _ _ (bulk_by c.args.caller c.args.at c.args.rows) c.in-Ok.group.items
-      (ap (λ (v : SeenBook g.row.K.Denot). v.log) c.self.view_is) c.self.invariant c.requires c.in-Ok.ensures.group c.in-Ok.ensures.accepted;
-  receipt_is = let many : c.len-rows.result ≡ length c.in-Ok.group.items = omega (arith, c.len-rows.ensures) in ap receipts.Rows many;
-  added = c.in-Ok-keep.ensures.kept;
+pub judge_rows-requires : goal.judge_rows-requires
+judge_rows-requires g c = record {
+  given = c.requires;
+  unused = subst (λ (h : History). IsNewKey h (Some c.args.caller) c.args.key) (ap (λ (v : SeenBook g.row.K.Denot). v.log) c.self.view_is)
+      (new-number c.self.inside.live.tables c.self.inside.log.entries true c.args.caller c.args.key (sym c.in-Nothing.ensures));
 }
 
-pub returns-in-Ok-keep-clause-broken : goal.returns-in-Ok-keep-clause-broken
-returns-in-Ok-keep-clause-broken g c = λ broken told.
-    let drawn = bulk-drawn g.K.Keeper.rows _ c.args.self.now.log _ _ (bulk_by c.args.caller c.args.at c.args.rows) c.in-Ok.group.items
-    (ap (λ (v : SeenBook g.row.K.Denot). v.log) c.self.view_is) c.self.invariant c.requires c.in-Ok.ensures.group c.in-Ok.ensures.accepted in
-    absurd (drawn-no_error _ _ broken drawn told)
+-- ---- where nothing is found
+
+pub returns-in-Nothing-clause-accepted : goal.returns-in-Nothing-clause-accepted
+returns-in-Nothing-clause-accepted g c =
+    let bulk = bulk_by c.args.caller c.args.at c.args.key c.args.rows in
+    let log = c.args.self.now.log in
+    judged-acts (decide_bulk (view (Some c.args.caller) log) bulk) (judge_bulk (view (Some c.args.caller) log) bulk)
+    (bulk-outcome g.K.Keeper.rows _ log _ _ bulk Nothing (ap (λ (v : SeenBook g.row.K.Denot). v.log) c.self.view_is) c.self.invariant c.in-Nothing.ensures)
+    log _ c.judge_rows.result c.judge_rows.ensures.accepted
+
+pub returns-in-Nothing-clause-repeats : goal.returns-in-Nothing-clause-repeats
+returns-in-Nothing-clause-repeats g c = λ receipt repeats.
+    let bulk = bulk_by c.args.caller c.args.at c.args.key c.args.rows in
+    let log = c.args.self.now.log in
+    absurd (judged-no_repeat (decide_bulk (view (Some c.args.caller) log) bulk) (judge_bulk (view (Some c.args.caller) log) bulk)
+    (bulk-outcome g.K.Keeper.rows _ log _ _ bulk Nothing (ap (λ (v : SeenBook g.row.K.Denot). v.log) c.self.view_is) c.self.invariant c.in-Nothing.ensures)
+    receipt repeats)
+
+pub returns-in-Nothing-clause-repeat_stays : goal.returns-in-Nothing-clause-repeat_stays
+returns-in-Nothing-clause-repeat_stays g c = λ receipt repeats.
+    let bulk = bulk_by c.args.caller c.args.at c.args.key c.args.rows in
+    let log = c.args.self.now.log in
+    absurd (judged-no_repeat (decide_bulk (view (Some c.args.caller) log) bulk) (judge_bulk (view (Some c.args.caller) log) bulk)
+    (bulk-outcome g.K.Keeper.rows _ log _ _ bulk Nothing (ap (λ (v : SeenBook g.row.K.Denot). v.log) c.self.view_is) c.self.invariant c.in-Nothing.ensures)
+    receipt repeats)
+
+pub returns-in-Nothing-clause-broken : goal.returns-in-Nothing-clause-broken
+returns-in-Nothing-clause-broken g c = λ refusal told.
+    let bulk = bulk_by c.args.caller c.args.at c.args.key c.args.rows in
+    let log = c.args.self.now.log in
+    c.judge_rows.ensures.broken refusal
+    (judged-refused (decide_bulk (view (Some c.args.caller) log) bulk) (judge_bulk (view (Some c.args.caller) log) bulk)
+    (bulk-outcome g.K.Keeper.rows _ log _ _ bulk Nothing (ap (λ (v : SeenBook g.row.K.Denot). v.log) c.self.view_is) c.self.invariant c.in-Nothing.ensures)
+    refusal told)
+
+pub returns-in-Nothing-clause-only_broken : goal.returns-in-Nothing-clause-only_broken
+returns-in-Nothing-clause-only_broken g c = λ refusal told.
+    let bulk = bulk_by c.args.caller c.args.at c.args.key c.args.rows in
+    let log = c.args.self.now.log in
+    judged-outcome (decide_bulk (view (Some c.args.caller) log) bulk) (judge_bulk (view (Some c.args.caller) log) bulk)
+    (bulk-outcome g.K.Keeper.rows _ log _ _ bulk Nothing (ap (λ (v : SeenBook g.row.K.Denot). v.log) c.self.view_is) c.self.invariant c.in-Nothing.ensures)
+    refusal (c.judge_rows.ensures.only_broken refusal told)
+
+pub returns-in-Nothing-clause-memory : goal.returns-in-Nothing-clause-memory
+returns-in-Nothing-clause-memory g c = λ is.
+    let bulk = bulk_by c.args.caller c.args.at c.args.key c.args.rows in
+    let log = c.args.self.now.log in
+    judged-drawn (decide_bulk (view (Some c.args.caller) log) bulk) (judge_bulk (view (Some c.args.caller) log) bulk)
+    (bulk-outcome g.K.Keeper.rows _ log _ _ bulk Nothing (ap (λ (v : SeenBook g.row.K.Denot). v.log) c.self.view_is) c.self.invariant c.in-Nothing.ensures)
+    (c.judge_rows.ensures.memory is)
+
+pub returns-in-Nothing-clause-lost : goal.returns-in-Nothing-clause-lost
+returns-in-Nothing-clause-lost g c = λ is.
+    let bulk = bulk_by c.args.caller c.args.at c.args.key c.args.rows in
+    let log = c.args.self.now.log in
+    judged-drawn (decide_bulk (view (Some c.args.caller) log) bulk) (judge_bulk (view (Some c.args.caller) log) bulk)
+    (bulk-outcome g.K.Keeper.rows _ log _ _ bulk Nothing (ap (λ (v : SeenBook g.row.K.Denot). v.log) c.self.view_is) c.self.invariant c.in-Nothing.ensures)
+    (c.judge_rows.ensures.lost is)
+
+-- ---- a repeat
+
+pub returns-in-Same-clause-accepted : goal.returns-in-Same-clause-accepted
+returns-in-Same-clause-accepted g c =
+    let bulk = bulk_by c.args.caller c.args.at c.args.key c.args.rows in
+    let log = c.args.self.now.log in
+    repeat-acts (decide_bulk (view (Some c.args.caller) log) bulk) c.in-Same.receipt
+    (bulk-outcome g.K.Keeper.rows _ log _ _ bulk (Same c.in-Same.receipt) (ap (λ (v : SeenBook g.row.K.Denot). v.log) c.self.view_is) c.self.invariant c.in-Same.ensures)
+    log _ refl
+
+pub returns-in-Same-clause-repeats : goal.returns-in-Same-clause-repeats
+returns-in-Same-clause-repeats g c = λ receipt repeats.
+    let bulk = bulk_by c.args.caller c.args.at c.args.key c.args.rows in
+    let log = c.args.self.now.log in
+    repeat-told (decide_bulk (view (Some c.args.caller) log) bulk) c.in-Same.receipt
+    (bulk-outcome g.K.Keeper.rows _ log _ _ bulk (Same c.in-Same.receipt) (ap (λ (v : SeenBook g.row.K.Denot). v.log) c.self.view_is) c.self.invariant c.in-Same.ensures)
+    receipt repeats
+
+pub returns-in-Same-clause-broken : goal.returns-in-Same-clause-broken
+returns-in-Same-clause-broken g c = λ refusal told.
+    let bulk = bulk_by c.args.caller c.args.at c.args.key c.args.rows in
+    let log = c.args.self.now.log in
+    absurd (repeat-not_refused (decide_bulk (view (Some c.args.caller) log) bulk) c.in-Same.receipt
+    (bulk-outcome g.K.Keeper.rows _ log _ _ bulk (Same c.in-Same.receipt) (ap (λ (v : SeenBook g.row.K.Denot). v.log) c.self.view_is) c.self.invariant c.in-Same.ensures)
+    refusal told)
+
+-- ---- a number that is used
+
+pub returns-in-Other-clause-repeats : goal.returns-in-Other-clause-repeats
+returns-in-Other-clause-repeats g c = λ receipt repeats.
+    let bulk = bulk_by c.args.caller c.args.at c.args.key c.args.rows in
+    let log = c.args.self.now.log in
+    absurd (used-no_repeat (decide_bulk (view (Some c.args.caller) log) bulk) (broken.Rule rules.NumberUsed)
+    (bulk-outcome g.K.Keeper.rows _ log _ _ bulk Other (ap (λ (v : SeenBook g.row.K.Denot). v.log) c.self.view_is) c.self.invariant c.in-Other.ensures)
+    receipt repeats)
+
+pub returns-in-Other-clause-broken : goal.returns-in-Other-clause-broken
+returns-in-Other-clause-broken g c = λ refusal told.
+    let bulk = bulk_by c.args.caller c.args.at c.args.key c.args.rows in
+    let log = c.args.self.now.log in
+    used-told (decide_bulk (view (Some c.args.caller) log) bulk) (broken.Rule rules.NumberUsed)
+    (bulk-outcome g.K.Keeper.rows _ log _ _ bulk Other (ap (λ (v : SeenBook g.row.K.Denot). v.log) c.self.view_is) c.self.invariant c.in-Other.ensures)
+    refusal told
+
+pub returns-in-Other-clause-only_broken : goal.returns-in-Other-clause-only_broken
+returns-in-Other-clause-only_broken g c = λ refusal told.
+    let bulk = bulk_by c.args.caller c.args.at c.args.key c.args.rows in
+    let log = c.args.self.now.log in
+    used-outcome (decide_bulk (view (Some c.args.caller) log) bulk) (broken.Rule rules.NumberUsed)
+    (bulk-outcome g.K.Keeper.rows _ log _ _ bulk Other (ap (λ (v : SeenBook g.row.K.Denot). v.log) c.self.view_is) c.self.invariant c.in-Other.ensures)
+    refusal told

@@ -1,85 +1,131 @@
-use Rattle.std.proofs.Common.{◌≡◌, ◌∙◌, ◌++◌, ap, sym, subst, Ok, Err, Result}
-use Rattle.cr_base.specs.declared.reply.Rule.{Rule}
+use Rattle.std.proofs.Common.{false, ap, sym, subst, refl}
+use Rattle.cr_base.specs.declared.reply.Rule.TheVariants as rules
 use Rattle.cr_base.specs.Calls.{call_of}
 use Rattle.cr_base.specs.History.{History}
-use Rattle.cr_base.specs.Drawn.{Drawn}
-use Rattle.cr_base.specs.Tables.{Tables, tables_of, FitInTurn}
-use Rattle.cr_policy.specs.Legal.{Legal}
-use Rattle.cr_policy.proofs.LegalLaws.{Legal-accepted}
-use Rattle.cr_judge.specs.Effects.{drawn_by, group_of}
+use Rattle.cr_policy.specs.Judge.{judge, decide}
+use Rattle.cr_policy.specs.Legal.{IsNewKey}
+use Rattle.cr_policy.specs.View.{view}
+use Rattle.cr_book.specs.declared.earlier.Earlier.TheVariants.{Nothing, Same, Other}
 use Rattle.cr_book.specs.Seen.{SeenBook}
-use Rattle.cr_book.specs.declared.book.BookError.TheVariants as errors
-use Rattle.cr_book.proofs.BookLaws.{judged-by_view, drawn-ok, drawn-no_error}
+use Rattle.cr_book.proofs.EarlierLaws.{new-key}
+use Rattle.cr_book.proofs.OutcomeLaws.{command-outcome, judged-acts, judged-no_repeat, judged-refused, judged-outcome, judged-drawn}
+use Rattle.cr_book.proofs.OutcomeLaws.{repeat-acts, repeat-told, repeat-not_refused, used-told, used-outcome, used-no_repeat}
 use Rattle.cr_book.proofs.book.Book.command.Goals as goal
 
-pub returns-in-Err-clause-rule : goal.returns-in-Err-clause-rule
-returns-in-Err-clause-rule g c = λ rule told.
-    let is = judged-by_view g.K.Keeper.rows _ c.args.self.now.log _ _ (call_of c.args.caller.now c.args.at c.args.command) (Err c.in-Err.rule)
-    (ap (λ (v : SeenBook g.row.K.Denot). v.log) c.self.view_is) c.self.invariant c.in-Err.ensures.drawn in
-    let same : ◌≡◌ {A = Result Drawn Rule} (Err c.in-Err.rule) (Err rule) = sym is ∙ told in
-    let e : c.in-Err.rule ≡ rule = cc (same) in
-    ap (λ (r : Rule). Err (errors.Broken r)) e
-
-pub returns-in-Err-clause-only_rule : goal.returns-in-Err-clause-only_rule
-returns-in-Err-clause-only_rule g c = λ rule told.
-    let is = judged-by_view g.K.Keeper.rows _ c.args.self.now.log _ _ (call_of c.args.caller.now c.args.at c.args.command) (Err c.in-Err.rule)
-    (ap (λ (v : SeenBook g.row.K.Denot). v.log) c.self.view_is) c.self.invariant c.in-Err.ensures.drawn in
-    let e : c.in-Err.rule ≡ rule = cc (told) in
-    is ∙ ap Err e
-
-pub keep-requires-clause-legal : goal.keep-requires-clause-legal
-keep-requires-clause-legal g c =
-    let same = ap (λ (v : SeenBook g.row.K.Denot). v.log) c.self.view_is in
-    let told = judged-by_view g.K.Keeper.rows _ c.args.self.now.log _ _ (call_of c.args.caller.now c.args.at c.args.command) (Ok (drawn_by c.self.inside.live.tables.accounts c.in-Ok.effect))
-    (ap (λ (v : SeenBook g.row.K.Denot). v.log) c.self.view_is) c.self.invariant c.in-Ok.ensures.drawn in
-    subst (λ (group : History). Legal (c.args.self.now.log ++ group)) (sym c.in-Ok-group.ensures)
-    (Legal-accepted c.args.self.now.log (call_of c.args.caller.now c.args.at c.args.command) (drawn_by c.self.inside.live.tables.accounts c.in-Ok.effect) (subst (λ (h : History). Legal h) same c.self.invariant.legal)
-    c.requires told)
-
-pub keep-requires-clause-fits : goal.keep-requires-clause-fits
-keep-requires-clause-fits g c =
-    subst (λ (group : History). FitInTurn (tables_of c.args.self.now.log) group) (sym c.in-Ok-group.ensures)
-    (subst (λ (t : Tables). FitInTurn t (group_of c.in-Ok.effect))
-    (c.self.invariant.same ∙ ap (λ (v : SeenBook g.row.K.Denot). tables_of v.log) c.self.view_is) c.in-Ok.ensures.fits)
-
-pub returns-in_default-clause-rule : goal.returns-in_default-clause-rule
-returns-in_default-clause-rule g c = λ rule told.
-    let drawn = judged-by_view g.K.Keeper.rows _ c.args.self.now.log _ _ (call_of c.args.caller.now c.args.at c.args.command) (Ok (drawn_by c.self.inside.live.tables.accounts c.in-Ok.effect))
-    (ap (λ (v : SeenBook g.row.K.Denot). v.log) c.self.view_is) c.self.invariant c.in-Ok.ensures.drawn in
-    absurd (drawn-no_error _ _ rule drawn told)
-
-pub returns-in_default-clause-memory : goal.returns-in_default-clause-memory
-returns-in_default-clause-memory g c = λ is.
-    drawn-ok _ _ (judged-by_view g.K.Keeper.rows _ c.args.self.now.log _ _ (call_of c.args.caller.now c.args.at c.args.command) (Ok (drawn_by c.self.inside.live.tables.accounts c.in-Ok.effect))
-    (ap (λ (v : SeenBook g.row.K.Denot). v.log) c.self.view_is) c.self.invariant c.in-Ok.ensures.drawn)
-
-pub returns-in-Err-keep-clause-rule : goal.returns-in-Err-keep-clause-rule
-returns-in-Err-keep-clause-rule g c = λ rule told.
-    let drawn = judged-by_view g.K.Keeper.rows _ c.args.self.now.log _ _ (call_of c.args.caller.now c.args.at c.args.command) (Ok (drawn_by c.self.inside.live.tables.accounts c.in-Ok.effect))
-    (ap (λ (v : SeenBook g.row.K.Denot). v.log) c.self.view_is) c.self.invariant c.in-Ok.ensures.drawn in
-    absurd (drawn-no_error _ _ rule drawn told)
-
-pub returns-in-Err-keep-clause-memory : goal.returns-in-Err-keep-clause-memory
-returns-in-Err-keep-clause-memory g c = λ is.
-    drawn-ok _ _ (judged-by_view g.K.Keeper.rows _ c.args.self.now.log _ _ (call_of c.args.caller.now c.args.at c.args.command) (Ok (drawn_by c.self.inside.live.tables.accounts c.in-Ok.effect))
-    (ap (λ (v : SeenBook g.row.K.Denot). v.log) c.self.view_is) c.self.invariant c.in-Ok.ensures.drawn)
-
-pub returns-in-Err-keep-clause-lost : goal.returns-in-Err-keep-clause-lost
-returns-in-Err-keep-clause-lost g c = λ is.
-    drawn-ok _ _ (judged-by_view g.K.Keeper.rows _ c.args.self.now.log _ _ (call_of c.args.caller.now c.args.at c.args.command) (Ok (drawn_by c.self.inside.live.tables.accounts c.in-Ok.effect))
-    (ap (λ (v : SeenBook g.row.K.Denot). v.log) c.self.view_is) c.self.invariant c.in-Ok.ensures.drawn)
-
-pub returns-in-Ok-keep-clause-accepted : goal.returns-in-Ok-keep-clause-accepted
-returns-in-Ok-keep-clause-accepted g c = record {
-  drawn = drawn_by c.self.inside.live.tables.accounts c.in-Ok.effect;
-  judged = judged-by_view g.K.Keeper.rows _ c.args.self.now.log _ _ (call_of c.args.caller.now c.args.at c.args.command) (Ok (drawn_by c.self.inside.live.tables.accounts c.in-Ok.effect))
-      (ap (λ (v : SeenBook g.row.K.Denot). v.log) c.self.view_is) c.self.invariant c.in-Ok.ensures.drawn;
-  receipt_is = c.receipt-receipt.ensures;
-  added = c.in-Ok-keep.ensures.kept ∙ ap (λ (group : History). c.args.self.now.log ++ group) c.in-Ok-group.ensures;
+pub judge_command-requires : goal.judge_command-requires
+judge_command-requires g c = record {
+  given = c.requires;
+  unused = subst (λ (h : History). IsNewKey h c.args.caller.now c.args.key) (ap (λ (v : SeenBook g.row.K.Denot). v.log) c.self.view_is)
+      (new-key c.self.inside.live.tables c.self.inside.log.entries false c.args.caller.now c.args.key c.requires.key (sym c.in-Nothing.ensures));
 }
 
-pub returns-in-Ok-keep-clause-rule : goal.returns-in-Ok-keep-clause-rule
-returns-in-Ok-keep-clause-rule g c = λ rule told.
-    let drawn = judged-by_view g.K.Keeper.rows _ c.args.self.now.log _ _ (call_of c.args.caller.now c.args.at c.args.command) (Ok (drawn_by c.self.inside.live.tables.accounts c.in-Ok.effect))
-    (ap (λ (v : SeenBook g.row.K.Denot). v.log) c.self.view_is) c.self.invariant c.in-Ok.ensures.drawn in
-    absurd (drawn-no_error _ _ rule drawn told)
+-- ---- where nothing is found
+
+pub returns-in-Nothing-clause-accepted : goal.returns-in-Nothing-clause-accepted
+returns-in-Nothing-clause-accepted g c =
+    let call = call_of c.args.caller.now c.args.at c.args.key c.args.command in
+    let log = c.args.self.now.log in
+    judged-acts (decide (view c.args.caller.now log) call) (judge (view c.args.caller.now log) call)
+    (command-outcome g.K.Keeper.rows _ log _ _ call Nothing (ap (λ (v : SeenBook g.row.K.Denot). v.log) c.self.view_is) c.self.invariant c.in-Nothing.ensures)
+    log _ c.judge_command.result c.judge_command.ensures.accepted
+
+pub returns-in-Nothing-clause-repeats : goal.returns-in-Nothing-clause-repeats
+returns-in-Nothing-clause-repeats g c = λ receipt repeats.
+    let call = call_of c.args.caller.now c.args.at c.args.key c.args.command in
+    let log = c.args.self.now.log in
+    absurd (judged-no_repeat (decide (view c.args.caller.now log) call) (judge (view c.args.caller.now log) call)
+    (command-outcome g.K.Keeper.rows _ log _ _ call Nothing (ap (λ (v : SeenBook g.row.K.Denot). v.log) c.self.view_is) c.self.invariant c.in-Nothing.ensures)
+    receipt repeats)
+
+pub returns-in-Nothing-clause-repeat_stays : goal.returns-in-Nothing-clause-repeat_stays
+returns-in-Nothing-clause-repeat_stays g c = λ receipt repeats.
+    let call = call_of c.args.caller.now c.args.at c.args.key c.args.command in
+    let log = c.args.self.now.log in
+    absurd (judged-no_repeat (decide (view c.args.caller.now log) call) (judge (view c.args.caller.now log) call)
+    (command-outcome g.K.Keeper.rows _ log _ _ call Nothing (ap (λ (v : SeenBook g.row.K.Denot). v.log) c.self.view_is) c.self.invariant c.in-Nothing.ensures)
+    receipt repeats)
+
+pub returns-in-Nothing-clause-rule : goal.returns-in-Nothing-clause-rule
+returns-in-Nothing-clause-rule g c = λ rule told.
+    let call = call_of c.args.caller.now c.args.at c.args.key c.args.command in
+    let log = c.args.self.now.log in
+    c.judge_command.ensures.rule rule
+    (judged-refused (decide (view c.args.caller.now log) call) (judge (view c.args.caller.now log) call)
+    (command-outcome g.K.Keeper.rows _ log _ _ call Nothing (ap (λ (v : SeenBook g.row.K.Denot). v.log) c.self.view_is) c.self.invariant c.in-Nothing.ensures)
+    rule told)
+
+pub returns-in-Nothing-clause-only_rule : goal.returns-in-Nothing-clause-only_rule
+returns-in-Nothing-clause-only_rule g c = λ rule told.
+    let call = call_of c.args.caller.now c.args.at c.args.key c.args.command in
+    let log = c.args.self.now.log in
+    judged-outcome (decide (view c.args.caller.now log) call) (judge (view c.args.caller.now log) call)
+    (command-outcome g.K.Keeper.rows _ log _ _ call Nothing (ap (λ (v : SeenBook g.row.K.Denot). v.log) c.self.view_is) c.self.invariant c.in-Nothing.ensures)
+    rule (c.judge_command.ensures.only_rule rule told)
+
+pub returns-in-Nothing-clause-memory : goal.returns-in-Nothing-clause-memory
+returns-in-Nothing-clause-memory g c = λ is.
+    let call = call_of c.args.caller.now c.args.at c.args.key c.args.command in
+    let log = c.args.self.now.log in
+    judged-drawn (decide (view c.args.caller.now log) call) (judge (view c.args.caller.now log) call)
+    (command-outcome g.K.Keeper.rows _ log _ _ call Nothing (ap (λ (v : SeenBook g.row.K.Denot). v.log) c.self.view_is) c.self.invariant c.in-Nothing.ensures)
+    (c.judge_command.ensures.memory is)
+
+pub returns-in-Nothing-clause-lost : goal.returns-in-Nothing-clause-lost
+returns-in-Nothing-clause-lost g c = λ is.
+    let call = call_of c.args.caller.now c.args.at c.args.key c.args.command in
+    let log = c.args.self.now.log in
+    judged-drawn (decide (view c.args.caller.now log) call) (judge (view c.args.caller.now log) call)
+    (command-outcome g.K.Keeper.rows _ log _ _ call Nothing (ap (λ (v : SeenBook g.row.K.Denot). v.log) c.self.view_is) c.self.invariant c.in-Nothing.ensures)
+    (c.judge_command.ensures.lost is)
+
+-- ---- a repeat
+
+pub returns-in-Same-clause-accepted : goal.returns-in-Same-clause-accepted
+returns-in-Same-clause-accepted g c =
+    let call = call_of c.args.caller.now c.args.at c.args.key c.args.command in
+    let log = c.args.self.now.log in
+    repeat-acts (decide (view c.args.caller.now log) call) c.in-Same.receipt
+    (command-outcome g.K.Keeper.rows _ log _ _ call (Same c.in-Same.receipt) (ap (λ (v : SeenBook g.row.K.Denot). v.log) c.self.view_is) c.self.invariant c.in-Same.ensures)
+    log _ refl
+
+pub returns-in-Same-clause-repeats : goal.returns-in-Same-clause-repeats
+returns-in-Same-clause-repeats g c = λ receipt repeats.
+    let call = call_of c.args.caller.now c.args.at c.args.key c.args.command in
+    let log = c.args.self.now.log in
+    repeat-told (decide (view c.args.caller.now log) call) c.in-Same.receipt
+    (command-outcome g.K.Keeper.rows _ log _ _ call (Same c.in-Same.receipt) (ap (λ (v : SeenBook g.row.K.Denot). v.log) c.self.view_is) c.self.invariant c.in-Same.ensures)
+    receipt repeats
+
+pub returns-in-Same-clause-rule : goal.returns-in-Same-clause-rule
+returns-in-Same-clause-rule g c = λ rule told.
+    let call = call_of c.args.caller.now c.args.at c.args.key c.args.command in
+    let log = c.args.self.now.log in
+    absurd (repeat-not_refused (decide (view c.args.caller.now log) call) c.in-Same.receipt
+    (command-outcome g.K.Keeper.rows _ log _ _ call (Same c.in-Same.receipt) (ap (λ (v : SeenBook g.row.K.Denot). v.log) c.self.view_is) c.self.invariant c.in-Same.ensures)
+    rule told)
+
+-- ---- a number that is used
+
+pub returns-in-Other-clause-repeats : goal.returns-in-Other-clause-repeats
+returns-in-Other-clause-repeats g c = λ receipt repeats.
+    let call = call_of c.args.caller.now c.args.at c.args.key c.args.command in
+    let log = c.args.self.now.log in
+    absurd (used-no_repeat (decide (view c.args.caller.now log) call) rules.NumberUsed
+    (command-outcome g.K.Keeper.rows _ log _ _ call Other (ap (λ (v : SeenBook g.row.K.Denot). v.log) c.self.view_is) c.self.invariant c.in-Other.ensures)
+    receipt repeats)
+
+pub returns-in-Other-clause-rule : goal.returns-in-Other-clause-rule
+returns-in-Other-clause-rule g c = λ rule told.
+    let call = call_of c.args.caller.now c.args.at c.args.key c.args.command in
+    let log = c.args.self.now.log in
+    used-told (decide (view c.args.caller.now log) call) rules.NumberUsed
+    (command-outcome g.K.Keeper.rows _ log _ _ call Other (ap (λ (v : SeenBook g.row.K.Denot). v.log) c.self.view_is) c.self.invariant c.in-Other.ensures)
+    rule told
+
+pub returns-in-Other-clause-only_rule : goal.returns-in-Other-clause-only_rule
+returns-in-Other-clause-only_rule g c = λ rule told.
+    let call = call_of c.args.caller.now c.args.at c.args.key c.args.command in
+    let log = c.args.self.now.log in
+    used-outcome (decide (view c.args.caller.now log) call) rules.NumberUsed
+    (command-outcome g.K.Keeper.rows _ log _ _ call Other (ap (λ (v : SeenBook g.row.K.Denot). v.log) c.self.view_is) c.self.invariant c.in-Other.ensures)
+    rule told

@@ -11,7 +11,7 @@ returns g c =
     let user = Some c.args.user in
     let book = c.self.inside in
     subst (λ (sights : View). IfOk c.view_len.result (λ n. n ≡ length sights))
-    (ap (λ (log : History). sights (reader_in book.live.tables user) [] log) c.deref.ensures.value
-    ∙ view-by_tables g.K.Keeper.rows book.log.items book.live.tables book.keeper user c.self.invariant
+    (ap (λ (log : History). sights (reader_in book.live.tables user) [] log) c.entries.ensures
+    ∙ view-by_tables g.K.Keeper.rows book.log.entries book.live.tables book.keeper user c.self.invariant
     ∙ ap (λ (b : SeenBook g.row.K.Denot). view user b.log) c.self.view_is)
     c.view_len.ensures

@@ -1,4 +1,4 @@
--- Whenever others made their entries, a user sees the same.
+-- Whenever others made their entries, and by whatever numbers, a user sees the same.
 use Rattle.std.proofs.Common.{◌≡◌, ℕ, Bool, true, false, List, [], ◌∷◌, ◌++◌, refl, sym, ap, ◌∙◌, Option, Some}
 use Rattle.std.specs.List.{list_any}
 use Rattle.std.proofs.Math.Bool.{or-false}
@@ -6,13 +6,14 @@ use Rattle.cr_base.specs.declared.entry.Entry.{Entry}
 use Rattle.cr_base.specs.declared.entry.Entry.TheVariants.{Registered, Conflict}
 use Rattle.cr_base.specs.declared.entry.Stamp.{Stamp}
 use Rattle.cr_base.specs.declared.entry.Stamped.{Stamped}
+use Rattle.cr_base.specs.declared.retry.RetryKey.{RetryKey}
 use Rattle.cr_base.specs.declared.words.Phase.TheVariants.{Setup}
 use Rattle.cr_base.specs.Calls.{stamp_by}
 use Rattle.cr_base.specs.Decisions.{is_accepted_when}
 use Rattle.cr_base.specs.Drawn.{stamped}
 use Rattle.cr_base.specs.History.{History, all_told_by, author_told, phase_told, withdrawal_told, decision_told}
 use Rattle.cr_base.specs.Lists.{is_number, last, last_or}
-use Rattle.cr_policy.specs.HiddenPayload.{PlaceByPlace, IsHiddenFrom, IsDeclaredAlike, outline, IsSameButWhen, MomentsUnseen}
+use Rattle.cr_policy.specs.HiddenPayload.{PlaceByPlace, IsHiddenFrom, IsDeclaredAlike, outline, IsSameButStamp, StampsUnseen}
 use Rattle.cr_policy.specs.Part as part
 use Rattle.cr_policy.specs.Part.{Part}
 use Rattle.cr_policy.specs.Sighting.{entire, masked, where_shown}
@@ -23,24 +24,34 @@ use Rattle.cr_policy.proofs.HiddenLaws.{hidden_payload, places-so}
 
 -- ---- one entry
 
--- of the rows for an entry none but its maker's shows when it was made
+-- of the rows for an entry none but its maker's shows when it was made, and by which number
 shows-moment : (r : Reader) (at : Around) (stamp : Stamp) (more : Bool) (e : Entry) → shows (rows_at r at (stamped stamp more e)) part.at ≡ is_number r.number stamp.maker
 shows-moment r at stamp more (Registered user name digest) = or-false (is_number r.number stamp.maker)
 shows-moment r at stamp more e = or-false (is_number r.number stamp.maker)
 
--- so where that isn't shown, the same is shown whenever it was
-where-same : (shown : Bool) (a b : ℕ) → (shown ≡ true → a ≡ b) → where_shown shown (Some a) ≡ where_shown shown (Some b)
-where-same true a b same = ap Some (same refl)
-where-same false a b same = refl
+pub shows-key : (r : Reader) (at : Around) (stamp : Stamp) (more : Bool) (e : Entry) → shows (rows_at r at (stamped stamp more e)) part.key ≡ is_number r.number stamp.maker
+shows-key r at stamp more (Registered user name digest) = or-false (is_number r.number stamp.maker)
+shows-key r at stamp more e = or-false (is_number r.number stamp.maker)
 
-masked-same : (f : Part → Bool) (maker a b : ℕ) (e : Entry) → (f part.at ≡ true → a ≡ b)
-    → masked f false (entire (stamp_by maker a) e) ≡ masked f false (entire (stamp_by maker b) e)
-masked-same f maker a b (Registered user name digest) same = λ i. record (masked f false (entire (stamp_by maker a) (Registered user name digest))) { at = where-same (f part.at) a b same i }
-masked-same f maker a b e same = λ i. record (masked f false (entire (stamp_by maker a) e)) { at = where-same (f part.at) a b same i }
+-- so where they aren't shown, the same is shown whatever they are
+where-same : {A : Type 0} (shown : Bool) (x y : A) → (shown ≡ true → x ≡ y) → where_shown shown (Some x) ≡ where_shown shown (Some y)
+where-same true x y same = ap Some (same refl)
+where-same false x y same = refl
+
+masked-same : (f : Part → Bool) (maker a b : ℕ) (j k : Option RetryKey) (e : Entry) → (f part.at ≡ true → a ≡ b) → (f part.key ≡ true → j ≡ k)
+    → masked f false (entire (stamp_by maker a j) e) ≡ masked f false (entire (stamp_by maker b k) e)
+masked-same f maker a b j k (Registered user name digest) at key = λ i. record (masked f false (entire (stamp_by maker a j) (Registered user name digest))) {
+  at = where-same (f part.at) a b at i;
+  key = where-same (f part.key) j k key i;
+}
+masked-same f maker a b j k e at key = λ i. record (masked f false (entire (stamp_by maker a j) e)) {
+  at = where-same (f part.at) a b at i;
+  key = where-same (f part.key) j k key i;
+}
 
 module _ (u : Option ℕ) where
   abbrev Same : Around → Stamped → Stamped → Type 0
-  Same at e other = IsSameButWhen u e other
+  Same at e other = IsSameButStamp u e other
 
   outline-stamp : (a b : Stamp) (m n : Bool) (e : Entry) → outline (stamped a m e) ≡ outline (stamped b n e)
   outline-stamp a b m n (Registered user name digest) = refl
@@ -53,16 +64,17 @@ module _ (u : Option ℕ) where
   hidden-same : (H : History) (at : Around) (e other : Stamped) → Same at e other → IsHiddenFrom (reader u H) at e other
   hidden-same H at e other same = record {
     parts =
-        masked-same (shows (rows_at (reader u H) at e)) e.stamp.maker e.stamp.at other.stamp.at e.entry
-        (λ shown. same.own (sym (shows-moment (reader u H) at e.stamp e.more e.entry) ∙ shown))
-        ∙ (λ i. masked (shows (rows_at (reader u H) at e)) false (entire (stamp_by (same.maker i) other.stamp.at) (same.entry i)));
+        masked-same (shows (rows_at (reader u H) at e)) e.stamp.maker e.stamp.at other.stamp.at e.stamp.key other.stamp.key e.entry
+        (λ shown. ap (λ (stamp : Stamp). stamp.at) (same.own (sym (shows-moment (reader u H) at e.stamp e.more e.entry) ∙ shown)))
+        (λ shown. ap (λ (stamp : Stamp). stamp.key) (same.own (sym (shows-key (reader u H) at e.stamp e.more e.entry) ∙ shown)))
+        ∙ (λ i. masked (shows (rows_at (reader u H) at e)) false (entire (stamp_by (same.maker i) other.stamp.at other.stamp.key) (same.entry i)));
     maker = ap (is_number u) same.maker;
-    user = (λ i. is_user u (entire (stamp_by (same.maker i) e.stamp.at) (same.entry i)).user) ∙ named (other.stamp.maker) e.stamp.at other.stamp.at other.entry;
+    user = (λ i. is_user u (entire e.stamp (same.entry i)).user) ∙ named e.stamp other.stamp other.entry;
   }
     where
-      named : (maker a b : ℕ) (e : Entry) → is_user u (entire (stamp_by maker a) e).user ≡ is_user u (entire (stamp_by maker b) e).user
-      named maker a b (Registered user name digest) = refl
-      named maker a b e = refl
+      named : (a b : Stamp) (e : Entry) → is_user u (entire a e).user ≡ is_user u (entire b e).user
+      named a b (Registered user name digest) = refl
+      named a b e = refl
 
   -- ---- all of them
 
@@ -73,8 +85,8 @@ module _ (u : Option ℕ) where
   told-same told before (e ∷ H) (other ∷ H') same =
       λ i. told (same.0.maker i) (same.0.entry i) ++ told-same told (before ++ e ∷ []) H H' same.1 i
 
-pub moments_unseen : MomentsUnseen
-moments_unseen u H H' same =
+pub stamps_unseen : StampsUnseen
+stamps_unseen u H H' same =
     hidden_payload u H H' (record {
       alike = places-so (Same u) (λ at e other. outline e ≡ outline other) (outline-same u) [] H H' same;
       hidden = places-so (Same u) (IsHiddenFrom (reader u H)) (hidden-same u H) [] H H' same;
@@ -87,5 +99,5 @@ moments_unseen u H H' same =
     of (Conflict paper user on) a b is = λ hers i. list_any (is_number (Some (is i))) (told-same u (author_told paper) [] H H' same i)
     of entry a b is = tt
 
-    declared : (at : Around) (e other : Stamped) → IsSameButWhen u e other → IsDeclaredAlike u H H' e.entry e.stamp.maker other.stamp.maker
+    declared : (at : Around) (e other : Stamped) → IsSameButStamp u e other → IsDeclaredAlike u H H' e.entry e.stamp.maker other.stamp.maker
     declared at e other here = of e.entry e.stamp.maker other.stamp.maker here.maker

@@ -1,0 +1,5 @@
+use Rattle.cr_log.proofs.IndexLaws.{none-kept}
+use Rattle.cr_log.proofs.log.Log.is_unused.Goals as goal
+
+pub returns : goal.returns
+returns c = none-kept _ c.find.result c.is_none.result c.is_none.ensures c.find.ensures

@@ -1,0 +1,4 @@
+pub mod Given
+pub mod Index
+pub mod Room
+pub mod Seen

@@ -1,0 +1,6 @@
+use Rattle.cr_policy.proofs.NumberLaws.{numbers_once}
+use Rattle.cr_policy.proofs.RetryLaws.{kept_from_view}
+use Rattle.cr_policy.proofs.law_retries.Goals as goal
+
+pub returns : goal.returns
+returns c = record { kept = kept_from_view; once = numbers_once }

@@ -1,0 +1,126 @@
+-- RetriesActOnce: a command or a bulk that its caller sends again, with the number and the mark that it had, acts
+-- once. What was sent again could as well be left out: the history ends the same, and it is answered as the first was.
+use Rattle.std.specs.Prelude.{◌≡◌, ◌==◌, ◌&&◌, not, ℕ, List, [], ◌∷◌, ◌++◌, Bool, true, false}
+use Rattle.std.specs.Prelude.{Option, Some, None, is_none, IfSome, find}
+use Rattle.std.specs.List.{AllByRecursion}
+use Rattle.std.specs.Option.{option_map}
+use Rattle.std.specs.Str.{bytes_eq}
+use Rattle.cr_base.specs.declared.reply.Receipt.{Receipt}
+use Rattle.cr_base.specs.declared.reply.Reply.TheVariants as replies
+use Rattle.cr_base.specs.declared.retry.RetryKey.{RetryKey}
+use Rattle.cr_base.specs.Drawn.{Drawn}
+use Rattle.cr_base.specs.History.{History}
+use Rattle.cr_base.specs.HistoryFacts.{accounts_of}
+use Rattle.cr_base.specs.Lists.{given, is_nothing}
+use Rattle.cr_base.specs.Retries.{kept_call, repeated_receipt}
+use Rattle.cr_policy.specs.Legal.{Legal}
+use Rattle.cr_print.specs.Answers.{reply_text}
+use Rattle.cr_wire.specs.declared.what.What.{What}
+use Rattle.cr_wire.specs.declared.what.What.TheVariants.{NoRoute, WrongMethod, BadNumber, BadBody, BadQuery}
+use Rattle.cr_wire.specs.declared.what.What.TheVariants.{Command, Bulk, Query}
+use Rattle.cr_wire.specs.declared.what.Wish.{Wish}
+use Rattle.cr_wire.specs.Caller.{caller}
+use Rattle.cr_session.specs.Told.{sending_of, told, told_sent, drawn, after_wish}
+use Rattle.cr_session.specs.Turning.{IsBoundedWish}
+use Rattle.cr_session.specs.TwoRuns.{WishInTurn, is_same}
+
+-- ---- what was accepted
+
+-- a command or a bulk that was accepted and added something: what stood before it, the wish, and what it drew
+pub record Act : Type 0 where
+  pub before : History
+  pub wish : Wish
+  pub drawn : Drawn
+
+-- what a wish that drew this, or nothing, did: a bulk of no rows draws a group of no entries, and so does nothing
+abbrev pub act_drawn : History → Wish → Option Drawn → List Act
+act_drawn H w None = []
+act_drawn H w (Some d) = given (not (is_nothing d.group)) (record { before = H; wish = w; drawn = d })
+
+-- what a wish does on this history: one act, or none
+abbrev pub acts_of : History → Wish → List Act
+acts_of H w = act_drawn H w (drawn H w)
+
+-- ---- what repeats it
+
+-- the number and the mark of a command or a bulk, where it has them
+abbrev pub key_of : What → Option RetryKey
+key_of NoRoute = None
+key_of (WrongMethod resource) = None
+key_of (BadNumber ask) = None
+key_of (BadBody ask) = None
+key_of (BadQuery offset) = None
+key_of (Command key command) = key
+key_of (Bulk key rows) = key
+key_of (Query query) = None
+
+abbrev pub is_bulk : What → Bool
+is_bulk (Bulk key rows) = true
+is_bulk _ = false
+
+-- both have a number and a mark, and they are the same
+abbrev pub is_same_key : Option RetryKey → Option RetryKey → Bool
+is_same_key (Some one) (Some other) = one.number == other.number && bytes_eq one.mark other.mark
+is_same_key _ _ = false
+
+-- the wish has the caller, the number and the mark of that act
+abbrev pub is_repeat_of : History → Wish → Act → Bool
+is_repeat_of H w act =
+    is_same (caller act.before act.wish) (caller H w) && is_same_key (key_of act.wish.what) (key_of w.what)
+
+-- the act that it repeats, of these
+abbrev pub repeated_by : List Act → History → Wish → Option Act
+repeated_by acts H w = find (is_repeat_of H w) acts
+
+-- ---- wishes without those that repeat an act
+
+-- from this history on, where these acts came before
+abbrev pub without_repeats : List Act → History → List WishInTurn → List WishInTurn
+without_repeats acts H [] = []
+without_repeats acts H (w ∷ ws) =
+    given (is_none (repeated_by acts H w.wish)) w
+    ++ without_repeats (acts ++ acts_of H w.wish) (after_wish H w.wish) ws
+
+-- the history in which wishes end
+abbrev pub ends_in : History → List WishInTurn → History
+ends_in H [] = H
+ends_in H (w ∷ ws) = ends_in (after_wish H w.wish) ws
+
+-- ---- what a repeat is told
+
+-- ReceiptOf: the receipt of a command, or of a bulk, that repeats one with this group, by the accounts of this
+-- history; there is one where the group isn't empty
+abbrev pub receipt_again : Bool → History → History → Option Receipt
+receipt_again bulk H group = option_map (repeated_receipt bulk) (kept_call (accounts_of H) group)
+
+-- A wish that repeats an act is told ReceiptOf on what it is and on the act's group. Where both are bulks, or neither
+-- is, these are the bytes that the act was told, but for the date and for whether the connection closes.
+pub record IsToldAgain (act : Act) (H : History) (w : WishInTurn) : Type 0 where
+  pub receipt : Receipt
+  pub receipt_is : receipt_again (is_bulk w.wish.what) H act.drawn.group ≡ Some receipt
+  pub told_is : told H w.wish w.closes ≡ reply_text (replies.Accepted receipt) (sending_of w.wish w.closes)
+  pub first : is_bulk w.wish.what ≡ is_bulk act.wish.what
+      → told H w.wish w.closes ≡ told_sent act.before act.wish (sending_of w.wish w.closes)
+
+-- so is each wish from this history on that repeats an act, where these acts came before
+abbrev pub AreToldAgain : List Act → History → List WishInTurn → Type 0
+AreToldAgain acts H [] = Unit {0}
+AreToldAgain acts H (w ∷ ws) =
+    IfSome (repeated_by acts H w.wish) (λ act. IsToldAgain act H w)
+    × AreToldAgain (acts ++ acts_of H w.wish) (after_wish H w.wish) ws
+
+-- ---- the law
+
+-- they are within their bounds, as each wish is that is read
+abbrev pub AreBounded : List WishInTurn → Type 0
+AreBounded wishes = AllByRecursion (λ (w : WishInTurn). IsBoundedWish w.wish) wishes
+
+-- without the wishes that repeat an act it ends the same, and these are told so
+pub record ActsOnce (opening : History) (wishes : List WishInTurn) : Type 0 where
+  pub ends : ends_in opening (without_repeats [] opening wishes) ≡ ends_in opening wishes
+  pub told : AreToldAgain [] opening wishes
+
+-- RetriesActOnce: on every legal history, whoever asks whatever, where nothing that Judge accepts is lost
+abbrev pub RetriesActOnce : Type 0
+RetriesActOnce =
+    (opening : History) (wishes : List WishInTurn) → Legal opening → AreBounded wishes → ActsOnce opening wishes

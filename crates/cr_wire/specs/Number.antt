@@ -1,0 +1,93 @@
+-- Number: the number that a client gives a command by the field Command-Number, and the key that it makes with the
+-- mark of the request (Keys).
+use Rattle.std.specs.Prelude.{ℕ, List, [], ◌∷◌, length, Bool, true, false, ◌&&◌, nat_le}
+use Rattle.std.specs.Prelude.{Option, Some, None, Result, Ok, Err, option_map, if◌then◌else◌, codes}
+use Rattle.std.specs.Str.Parse.{digits_value}
+use Rattle.cr_base.specs.declared.ask.Ask.{Ask}
+use Rattle.cr_base.specs.declared.ask.Ask.TheVariants as asks
+use Rattle.cr_base.specs.declared.retry.RetryKey.{RetryKey}
+use Rattle.cr_bodies.specs.Mark.{mark_of}
+use Rattle.cr_http.specs.Head.{values_of}
+use Rattle.cr_http.specs.Requests.{RequestText}
+use Rattle.cr_wire.specs.Paper.{is_number}
+use Rattle.cr_wire.specs.Target.{path_of}
+use Rattle.cr_wire.specs.declared.numbered.Numbered.{Numbered}
+use Rattle.cr_wire.specs.declared.number.BadCommandNumber.{BadCommandNumber}
+
+-- ---- the field
+
+-- a number in decimal of at most 18 digits
+abbrev pub is_command_number : List ℕ → Bool
+is_command_number value = nat_le (length value) 18 && is_number value
+
+-- the number that a field's value is
+abbrev pub number_of : List ℕ → Result (Option ℕ) BadCommandNumber
+number_of value = if is_command_number value then Ok (Some (digits_value 10 value)) else Err (record {})
+
+-- by the values of the fields Command-Number, without the spaces and tabs around each: there is none, or one that is a
+-- number; all else is bad
+abbrev pub number_by : List (List ℕ) → Result (Option ℕ) BadCommandNumber
+number_by [] = Ok None
+number_by (value ∷ []) = number_of value
+number_by (value ∷ other ∷ values) = Err (record {})
+
+-- whether the field is read: by commands but a registration, and by bulks
+abbrev pub ask_reads_number : Ask → Bool
+ask_reads_number asks.Register = false
+ask_reads_number asks.Accounts = false
+ask_reads_number asks.Name = true
+ask_reads_number asks.SetMode = true
+ask_reads_number asks.Phase = false
+ask_reads_number asks.SetPhase = true
+ask_reads_number asks.Deadlines = false
+ask_reads_number asks.SetDeadline = true
+ask_reads_number asks.Submit = true
+ask_reads_number asks.Page = false
+ask_reads_number asks.Revise = true
+ask_reads_number asks.Withdraw = true
+ask_reads_number asks.Content = false
+ask_reads_number asks.Upload = true
+ask_reads_number asks.Version = false
+ask_reads_number asks.SetConflict = true
+ask_reads_number asks.Bid = true
+ask_reads_number asks.Assign = true
+ask_reads_number asks.Unassign = true
+ask_reads_number asks.Review = true
+ask_reads_number asks.Reviews = false
+ask_reads_number asks.Comment = true
+ask_reads_number asks.Comments = false
+ask_reads_number asks.Tag = true
+ask_reads_number asks.Untag = true
+ask_reads_number asks.Decide = true
+ask_reads_number asks.AcceptedPapers = false
+ask_reads_number asks.Me = false
+ask_reads_number asks.Search = false
+ask_reads_number asks.Bulk = true
+ask_reads_number asks.PapersReport = false
+ask_reads_number asks.ScoresReport = false
+ask_reads_number asks.LoadReport = false
+ask_reads_number asks.DecisionsReport = false
+ask_reads_number asks.Letter = false
+
+-- what the fields of a head tell a request that reads it
+abbrev pub number_for : Ask → List (List ℕ × List ℕ) → Result (Option ℕ) BadCommandNumber
+number_for ask fields = if ask_reads_number ask then number_by (values_of (codes "command-number") fields) else Ok None
+
+-- ---- the key
+
+-- the key that a number makes with the mark of a request: of its method, its path without the query string, and its
+-- body, all as they were sent
+abbrev pub key_with : RequestText → ℕ → RetryKey
+key_with r number =
+    record { number = number; mark = mark_of r.head.method (path_of r.head.target) r.body }
+
+-- where there is one
+abbrev pub key_of : Option ℕ → RequestText → Option RetryKey
+key_of number r = option_map (key_with r) number
+
+-- the same of what the program has, which lends the request
+abbrev pub request_of : Numbered → RequestText
+request_of n = record { head = n.head.now; body = n.body.now }
+
+abbrev pub own_key : Numbered → Option RetryKey
+own_key n = key_of n.number (request_of n)

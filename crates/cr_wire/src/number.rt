@@ -1,0 +1,66 @@
+//! The number that a client gives a command.
+ghost use Rattle.std.specs.Prelude.{◌≡◌};
+ghost use Rattle.cr_wire.specs.Number as spec;
+
+use crate::paper::is_number;
+use cr_base::{Ask, CommandNumber, decimal_value};
+use cr_http::{Head, Values};
+
+/// The field Command-Number is there and tells no number, or is there more than once.
+#[derive(Clone, Copy, PartialEq, Eq)]
+pub(crate) struct BadCommandNumber;
+
+/// Whether a text is a number in decimal of at most 18 digits.
+fn is_command_number(value: &[u8]) -> bool
+    ensures { result ≡ spec.is_command_number value.now }
+{
+    value.len() <= 18 && is_number(value)
+}
+
+/// The number that a field's value is.
+fn number_of(value: &[u8]) -> Result<Option<CommandNumber>, BadCommandNumber>
+    ensures { result ≡ spec.number_of value.now }
+{
+    if !is_command_number(value) {
+        return Err(BadCommandNumber);
+    }
+    Ok(CommandNumber::new(decimal_value(value)))
+}
+
+/// Whether a request for this reads the field Command-Number: a command but a registration, and a bulk.
+fn reads_number(ask: Ask) -> bool
+    ensures { result ≡ spec.ask_reads_number ask }
+{
+    match ask {
+        Ask::Name | Ask::SetMode | Ask::SetPhase | Ask::SetDeadline => true,
+        Ask::Submit | Ask::Revise | Ask::Upload | Ask::Withdraw => true,
+        Ask::SetConflict | Ask::Bid | Ask::Assign | Ask::Unassign => true,
+        Ask::Review | Ask::Comment | Ask::Tag | Ask::Untag => true,
+        Ask::Decide | Ask::Bulk => true,
+        Ask::Register | Ask::Accounts | Ask::Phase | Ask::Deadlines => false,
+        Ask::Page | Ask::Content | Ask::Version | Ask::Reviews => false,
+        Ask::Comments | Ask::AcceptedPapers | Ask::Me | Ask::Search => false,
+        Ask::PapersReport | Ask::ScoresReport | Ask::LoadReport => false,
+        Ask::DecisionsReport | Ask::Letter => false,
+    }
+}
+
+/// The number that a request for this gives its command; none where there is no field Command-Number, or where the
+/// request doesn't read it. An error where it reads it and there is more than one, or one that isn't 1 to 18 digits,
+/// the first not 0, the spaces and tabs around them aside. Looks at each field's name and at 18 bytes of the value at
+/// most; takes no memory.
+pub(crate) fn number_for(
+    ask: Ask,
+    head: &Head<'_>,
+) -> Result<Option<CommandNumber>, BadCommandNumber>
+    ensures { result ≡ spec.number_for ask head.now.fields }
+{
+    if !reads_number(ask) {
+        return Ok(None);
+    }
+    match head.values_of(b"command-number") {
+        Values::None => Ok(None),
+        Values::One(value) => number_of(value),
+        Values::Many => Err(BadCommandNumber),
+    }
+}
