@@ -44,6 +44,7 @@ TEXT = "Why is that so?"
 REFUSAL = b'{"error":'
 LAST, LAST_ANSWER = request("GET", "/that-is-no-route"), REFUSAL + b'"no_route"}'
 ROW = "INSERT INTO {} (place, kind, maker, more, n1, n2, n3, n4, n5, b1, b2{}) VALUES (?, ?, ?, ?, ?, ?, ?, ?, ?, ?, ?{})"
+STAMP = {"at": "0", "num": "0", "mark": "x''"}  # what a store may keep of a command, and nothing of it
 TABLES = {"people": range(1, 5), "papers": range(5, 10), "ties": range(10, 14), "talk": range(14, 18)}
 PEER = "create table t (paper integer, n integer, user integer, what, primary key ({})) without rowid"
 PUT = "insert or replace into t values (?1, 0, ?2, ?3)"
@@ -57,8 +58,8 @@ def started(program, *words):
     return subprocess.Popen([program, "pipe", *words], stdin=subprocess.PIPE, stdout=subprocess.PIPE, bufsize=0)
 
 
-def spent(child, text=b""):
-    """The processor seconds that it has used once these requests are answered, none of them by a refusal."""
+def spent(child, text=b"", refusals=0):
+    """The processor seconds that it has used once these requests are answered, so many of them by refusals."""
     feeder = threading.Thread(target=child.stdin.write, args=(text + LAST,))
     feeder.start()
     told = bytearray()
@@ -68,8 +69,8 @@ def spent(child, text=b""):
             sys.exit(f"{child.args} ended with {child.wait()} before the last answer")
         told += more
     feeder.join()
-    if told.count(REFUSAL) != 1:
-        sys.exit(f"{child.args} refused a request: {told[told.index(REFUSAL):][:80]}")
+    if told.count(REFUSAL) != refusals + 1:
+        sys.exit(f"{child.args}: {told.count(REFUSAL) - 1} refusals, not {refusals}, the first {told[told.index(REFUSAL):][:80]}")
     return time.clock_gettime(~child.pid << 3 | 2)  # the processor clock of that process
 
 
@@ -186,12 +187,13 @@ def make_store(program, store, rows):
     """Makes a store of these rows, in tables that the program makes."""
     opened(program, store)
     with contextlib.closing(sqlite3.connect(store)) as file, file:
-        # A store of version 1 keeps no moments.
-        names = [name for (name,) in file.execute("SELECT name FROM sqlite_schema")]
-        end, moment = ("_v2", (", at", ", 0")) if "people_v2" in names else ("", ("", ""))
+        names = [name for (name,) in file.execute("SELECT name FROM sqlite_schema WHERE type = 'table'")]
         for table, kinds in TABLES.items():
+            name = next(name for name in names if name.partition("_")[0] == table)
+            # A store of an older version keeps no moments, or no numbers.
+            columns = [column for _, column, *_ in file.execute(f"PRAGMA table_info({name})") if column in STAMP]
             placed = ((place, *row) for place, row in enumerate(rows) if row[0] in kinds)
-            file.executemany(ROW.format(table + end, *moment), placed)
+            file.executemany(ROW.format(name, "".join(f", {column}" for column in columns), "".join(f", {STAMP[column]}" for column in columns)), placed)
 
 
 def stores(programs, runs):

@@ -22,8 +22,8 @@ import time
 
 ROWS = 1_000_000
 COMMITS = 2_000
-ROW = "INSERT INTO {} (place, kind, maker, more, at, n1, n2, n3, n4, n5, b1, b2) VALUES (?, ?, ?, 0, 784111777, ?, ?, ?, 0, 0, ?, ?)"
-TABLES = ("people_v2", "papers_v2", "ties_v2", "talk_v2")
+ROW = "INSERT INTO {} VALUES (?, ?, ?, 0, 784111777, 0, x'', ?, ?, ?, 0, 0, ?, ?)"
+TABLES = PEOPLE, _, TIES, _ = "people_v3", "papers_v3", "ties_v3", "talk_v3"
 
 
 @contextlib.contextmanager
@@ -74,7 +74,7 @@ def run(program, store, text):
 def fill(store, first):
     """Rows that turn bob's conflict on and off, up to a million in all."""
     with opened(store) as file:
-        file.executemany(ROW.format("ties_v2"), ((place, 10, 1, 1, 2, place % 2, b"", b"") for place in range(first, ROWS)))
+        file.executemany(ROW.format(TIES), ((place, 10, 1, 1, 2, place % 2, b"", b"") for place in range(first, ROWS)))
 
 
 def read_all(store):
@@ -107,14 +107,14 @@ def commits(program, folder):
     ours = COMMITS / (spent - none)
     print(f"{COMMITS:,} registrations, a commit each: {ours:,.0f} a second")
     with opened(store) as file:
-        table = file.execute("SELECT sql FROM sqlite_schema WHERE name = 'people_v2'").fetchone()[0]
+        table = file.execute("SELECT sql FROM sqlite_schema WHERE name = ?", (PEOPLE,)).fetchone()[0]
     with contextlib.closing(sqlite3.connect(other, isolation_level=None)) as file:
         file.execute("PRAGMA journal_mode = WAL")
         file.execute("PRAGMA synchronous = FULL")
         file.execute(table)
         began = time.perf_counter()
         for n in range(COMMITS):
-            file.execute(ROW.format("people_v2"), (n, 1, n + 1, n + 1, 0, 0, f"user{n}".encode(), bytes(32)))
+            file.execute(ROW.format(PEOPLE), (n, 1, n + 1, n + 1, 0, 0, f"user{n}".encode(), bytes(32)))
         theirs = COMMITS / (time.perf_counter() - began)
     print(f"as many transactions of such a row by Python's sqlite3, WAL and FULL: {theirs:,.0f} a second; ours are {ours / theirs:.2f} of it")
 

@@ -33,7 +33,7 @@ def address(server, path):
 
 
 def with_curl(program, folder):
-    """curl: register, log in, submit, a page, a wrong secret, HEAD and its date, a 413, HTTP/1.0, ten requests on one connection."""
+    """curl: register, log in, submit, submit twice by a number, a page, a wrong secret, HEAD and its date, a 413, HTTP/1.0, ten requests on one connection."""
 
     def curl(*words, text=b""):
         out = said("curl", "--silent", "--show-error", "--max-time", "20", "--write-out", "\n%{http_code}", *words, text=text)
@@ -49,6 +49,9 @@ def with_curl(program, folder):
         expect(told == (200, '{"phase":"submission"}'), told)
         told = curl(*login, "--json", '{"abstract":"We prove.","title":"Proofs"}', address(server, "/papers"))
         expect(told == (201, '{"paper":1}'), told)
+        for _ in range(2):
+            told = curl(*login, "--header", "Command-Number: 7", "--json", '{"abstract":"","title":"Types"}', address(server, "/papers"))
+            expect(told == (201, '{"paper":2}'), told)
         code, page = curl(*login, address(server, "/papers/1"))
         expect(code == 200 and json.loads(page)["title"] == "Proofs", page)
         told = curl("--oauth2-bearer", "alice.wrong-secret-0123456789", address(server, "/papers/1"))

@@ -15,6 +15,11 @@ def raw(method, path, who, content):
     return head + content
 
 
+def numbered(number, text):
+    """A request that gives its command a number."""
+    return text.replace(b"\r\n\r\n", f"\r\nCommand-Number: {number}\r\n\r\n".encode(), 1)
+
+
 def post(path, who, **body):
     return request("POST", path, who, body)
 
@@ -46,6 +51,12 @@ DEADLINES = (
     (0, submit("erin", "Four")), (1, post("/deadlines", "alice", phase="submission", until=None)),
 )  # fmt: skip
 
+# A command by its number, again, and another by that number; and a number that is none.
+RETRIES = (
+    *((rows, numbered(1, raw("PUT", "/papers/2/content", "erin", content))) for rows, content in ((1, b"v3"), (0, b"v3"), (0, b"v4"))),
+    (0, numbered(0, submit("erin", "Five"))),
+)
+
 # From the bidding to the close: what the committee writes, and every question.
 COMMITTEE = (
     phase("bidding"), (1, request("PUT", "/papers/2/bid", "bob", {"bid": 5})),
@@ -74,7 +85,7 @@ REFUSALS = (
     (0, b"GET /phase HTTP/1.0\r\n\r\n"),
 )  # fmt: skip
 
-EVERY_ROUTE = BEGINNING + DEADLINES + COMMITTEE + REFUSALS
+EVERY_ROUTE = BEGINNING + DEADLINES + RETRIES + COMMITTEE + REFUSALS
 
 # A question, a registration, and another whose body is cut.
 CUT = ((0, get("/phase")), (2, register("alice")), (0, register("bob")[:-30]))

@@ -27,8 +27,8 @@ from shim import DATE, MOMENT, SOCKETS, Orders, chosen, shim_for
 from store import LONG, expect, opening, register, request, rows, run_all, submit
 
 # For how many seconds a request or an answer may go on, and how long a kept connection may ask nothing.
-DEADLINE, IDLE = 60, 5
-# The clock of `deadlines` goes so many times as fast.
+TIMEOUT, IDLE = 60, 5
+# The clock of `timeouts` goes so many times as fast.
 SPEED = 12
 # By how many seconds of that clock a busy machine may be late: so few that a minute isn't taken for five seconds.
 LATE = 40
@@ -93,7 +93,7 @@ def unread(server):
     """Asks for more contents than the system holds, and takes none of them in time: they are cut off."""
     with Client(server, LONG) as client:
         client.send(request("GET", "/papers/1/content", "alice") * 16)
-        time.sleep((DEADLINE + 20) / SPEED)
+        time.sleep((TIMEOUT + 20) / SPEED)
         came = 0
         with contextlib.suppress(ConnectionResetError):
             while came < 16 * LARGEST and (piece := client.socket.recv(LARGEST)):
@@ -101,15 +101,15 @@ def unread(server):
         expect(came < 16 * LARGEST, "contents that nobody took for a minute went on coming")
 
 
-def deadlines(program, folder):
+def timeouts(program, folder):
     """By a faster clock: a minute for a request or an answer, and five seconds in which nothing is asked; no longer."""
     orders = Orders(os.path.join(folder, "orders"), speed=SPEED)
     with serving(program, os.path.join(folder, "store"), workers=6, env=shim.environment(orders)) as server:
         with Client(server) as client:
             begun(client)
         acts = (
-            lambda: ends_after(server, silent, DEADLINE), lambda: ends_after(server, asked_once, IDLE),
-            lambda: ends_after(server, asked_again, DEADLINE), lambda: ends_after(server, dripping, DEADLINE),
+            lambda: ends_after(server, silent, TIMEOUT), lambda: ends_after(server, asked_once, IDLE),
+            lambda: ends_after(server, asked_again, TIMEOUT), lambda: ends_after(server, dripping, TIMEOUT),
             lambda: unread(server),
         )  # fmt: skip
         at_once(len(acts), lambda number: acts[number]())
@@ -356,7 +356,7 @@ def addresses(program, folder):
             process.communicate()
 
 
-CHECKS = (deadlines, an_hour, time_of_day, jumps, until_a_deadline, pieces, contended, many_rows, growth, addresses)
+CHECKS = (timeouts, an_hour, time_of_day, jumps, until_a_deadline, pieces, contended, many_rows, growth, addresses)
 
 
 def main():

@@ -1,9 +1,10 @@
 """A small model of confd, written from docs/API.md, STORE.md and VIEWS.md and from nothing else.
 
 A conference is a list of entries; each answer, each rule and each line of a view is read off that list anew, with no table
-beside it. It is slow and short, and stands against the program in `random_runs.py`. It answers requests whose bodies are
-well formed; what is wrong with a body or a head stands in cases. Whoever asks it sets the moment of the request. Below, `u` and
-`v` are users' numbers, `p` is a paper's, and `t` is the user whom a command names; nobody's number is None.
+beside it but the answers to commands that had a number. It is slow and short, and stands against the program in `random_runs.py`
+and `retries.py`. It answers requests whose bodies are well formed; what is wrong with a body or a head stands in cases. Whoever
+asks it sets the moment of the request. Below, `u` and `v` are users' numbers, `p` is a paper's, and `t` is the user whom a command
+names; nobody's number is None.
 """
 import csv
 import datetime
@@ -31,6 +32,22 @@ def err(code, name):
     return code, dump({"error": name})
 
 
+def content_of(body):
+    """The bytes of a body: none, a text as it is, or an object."""
+    return b"" if body is None else (body if isinstance(body, str) else dump(body)).encode()
+
+
+def mark_of(method, path, body):
+    """What tells two commands of one number apart: the digest of method, path and body."""
+    return hashlib.sha256(f"{method} {path}\n".encode() + content_of(body)).digest()
+
+
+def number_told(fields):
+    """The number of a command by the values of its fields Command-Number; None where they tell none."""
+    value = fields[0].strip(" \t")
+    return int(value) if len(fields) == 1 and re.fullmatch("[1-9][0-9]{0,17}", value) else None
+
+
 CODE = {"no_user": 404, "no_paper": 404, "no_content": 404, "not_chair": 403, "not_member": 403, "not_author": 403,
         "conflict": 403, "not_reviewer": 403}
 
@@ -39,6 +56,8 @@ class Conference:
     def __init__(self):
         self.history = []  # (maker, kind, fields)
         self.moments = {}  # when an entry's request came, by the entry's place; 0 of those that a drill makes up
+        self.numbers = {}  # the number of the command that added an entry, by the entry's place, where it had one
+        self.answered = {}  # of an accepted command that added an entry the mark and the answer, by its caller and its number
         self.now = 0  # when the request at hand came, in seconds since 1970
 
     # ---- facts
@@ -63,7 +82,7 @@ class Conference:
         return next((until for m, (of, until) in reversed(self.entries_of("deadline")) if of == phase), 0)
 
     def late(self):
-        """The rule that the phase that it is has a deadline, and now is later."""
+        """The rule that the current phase has a deadline, and now is later."""
         return 0 < self.deadline(self.phase) < self.now, "late"
 
     def users(self):
@@ -94,13 +113,7 @@ class Conference:
         return [f[0] for m, f in self.entries_of("submitted")]
 
     def authors(self, p):
-        out = []
-        for m, k, f in self.history:
-            if k == "submitted" and f[0] == p:
-                out.append(m)
-            if k == "coauthor" and f[0] == p:
-                out.append(f[1])
-        return out
+        return [m for m, f in self.entries_of("submitted") if f[0] == p] + [f[1] for m, f in self.entries_of("coauthor") if f[0] == p]
 
     def declared_on(self, u, p):
         on = False
@@ -113,13 +126,7 @@ class Conference:
         return u in self.authors(p) or self.declared_on(u, p)
 
     def ordinal_of(self, u, p):
-        s = None
-        for m, k, f in self.history:
-            if k == "assigned" and f[:2] == (p, u):
-                s = f[3]
-            if k == "unassigned" and f[:2] == (p, u):
-                s = None
-        return s
+        return next((f[3] for f in self.reviewers(p) if f[1] == u), None)
 
     def labels(self, p):
         return len([1 for m, f in self.entries_of("assigned") if f[0] == p])
@@ -189,9 +196,11 @@ class Conference:
         return self.accepted(p) and self.phase == "closed"
 
     # ---- one request
-    def ask(self, who, method, path, body=None):
-        """The answer's code and content, the whole one to HEAD too; `who` is as in `caller`."""
+    def ask(self, who, method, path, body=None, fields=()):
+        """The answer's code and content, the whole one to HEAD too; `who` is as in `caller`, `fields` are the values of the fields
+        Command-Number."""
         u = self.caller(who)
+        path, _, query = path.partition("?")
         parts = path.strip("/").split("/")
         method = "GET" if method == "HEAD" else method
         if path == "/register":
@@ -207,6 +216,27 @@ class Conference:
             return self.accepted_papers()
         if u is None and not (method == "GET" and self.is_public(parts)):
             return err(401, "unauthorized")
+        if method == "GET":
+            return self.told_of(u, path, query)
+        return self.command(u, method, path, body, fields) if fields else self.judge(u, method, path, body)
+
+    def command(self, u, method, path, body, fields):
+        """What a command with a number comes to: what it repeats is answered as it was, and isn't judged again."""
+        number, mark = number_told(fields), mark_of(method, path, body)
+        if number is None:
+            return err(400, "bad_number")
+        if (u, number) in self.answered:
+            old, answer = self.answered[u, number]
+            return answer if old == mark else err(409, "number_used")
+        before = len(self.history)
+        answer = self.judge(u, method, path, body)
+        if len(self.history) > before:
+            self.answered[u, number] = mark, answer
+            self.numbers.update({place: number for place in range(before, len(self.history))})
+        return answer
+
+    def judge(self, u, method, path, body):
+        """What a command comes to by the rules."""
         if path == "/phase":
             return self.set_phase(u, body["phase"])
         if path == "/deadlines":
@@ -215,48 +245,39 @@ class Conference:
             return self.set_mode(u, body["mode"])
         if path == "/members":
             return self.member(u, body)
-        if path == "/me":
-            return self.me(u)
-        if path.split("?")[0] == "/search":
-            return self.search(u, path.partition("?")[2])
         if path == "/assign":
             return self.bulk(u, body)
-        if parts[0] == "reports":
-            return self.report(u, parts[1:])
         if path == "/papers":
             return self.submit(u, body)
-        p, rest = self.paper_told(parts[1]), parts[2:]
+        _, _, paper, *rest = path.split("/")
+        p = self.paper_told(paper)
         if not rest:
-            if method == "GET":
-                return self.page(u, p)
-            if method == "DELETE":
-                return self.withdraw(u, p)
-            return self.revise(u, p, body)
-        if rest == ["content"]:
-            if method == "GET":
-                return self.content(u, p, None)
-            return self.upload(u, p, body)
-        if rest[0] == "content":
-            return self.content(u, p, int(rest[1]) if re.match(r"^[1-9][0-9]*$", rest[1]) else 0)
-        if rest == ["conflicts"]:
-            return self.conflict(u, p, body)
-        if rest == ["bid"]:
-            return self.set_bid(u, p, body)
-        if rest == ["reviewers"]:
-            return self.assign(u, p, body)
-        if rest[0] == "reviewers":
+            return self.withdraw(u, p) if method == "DELETE" else self.revise(u, p, body)
+        if rest[0] == "reviewers" and method == "DELETE":
             return self.unassign(u, p, rest[1])
-        if rest == ["review"]:
-            return self.review(u, p, body)
-        if rest == ["reviews"]:
-            return self.reviews(u, p)
-        if rest == ["comments"]:
-            return self.comments_page(u, p) if method == "GET" else self.comment(u, p, body)
         if rest[0] == "tags":
             return self.tag(u, p, rest[1], method == "PUT")
-        if rest == ["decision"]:
-            return self.decide(u, p, body)
-        raise ValueError(path)
+        told = {"content": self.upload, "conflicts": self.conflict, "bid": self.set_bid, "reviewers": self.assign, "review": self.review,
+                "comments": self.comment, "decision": self.decide}
+        return told[rest[0]](u, p, body)
+
+    def told_of(self, u, path, query):
+        """What a question is answered."""
+        parts = path.strip("/").split("/")
+        if path == "/me":
+            return self.me(u)
+        if path == "/search":
+            return self.search(u, query)
+        if parts[0] == "reports":
+            return self.report(u, parts[1:])
+        p, rest = self.paper_told(parts[1]), parts[2:]
+        if not rest:
+            return self.page(u, p)
+        if rest == ["content"]:
+            return self.content(u, p, None)
+        if rest[0] == "content":
+            return self.content(u, p, int(rest[1]) if re.match(r"^[1-9][0-9]*$", rest[1]) else 0)
+        return self.reviews(u, p) if rest == ["reviews"] else self.comments_page(u, p)
 
     def paper_told(self, text):
         """The paper's number that a segment tells, where it tells one."""
@@ -789,6 +810,6 @@ def view_lines(c, who):
                 row(last_decision(i, p) and author and notif, {"paper": p, "outcome": True, "decision": f[1]})
                 row(last_decision(i, p) and accepted, {"paper": p, "accepted": True})
         if seen:
-            own = {"mine": True, "at": c.moments.get(i, 0)} if mine else {}
+            own = {"mine": True, "at": c.moments.get(i, 0), **({"num": c.numbers[i]} if i in c.numbers else {})} if mine else {}
             out.append(dump({"kind": kind, **own, **shown}))
     return out

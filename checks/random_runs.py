@@ -4,8 +4,9 @@
     checks/random_runs.py [RUNS] [SEED]        20 runs from seed 1 where none are given
 
 Each run makes up a conference of nine users from its seed and asks a few hundred requests of `confd pipe` with a store:
-every command and query by every kind of caller, in and out of its phase, most of them refused. Each answer, and then what
-`confd view` prints for each user, has to be what `model.py` gives, which is written from the pages of docs/ and knows no tables.
+every command and query by every kind of caller, in and out of its phase, most of them refused, many by numbers, and some of these
+again. Each answer, and then what `confd view` prints for each user, has to be what `model.py` gives, which is written from the pages
+of docs/ and knows no tables.
 The clock stands, by the shim of `shim.c`, and is turned now and then, to the second of a deadline, one behind it and one ahead of
 it: the store is opened again then. Where there is no `cc` to build the shim with, or the program doesn't meet it, the clock is
 the system's, and deadlines are days from it. An entry's moment has to be the date of the answer by which its command was accepted,
@@ -22,7 +23,7 @@ import tempfile
 import time
 import urllib.parse
 
-from model import Conference, PHASES, dump, view_lines
+from model import Conference, PHASES, content_of, view_lines
 from serve import APART, moment_of
 from shim import Orders, Shim
 from store import Program
@@ -49,6 +50,7 @@ class Run:
         self.stands = begun is None
         self.model.now = begun or self.random.choice([self.random.randint(1, 2 * 10**9), FIRST, LAST])
         self.asked = []
+        self.numbered = []  # the commands that were sent with a field Command-Number
         self.moments = []  # when each request comes
         self.added = []  # the places of the entries that each request added
         for name in NAMES:
@@ -69,11 +71,33 @@ class Run:
                 self.step()
 
     def ask(self, who, method, path, body=None):
+        """Asks by a number now and then, and then does it again, sooner or later."""
+        fields = self.fields()
+        if fields and method not in ("GET", "HEAD"):
+            self.numbered.append((who, method, path, body, fields))
+        self.send(who, method, path, body, fields)
+        while self.numbered and self.random.random() < 0.1:
+            who, method, path, body, fields = self.random.choice(self.numbered[-3:] + [self.random.choice(self.numbered)])
+            if self.random.random() < 0.2:
+                path += "?again"
+            self.send(who if self.random.random() < 0.9 else self.random.choice(NAMES), method, path, body, fields)
+
+    def fields(self):
+        """The values of a request's fields Command-Number: none, or a number out of few, so that some are used; now and then what is none."""
+        choose = self.random
+        if choose.random() < 0.6:
+            return []
+        if choose.random() < 0.05:
+            return choose.choice([["0"], ["01"], [""], [" \t"], ["+7"], ["-7"], ["7", "7"], ["7", "8"], ["7 7"], ["1" * 19], ["x"]])
+        number = choose.choice([choose.randint(1, 40)] * 9 + [10**18 - 1])
+        return [choose.choice(["{}"] * 8 + [" {}", "{}\t ", "\t {} "]).format(number)]
+
+    def send(self, who, method, path, body, fields):
         before = len(self.model.history)
-        code, content = self.model.ask(who, method, path, body)
+        code, content = self.model.ask(who, method, path, body, fields)
         self.added.append(range(before, len(self.model.history)))
         self.moments.append(self.model.now)
-        self.asked.append((who, method, path, body, code, without(content) if method == "HEAD" else content))
+        self.asked.append((who, method, path, body, fields, code, without(content) if method == "HEAD" else content))
 
     def turn(self):
         """Turns the clock: to a deadline, or a second from it; or on, or back."""
@@ -247,12 +271,13 @@ class Run:
             self.ask(anybody, "POST", "/phase", {"phase": "setup"})
 
 
-def spelled(who, method, path, body):
+def spelled(who, method, path, body, fields):
     """A request's bytes."""
     lines = [f"{method} {path} HTTP/1.1", "Host: c"]
     if who != "-":
         lines.append(f"Authorization: Bearer {who if '.' in who else who + '.' + secret(who)}")
-    content = b"" if body is None else (body if isinstance(body, str) else dump(body)).encode()
+    content = content_of(body)
+    lines += [f"Command-Number: {value}" for value in fields]
     lines.append(f"Content-Length: {len(content)}")
     return "\r\n".join(lines).encode() + b"\r\n\r\n" + content
 
@@ -304,7 +329,7 @@ def piped(run, store, shim, room):
             last += 1
         if shim is not None:
             stands = {"env": shim.environment(Orders(os.path.join(room, "orders"), moment=run.moments[first]))}
-        text = b"".join(spelled(*asked[:4]) for asked in run.asked[first:last])
+        text = b"".join(spelled(*asked[:5]) for asked in run.asked[first:last])
         child = subprocess.run([CONFD, "pipe", "--store", store], input=text, stdout=subprocess.PIPE, check=True, **stands)
         more = answers(child.stdout, [asked[1] for asked in run.asked[first:last]])
         told, moments, first = told + more[0], moments + more[1], last
@@ -319,8 +344,8 @@ def tried(seed, shim):
         store = os.path.join(room, "store")
         told, moments = piped(run, store, shim, room)
         for asked, answer in zip(run.asked, told):
-            if asked[4:] != answer:
-                return f"{' '.join(str(part) for part in asked[:4])}: came {answer}, due {asked[4:]}", 0
+            if asked[5:] != answer:
+                return f"{' '.join(str(part) for part in asked[:5])}: came {answer}, due {asked[5:]}", 0
         if len(told) != len(run.asked):
             return f"{len(told)} answers to {len(run.asked)} requests", 0
         if shim is not None and moments != run.moments:

@@ -1,13 +1,13 @@
 #!/usr/bin/env python3
 """Tries `confd serve` with real clients over sockets, many at once, and kills it.
 
-    python3 checks/serve.py [--kills N] [--seconds S] [--deadlines] [PROGRAM]
+    python3 checks/serve.py [--kills N] [--seconds S] [--timeouts] [PROGRAM]
 
 PROGRAM is `confd` as `rt run` builds it (crates/confd/out/confd where none is named). Python 3 alone is needed. Prints a
 line a check, and last `N passed, M failed`; ends with status 0 where none failed. Takes less than two minutes.
 
 For longer runs: --kills N kills it N times under load (5 where it isn't said), the first time after S seconds (1), then
-sooner; --kills 1 --seconds 600 is one load of ten minutes. --deadlines also waits for the deadlines of 60 seconds, for
+sooner; --kills 1 --seconds 600 is one load of ten minutes. --timeouts also waits for the timeouts of 60 seconds, for
 two minutes and a half.
 """
 
@@ -37,7 +37,7 @@ WORKERS = 64
 CLIENTS = 62
 # No answer that is due at once may take so many seconds.
 SOON = 20
-DEADLINE = 60
+TIMEOUT = 60
 # For how many seconds a connection is kept on which nothing comes behind an answer.
 IDLE = 5
 # How often a wait that a signal broke off is waited again.
@@ -551,7 +551,7 @@ def killed(program, folder):
             expect(json.loads(content)["papers"] == len(titles), f"{content} after kill {turn}")
 
 
-def deadlines(program, folder):
+def timeouts(program, folder):
     """Whoever takes more than a minute over a request, or over taking an answer, in whatever pieces, is let go; others stay."""
     with serving(program, os.path.join(folder, "store"), workers=10) as server:
         with Client(server) as client:
@@ -561,7 +561,7 @@ def deadlines(program, folder):
 
         def lasts(send):
             """For how many seconds the server keeps a connection on which this is sent."""
-            with Client(server, 3 * DEADLINE) as client:
+            with Client(server, 3 * TIMEOUT) as client:
                 begun = time.monotonic()
                 threading.Thread(target=send, args=(client,), daemon=True).start()
                 with contextlib.suppress(ConnectionResetError):
@@ -574,7 +574,7 @@ def deadlines(program, folder):
 
         def dripping(client):
             with contextlib.suppress(OSError):
-                for byte in b"GET /phase HTTP/1.1\r\nX: " + b"x" * 2 * DEADLINE:
+                for byte in b"GET /phase HTTP/1.1\r\nX: " + b"x" * 2 * TIMEOUT:
                     client.send(bytes([byte]))
                     time.sleep(1)
 
@@ -589,10 +589,10 @@ def deadlines(program, folder):
 
         def unread():
             """Asks for more than the system holds, and reads nothing of it; for how many seconds it can't send more."""
-            with Client(server, 2 * DEADLINE) as client:
+            with Client(server, 2 * TIMEOUT) as client:
                 longest, last = 0, time.monotonic()
                 with contextlib.suppress(OSError):
-                    while longest < DEADLINE / 2:
+                    while longest < TIMEOUT / 2:
                         client.send(request("GET", "/phase") * 100)
                         now = time.monotonic()
                         longest, last = max(longest, now - last), now
@@ -609,10 +609,10 @@ def deadlines(program, folder):
             return None
 
         def unread_contents():
-            """Asks for more contents than the system holds, and reads none before the deadline; how many of them come whole."""
-            with Client(server, 2 * DEADLINE) as client:
+            """Asks for more contents than the system holds, and reads none before the timeout; how many of them come whole."""
+            with Client(server, 2 * TIMEOUT) as client:
                 client.send(request("GET", "/papers/1/content", "alice") * 16)
-                time.sleep(DEADLINE + 10)
+                time.sleep(TIMEOUT + 10)
                 with contextlib.suppress(ConnectionResetError):
                     while client.more():
                         pass
@@ -637,7 +637,7 @@ def deadlines(program, folder):
         )  # fmt: skip
         spans = at_once(len(acts), lambda number: acts[number]())
         names = ("silent", "dripping", "after one", "amid the next", "unread")
-        for name, span, due in zip(names, spans, (DEADLINE, DEADLINE, 30 + IDLE, DEADLINE, DEADLINE)):
+        for name, span, due in zip(names, spans, (TIMEOUT, TIMEOUT, 30 + IDLE, TIMEOUT, TIMEOUT)):
             expect(due - 2 < span < due + 10, f"{name}: ended after {span:.1f} s, due after {due}")
         expect(spans[5] < 16, "contents that nobody took for a minute went on coming")
 
@@ -653,10 +653,10 @@ def main():
     words = argparse.ArgumentParser()
     words.add_argument("--kills", type=int, default=5)
     words.add_argument("--seconds", type=float, default=1)
-    words.add_argument("--deadlines", action="store_true")
+    words.add_argument("--timeouts", action="store_true")
     words.add_argument("program", nargs="*")
     options = words.parse_args()
-    run_all(CHECKS + [deadlines] * options.deadlines, program_named(options.program))
+    run_all(CHECKS + [timeouts] * options.timeouts, program_named(options.program))
 
 
 if __name__ == "__main__":

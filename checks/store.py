@@ -11,6 +11,7 @@ status 0 where none failed. Takes about a minute.
 
 import contextlib
 import errno
+import hashlib
 import json
 import os
 import random
@@ -30,22 +31,31 @@ PAPERS_EACH = 20
 KILLS = 50
 # Past so many seconds a run hangs.
 LONG = 120
-TABLES = ("people_v2", "papers_v2", "ties_v2", "talk_v2")
+# The version of the stores, and its tables.
+VERSION = 3
+TABLES = PEOPLE, PAPERS, TIES, TALK = "people_v3", "papers_v3", "ties_v3", "talk_v3"
 
 
 # ---- requests and answers
 
 
-def request(method, path, who=None, body=None):
-    """One request as bytes; `who` is a name, whose secret is made of it."""
+def request(method, path, who=None, body=None, number=None):
+    """One request as bytes; `who` is a name, whose secret is made of it, and `number` a command's."""
     lines = [f"{method} {path} HTTP/1.1", "Host: c"]
     if who is not None:
         lines.append(f"Authorization: Bearer {who}.{who}-secret-0123456789")
     content = b""
     if body is not None:
-        content = json.dumps(body, separators=(",", ":")).encode()
+        content = json_of(body)
         lines.append(f"Content-Length: {len(content)}")
+    if number is not None:
+        lines.append(f"Command-Number: {number}")
     return "\r\n".join(lines).encode() + b"\r\n\r\n" + content
+
+
+def json_of(body):
+    """A body as it is sent."""
+    return json.dumps(body, separators=(",", ":")).encode()
 
 
 def register(name):
@@ -145,7 +155,7 @@ def opened(store, **more):
 
 
 def rows(store):
-    """Every row of the four tables, by place, without its moment."""
+    """Every row of the four tables, by place, without its moment and its command's number."""
     with opened(store) as file:
         found = [row for table in TABLES for row in file.execute(f"SELECT place, kind, maker, more, n1, b1, b2 FROM {table}")]
     return sorted(found)
@@ -202,10 +212,35 @@ def moments(program, folder):
     program.pipe(store, register("carol"))
     last = int(time.time())
     with opened(store) as file:
-        found = [at for (at,) in file.execute("SELECT at FROM people_v2 ORDER BY place")]
+        found = [at for (at,) in file.execute(f"SELECT at FROM {PEOPLE} ORDER BY place")]
     expect(status == 0 and len(found) == 5, f"status {status}, moments {found}")
     expect(found == sorted(found) and first <= found[0] < found[-1] <= last, f"{found}, not {first} to {last}")
     expect(found[0] == found[1], f"the first registration's rows have the moments {found[:2]}")
+
+
+def numbers(program, folder):
+    """Each row has its command's number and the mark of its request, where it has one; a repeat adds no row."""
+    store = os.path.join(folder, "numbers")
+    paper, other = ({"abstract": "", "authors": ["bob"], "title": title} for title in ("Proofs", "Others"))
+    most = 10**18 - 1
+    requests = [
+        request("POST", "/papers", "alice", {**paper, "authors": ["zoe"]}, most),
+        *(request("POST", "/papers?again=yes" if turn else "/papers", "alice", paper, most) for turn in range(2)),
+        request("POST", "/papers", "alice", other, most), request("POST", "/papers", "alice", other, 1),
+        request("POST", "/papers", "bob", paper, 1), request("POST", "/papers", "bob", other),
+    ]  # fmt: skip
+    due_codes = [404, 201, 201, 409, 201, 201, 201]
+    mark, other_mark = (hashlib.sha256(b"POST /papers\n" + json_of(body)).digest() for body in (paper, other))
+    told, status = program.pipe(store, opening() + register("bob") + b"".join(requests))
+    expect((status, [code for code, _ in told[3:]]) == (0, due_codes), f"status {status}, {told[3:]}")
+    keys = [(most, mark)] * 2 + [(1, other_mark)] * 2 + [(1, mark), (0, b"")]
+    for _ in range(2):
+        with opened(store) as file:
+            found = list(file.execute(f"SELECT num, mark FROM {PAPERS} ORDER BY place"))
+            none = list(file.execute(f"SELECT DISTINCT num, mark FROM {PEOPLE}"))
+        expect(found == keys and none == [(0, b"")], f"{found} and {none}")
+        told, status = program.pipe(store, requests[1])
+        expect((status, told) == (0, [(201, b'{"paper":1}')]), f"opened again: status {status}, {told}")
 
 
 def killed(program, folder):
@@ -245,7 +280,7 @@ def held_by_another(program, folder):
         refused = False
         try:
             with opened(store, timeout=0) as file:
-                file.execute("SELECT count(*) FROM people_v2").fetchone()
+                file.execute(f"SELECT count(*) FROM {PEOPLE}").fetchone()
         except sqlite3.OperationalError:
             refused = True
         expect(refused, "sqlite3 read the file")
@@ -452,34 +487,35 @@ def somebody_elses(program, folder):
     expect(read(store) == written, "the file was changed")
 
 
-OTHER_TABLES = "the tables are not those of a store"
-OTHER_VERSION = "the version is not that of the tables"
+OTHER_TABLES = "the tables are not those of a store that this confd reads"
+OTHER_VERSION = "the store says another version than that of its tables"
 
 # What is done to the six rows, and what standard error is to say; the status is 6.
 BAD_STORES = (
-    ("UPDATE meta SET version = 1", OTHER_VERSION),
-    ("UPDATE meta SET version = 3", OTHER_VERSION),
+    (f"UPDATE meta SET version = {VERSION - 1}", OTHER_VERSION),
+    (f"UPDATE meta SET version = {VERSION + 1}", OTHER_VERSION),
     ("DELETE FROM meta", OTHER_VERSION),
-    ("INSERT INTO meta VALUES (2)", OTHER_VERSION),
-    ("DROP TABLE talk_v2", OTHER_TABLES),
+    (f"INSERT INTO meta VALUES ({VERSION})", OTHER_VERSION),
+    (f"DROP TABLE {TALK}", OTHER_TABLES),
     ("CREATE TABLE more (place INTEGER) STRICT", OTHER_TABLES),
-    ("ALTER TABLE ties_v2 ADD COLUMN more_still INTEGER", OTHER_TABLES),
-    ("DROP TABLE talk_v2; CREATE TABLE talk_v2 (place INTEGER PRIMARY KEY, b1 BLOB) STRICT", OTHER_TABLES),
-    ("DELETE FROM people_v2 WHERE place = 0", "no row stands at place 0"),
-    ("DELETE FROM people_v2 WHERE place = 1", "no row stands at place 1"),
-    ("UPDATE papers_v2 SET place = 40 WHERE place = 4", "no row stands at place 4"),
-    ("UPDATE ties_v2 SET place = 6 WHERE place = 5", "no row stands at place 5"),
-    ("UPDATE people_v2 SET place = -1 WHERE place = 0", "no row stands at place 0"),
-    ("INSERT INTO talk_v2 SELECT * FROM people_v2 WHERE place = 1", "two rows stand at place 1"),
-    ("UPDATE ties_v2 SET place = 2 WHERE place = 5", "two rows stand at place 2"),
+    (f"ALTER TABLE {TIES} ADD COLUMN more_still INTEGER", OTHER_TABLES),
+    (f"DROP TABLE {TALK}; CREATE TABLE {TALK} (place INTEGER PRIMARY KEY, b1 BLOB) STRICT", OTHER_TABLES),
+    (f"DELETE FROM {PEOPLE} WHERE place = 0", "no row stands at place 0"),
+    (f"DELETE FROM {PEOPLE} WHERE place = 1", "no row stands at place 1"),
+    (f"UPDATE {PAPERS} SET place = 40 WHERE place = 4", "no row stands at place 4"),
+    (f"UPDATE {TIES} SET place = 6 WHERE place = 5", "no row stands at place 5"),
+    (f"UPDATE {PEOPLE} SET place = -1 WHERE place = 0", "no row stands at place 0"),
+    (f"INSERT INTO {TALK} SELECT * FROM {PEOPLE} WHERE place = 1", "two rows stand at place 1"),
+    (f"UPDATE {TIES} SET place = 2 WHERE place = 5", "two rows stand at place 2"),
     (
-        "INSERT INTO talk_v2 SELECT * FROM people_v2 WHERE place = 2; DELETE FROM people_v2 WHERE place = 2",
+        f"INSERT INTO {TALK} SELECT * FROM {PEOPLE} WHERE place = 2; DELETE FROM {PEOPLE} WHERE place = 2",
         "the row at place 2 stands in another table than its kind's",
     ),
-    ("UPDATE papers_v2 SET kind = 4 WHERE place = 4", "the row at place 4 stands in another table than its kind's"),
-    ("UPDATE people_v2 SET at = -1 WHERE place = 0", "the row at place 0 has a value that no row has"),
-    ("UPDATE people_v2 SET n1 = -1 WHERE place = 0", "the row at place 0 has a value that no row has"),
-    ("UPDATE papers_v2 SET n3 = -1 WHERE place = 4", "the row at place 4 has a value that no row has"),
+    (f"UPDATE {PAPERS} SET kind = 4 WHERE place = 4", "the row at place 4 stands in another table than its kind's"),
+    (f"UPDATE {PEOPLE} SET at = -1 WHERE place = 0", "the row at place 0 has a value that no row has"),
+    (f"UPDATE {PEOPLE} SET num = -1 WHERE place = 0", "the row at place 0 has a value that no row has"),
+    (f"UPDATE {PEOPLE} SET n1 = -1 WHERE place = 0", "the row at place 0 has a value that no row has"),
+    (f"UPDATE {PAPERS} SET n3 = -1 WHERE place = 4", "the row at place 4 has a value that no row has"),
 )
 
 # 9999-12-31T23:59:59Z, behind which no row has a moment.
@@ -487,12 +523,19 @@ LAST_MOMENT = 253_402_300_799
 
 # What is done to them so that one is a row of no entry, or of no history; the status is 3.
 BAD_ROWS = (
-    ("UPDATE people_v2 SET kind = 19 WHERE place = 1", 1, 19),
-    (f"UPDATE people_v2 SET at = {LAST_MOMENT + 1} WHERE place <= 1", 0, 1),
-    ("UPDATE people_v2 SET at = at + 1 WHERE place = 1", 1, 2),
-    ("UPDATE people_v2 SET n1 = 2 WHERE place = 0", 0, 1),
-    ("UPDATE people_v2 SET n2 = 1 WHERE place = 1", 1, 2),
-    ("DELETE FROM people_v2 WHERE place >= 1; DELETE FROM papers_v2; DELETE FROM ties_v2", 0, 1),
+    (f"UPDATE {PEOPLE} SET kind = 19 WHERE place = 1", 1, 19),
+    (f"UPDATE {PEOPLE} SET at = {LAST_MOMENT + 1} WHERE place <= 1", 0, 1),
+    (f"UPDATE {PEOPLE} SET at = at + 1 WHERE place = 1", 1, 2),
+    (f"UPDATE {PEOPLE} SET num = 7 WHERE place = 2", 2, 3),
+    (f"UPDATE {PEOPLE} SET mark = zeroblob(32) WHERE place = 2", 2, 3),
+    (f"UPDATE {PEOPLE} SET num = 7, mark = zeroblob(31) WHERE place = 2", 2, 3),
+    (f"UPDATE {PEOPLE} SET num = {10**18}, mark = zeroblob(32) WHERE place = 2", 2, 3),
+    (f"UPDATE {PEOPLE} SET num = 7, mark = zeroblob(32) WHERE place <= 1", 0, 1),
+    (f"UPDATE {PEOPLE} SET num = 7, mark = zeroblob(32) WHERE place = 1", 1, 2),
+    ("".join(f"UPDATE {table} SET num = 7, mark = zeroblob(32); " for table in (PAPERS, TIES)), 5, 10),
+    (f"UPDATE {PEOPLE} SET n1 = 2 WHERE place = 0", 0, 1),
+    (f"UPDATE {PEOPLE} SET n2 = 1 WHERE place = 1", 1, 2),
+    (f"DELETE FROM {PEOPLE} WHERE place >= 1; DELETE FROM {PAPERS}; DELETE FROM {TIES}", 0, 1),
 )
 
 
@@ -535,12 +578,15 @@ def other_types(program, folder):
     store = os.path.join(folder, "types")
     program.pipe(store, opening())
     before = contents(store)
-    others = (("kind", "'one'"), ("at", "1.5"), ("n1", "x'01'"), ("n2", "1.5"), ("more", "NULL"), ("b1", "'text'"), ("b2", "7"))
+    others = (
+        ("kind", "'one'"), ("at", "1.5"), ("num", "NULL"), ("mark", "'text'"), ("n1", "x'01'"), ("n2", "1.5"),
+        ("more", "NULL"), ("b1", "'text'"), ("b2", "7"),
+    )  # fmt: skip
     for column, value in others:
         stood = True
         try:
             with opened(store) as file:
-                file.execute(f"UPDATE people_v2 SET {column} = {value} WHERE place = 0")
+                file.execute(f"UPDATE {PEOPLE} SET {column} = {value} WHERE place = 0")
         except sqlite3.IntegrityError:
             stood = False
         expect(not stood, f"{column} took {value}")
@@ -550,6 +596,7 @@ def other_types(program, folder):
 CHECKS = (
     many_rows,
     moments,
+    numbers,
     killed,
     held_by_another,
     full_disk,

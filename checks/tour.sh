@@ -34,7 +34,7 @@ part() {
 }
 
 # Sends a request, and prints it with its answer: ask NAME METHOD PATH [BODY]. Nobody is -; NAME.SECRET has another secret than the usual one;
-# the body @FILE is what FILE has.
+# the body @FILE is what FILE has. With NUMBER=N ahead of it the command has that number.
 ask() {
     local words=(-sS -m 60 --noproxy '*' -o "$room/content" -w '%{http_code}') who=$1 line=${*:2}
     case $1 in
@@ -42,6 +42,7 @@ ask() {
         *.*) who=${1%%.*}? words+=(-H "Authorization: Bearer $1") ;;
         *) words+=(-H "Authorization: Bearer $1.$1-secret-000001") ;;
     esac
+    [ -n "$NUMBER" ] && words+=(-H "Command-Number: $NUMBER") line="$line (number $NUMBER)"
     if [ "$2" = HEAD ]; then words+=(-I -D "$room/head"); else words+=(-X "$2"); fi
     [ $# -ge 4 ] && words+=(--data-binary "$4")
     printf '%6s> %s\n' "$who" "${line//"$room/"/}"
@@ -91,8 +92,12 @@ ask fay POST /papers '{"title":"Types","abstract":""}'
 due 201 '{"paper":2}'
 ask gus POST /papers '{"title":"Terms","abstract":"We term."}'
 due 201 '{"paper":3}'
-ask erin PUT /papers/1/content 'Draft.'
+NUMBER=1 ask erin PUT /papers/1/content 'Draft.'
 due 200 '{"version":1}'
+NUMBER=1 ask erin PUT /papers/1/content 'Draft.'
+due 200 '{"version":1}'
+NUMBER=1 ask erin PUT /papers/1/content 'Another draft.'
+due 409 '{"error":"number_used"}'
 ask gus PUT /papers/1/content 'We prove it.'
 due 200 '{"version":2}'
 ask fay PUT /papers/2/content 'Types.'

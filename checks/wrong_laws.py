@@ -114,10 +114,10 @@ class Rules:
         return self.seen[u, id(H)]
 
     def called(self, u, command):
-        return applied(self.get("Calls", "call_of", "cr_base"), u, asked.MORNING, command)
+        return applied(self.get("Calls", "call_of", "cr_base"), u, asked.MORNING, NONE, command)
 
     def bulk(self, u, rows):
-        return applied(self.get("Calls", "bulk_by", "cr_base"), u, asked.MORNING, rows)
+        return applied(self.get("Calls", "bulk_by", "cr_base"), u, asked.MORNING, NONE, rows)
 
     def judge(self, u, H, command):
         return self.call("Judge", "judge", self.view(u, H), self.called(u, command))

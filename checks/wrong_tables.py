@@ -76,8 +76,9 @@ def made_up(seed):
 
 
 def stamped(entries):
-    """The history of these entries, each with its maker, and with a moment of its own."""
-    return History({"stamp": {"maker": maker, "at": 1_000 + at}, "more": False, "entry": entry} for at, (maker, entry) in enumerate(entries))
+    """The history of these entries, each with its maker, and with a moment of its own; two of three with a number and a mark."""
+    key = lambda at: ("Some", {"number": at, "mark": words(f"mark {at}")}) if at % 3 else NOBODY
+    return History({"stamp": {"maker": maker, "at": 1_000 + at, "key": key(at)}, "more": False, "entry": entry} for at, (maker, entry) in enumerate(entries))
 
 
 def by_hand():

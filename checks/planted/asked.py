@@ -93,7 +93,7 @@ TWINS = {
 
 
 def entry(maker, made):
-    return {"stamp": {"maker": maker, "at": MORNING}, "more": False, "entry": made}
+    return {"stamp": {"maker": maker, "at": MORNING, "key": NONE}, "more": False, "entry": made}
 
 
 def labels_spent():
