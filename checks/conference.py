@@ -1,4 +1,4 @@
-"""A small conference that asks every route at least once: what memory.py and sync.py run. No script of its own.
+"""A small conference that asks every route at least once, for memory.py, sync.py, edge.py and migration.py to run.
 
 Each step is a request with the number of rows that it adds to a store.
 """

@@ -2,8 +2,9 @@
 """Plants wrong rules in copies of the repository and runs the cases of conformance on each, unproved.
 
 A rule of a command stands on both sides of the law that views suffice, so a wrong one that code and
-definition share is proved as well as the right one: the cases are what refuses it. This changes the code
-alone, since nothing is proved here, and wants at least one case of the files named not to come out as due.
+definition share meets that law as well: the cases refuse it, and the rules said twice (wrong_laws.py). This
+changes the code alone, since nothing is proved here, and wants at least one case of the files named not to
+come out as due.
 The rules are the rows in checks/planted/rules.
 
     checks/wrong_rules.py              all of them, as many at a time as there are processors
