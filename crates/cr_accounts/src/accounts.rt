@@ -1,9 +1,12 @@
 //! The accounts of a history, by user number and by name.
-ghost use Rattle.std.specs.Prelude.{◌≡◌, ◌≤◌, ◌<◌, ◌+◌, ◌-◌, [], OnOk, IfOk, is_some, option_and_then, Some, length};
+ghost use Rattle.std.specs.Prelude.{◌≡◌, ◌≤◌, ◌<◌, ◌+◌, ◌-◌, [], OnOk, IfOk, is_some, option_and_then, Some};
+ghost use Rattle.std.specs.Prelude.{filter, length};
 ghost use Rattle.std.specs.Option.{option_map};
 ghost use Rattle.cr_base.specs.Checks.{judged, of_role, register_checks, name_checks};
 ghost use Rattle.cr_base.specs.Accounts.{accounts_after, account_at, role_at, role_in};
 ghost use Rattle.cr_base.specs.Accounts.{number_at, caller_at, lines_of, AccountsFit};
+ghost use Rattle.cr_base.specs.Words.{is_member};
+ghost use Rattle.cr_accounts.specs.Members.{counted_by};
 
 use cr_base::{
     Account, AccountLine, AccountLines, Digest, Entry, LAST_NUMBER, Role, Rule, Short, Stamped,
@@ -52,6 +55,17 @@ fn may_name(by: &Standing, now: Role, role: Role) -> Result<(), Rule>
         return Err(Rule::AlreadyNamed);
     }
     Ok(())
+}
+
+/// One more than there were, if the role is a member's.
+fn counted(count: u64, role: Role) -> u64
+    requires { count < 9999 }
+    ensures { result ≡ counted_by role count }
+{
+    if role.is_member() {
+        return count + 1;
+    }
+    count
 }
 
 impl Accounts {
@@ -162,6 +176,18 @@ impl Accounts {
             return Err(Rule::NoUser);
         };
         may_name(by, now, role)
+    }
+
+    /// How many users are members of the committee, chairs among them. One walk over the accounts; takes no memory.
+    pub fn member_count(&self) -> u64
+        ensures count { result ≡ length (filter (λ line. is_member line.role) (lines_of self.now.accounts)) }
+        ensures few { result ≤ 9999 }
+    {
+        let mut count = 0;
+        for account in &self.accounts {
+            count = counted(count, account.role);
+        }
+        count
     }
 
     /// Every account, by user number, as everyone sees it; an error only for lack of memory. Reads

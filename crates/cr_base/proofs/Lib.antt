@@ -23,3 +23,5 @@ pub mod TargetLaws
 pub mod TextLaws
 pub mod TieLaws
 pub mod TieValues
+pub mod PlanLaws
+pub mod SpelledNumbers

@@ -1,6 +1,6 @@
 -- The one answer to queries: filled with the facts of a view it is Answer, filled with those
 -- of the tables it is RoleAnswer.
-use Rattle.std.specs.Prelude.{ℕ, Bool, true, false, not, ◌&&◌, ◌==◌, List, [], length, map, Option}
+use Rattle.std.specs.Prelude.{ℕ, Bool, true, false, not, ◌≢◌, ◌&&◌, ◌==◌, List, [], length, map, Option}
 use Rattle.std.specs.Prelude.{Some, None, is_some, filter, find, unwrap_or, Result, Ok, Err, if◌then◌else◌}
 use Rattle.std.specs.Option.{option_map, option_and_then}
 use Rattle.std.specs.List.{flat_map}
@@ -17,6 +17,7 @@ use Rattle.cr_base.specs.declared.reply.AccountLine.{AccountLine}
 use Rattle.cr_base.specs.declared.reply.Reply.{Reply}
 use Rattle.cr_base.specs.declared.reply.Reply.TheVariants as replies
 use Rattle.cr_base.specs.declared.reply.Rule.{Rule}
+use Rattle.cr_base.specs.declared.reply.Rule.TheVariants as rules
 use Rattle.cr_base.specs.declared.review.ReviewLine.{ReviewLine}
 use Rattle.cr_base.specs.declared.search.Step.{Step}
 use Rattle.cr_base.specs.declared.standing.Standing.{Standing}
@@ -29,6 +30,7 @@ use Rattle.cr_base.specs.Lists.{listed, last, at_some}
 use Rattle.cr_base.specs.Logins.{query_wants_login}
 use Rattle.cr_base.specs.Page.{is_clear_member, is_clear_chair, shows_reviewer, shows_writer, where_told, page_of}
 use Rattle.cr_base.specs.Phases.{members_read_reviews}
+use Rattle.cr_base.specs.Plans.{planned_papers, planned_members, best_plan, is_too_large, plan_checks, plan_reply}
 use Rattle.cr_base.specs.Reports.{report_checks, report_told}
 use Rattle.cr_base.specs.Searching.{PaperTold, is_found, found_paper}
 use Rattle.cr_base.specs.Sources.{Facts, Shown, decision_by, names_in, name_in}
@@ -74,7 +76,13 @@ login_wanted facts query =
     query_wants_login query
     && not (is_published (facts.standing None).phase (at_some facts.accepted (paper_read query)))
 
--- the rules of a query
+-- the rules of asking for a plan
+abbrev pub plan_asked : Facts → Shown → ℕ → List Check
+plan_asked facts shown per_paper =
+    plan_checks (facts.standing None)
+    (is_too_large per_paper (length (planned_papers facts shown per_paper)) (length (planned_members facts)))
+
+-- the rules of a query, but for the one that is found as the answer is: that there is no plan
 abbrev pub query_checks : Facts → Shown → Query → List Check
 query_checks facts shown queries.Accounts = []
 query_checks facts shown queries.Phase = []
@@ -91,6 +99,7 @@ query_checks facts shown (queries.Reviews paper) =
 query_checks facts shown (queries.Comments paper) =
     comments_checks (facts.standing paper) (of_there (has_paper facts paper))
 query_checks facts shown (queries.Report report) = report_checks facts report
+query_checks facts shown (queries.Plan per_paper load) = plan_asked facts shown per_paper
 
 -- a bid with the name of whose it is, where she has one
 abbrev pub bidder_told : List AccountLine → BidTold → Option Bidder
@@ -249,11 +258,17 @@ told_by facts shown caller (queries.Reviews paper) = replies.Reviews (reviews_by
 told_by facts shown caller (queries.Comments paper) = replies.Comments (comments_by facts shown (unwrap_or paper 0))
 told_by facts shown caller (queries.Search search only_count) = search_told facts shown caller search only_count
 told_by facts shown caller (queries.Report report) = replies.Report (report_told facts shown report)
+told_by facts shown caller (queries.Plan per_paper load) = plan_reply (best_plan facts shown per_paper load)
 
 -- the answer to a query: the first broken rule of its list, or what is told
 abbrev pub answer_by : Facts → Shown → Option ℕ → Query → Reply
 answer_by facts shown caller query =
     reply_or_rule (judged (query_checks facts shown query) (told_by facts shown caller query))
+
+-- the reply may take memory to find: it is no refusal, or that there is no plan. All other rules are told whatever
+-- memory there is
+abbrev pub MayTakeMemory : Reply → Type 0
+MayTakeMemory reply = (rule : Rule) → rule ≢ rules.NoPlan → reply ≢ replies.Refused rule
 
 -- RoleAnswer of a query: the same by checks on the tables
 abbrev pub answer_by_role : Tables → Option ℕ → Query → Reply

@@ -21,6 +21,7 @@ pub mod Page
 pub mod Pairs
 pub mod Papers
 pub mod Phases
+pub mod Plans
 pub mod Reports
 pub mod Retries
 pub mod Reviews

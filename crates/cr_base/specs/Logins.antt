@@ -49,6 +49,7 @@ ask_wants_login asks.ScoresReport = true
 ask_wants_login asks.LoadReport = true
 ask_wants_login asks.DecisionsReport = true
 ask_wants_login asks.Letter = true
+ask_wants_login asks.Plan = true
 
 -- whether a request for this reads the field Authorization: those that want a login, also where what is published
 -- wants none, since of a published paper those who say who they are may be told more
@@ -98,6 +99,7 @@ query_ask (queries.Reviews paper) = asks.Reviews
 query_ask (queries.Comments paper) = asks.Comments
 query_ask (queries.Search search only_count) = asks.Search
 query_ask (queries.Report report) = report_ask report
+query_ask (queries.Plan per_paper load) = asks.Plan
 
 -- each wants the login that its request does
 abbrev pub command_wants_login : Command → Bool

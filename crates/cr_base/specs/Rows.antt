@@ -158,8 +158,8 @@ until_number until = number_or_zero 253402207201 until
 abbrev pub until_numbered : ℕ → Option ℕ
 until_numbered n = numbered_from_one n
 
--- a key that may be none by its fields: the command's number (`some_number_range`), and the mark, empty where there is
--- none
+-- a key that may be none by its fields: the command's number, 0 where there is none, and the mark, empty where there
+-- is none
 abbrev pub key_number : Option RetryKey → ℕ
 key_number key = number_or_zero (last_command_number + 1) (option_map (λ (k : RetryKey). k.number) key)
 

@@ -75,11 +75,13 @@ pub enum Ask {
     DecisionsReport,
     /// The letter to a paper's authors: GET or HEAD of `/reports/letter/{p}`.
     Letter,
+    /// A plan of assignments: GET or HEAD of `/plan`.
+    Plan,
 }
 
 impl Ask {
     /// Whether it is a registered user's, so that nobody is answered `unauthorized`: every command but a registration,
-    /// a bulk, a paper's page, content, reviews and comments, searches, reports, and what the caller is to the
+    /// a bulk, a paper's page, content, reviews and comments, searches, reports, plans, and what the caller is to the
     /// conference. Page and content of a published paper want none, which only the history tells.
     pub fn wants_login(self) -> bool
         ensures { result ≡ ask_wants_login self }
@@ -95,7 +97,7 @@ impl Ask {
             Ask::Me | Ask::Page | Ask::Content | Ask::Version => true,
             Ask::Reviews | Ask::Comments | Ask::Search => true,
             Ask::Bulk | Ask::PapersReport | Ask::ScoresReport | Ask::LoadReport => true,
-            Ask::DecisionsReport | Ask::Letter => true,
+            Ask::DecisionsReport | Ask::Letter | Ask::Plan => true,
         }
     }
 

@@ -9,6 +9,7 @@ use crate::entry::Digest;
 use crate::form::Form;
 use crate::moment::Moment;
 use crate::numbers::{PaperNo, UserNo};
+use crate::plan::{PerPaper, PlanLoad};
 use crate::report::Report;
 use crate::retry::RetryKey;
 use crate::search::Search;
@@ -210,6 +211,13 @@ pub enum Query {
         /// Which one.
         report: Report,
     },
+    /// Who might review the papers besides, by what members bid.
+    Plan {
+        /// How many more members each paper is to have.
+        per_paper: PerPaper,
+        /// How many papers a member is to have at most.
+        load: PlanLoad,
+    },
 }
 
 impl Command {
@@ -265,6 +273,7 @@ impl Query {
             Query::Comments { .. } => Ask::Comments,
             Query::Search { .. } => Ask::Search,
             Query::Report { report } => report.ask(),
+            Query::Plan { .. } => Ask::Plan,
         }
     }
 

@@ -76,6 +76,10 @@ pub enum Rule {
     BulkSelf,
     /// The caller has given the command's number to another request, which was accepted.
     NumberUsed,
+    /// A plan is asked for with more than 512 places, or of papers and members whose product passes 4,096.
+    PlanTooLarge,
+    /// There is no plan as it is asked for.
+    NoPlan,
 }
 
 /// What an accepted command is answered.
@@ -209,6 +213,6 @@ pub enum Reply {
     Found(FoundPapers),
     /// The answer to `Query::Search` where their number alone is asked for.
     Count(u64),
-    /// The answer to `Query::Report`: its text, in UTF-8.
+    /// The answer to `Query::Report` and to `Query::Plan`: its text, in UTF-8.
     Report(Blob),
 }

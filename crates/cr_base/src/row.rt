@@ -84,7 +84,7 @@ impl Row {
 pub enum OldVersion {
     /// Version 1, which kept no moments of requests.
     First,
-    /// Version 2, which kept moments, and as little as version 1 the numbers of commands.
+    /// Version 2, which kept moments of requests and no numbers of commands.
     Second,
 }
 

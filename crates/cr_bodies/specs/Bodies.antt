@@ -89,6 +89,7 @@ command_in asks.ScoresReport paper d = None
 command_in asks.LoadReport paper d = None
 command_in asks.DecisionsReport paper d = None
 command_in asks.Letter paper d = None
+command_in asks.Plan paper d = None
 
 -- the same of a body's bytes
 abbrev pub command_read : Ask → Option ℕ → List ℕ → Option Command

@@ -191,7 +191,9 @@ fn command_in(
         Ask::Content | Ask::Upload | Ask::Version | Ask::Tag => Err(DecodeError::Malformed),
         Ask::Unassign | Ask::Reviews | Ask::Comments | Ask::Untag => Err(DecodeError::Malformed),
         Ask::Bulk | Ask::PapersReport | Ask::ScoresReport => Err(DecodeError::Malformed),
-        Ask::LoadReport | Ask::DecisionsReport | Ask::Letter => Err(DecodeError::Malformed),
+        Ask::LoadReport | Ask::DecisionsReport | Ask::Letter | Ask::Plan => Err(
+            DecodeError::Malformed,
+        ),
     }
 }
 

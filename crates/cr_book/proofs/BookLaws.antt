@@ -34,10 +34,11 @@ use Rattle.cr_view.specs.Callers.{HasAsker}
 use Rattle.cr_view.specs.Replies.{IsNoRefusal}
 use Rattle.cr_book.specs.Sound.{Acts, IsSound}
 
--- it is no search and no report, which have crates of their own
+-- it is no search, no report and no plan, which have crates of their own
 pub record IsOther (query : Query) : Type 0 where
   pub search : (search : List Step) (only_count : Bool) → query ≢ queries.Search search only_count
   pub report : (report : Report) → query ≢ queries.Report report
+  pub plan : (per_paper load : ℕ) → query ≢ queries.Plan per_paper load
 
 -- whoever may ask what only a user is told is there
 pub asker-there : (h : History) (caller : Option ℕ) (query : Query) → IsOther query → MayAsk h (needs_login (view None h) query) caller → HasAsker caller query
@@ -54,6 +55,7 @@ asker-there h None queries.Me other may = cc
 asker-there h (Some u) queries.Me other may = refl
 asker-there h caller (queries.Search search only_count) other may = absurd (other.search search only_count refl)
 asker-there h caller (queries.Report report) other may = absurd (other.report report refl)
+asker-there h caller (queries.Plan per_paper load) other may = absurd (other.plan per_paper load refl)
 
 -- whoever may search has registered
 pub searcher-there : (h : History) (caller : Option ℕ) (search : List Step) (only_count : Bool)

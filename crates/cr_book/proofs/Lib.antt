@@ -16,5 +16,6 @@ pub mod OpeningRowCommands
 pub mod OpeningRows
 pub mod OpeningSpelling
 pub mod OutcomeLaws
+pub mod PlanPostedLaws
 pub mod ViewLaws
 pub mod StoreLaws

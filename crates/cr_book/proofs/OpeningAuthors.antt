@@ -19,7 +19,8 @@ use Rattle.cr_base.specs.Tables.{Tables}
 use Rattle.cr_base.proofs.AccountLaws.{number_in-lines_of}
 use Rattle.cr_base.proofs.CoauthorLaws.{users-each}
 use Rattle.cr_book.specs.Rebuilding.{name_told, names_told, name_left, is_taken, are_open, authors_told}
-use Rattle.cr_book.proofs.OpeningNames.{AreNamedOnce, named, some-free, left}
+use Rattle.cr_policy.proofs.AccountNames.{AreNamedOnce}
+use Rattle.cr_book.proofs.OpeningNames.{named, some-free, left}
 use Rattle.cr_book.proofs.OpeningRows.{head_is, tail_is}
 
 -- ---- users of whom each is told once

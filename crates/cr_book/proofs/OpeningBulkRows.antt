@@ -32,7 +32,7 @@ use Rattle.cr_book.proofs.OpeningBulks.{bulk-parts, parts-bulk, rows-drawn, rows
 use Rattle.cr_book.proofs.OpeningCommands.{registered-known, drawn-adds}
 use Rattle.cr_book.proofs.FollowLaws.{grouped-follow}
 use Rattle.cr_book.proofs.OpeningLegal.{MayAdd, MayAddRows, MayMove, may_move-group, grouped-group}
-use Rattle.cr_book.proofs.OpeningNames.{row_names}
+use Rattle.cr_policy.proofs.AccountNames.{row_names}
 use Rattle.cr_book.proofs.OpeningNext.{may-parts, OnClear, drawn-clear, tag-next}
 use Rattle.cr_book.proofs.OpeningOnward.{last-bounded, Onward, onward}
 use Rattle.cr_book.proofs.OpeningRows.{bounded-stamp, head_is, rows-split}

@@ -33,7 +33,7 @@ use Rattle.cr_judge.specs.Rows.{row_judged_at}
 use Rattle.cr_book.specs.Rebuilding.{name_told, paper_command_told}
 use Rattle.cr_book.specs.BulkRebuilding.{is_of_row, row_command_told, unfinished, IsDrawn, AreDrawn}
 use Rattle.cr_base.specs.Bulk.{IsRowCommand}
-use Rattle.cr_book.proofs.OpeningNames.{AreNames}
+use Rattle.cr_policy.proofs.AccountNames.{AreNames}
 use Rattle.cr_book.proofs.OpeningRowCommands.{row-adds}
 use Rattle.cr_book.proofs.OpeningSpelling.{Spelled, assign-spelled, unassign-spelled, conflict-spelled, tag-spelled}
 

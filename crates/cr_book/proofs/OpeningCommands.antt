@@ -53,7 +53,8 @@ use Rattle.cr_base.specs.Checks.{bid_checks, review_checks, comment_checks, deci
 use Rattle.cr_base.specs.Texts.{IsTitle, IsAbstract}
 use Rattle.cr_base.proofs.CheckLaws.{judged-Ok, judged-none}
 use Rattle.cr_book.proofs.OpeningAuthors.{new-besides, found-back, none-missing, all-listed, coauthors, grouped-cons, numbers, begin-first, told-first, open-rest, same-begin, IsNumber, bounded-numbers, Rebuilt, rebuilt, Become, become}
-use Rattle.cr_book.proofs.OpeningNames.{AreNamedOnce, named, found_by_name}
+use Rattle.cr_policy.proofs.AccountNames.{AreNamedOnce, found_by_name}
+use Rattle.cr_book.proofs.OpeningNames.{named}
 use Rattle.cr_book.proofs.OpeningBulks.{none_some, some_is, with-name, row-judges, told-of_row, drawn-of_row, one_is}
 use Rattle.cr_book.proofs.OpeningLegal.{MayAdd}
 use Rattle.cr_base.specs.Rows.{rows_of, until_number, IsBoundedEntry}

@@ -1,5 +1,6 @@
 pub mod Earlier
 pub mod Opening
+pub mod PlanPosted
 pub mod Reading
 pub mod BulkRebuilding
 pub mod Rebuilding

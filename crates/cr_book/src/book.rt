@@ -17,7 +17,7 @@ ghost use Rattle.cr_ports.specs.Count.{Rises};
 ghost use Rattle.cr_ports.specs.Writing.{outlet_of};
 ghost use Rattle.cr_sights.specs.Lines.{lines_text};
 ghost use Rattle.cr_sights.specs.Walks.{WritesView};
-ghost use Rattle.cr_view.specs.Replies.{AnswersAsDue};
+ghost use Rattle.cr_view.specs.Replies.{AnswersAsDue, AnswersOrPlans};
 ghost use Rattle.cr_book.specs.Kinds.{count_of_kind};
 ghost use Rattle.cr_book.specs.Opening.{Opens, IsCounted};
 ghost use Rattle.cr_book.specs.Sound.{IsKept, Accepts, AcceptsBulk, Acts};
@@ -28,8 +28,8 @@ use crate::kinds::count_of_kind;
 use crate::opening::{OpenError, read_all};
 use crate::rows::{copies_of, rows_of};
 use cr_base::{
-    Broken, BulkRows, Call, Command, Digest, EntryKind, Moment, Query, Receipt, Reply, Report,
-    RetryKey, Rule, Search, Short, Stamp, Stamped, UserNo,
+    Broken, BulkRows, Call, Command, Digest, EntryKind, Moment, PerPaper, PlanLoad, Query, Receipt,
+    Reply, Report, RetryKey, Rule, Search, Short, Stamp, Stamped, UserNo,
 };
 use cr_judge::judge;
 use cr_lock::Stands;
@@ -375,26 +375,27 @@ impl<K: Keeper> Book<K> {
     }
 
     /// The answer to a query of this caller, a registered user, or nobody where no login is wanted for the
-    /// query; or the first broken rule, which is told whatever memory there is. `AnswerError::OutOfMemory`
-    /// comes for lack of memory alone, and never where the state of the conference is asked for. The
-    /// keeper isn't asked. `Query::Accounts` costs a walk over all accounts, `Query::AcceptedPapers` one over
-    /// all papers, with a few look-ups for each that is accepted, `Query::Page` a few look-ups,
-    /// one more for each name that is told, a step for each version and each tag that is told, and, where
-    /// reviewers are told, a walk over the paper's forms, `Query::Me` a walk over her own papers, conflicts and
-    /// assignments, `Query::Reviews` at most three walks over the paper's forms for each of its labels, of which
-    /// there are at most 26, `Query::Comments` a walk over the comments on the paper with a look-up each,
-    /// `Query::Content` and `Query::Version` one look-up, `Query::Search` a walk over all papers, which costs each
-    /// what `matches` of `cr_search_eval` does, `Query::Report` what `cr_reports` says of each report, `Query::Phase`
-    /// and `Query::Deadlines` nothing that grows. But for a search and a letter, the length of texts and contents
-    /// makes no difference.
+    /// query; or the first broken rule, which is told whatever memory there is, but for `NoPlan`, which memory finds.
+    /// `AnswerError::OutOfMemory` comes for lack of memory alone, and never where the state of the conference is asked
+    /// for. The keeper isn't asked. `Query::Accounts` costs a walk over all accounts, `Query::AcceptedPapers` one over
+    /// all papers, with a few look-ups for each that is accepted, `Query::Page` a few look-ups, one more for each name
+    /// that is told, a step for each version and each tag that is told, and, where reviewers are told, a walk over the
+    /// paper's forms, `Query::Me` a walk over her own papers, conflicts and assignments, `Query::Reviews` at most three
+    /// walks over the paper's forms for each of its labels, of which there are at most 26, `Query::Comments` a walk
+    /// over the comments on the paper with a look-up each, `Query::Content` and `Query::Version` one look-up,
+    /// `Query::Search` a walk over all papers, which costs each what `matches` of `cr_search_eval` does,
+    /// `Query::Report` what `cr_reports` says of each report, `Query::Plan` what `answer` of `cr_plans` does,
+    /// `Query::Phase` and `Query::Deadlines` nothing that grows. But for a search and a letter, the length of texts
+    /// and contents makes no difference.
     pub fn answer(&self, caller: &Option<UserNo>, query: &Query) -> Result<Reply, AnswerError>
         requires { MayAsk self.now.log (needs_login (view None self.now.log) query.now) caller.now }
-        ensures answered { AnswersAsDue result (answer caller.now (view caller.now self.now.log) query.now) }
+        ensures answered { AnswersOrPlans result (answer caller.now (view caller.now self.now.log) query.now) }
         ensures sure { OnErr result (query.now ≢ queries.Phase) }
     {
         match query {
             Query::Search { search, only_count } => self.answer_search(caller, search, *only_count),
             Query::Report { report } => self.answer_report(caller, report),
+            Query::Plan { per_paper, load } => self.answer_plan(caller, *per_paper, *load),
             _ => self.live.answer(self.alloc, caller, query),
         }
     }
@@ -424,6 +425,20 @@ impl<K: Keeper> Book<K> {
         ensures { AnswersAsDue result (answer caller.now (view caller.now self.now.log) (queries.Report report.now)) }
     {
         cr_reports::answer(self.alloc, &self.live, caller, report)
+    }
+
+    /// A plan, or the first rule that it breaks, which is told whatever memory there is, but for `NoPlan`; else an
+    /// error only for lack of memory. It is solved here, in the turn.
+    fn answer_plan(
+        &self,
+        caller: &Option<UserNo>,
+        per_paper: PerPaper,
+        load: PlanLoad,
+    ) -> Result<Reply, AnswerError>
+        ensures { AnswersOrPlans result
+            (answer caller.now (view caller.now self.now.log) (queries.Plan per_paper load)) }
+    {
+        cr_plans::answer(self.alloc, &self.live, caller, per_paper, load)
     }
 
     /// The user whose registration has this name and this digest, and none exactly where nobody's has

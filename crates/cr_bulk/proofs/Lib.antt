@@ -1,3 +1,4 @@
 pub mod Fuel
+pub mod PlainRows
 pub mod ReadLaws
 pub mod RowLaws

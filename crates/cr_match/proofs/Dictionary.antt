@@ -22,15 +22,15 @@ comes_trans e f g h k = elim h [
   | inr a ↦ elim k [ inl b ↦ inl (omega (arith, a.0, b)) | inr b ↦ inr (a.0 ∙ b.0, omega (arith, a.1, b.1)) ]
 ]
 
-ascends_past : (e g : Pair) (gs : List Pair) → ComesAfter e g → Ascends g gs → Ascends e gs
+pub ascends_past : (e g : Pair) (gs : List Pair) → ComesAfter e g → Ascends g gs → Ascends e gs
 ascends_past e g [] c h = tt
 ascends_past e g (f ∷ fs) c h = (comes_trans e g f c h.0, h.1)
 
-ascends_rest : (e : Pair) (es : List Pair) → Ascends e es → IsAscending es
+pub ascends_rest : (e : Pair) (es : List Pair) → Ascends e es → IsAscending es
 ascends_rest e [] h = tt
 ascends_rest e (f ∷ fs) h = h.1
 
-kept_nothing : (bs : List Bool) → kept {X = Pair} bs [] ≡ []
+pub kept_nothing : (bs : List Bool) → kept {X = Pair} bs [] ≡ []
 kept_nothing [] = refl
 kept_nothing (b ∷ bs) = refl
 
@@ -41,7 +41,7 @@ none_length : length {A = Pair} [] ≡ 0
 none_length = refl
 
 -- the first of those that are kept comes after what comes before all
-kept_after : (e : Pair) (es : List Pair) (bs : List Bool) (f : Pair) (fs : List Pair) → Ascends e es → kept bs es ≡ f ∷ fs → ComesAfter e f
+pub kept_after : (e : Pair) (es : List Pair) (bs : List Bool) (f : Pair) (fs : List Pair) → Ascends e es → kept bs es ≡ f ∷ fs → ComesAfter e f
 kept_after e [] bs f fs h is =
     absurd (omega (arith, ap (λ (x : List Pair). length x) (sym (kept_nothing bs) ∙ is), some_length f fs, none_length))
 kept_after e (g ∷ gs) [] f fs h is = absurd (omega (arith, ap (λ (x : List Pair). length x) is, some_length f fs, none_length))

@@ -160,6 +160,8 @@ queries-told d a = record {
   decisions_to_account = refl;
   letter_none = refl;
   letter_to_others = refl;
+  plan_to_member = refl;
+  plan_early = refl;
 }
 
 bulks-told : (d : Digests) (a : Asides) → OfBulks d a

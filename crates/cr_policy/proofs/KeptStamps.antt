@@ -21,14 +21,13 @@ use Rattle.cr_base.specs.Calls.{BulkCall, stamp_by, stamp_of, call_of}
 use Rattle.cr_base.specs.Checks.{Check, judged, of_role, register_checks, phase_checks, deadline_checks, submit_checks, revise_checks, upload_checks}
 use Rattle.cr_base.specs.Checks.{name_checks, mode_checks, conflict_checks, bid_checks, assign_checks, unassign_checks}
 use Rattle.cr_base.specs.Checks.{review_checks, comment_checks, tag_checks, decide_checks}
-use Rattle.cr_base.specs.Deadlines.{deadline_in, is_past}
 use Rattle.cr_base.specs.Drawn.{Drawn, stamped, grouped, registration, registration_drawn, phase_drawn, submission, submission_drawn, revision_drawn, upload_drawn}
 use Rattle.cr_base.specs.Drawn.{withdrawal_drawn, naming_drawn, mode_drawn, conflict_drawn, bid_drawn, assignment_drawn, unassignment_drawn, review_drawn, comment_drawn, tag_drawn, decision_drawn, deadline_drawn}
 use Rattle.cr_base.specs.History.{History, all_told}
 use Rattle.cr_base.specs.Judging.{judge_by, judge_by_role}
 use Rattle.cr_base.specs.Lists.{at_some, listed}
 use Rattle.cr_base.specs.Sources.{Facts, Shown, facts_of_tables, shown_in_tables, number_in, user_among, users_among, role_among, paper_named, target_named, is_late}
-use Rattle.cr_base.specs.Stage.{StageState, stage_after}
+use Rattle.cr_base.specs.Stage.{StageState, is_late_in, stage_after}
 use Rattle.cr_base.specs.TagTexts.{is_for_chairs}
 use Rattle.cr_base.specs.Tables.{Tables, tables_after, tables_from, tables_of}
 use Rattle.cr_policy.specs.Legal.{unnumbered}
@@ -57,10 +56,6 @@ row-drawn facts shown stamp row drawn accepted = by (row_command row) refl accep
     by (Ok command) told accepted = own command told (turns_own_conflict facts stamp.maker command) refl accepted
 
 -- ---- what doesn't read the stamps
-
--- whether it is too late at that moment
-abbrev pub late_in : StageState → ℕ → Bool
-late_in stage at = is_past (deadline_in stage.deadlines stage.phase) at
 
 -- the moment that is kept of each
 module _ (time : ℕ → ℕ) where
@@ -200,7 +195,7 @@ module _ (time : ℕ → ℕ) where
 
   -- it is as late at the moments that are kept as at their own
   abbrev pub IsTimedAlike : StageState → Type 0
-  IsTimedAlike stage = (at : ℕ) → late_in stage (time at) ≡ late_in stage at
+  IsTimedAlike stage = (at : ℕ) → is_late_in stage (time at) ≡ is_late_in stage at
 
   row-alike : (stamp : Stamp) (t : Tables) (drawn : Drawn) → RowDraws stamp drawn → IsTimedAlike t.stage → IsTimedAlike (tables_from t drawn.group).stage
   row-alike stamp t drawn draws alike =

@@ -39,6 +39,7 @@ pub mod RemovedLaws
 pub mod RemovedRows
 pub mod ReceiptLaws
 pub mod ReportAgreement
+pub mod PlanAgreement
 pub mod ReviewTells
 pub mod ReviewAgreement
 pub mod RetryLaws
@@ -53,3 +54,6 @@ pub mod TalkAgreement
 pub mod Tells
 pub mod Walk
 pub mod WitnessLaws
+pub mod AccountNames
+pub mod PlanRows
+pub mod PlanTakenLaws

@@ -1,6 +1,6 @@
 -- A query is answered exactly where its sentence holds.
-use Rattle.std.proofs.Common.{ℕ, Bool, true, false, cond, ◌≡◌, List, [], ◌∷◌, eqb, refl, sym, ap, ◌∙◌, ◌||◌, ◌&&◌, arith, Option, Some, None}
-use Rattle.std.specs.Prelude.{not, is_some, find}
+use Rattle.std.proofs.Common.{ℕ, Bool, true, false, cond, ◌≡◌, ◌*◌, length, List, [], ◌∷◌, eqb, refl, sym, ap, ◌∙◌, ◌||◌, ◌&&◌, arith, Option, Some, None}
+use Rattle.std.specs.Prelude.{not, is_some, find, nat_le, nat_lt}
 use Rattle.std.specs.List.{list_any}
 use Rattle.std.specs.Option.{option_map}
 use Rattle.cr_base.specs.declared.command.Query.{Query}
@@ -9,20 +9,25 @@ use Rattle.cr_base.specs.declared.report.Report.{Report}
 use Rattle.cr_base.specs.declared.report.Report.TheVariants as reports
 use Rattle.cr_base.specs.declared.words.Decision.{Decision}
 use Rattle.cr_base.specs.declared.words.Phase.TheVariants.{Reviewing, Closed}
-use Rattle.cr_base.specs.Answering.{upload_of, uploads_told, content_by, content_asked}
+use Rattle.std.proofs.lemmas.Bool.Decides.{nat_tests}
+use Rattle.cr_base.specs.Answering.{upload_of, uploads_told, content_by, content_asked, plan_asked}
 use Rattle.cr_base.specs.Lists.{is_number}
 use Rattle.cr_base.specs.History.{History, Upload}
 use Rattle.cr_base.specs.HistoryFacts.{phase_of, role_of, is_conflicted, is_withdrawn, is_author, is_reviewer, authors_of, uploads_of}
 use Rattle.cr_base.specs.HistoryFacts.{is_accepted, is_conflict_on}
-use Rattle.cr_base.specs.Phases.{members_see_papers, chairs_see_reviewers, reviewers_read_own, members_read_reviews, members_read_comments, members_read_decisions, authors_read_reviews, letters_are_sent, papers_may_be_accepted, papers_are_published}
+use Rattle.cr_base.specs.Plans.{PlanPair, planned_papers, planned_members, best_plan, plan_reply}
+use Rattle.cr_base.specs.Sources.{Facts, Shown, facts_of_tables, shown_in_tables}
+use Rattle.cr_base.specs.Tables.{tables_of}
+use Rattle.cr_base.specs.Phases.{committee_works, members_see_papers, chairs_see_reviewers, reviewers_read_own, members_read_reviews, members_read_comments, members_read_decisions, authors_read_reviews, letters_are_sent, papers_may_be_accepted, papers_are_published}
 use Rattle.cr_base.specs.Words.{is_member, is_chair}
 use Rattle.cr_history.proofs.RuleLaws.{facts_of}
 use Rattle.cr_policy.specs.Legal.{Legal}
 use Rattle.cr_policy.specs.View.{view}
 use Rattle.cr_policy.specs.Judge.{answer, needs_login}
-use Rattle.cr_policy.specs.MayRead.{has_version, may_read_reviews, may_read_comments, may_report, reads_content, is_told, is_answered_to, ReadingAsSaid}
-use Rattle.cr_policy.proofs.SentenceLaws.{none_broken, phase-same, member-same, chair-same, over-same, discussed-same, closed-same, begun-same, shown_of, facts-same, answered-as, answered-checks}
-use Rattle.cr_policy.proofs.LegalLaws.{Legal-needs_login}
+use Rattle.cr_policy.specs.MayRead.{has_version, may_read_reviews, may_read_comments, may_report, may_plan, reads_content, is_told, is_answered_to, ReadingAsSaid}
+use Rattle.cr_policy.proofs.SentenceLaws.{none_broken, judged-both, phase-same, member-same, chair-same, in_committee-same, over-same, discussed-same, closed-same, begun-same, shown_of, facts-same}
+use Rattle.cr_policy.proofs.SentenceLaws.{answered-as, answered-checks}
+use Rattle.cr_policy.proofs.LegalLaws.{Legal-answer, Legal-needs_login}
 use Rattle.cr_base.specs.Answering.{login_wanted}
 use Rattle.cr_base.specs.Decisions.{is_published}
 use Rattle.cr_base.specs.HistoryFacts.{decision_of}
@@ -30,7 +35,7 @@ use Rattle.cr_base.specs.Words.{is_accept}
 use Rattle.cr_base.specs.Lists.{last, last_from, listed, is_nothing}
 use Rattle.std.specs.Option.{option_map_or}
 use Rattle.cr_base.specs.declared.words.Decision.TheVariants.{Accept, Reject}
-use Rattle.cr_policy.specs.Sentences.{now, before_bidding, is_over, from_discussion, is_members, is_chairs, on_committee, is_paper, accepts, is_in, is_public}
+use Rattle.cr_policy.specs.Sentences.{now, chairs, committee_at_work, before_bidding, is_over, from_discussion, is_members, is_chairs, on_committee, is_paper, accepts, is_in, is_public}
 use Rattle.cr_policy.specs.Sentences.{wrote, of_some}
 
 -- ---- words
@@ -185,6 +190,35 @@ module _ (w : ℕ) (H : History) (legal : Legal H) where
       said : (t a o o' : Bool) → o ≡ o' → (not (not t) && (not (not a) && (not (not o) && true))) ≡ (t && a && o')
       said t a o o' ho = grind arith
 
+  -- a plan: a role, the phases, its size, and whether there is one
+  plan-said : (k k' w w' l1 l2 s1 s2 p : Bool) → k ≡ k' → w ≡ w' → l1 ≡ not s1 → l2 ≡ not s2
+      → ((not (not k) && (not (not w) && (not (l1 || l2) && true))) && p) ≡ (k' && w' && (s1 && s2 && p))
+  plan-said k k' w w' l1 l2 s1 s2 p hk hw h1 h2 = grind arith
+
+  is-more : (most n : ℕ) → nat_lt most n ≡ not (nat_le n most)
+  is-more most n = grind (arith, nat_tests)
+
+  told-plan : (plan : Option (List PlanPair)) → is_told (plan_reply plan) ≡ is_some plan
+  told-plan None = refl
+  told-plan (Some plan) = refl
+
+  plans-read : (per_paper load : ℕ) → is_told (answer u (view u H) (queries.Plan per_paper load)) ≡ may_plan w H per_paper load
+  plans-read per_paper load =
+      let facts : Facts = facts_of_tables (tables_of H) u in
+      let shown : Shown = shown_in_tables (tables_of H) in
+      let papers : ℕ = length (planned_papers facts shown per_paper) in
+      let members : ℕ = length (planned_members facts) in
+      let role : role_of u H ≡ (facts.standing None).role = ap (λ (f : Facts). (f.standing None).role) (facts-same u H legal) in
+      let phase : phase_of H ≡ (facts.standing None).phase = ap (λ (f : Facts). (f.standing None).phase) (facts-same u H legal) in
+      ap is_told (Legal-answer u H (queries.Plan per_paper load) legal)
+      ∙ judged-both (plan_asked facts shown per_paper) (plan_reply (best_plan facts shown per_paper load))
+      ∙ ap (λ (b : Bool). none_broken (plan_asked facts shown per_paper) && b) (told-plan (best_plan facts shown per_paper load))
+      ∙ plan-said (is_chair (facts.standing None).role) (chairs w H) (committee_works (facts.standing None).phase) (committee_at_work H)
+      (nat_lt 512 (per_paper * papers)) (nat_lt 4096 (papers * members)) (nat_le (per_paper * papers) 512) (nat_le (papers * members) 4096)
+      (is_some (best_plan facts shown per_paper load))
+      (sym (ap is_chair role) ∙ chair-same (role_of u H)) (sym (ap committee_works phase) ∙ in_committee-same (phase_of H))
+      (is-more 512 (per_paper * papers)) (is-more 4096 (papers * members))
+
 -- ---- nobody
 
 -- what nobody is asked for a login of: the page and the content of a published paper
@@ -277,6 +311,7 @@ reading_as_said None H (queries.Report reports.Scores) legal = never H legal (qu
 reading_as_said None H (queries.Report reports.Load) legal = never H legal (queries.Report reports.Load) (never_some H)
 reading_as_said None H (queries.Report reports.Decisions) legal = never H legal (queries.Report reports.Decisions) (never_some H)
 reading_as_said None H (queries.Report (reports.Letter paper)) legal = never H legal (queries.Report (reports.Letter paper)) (never_some H)
+reading_as_said None H (queries.Plan per_paper load) legal = never H legal (queries.Plan per_paper load) (never_some H)
 reading_as_said (Some w) H queries.Me legal = answered-as (Some w) H legal queries.Me
 reading_as_said (Some w) H queries.Accounts legal = answered-as (Some w) H legal queries.Accounts
 reading_as_said (Some w) H queries.Phase legal = answered-as (Some w) H legal queries.Phase
@@ -294,3 +329,4 @@ reading_as_said (Some w) H (queries.Comments paper) legal = comments-read w H le
 reading_as_said (Some w) H (queries.Search search true) legal = answered-as (Some w) H legal (queries.Search search true)
 reading_as_said (Some w) H (queries.Search search false) legal = answered-as (Some w) H legal (queries.Search search false)
 reading_as_said (Some w) H (queries.Report report) legal = reports-read w H legal report
+reading_as_said (Some w) H (queries.Plan per_paper load) legal = plans-read w H legal per_paper load

@@ -50,6 +50,8 @@ use Rattle.cr_policy.proofs.PageTells.{conflicts-seen}
 use Rattle.cr_policy.proofs.FactAgreement.{facts_in_view-tables, title-tables, abstract-tables, authors-tables, withdrawn-tables, uploads-tables}
 use Rattle.cr_policy.proofs.FactAgreement.{decision_by-tables}
 use Rattle.cr_policy.proofs.ReportAgreement.{passed, map-same, report-tables}
+use Rattle.cr_base.specs.Plans.{best_plan, planned_papers}
+use Rattle.cr_policy.proofs.PlanAgreement.{best-same, papers-same, plan-tables}
 use Rattle.cr_policy.proofs.ReviewAgreement.{reviewers-tables, reviews-tables}
 use Rattle.cr_policy.proofs.TalkAgreement.{comments-tables, tags-tables}
 
@@ -291,6 +293,23 @@ module _ (u : Option ℕ) (H : History) (kept : Invariants H) (told : AreTold H)
   answer-shown (queries.Comments paper) = ap reply_or_rule (comments-same paper)
   answer-shown (queries.Search search only_count) = search-same search only_count
   answer-shown (queries.Report report) = ap reply_or_rule (report-tables u H told forms report)
+  answer-shown (queries.Plan per_paper load) =
+      ap reply_or_rule
+      (plan-tables u H told forms (λ p may. conflicts-tables u H p kept.fits told (ap gets_conflicts (told.standing u (Some p)) ∙ may))
+      (λ p may. bids-tables u H told kept.in_order p may) per_paper load)
+
+  -- and the plan is the same for a chair, from the bidding on
+  pub papers-tables : (per_paper : ℕ) → is_chair (facts.standing None).role ≡ true → members_see_papers (facts.standing None).phase ≡ true
+      → planned_papers facts shown per_paper ≡ planned_papers facts tabled per_paper
+  papers-tables per_paper serves begun =
+      papers-same u H told forms (λ p may. conflicts-tables u H p kept.fits told (ap gets_conflicts (told.standing u (Some p)) ∙ may))
+      (λ p may. bids-tables u H told kept.in_order p may) serves begun per_paper
+
+  pub best-tables : (per_paper load : ℕ) → is_chair (facts.standing None).role ≡ true → members_see_papers (facts.standing None).phase ≡ true
+      → best_plan facts shown per_paper load ≡ best_plan facts tabled per_paper load
+  best-tables per_paper load serves begun =
+      best-same u H told forms (λ p may. conflicts-tables u H p kept.fits told (ap gets_conflicts (told.standing u (Some p)) ∙ may))
+      (λ p may. bids-tables u H told kept.in_order p may) serves begun per_paper load
 
   -- and so is the answer
   pub answer-tables : (query : Query) → answer u (view u H) query ≡ answer_by_role (tables_of H) u query

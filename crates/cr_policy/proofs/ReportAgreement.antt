@@ -57,12 +57,12 @@ pub map-same : {A B : Type 0} (P : A → Type 0) (f g : A → B) → ((x : A) �
 map-same P f g same [] all = refl
 map-same P f g same (x ∷ xs) all = let rest = map-same P f g same xs all.1 in λ i. same x all.0 i ∷ rest i
 
-flat_map-same : {A B : Type 0} (P : A → Type 0) (f g : A → List B) → ((x : A) → P x → f x ≡ g x) → (xs : List A) → AllByRecursion P xs
+pub flat_map-same : {A B : Type 0} (P : A → Type 0) (f g : A → List B) → ((x : A) → P x → f x ≡ g x) → (xs : List A) → AllByRecursion P xs
     → flat_map f xs ≡ flat_map g xs
 flat_map-same P f g same [] all = refl
 flat_map-same P f g same (x ∷ xs) all = let rest = flat_map-same P f g same xs all.1 in λ i. same x all.0 i ++ rest i
 
-filter-same : {A : Type 0} (P : A → Type 0) (f g : A → Bool) → ((x : A) → P x → f x ≡ g x) → (xs : List A) → AllByRecursion P xs → filter f xs ≡ filter g xs
+pub filter-same : {A : Type 0} (P : A → Type 0) (f g : A → Bool) → ((x : A) → P x → f x ≡ g x) → (xs : List A) → AllByRecursion P xs → filter f xs ≡ filter g xs
 filter-same P f g same [] all = refl
 filter-same P f g same (x ∷ xs) all = let rest = filter-same P f g same xs all.1 in λ i. cond (same x all.0 i) (x ∷ rest i) (rest i)
 
@@ -108,13 +108,13 @@ module _ (u : Option ℕ) (H : History) (told : AreTold H) (forms : AreFormsTold
   here = facts.standing None
 
   -- she is in no conflict with the paper
-  abbrev IsClear : ℕ → Type 0
+  abbrev pub IsClear : ℕ → Type 0
   IsClear p = is_clear_of facts p ≡ true
 
   clear-clear : AllByRecursion IsClear (clear_papers facts)
   clear-clear = passed (is_clear_of facts) facts.papers
 
-  open-clear : AllByRecursion IsClear (open_papers facts tabled)
+  pub open-clear : AllByRecursion IsClear (open_papers facts tabled)
   open-clear = AllByRecursion-filter IsClear (λ (p : ℕ). not (tabled.withdrawn p)) (clear_papers facts) clear-clear
 
   -- ---- what members are told from the bidding on of every paper
@@ -134,7 +134,7 @@ module _ (u : Option ℕ) (H : History) (told : AreTold H) (forms : AreFormsTold
         gets : (a m b accepted : Bool) → m ≡ true → b ≡ true → (a || (m && b) || accepted) ≡ true
         gets a m b accepted hm hb = grind arith
 
-    open-same : open_papers facts shown ≡ open_papers facts tabled
+    pub open-same : open_papers facts shown ≡ open_papers facts tabled
     open-same = λ i. filter (λ (p : ℕ). not (withdrawn-same p i)) (clear_papers facts)
 
     papers-same : papers_told facts shown ≡ papers_told facts tabled
@@ -214,7 +214,7 @@ module _ (u : Option ℕ) (H : History) (told : AreTold H) (forms : AreFormsTold
   -- ---- what chairs in no conflict with a paper are told from the bidding on
 
   module _ (serves : is_chair here.role ≡ true) (begun : chairs_see_reviewers here.phase ≡ true) where
-    clear_chair : (p : ℕ) → IsClear p → is_clear_chair (to p) ≡ true
+    pub clear_chair : (p : ℕ) → IsClear p → is_clear_chair (to p) ≡ true
     clear_chair p clear = both (is_chair here.role) (to p).conflicted serves clear
       where
         both : (k c : Bool) → k ≡ true → not c ≡ true → (k && not c) ≡ true

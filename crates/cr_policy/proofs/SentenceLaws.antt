@@ -73,6 +73,16 @@ judged-told (check ∷ checks) reply tells = by check.broken (judged-told checks
     by true rest = refl
     by false rest = rest
 
+-- and so is one whose reply may be a rule, where it isn't
+pub judged-both : (checks : List Check) (reply : Reply) → is_told (reply_or_rule (judged checks reply)) ≡ (none_broken checks && is_told reply)
+judged-both [] reply = refl
+judged-both (check ∷ checks) reply = by check.broken (judged-both checks reply)
+  where
+    by : (b : Bool) → is_told (reply_or_rule (judged checks reply)) ≡ (none_broken checks && is_told reply)
+        → is_told (reply_or_rule (cond b (Err check.rule) (judged checks reply))) ≡ ((not b && none_broken checks) && is_told reply)
+    by true rest = refl
+    by false rest = rest
+
 -- ---- words
 
 pub phase-same : (a b : Phase) → is_phase b a ≡ is_it a b

@@ -285,6 +285,9 @@ pub record OfQueries (d : Digests) (a : Asides) : Type 0 where
   pub decisions_to_account : Unanswered erin (bidding d a) (queries.Report reports.Decisions) rules.NotMember
   pub letter_none : Unanswered erin (bidding d a) (queries.Report (reports.Letter (Some 9))) rules.NoPaper
   pub letter_to_others : Unanswered dave (bidding d a) (queries.Report (reports.Letter (Some 1))) rules.NotAuthor
+  -- plans: not_chair, wrong_phase, and behind them no_plan
+  pub plan_to_member : Unanswered dave (submission d a) (queries.Plan 1 1) rules.NotChair
+  pub plan_early : Unanswered alice (submission d a) (queries.Plan 20 1) rules.WrongPhase
 
 -- ---- bulks
 

@@ -12,6 +12,7 @@ pub mod Sentences
 pub mod MayDo
 pub mod MayRead
 pub mod MayBulk
+pub mod PlansTaken
 pub mod Added
 pub mod ShownTo
 -- ---- bounds of views

@@ -1,6 +1,7 @@
 -- Who may read what, said a second time: for each query one sentence, as a committee says it, written from
 -- docs/API.md and not from the lists of checks.
-use Rattle.std.specs.Prelude.{ℕ, Bool, true, false, not, ◌&&◌, ◌||◌, ◌==◌, ◌≡◌, List, Option, Some, None, is_some}
+use Rattle.std.specs.Prelude.{ℕ, Bool, true, false, not, ◌&&◌, ◌||◌, ◌==◌, ◌≡◌, ◌*◌, nat_le, List, length, Option}
+use Rattle.std.specs.Prelude.{Some, None, is_some}
 use Rattle.std.specs.List.{list_any}
 use Rattle.std.specs.Option.{option_map_or}
 use Rattle.cr_base.specs.declared.command.Query.{Query}
@@ -13,10 +14,13 @@ use Rattle.cr_base.specs.declared.words.Phase.TheVariants.{Reviewing}
 use Rattle.cr_base.specs.History.{History, Upload}
 use Rattle.cr_base.specs.HistoryFacts.{uploads_of}
 use Rattle.cr_base.specs.Lists.{last, is_nothing}
+use Rattle.cr_base.specs.Plans.{planned_papers, planned_members, best_plan}
+use Rattle.cr_base.specs.Sources.{Facts, Shown, facts_of_tables, shown_in_tables}
+use Rattle.cr_base.specs.Tables.{tables_of}
 use Rattle.cr_policy.specs.Judge.{answer, needs_login}
 use Rattle.cr_policy.specs.Legal.{Legal}
-use Rattle.cr_policy.specs.Sentences.{now, before_bidding, is_over, from_discussion, on_committee, chairs, is_paper}
-use Rattle.cr_policy.specs.Sentences.{is_in, is_public, wrote, is_eligible, reviews, of_some}
+use Rattle.cr_policy.specs.Sentences.{now, before_bidding, is_over, from_discussion, committee_at_work, on_committee, chairs}
+use Rattle.cr_policy.specs.Sentences.{is_paper, is_in, is_public, wrote, is_eligible, reviews, of_some}
 use Rattle.cr_policy.specs.View.{view}
 
 -- ---- a paper
@@ -58,6 +62,21 @@ may_report u H reports.Load = chairs u H && not (before_bidding H)
 may_report u H reports.Decisions = on_committee u H && from_discussion H
 may_report u H (reports.Letter paper) = of_some paper (λ p. is_paper p H && wrote u p H && is_over H)
 
+-- ---- plans
+
+-- chairs get a plan while the committee works, where there is one, unless it would have more than 512 places, or the
+-- papers planned times the members pass 4,096
+abbrev pub may_plan_by : Facts → Shown → ℕ → ℕ → Bool
+may_plan_by facts shown per_paper load =
+    let papers = length (planned_papers facts shown per_paper) in
+    nat_le (per_paper * papers) 512 && nat_le (papers * length (planned_members facts)) 4096
+    && is_some (best_plan facts shown per_paper load)
+
+abbrev pub may_plan : ℕ → History → ℕ → ℕ → Bool
+may_plan u H per_paper load =
+    chairs u H && committee_at_work H
+    && may_plan_by (facts_of_tables (tables_of H) (Some u)) (shown_in_tables (tables_of H)) per_paper load
+
 -- ---- all of them
 
 -- a content is read by everyone once the paper is published
@@ -85,6 +104,7 @@ may_read caller H (queries.Reviews paper) =
 may_read caller H (queries.Comments paper) =
     of_some caller (λ u. of_some paper (λ p. is_paper p H && may_read_comments u H p))
 may_read caller H (queries.Report report) = of_some caller (λ u. may_report u H report)
+may_read caller H (queries.Plan per_paper load) = of_some caller (λ u. may_plan u H per_paper load)
 
 -- ---- the law
 

@@ -34,6 +34,7 @@ ghost use Rattle.cr_policy.specs.Laws.{ViewSuffices, DeclaredFromView, LegalKeep
 ghost use Rattle.cr_policy.specs.SingleRows.{BulkIsItsRows};
 ghost use Rattle.cr_policy.specs.FirstTold.{FirstTold};
 ghost use Rattle.cr_policy.specs.GoesOn.{GoesOn};
+ghost use Rattle.cr_policy.specs.PlansTaken.{PlansTaken};
 ghost use Rattle.cr_policy.specs.Added.{AddsAsSaid};
 ghost use Rattle.cr_policy.specs.MayBulk.{RowsAsSaid, BulksAsSaid};
 ghost use Rattle.cr_policy.specs.MayDo.{PermissionsAsSaid};
@@ -119,6 +120,12 @@ pub fn law_first_told()
 /// chair; and before the close there is a next phase, and her request for it is accepted.
 pub fn law_goes_on()
     ensures { GoesOn }
+{}
+
+/// A plan is taken: on a legal history the rows of the plan that a chair is told, given as a bulk of hers with nothing
+/// between, are accepted, at whatever moment, with a number or without.
+pub fn law_plans_taken()
+    ensures { PlansTaken }
 {}
 
 /// Whom a paper's authors declared in conflict with it can be read off the view of any of them, on a

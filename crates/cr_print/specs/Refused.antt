@@ -9,7 +9,7 @@ use Rattle.cr_base.specs.declared.reply.Rule.TheVariants.{NotAMember, Conflict, 
 use Rattle.cr_base.specs.declared.reply.Rule.TheVariants.{NoContent, AuthorConflict, TargetConflict}
 use Rattle.cr_base.specs.declared.reply.Rule.TheVariants.{AlreadyAssigned, LabelsSpent, NotAssigned}
 use Rattle.cr_base.specs.declared.reply.Rule.TheVariants.{HasReview, NotReviewer, QuotaComments}
-use Rattle.cr_base.specs.declared.reply.Rule.TheVariants.{BadAction, BadTag, BulkSelf, Late, NumberUsed}
+use Rattle.cr_base.specs.declared.reply.Rule.TheVariants.{BadAction, BadTag, BulkSelf, Late, NumberUsed, PlanTooLarge, NoPlan}
 use Rattle.cr_http.specs.declared.refusal.Refusal.{Refusal}
 use Rattle.cr_http.specs.declared.refusal.Refusal.TheVariants.{HeadTooLarge, BadHttp, NoHost}
 use Rattle.cr_http.specs.declared.refusal.Refusal.TheVariants.{LengthRequired, BadLength, TooLarge}
@@ -61,6 +61,8 @@ rule_name BadTag = codes "bad_tag"
 rule_name BulkSelf = codes "bulk_self"
 rule_name Late = codes "late"
 rule_name NumberUsed = codes "number_used"
+rule_name PlanTooLarge = codes "plan_too_large"
+rule_name NoPlan = codes "no_plan"
 
 unfoldable pub refused_name : Refused → List ℕ
 refused_name (Closing refusal) = closing_name refusal
@@ -113,6 +115,8 @@ rule_status BadTag = statuses.Conflict
 rule_status BulkSelf = statuses.Conflict
 rule_status Late = statuses.Conflict
 rule_status NumberUsed = statuses.Conflict
+rule_status PlanTooLarge = statuses.Conflict
+rule_status NoPlan = statuses.Conflict
 
 unfoldable pub refused_status : Refused → Status
 refused_status (Closing refusal) = closing_status refusal

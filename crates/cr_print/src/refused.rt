@@ -89,6 +89,8 @@ fn rule_name(rule: Rule) -> &'static str
         Rule::BulkSelf => "bulk_self",
         Rule::Late => "late",
         Rule::NumberUsed => "number_used",
+        Rule::PlanTooLarge => "plan_too_large",
+        Rule::NoPlan => "no_plan",
     }
 }
 
@@ -155,7 +157,9 @@ fn rule_status(rule: Rule) -> Status
         | Rule::BadTag
         | Rule::BulkSelf
         | Rule::Late
-        | Rule::NumberUsed => Status::Conflict,
+        | Rule::NumberUsed
+        | Rule::PlanTooLarge
+        | Rule::NoPlan => Status::Conflict,
     }
 }
 

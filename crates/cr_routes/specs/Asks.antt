@@ -46,6 +46,7 @@ route_at at.ScoresReport Get = Some asks.ScoresReport
 route_at at.LoadReport Get = Some asks.LoadReport
 route_at at.DecisionsReport Get = Some asks.DecisionsReport
 route_at at.Letter Get = Some asks.Letter
+route_at at.Plan Get = Some asks.Plan
 route_at _ _ = None
 
 -- HEAD asks for what GET does

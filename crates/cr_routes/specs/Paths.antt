@@ -7,7 +7,7 @@ use Rattle.cr_routes.specs.declared.resource.Resource.TheVariants.{Papers, Paper
 use Rattle.cr_routes.specs.declared.resource.Resource.TheVariants.{Conflicts, Bid, Reviewers, Reviewer}
 use Rattle.cr_routes.specs.declared.resource.Resource.TheVariants.{Review, Reviews, Comments, Tag, Decision, Bulk}
 use Rattle.cr_routes.specs.declared.resource.Resource.TheVariants.{PapersReport, ScoresReport}
-use Rattle.cr_routes.specs.declared.resource.Resource.TheVariants.{LoadReport, DecisionsReport, Letter}
+use Rattle.cr_routes.specs.declared.resource.Resource.TheVariants.{LoadReport, DecisionsReport, Letter, Plan}
 
 -- each path, with its resource; a parameter is written in braces. They stand in the order in which the router keeps
 -- them: by their bytes, a path behind those that it is the start of
@@ -34,6 +34,7 @@ paths =
     (codes "/papers/{p}", Paper) ∷
     (codes "/papers", Papers) ∷
     (codes "/phase", Phase) ∷
+    (codes "/plan", Plan) ∷
     (codes "/register", Register) ∷
     (codes "/reports/decisions", DecisionsReport) ∷
     (codes "/reports/letter/{p}", Letter) ∷

@@ -63,6 +63,8 @@ pub enum Resource {
     DecisionsReport,
     /// `/reports/letter/{p}`: one part of any bytes, at least one, follows `/reports/letter/`.
     Letter,
+    /// `/plan`
+    Plan,
 }
 
 impl Resource {
@@ -89,6 +91,7 @@ impl Resource {
             Resource::LoadReport => Some(Ask::LoadReport),
             Resource::DecisionsReport => Some(Ask::DecisionsReport),
             Resource::Letter => Some(Ask::Letter),
+            Resource::Plan => Some(Ask::Plan),
             _ => None,
         }
     }
@@ -137,7 +140,7 @@ impl Resource {
             Resource::Accepted | Resource::Accounts | Resource::Me => "GET, HEAD",
             Resource::Version | Resource::Reviews | Resource::Search => "GET, HEAD",
             Resource::PapersReport | Resource::ScoresReport | Resource::LoadReport => "GET, HEAD",
-            Resource::DecisionsReport | Resource::Letter => "GET, HEAD",
+            Resource::DecisionsReport | Resource::Letter | Resource::Plan => "GET, HEAD",
             Resource::Paper => "DELETE, GET, HEAD, PUT",
             Resource::Content => "GET, HEAD, PUT",
             Resource::Phase | Resource::Deadlines | Resource::Comments => "GET, HEAD, POST",

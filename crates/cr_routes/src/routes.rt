@@ -9,7 +9,7 @@ use matchit::{InsertError, Router};
 use std::alloc::{AllocError, Global};
 
 /// As `paths` lists them.
-static PATHS: [(&str, Resource); 28] = [
+static PATHS: [(&str, Resource); 29] = [
     ("/accepted", Resource::Accepted),
     ("/accounts", Resource::Accounts),
     ("/assign", Resource::Bulk),
@@ -31,6 +31,7 @@ static PATHS: [(&str, Resource); 28] = [
     ("/papers/{p}", Resource::Paper),
     ("/papers", Resource::Papers),
     ("/phase", Resource::Phase),
+    ("/plan", Resource::Plan),
     ("/register", Resource::Register),
     ("/reports/decisions", Resource::DecisionsReport),
     ("/reports/letter/{p}", Resource::Letter),

@@ -54,7 +54,7 @@ wish-draws H w d is = by w.what refl (is_unauthorized u V w.what) refl is
     by (whats.WrongMethod resource) at false test e = none e
     by (whats.BadNumber ask) at false test e = none e
     by (whats.BadBody ask) at false test e = none e
-    by (whats.BadQuery offset) at false test e = none e
+    by (whats.BadQuery ask offset) at false test e = none e
     by (whats.Query query) at false test e = none e
 
 -- and it is told its receipt

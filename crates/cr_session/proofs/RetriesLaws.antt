@@ -111,7 +111,7 @@ module _ (H : History) (w : Wish) (user : ℕ) (key : RetryKey) (call : KeptCall
   repeat-told (whats.WrongMethod resource) is has = absurd (cc (has))
   repeat-told (whats.BadNumber ask) is has = absurd (cc (has))
   repeat-told (whats.BadBody ask) is has = absurd (cc (has))
-  repeat-told (whats.BadQuery offset) is has = absurd (cc (has))
+  repeat-told (whats.BadQuery ask offset) is has = absurd (cc (has))
   repeat-told (whats.Query query) is has = absurd (cc (has))
 
 -- two keys of one number and one mark

@@ -125,9 +125,9 @@ pub bad_body : (w : Wish) (u : Option ℕ) (b : Ledger) (ask : Ask) → MayWish 
     → AnswersWish (turns.Refused refused.BadBody) w b b
 bad_body w u b ask wishes = refused-turn refused.BadBody w u (whats.BadBody ask) b wishes (λ close. refl) refl
 
-pub bad_query : (w : Wish) (u : Option ℕ) (b : Ledger) (offset : ℕ) → MayWish b.history w u (whats.BadQuery offset)
+pub bad_query : (w : Wish) (u : Option ℕ) (b : Ledger) (ask : Ask) (offset : ℕ) → MayWish b.history w u (whats.BadQuery ask offset)
     → AnswersWish (turns.Refused (refused.BadQuery offset)) w b b
-bad_query w u b offset wishes = refused-turn (refused.BadQuery offset) w u (whats.BadQuery offset) b wishes (λ close. refl) refl
+bad_query w u b ask offset wishes = refused-turn (refused.BadQuery offset) w u (whats.BadQuery ask offset) b wishes (λ close. refl) refl
 
 -- ---- commands and bulks
 
@@ -229,7 +229,7 @@ query-turn (turns.Answered reply) w u query b wishes j = (
     steady = refl;
   },
   refl,
-  λ long. may-want b.history w u (whats.Query query) wishes (λ rule e. not_refused reply (answer u (view u b.history) query) rule long j e),
+  λ long. may-want b.history w u (whats.Query query) wishes (λ rule other e. not_refused reply (answer u (view u b.history) query) rule long j e),
 )
 query-turn turns.Lost w u query b wishes j = absurd j
 query-turn turns.OutOfMemory w u query b wishes j = (refl, may-want b.history w u (whats.Query query) wishes j)

@@ -57,7 +57,7 @@ served_to u V at sending NoRoute = refusal_text refused.NoRoute sending
 served_to u V at sending (WrongMethod resource) = refusal_text (refused.WrongMethod resource) sending
 served_to u V at sending (BadNumber ask) = refusal_text refused.BadNumber sending
 served_to u V at sending (BadBody ask) = refusal_text refused.BadBody sending
-served_to u V at sending (BadQuery offset) = refusal_text (refused.BadQuery offset) sending
+served_to u V at sending (BadQuery ask offset) = refusal_text (refused.BadQuery offset) sending
 served_to u V at sending (Command key command) =
     reply_text (reply_of (as_bulk (decide V (call_of u at key command)))) sending
 served_to u V at sending (Bulk key rows) =
@@ -91,7 +91,7 @@ drawn_of u V at NoRoute = None
 drawn_of u V at (WrongMethod resource) = None
 drawn_of u V at (BadNumber ask) = None
 drawn_of u V at (BadBody ask) = None
-drawn_of u V at (BadQuery offset) = None
+drawn_of u V at (BadQuery ask offset) = None
 drawn_of u V at (Command key command) = drawn_by (decide V (call_of u at key command))
 drawn_of u V at (Bulk key rows) = drawn_by (decide_bulk V (bulk_by (maker_of u) at key rows))
 drawn_of u V at (Query query) = None

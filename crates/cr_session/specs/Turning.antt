@@ -1,14 +1,13 @@
 -- What one turn and one request do.
 use mathlib.Core.List.{IsPrefix}
-use Rattle.std.specs.Prelude.{◌≡◌, ◌≢◌, ℕ, List, [], ◌∷◌, ◌++◌, Bool, true, false}
+use Rattle.std.specs.Prelude.{◌≡◌, ℕ, List, [], ◌∷◌, ◌++◌, Bool, true, false}
 use Rattle.std.specs.Prelude.{Option, Some, None, IsSome, Err}
 use Rattle.cr_base.specs.declared.bulk.Broken.{Broken}
 use Rattle.cr_base.specs.declared.bulk.Broken.TheVariants as broken
 use Rattle.cr_base.specs.declared.bulk.BulkRow.{BulkRow}
 use Rattle.cr_base.specs.declared.command.Query.{Query}
-use Rattle.cr_base.specs.declared.reply.Reply.TheVariants as replies
-use Rattle.cr_base.specs.declared.reply.Rule.{Rule}
 use Rattle.cr_base.specs.declared.retry.RetryKey.{RetryKey}
+use Rattle.cr_base.specs.Answering.{MayTakeMemory}
 use Rattle.cr_base.specs.Calls.{call_of, bulk_by, maker_of}
 use Rattle.cr_base.specs.Moments.{IsMoment}
 use Rattle.cr_base.specs.Retries.{Outcome, Judged, drawn_by}
@@ -63,18 +62,19 @@ abbrev pub turn_block : TurnResult → Sending → List ℕ
 turn_block (turns.Answered reply) sending = block_text sending reply
 turn_block turn sending = []
 
--- Answer doesn't refuse the query
+-- Answer doesn't refuse the query, or refuses it since there is no plan, which memory finds
 abbrev pub IsUnrefused : Option ℕ → View → Query → Type 0
-IsUnrefused u V query = (rule : Rule) → answer u V query ≢ replies.Refused rule
+IsUnrefused u V query = MayTakeMemory (answer u V query)
 
 -- memory may run out in the turn of what a caller wishes on her view at this moment: for a command or a bulk that is
--- judged and accepted, so not for one that repeats another, and for a query that Answer doesn't refuse
+-- judged and accepted, so not for one that repeats another, and for a query that Answer doesn't refuse, or that asks
+-- for a plan where there is none
 abbrev pub WantsRoom : Option ℕ → View → ℕ → What → Type 0
 WantsRoom u V at whats.NoRoute = ⊥
 WantsRoom u V at (whats.WrongMethod resource) = ⊥
 WantsRoom u V at (whats.BadNumber ask) = ⊥
 WantsRoom u V at (whats.BadBody ask) = ⊥
-WantsRoom u V at (whats.BadQuery offset) = ⊥
+WantsRoom u V at (whats.BadQuery ask offset) = ⊥
 WantsRoom u V at (whats.Command key command) = IsSome (drawn_by (decide V (call_of u at key command)))
 WantsRoom u V at (whats.Bulk key rows) = IsSome (drawn_by (decide_bulk V (bulk_by (maker_of u) at key rows)))
 WantsRoom u V at (whats.Query query) = IsUnrefused u V query

@@ -59,8 +59,8 @@ pub(crate) fn in_turn<R: Wait, K: Keeper>(
 
 /// Judges or answers a wish. Takes no memory on a refusal, nor for a command or a bulk that repeats one of its
 /// caller's: `TurnResult::OutOfMemory` comes only for a command or a bulk that is judged and accepted and for a query
-/// that isn't refused, and then nothing changed. Who calls is asked first, by one look-up by name; whoever can't be
-/// told from nobody is refused alike where a login is wanted.
+/// that isn't refused, or refused since there is no plan, and then nothing changed. Who calls is asked first, by one
+/// look-up by name; whoever can't be told from nobody is refused alike where a login is wanted.
 pub(crate) fn take_turn<K: Keeper>(book: &mut Book<K>, wish: Wish) -> TurnResult
     requires { IsBoundedWish wish }
     ensures { Turns result wish (ledger_of K.faults book.old) (ledger_of K.faults book.new) }
@@ -78,7 +78,7 @@ pub(crate) fn take_turn<K: Keeper>(book: &mut Book<K>, wish: Wish) -> TurnResult
         What::WrongMethod(resource) => TurnResult::Refused(Refused::WrongMethod(resource)),
         What::BadNumber(_) => TurnResult::Refused(Refused::BadNumber),
         What::BadBody(_) => TurnResult::Refused(Refused::BadBody),
-        What::BadQuery { offset } => TurnResult::Refused(Refused::BadQuery { offset }),
+        What::BadQuery { offset, .. } => TurnResult::Refused(Refused::BadQuery { offset }),
         What::Command { key, command } => judge(book, &caller, command, at, key),
         What::Bulk { key, rows } => judge_bulk(book, &caller, rows, at, key),
         What::Query(query) => answer(book, &caller, &query),

@@ -33,7 +33,7 @@ use Rattle.cr_base.proofs.ListLaws.{length-numbers_from, name_in-lines_of}
 use Rattle.cr_view.specs.declared.queries.AnswerError.{AnswerError}
 use Rattle.cr_view.specs.declared.queries.AnswerError.TheVariants as errors
 use Rattle.cr_view.specs.Comments.{comments_due}
-use Rattle.cr_view.specs.Replies.{IsNoRefusal, AnswersAsDue, ShowsAsDue, reader_at, due_at, facts_at, page_due, content_due, content_reply_at}
+use Rattle.cr_view.specs.Replies.{IsNoRefusal, AnswersAsDue, AnswersOrPlans, ShowsAsDue, reader_at, due_at, facts_at, page_due, content_due, content_reply_at}
 use Rattle.cr_view.specs.Reviews.{reviews_due}
 use Rattle.cr_view.proofs.JudgeLaws.{refused, passed}
 
@@ -154,6 +154,12 @@ module _ {A : Type 0} (checks : List Check) (x : A) (made : A → Reply) (serves
   shown-answered (Ok given) h = (sym (shown-due given h), shown-served (Ok given) h refl)
   shown-answered (Err (errors.Rule rule)) h = ap reply_or_rule (sym (refused checks x (made x) rule (sym h)))
   shown-answered (Err errors.OutOfMemory) h = shown-served (judged checks x) refl h
+
+-- what is answered so is answered so where it may be a plan, too
+pub or-plans : (r : Result Reply AnswerError) (due : Reply) → AnswersAsDue r due → AnswersOrPlans r due
+or-plans (Ok reply) due h = h
+or-plans (Err (errors.Rule rule)) due h = h
+or-plans (Err errors.OutOfMemory) due h = λ rule other. h rule
 
 -- so it is with what is told of a paper: a page, reviews and comments
 told-answered : {A : Type 0} (asked : Option ℕ → Query) (told : Facts → Shown → ℕ → A) (made : A → Reply) (serves : (a : A) → IsNoRefusal (made a))

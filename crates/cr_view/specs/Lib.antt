@@ -3,6 +3,7 @@ pub mod Callers
 pub mod Comments
 pub mod Fields
 pub mod PaperSeen
+pub mod Plans
 pub mod Replies
 pub mod Reports
 pub mod Reviews

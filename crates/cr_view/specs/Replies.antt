@@ -17,7 +17,7 @@ use Rattle.cr_base.specs.declared.seat.Seat.{Seat}
 use Rattle.cr_base.specs.declared.standing.Standing.{Standing}
 use Rattle.cr_base.specs.Accounts.{lines_of}
 use Rattle.cr_base.specs.Answering.{query_checks, page_by, uploads_told, upload_of, content_by}
-use Rattle.cr_base.specs.Answering.{content_asked, reply_or_rule, bidder_told, reviewer_told}
+use Rattle.cr_base.specs.Answering.{content_asked, reply_or_rule, bidder_told, reviewer_told, MayTakeMemory}
 use Rattle.cr_base.specs.Checks.{judged, of_there, content_checks}
 use Rattle.cr_base.specs.Deadlines.{deadline_in}
 use Rattle.cr_base.specs.History.{Upload, BidTold, SeatTold}
@@ -42,6 +42,12 @@ abbrev pub AnswersAsDue : Result Reply AnswerError → Reply → Type 0
 AnswersAsDue (Ok reply) due = (reply ≡ due) × IsNoRefusal due
 AnswersAsDue (Err (errors.Rule rule)) due = due ≡ replies.Refused rule
 AnswersAsDue (Err errors.OutOfMemory) due = IsNoRefusal due
+
+-- the same, where it may be a plan that is asked for: that there is none takes memory to find
+abbrev pub AnswersOrPlans : Result Reply AnswerError → Reply → Type 0
+AnswersOrPlans (Ok reply) due = (reply ≡ due) × IsNoRefusal due
+AnswersOrPlans (Err (errors.Rule rule)) due = due ≡ replies.Refused rule
+AnswersOrPlans (Err errors.OutOfMemory) due = MayTakeMemory due
 
 -- the same of a page or a content, which is due or stands behind a rule
 abbrev pub ShowsAsDue : {A : Type 0} → Result A AnswerError → Result A Rule → Type 0

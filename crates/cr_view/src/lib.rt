@@ -12,6 +12,7 @@ mod live;
 mod me;
 mod page;
 mod page_lists;
+mod plans;
 mod queries;
 mod reports;
 mod reviewing;

@@ -174,7 +174,12 @@ impl Live {
     }
 
     /// A user's last bid on the paper, and 0 where she has told none.
-    fn bid_or_zero<L: Ledger>(&self, user: UserNo, paper: PaperNo, steps: &mut Steps<L>) -> Bid
+    pub(crate) fn bid_or_zero<L: Ledger>(
+        &self,
+        user: UserNo,
+        paper: PaperNo,
+        steps: &mut Steps<L>,
+    ) -> Bid
         ensures bid { result ≡ unwrap_or (bid_in self.now.tables.ties (Some user) paper) no_bid }
         ensures steps { TakesAtMost (bid_reads self.now.tables paper) steps.old steps.new }
     {

@@ -56,8 +56,9 @@ impl Live {
     /// `NoPaper` where there is no such paper, else `NotMember` where she is neither a member of the
     /// committee nor an author of the paper, and it isn't accepted; of a content, of reviews and of comments as
     /// `content_for`, `reviews_for` and `comments_for` tell it; of a report as it is told at `Report`: `NotMember` or
-    /// `NotChair`, of a letter `NoPaper` and then `NotAuthor`, and last `WrongPhase`. Takes no memory; a few reads by
-    /// number, of a content one look-up besides.
+    /// `NotChair`, of a letter `NoPaper` and then `NotAuthor`, and last `WrongPhase`; of a plan `NotChair`,
+    /// `WrongPhase` and `PlanTooLarge`, but not `NoPlan`, which memory finds. Takes no memory; a few reads by number,
+    /// of a content one look-up besides, and of a plan a walk over all papers and one over the accounts.
     pub fn may(&self, user: &Option<UserNo>, query: &Query) -> Result<(), Rule>
         ensures { result ≡ judged (query_checks (facts_of_tables self.now.tables user.now)
             (shown_in_tables self.now.tables) query.now) tt }
@@ -71,6 +72,7 @@ impl Live {
             Query::Reviews { paper } => self.reviews_reader(user, paper).and(Ok(())),
             Query::Comments { paper } => self.comments_reader(user, paper).and(Ok(())),
             Query::Report { report } => self.may_have(user, report),
+            Query::Plan { per_paper, .. } => self.may_plan(user, *per_paper),
         }
     }
 
@@ -145,8 +147,8 @@ impl From<AllocError> for AnswerError {
 impl Live {
     /// What the caller's query is answered, or the first broken rule of its kind; an error for want of
     /// memory only where no rule is broken, and never where the state of the conference is asked for.
-    /// There is a caller where the query is about herself. A search isn't answered here, see `cr_search_eval`, nor is
-    /// a report, see `cr_reports`. All accounts cost a walk over them; a page a few
+    /// There is a caller where the query is about herself. A search isn't answered here, see `cr_search_eval`, nor are
+    /// a report and a plan, see `cr_reports` and `cr_plans`. All accounts cost a walk over them; a page a few
     /// look-ups and one more for each name that is told, whatever the length of the texts, a step for each
     /// version and each tag that is told, and, where reviewers are told, one for each who was ever assigned, at
     /// most 26, and a walk over the paper's forms; what she is told of herself a walk over her own papers, over
@@ -174,7 +176,7 @@ impl Live {
             Query::Version { paper, version } => self.content_reply(caller, paper, Some(*version)),
             Query::Reviews { paper } => self.reviews_reply(alloc, caller, paper),
             Query::Comments { paper } => self.comments_reply(alloc, caller, paper),
-            Query::Search { .. } | Query::Report { .. } => unreachable!(),
+            Query::Search { .. } | Query::Report { .. } | Query::Plan { .. } => unreachable!(),
         }
     }
 

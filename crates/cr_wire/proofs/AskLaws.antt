@@ -22,7 +22,7 @@ use Rattle.cr_wire.specs.Bounds.{IsKeyFor}
 use Rattle.cr_wire.specs.Caller.{ask_of}
 use Rattle.cr_wire.specs.Number.{key_of}
 use Rattle.cr_wire.specs.Paper.{paper_of, tag_of}
-use Rattle.cr_wire.specs.Query.{asks_count, search_read, search_text, searched}
+use Rattle.cr_wire.specs.Query.{asks_count, search_read, search_text, searched, number_in, planned}
 use Rattle.cr_wire.specs.Target.{query_of}
 use Rattle.cr_wire.specs.declared.number.BadCommandNumber.{BadCommandNumber}
 
@@ -110,6 +110,11 @@ by_query : (only_count : Bool) (read : Result (List Step) ℕ) → ask_of (searc
 by_query only_count (Err offset) = refl
 by_query only_count (Ok steps) = refl
 
+by_numbers : (per_paper load : Option ℕ) → ask_of (planned per_paper load) ≡ Some asks.Plan
+by_numbers None load = refl
+by_numbers (Some per_paper) None = refl
+by_numbers (Some per_paper) (Some load) = refl
+
 -- and what the rows of a bulk are
 by_rows : (key : Option RetryKey) (rows : Option (List BulkRow)) → ask_of (bulk_of key rows) ≡ Some asks.Bulk
 by_rows key None = refl
@@ -133,6 +138,7 @@ ask_by_ask asks.Tag found key query body = by_tag asks.Tag found key true (λ ta
 ask_by_ask asks.Untag found key query body = by_tag asks.Untag found key false (λ tag. refl)
 ask_by_ask asks.Search found key query body = by_query (asks_count query) (search_read (search_text query))
 ask_by_ask asks.Bulk found key query body = by_rows key (parse_rows body)
+ask_by_ask asks.Plan found key query body = by_numbers (number_in (codes "per_paper") 26 query) (number_in (codes "load") 512 query)
 ask_by_ask ask found key query body = refl
 
 -- and none of it changes by what the number is told to be

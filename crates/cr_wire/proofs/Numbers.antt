@@ -18,6 +18,7 @@ use Rattle.cr_http.specs.Requests.{RequestText}
 use Rattle.cr_wire.specs.Bounds.{IsKeyFor}
 use Rattle.cr_wire.specs.Number.{ask_reads_number, is_command_number, key_of, number_by, number_for, number_of}
 use Rattle.cr_wire.specs.Paper.{is_number}
+use Rattle.cr_wire.specs.Query.{is_short_number}
 use Rattle.cr_wire.specs.declared.number.BadCommandNumber.{BadCommandNumber}
 
 -- a number that isn't read passes what is told
@@ -121,3 +122,21 @@ key-fits ask r number told = by (ask_reads_number ask) refl told
     by true reads told = rw (reads-wants ask reads) (by-values r values number told)
     by false reads told = let same : ◌≡◌ {A = Option ℕ} None number = cc (told) in
         subst (λ (n : Option ℕ). IsKeyFor (ask_wants_login ask) (key_of n r)) same (no-key (ask_wants_login ask))
+
+-- ---- the numbers of a plan
+
+-- what the value of one is read of
+pub short_digits : (text : List ℕ) → IsTrue (is_short_number text) → IsTrue (list_all is_ascii_digit text) × (length text ≤ 18)
+short_digits text is =
+    let all = and_parts (is_number text) (nat_le (length text) 3) is in
+    let digits = and_parts (nat_le 1 (length text) && not (slice_index text 0 == 48)) (list_all is_ascii_digit text) all.0 in
+    (digits.1, omega (arith, at_most (length text) 3 all.1))
+
+-- it is at least 1
+pub short_low : (text : List ℕ) → IsTrue (is_short_number text) → 1 ≤ digits_value 10 text
+short_low [] is = cc
+short_low (b ∷ rest) is =
+    let all = and_parts (is_number (b ∷ rest)) (nat_le (length (b ∷ rest)) 3) is in
+    let digits = and_parts (nat_le 1 (length (b ∷ rest)) && not (b == 48)) (list_all is_ascii_digit (b ∷ rest)) all.0 in
+    let front = and_parts (nat_le 1 (length (b ∷ rest))) (not (b == 48)) digits.0 in
+    low_digits b rest front.1 digits.1

@@ -1,5 +1,5 @@
--- What a request wishes, by its method, its target, its number and its body: of its query string only searches are
--- told.
+-- What a request wishes, by its method, its target, its number and its body: of its query string only searches and plans
+-- are told.
 use Rattle.std.specs.Prelude.{ℕ, List, Bool, true, false, IsTrue, ◌||◌, Option, Some, None}
 use Rattle.std.specs.Prelude.{Result, Ok, Err, option_and_then, option_map, if◌then◌else◌}
 use Rattle.std.specs.Option.{option_map_or}
@@ -21,7 +21,7 @@ use Rattle.cr_base.specs.declared.ask.Ask.TheVariants as asks
 use Rattle.cr_wire.specs.Caller.{ask_of}
 use Rattle.cr_wire.specs.Number.{key_of, number_for, request_of}
 use Rattle.cr_wire.specs.Paper.{paper_of, tag_of, user_of, version_of}
-use Rattle.cr_wire.specs.Query.{search_in}
+use Rattle.cr_wire.specs.Query.{search_in, plan_in}
 use Rattle.cr_wire.specs.Target.{path_of, query_of}
 use Rattle.cr_wire.specs.declared.numbered.Numbered.{Numbered}
 use Rattle.cr_wire.specs.declared.number.BadCommandNumber.{BadCommandNumber}
@@ -89,6 +89,7 @@ asked asks.ScoresReport found key query body = Queries (queries.Report reports.S
 asked asks.LoadReport found key query body = Queries (queries.Report reports.Load)
 asked asks.DecisionsReport found key query body = Queries (queries.Report reports.Decisions)
 asked asks.Letter found key query body = Queries (queries.Report (reports.Letter (paper_of found)))
+asked asks.Plan found key query body = plan_in query
 
 -- what is asked for by a request that gives its command this number, or none
 abbrev pub asked_with : Ask → FoundPath → Option ℕ → RequestText → What
@@ -152,10 +153,12 @@ ask_has_body asks.ScoresReport = false
 ask_has_body asks.LoadReport = false
 ask_has_body asks.DecisionsReport = false
 ask_has_body asks.Letter = false
+ask_has_body asks.Plan = false
 
 -- whether it is told by the query string
 abbrev pub ask_has_query : Ask → Bool
 ask_has_query asks.Search = true
+ask_has_query asks.Plan = true
 ask_has_query ask = false
 
 -- what stands behind the path was looked at, a body or a query string, which alone takes memory: this goes by what is

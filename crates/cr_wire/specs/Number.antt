@@ -68,6 +68,7 @@ ask_reads_number asks.ScoresReport = false
 ask_reads_number asks.LoadReport = false
 ask_reads_number asks.DecisionsReport = false
 ask_reads_number asks.Letter = false
+ask_reads_number asks.Plan = false
 
 -- what the fields of a head tell a request that reads it
 abbrev pub number_for : Ask → List (List ℕ × List ℕ) → Result (Option ℕ) BadCommandNumber

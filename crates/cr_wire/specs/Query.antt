@@ -1,14 +1,18 @@
--- What a query string asks a search: its pairs of a name and a value, as web forms write them
+-- What a query string asks, of a search or a plan: its pairs of a name and a value, as web forms write them
 -- (the URL Standard, section 5).
-use Rattle.std.specs.Prelude.{ℕ, List, Bool, ◌&&◌, Option, Some, None, Result, Ok, Err, codes, find}
+use Rattle.std.specs.Prelude.{ℕ, List, length, Bool, ◌&&◌, nat_le, Option, Some, None, Result, Ok, Err, codes}
+use Rattle.std.specs.Prelude.{find, if◌then◌else◌}
 use Rattle.std.specs.List.{list_any}
-use Rattle.std.specs.Option.{option_map}
+use Rattle.std.specs.Option.{option_map, option_and_then}
 use Rattle.std.specs.Str.{bytes_eq}
 use Rattle.std.specs.Str.Lossy.{utf8_lossy}
+use Rattle.std.specs.Str.Parse.{digits_value}
 use Rattle.form_urlencoded.specs.Form.{decode, raw_pairs}
+use Rattle.cr_base.specs.declared.ask.Ask.TheVariants as asks
 use Rattle.cr_base.specs.declared.command.Query.TheVariants as queries
 use Rattle.cr_base.specs.declared.search.Step.{Step}
 use Rattle.cr_search_parse.specs.Reading.{text_read}
+use Rattle.cr_wire.specs.Paper.{is_number}
 use Rattle.cr_wire.specs.declared.what.What.{What}
 use Rattle.cr_wire.specs.declared.what.What.TheVariants.{BadQuery, Query as Queries}
 
@@ -55,9 +59,35 @@ search_read (Some text) = text_read text
 
 -- what is wished by such a search
 abbrev pub searched : Bool → Result (List Step) ℕ → What
-searched only_count (Err offset) = BadQuery offset
+searched only_count (Err offset) = BadQuery asks.Search offset
 searched only_count (Ok steps) = Queries (queries.Search steps only_count)
 
 -- what is wished by a query string
 abbrev pub search_in : List ℕ → What
 search_in query = searched (asks_count query) (search_read (search_text query))
+
+-- ---- plans
+
+-- one to three digits, of which the first isn't 0
+abbrev pub is_short_number : List ℕ → Bool
+is_short_number text = is_number text && nat_le (length text) 3
+
+-- the number that such a text is, where that is at most so many
+abbrev pub number_to : ℕ → List ℕ → Option ℕ
+number_to most text =
+    if is_short_number text && nat_le (digits_value 10 text) most then Some (digits_value 10 text) else None
+
+-- the number that the first pair of this name tells
+abbrev pub number_in : List ℕ → ℕ → List ℕ → Option ℕ
+number_in name most query = option_and_then (number_to most) (value_in name (raw_pairs query))
+
+-- what is wished by a plan's two numbers: where one isn't there, the query string is a bad one from its start
+abbrev pub planned : Option ℕ → Option ℕ → What
+planned None load = BadQuery asks.Plan 0
+planned (Some per_paper) None = BadQuery asks.Plan 0
+planned (Some per_paper) (Some load) = Queries (queries.Plan per_paper load)
+
+-- what is wished by a query string: how many more members each paper is to have, 1 to 26, and how many papers a member
+-- is to have at most, 1 to 512
+abbrev pub plan_in : List ℕ → What
+plan_in query = planned (number_in (codes "per_paper") 26 query) (number_in (codes "load") 512 query)

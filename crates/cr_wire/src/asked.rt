@@ -15,7 +15,7 @@ ghost use Rattle.cr_wire.specs.Outcome.{Gives};
 use crate::number::number_for;
 use crate::numbered::Numbered;
 use crate::paper::{paper_of, tag_of, user_of, version_of};
-use crate::query::search_in;
+use crate::query::{plan_in, search_in};
 use crate::what::What;
 use cr_base::{Ask, Command, DecodeError, PaperNo, Query, Report};
 use cr_bodies::{before_first, read_command};
@@ -160,6 +160,7 @@ fn asked(
         Ask::LoadReport => Ok(reported(Report::Load)),
         Ask::DecisionsReport => Ok(reported(Report::Decisions)),
         Ask::Letter => Ok(reported(Report::Letter { paper })),
+        Ask::Plan => plan_in(alloc, request.head.target()),
         Ask::Register | Ask::Name | Ask::SetMode | Ask::SetPhase => {
             command(alloc, ask, found, request)
         }
@@ -173,8 +174,8 @@ fn asked(
 }
 
 /// What a request of this head and this body wishes. A bad number is told before the body is looked at. Fails only for
-/// lack of memory, which the reading of a JSON body, of the rows of a bulk or of a search and the keeping of an upload
-/// alone take.
+/// lack of memory, which the reading of a JSON body, of the rows of a bulk, of a search or of a plan and the keeping of
+/// an upload alone take.
 pub(crate) fn what_of(
     alloc: Global,
     routes: &Routes,

@@ -41,7 +41,7 @@ fn reads_number(ask: Ask) -> bool
         Ask::Page | Ask::Content | Ask::Version | Ask::Reviews => false,
         Ask::Comments | Ask::AcceptedPapers | Ask::Me | Ask::Search => false,
         Ask::PapersReport | Ask::ScoresReport | Ask::LoadReport => false,
-        Ask::DecisionsReport | Ask::Letter => false,
+        Ask::DecisionsReport | Ask::Letter | Ask::Plan => false,
     }
 }
 

@@ -1,5 +1,5 @@
-//! What a query string asks a search.
-ghost use Rattle.std.specs.Prelude.{◌≡◌, option_map, IfOk};
+//! What a query string asks, of a search or a plan.
+ghost use Rattle.std.specs.Prelude.{◌≡◌, ◌≤◌, option_map, IfOk, IfSome};
 ghost use Rattle.std.specs.Cow.{cow_str_bytes};
 ghost use Rattle.form_urlencoded.specs.Form.{raw_pairs as pairs_of};
 ghost use Rattle.cr_search_parse.specs.Reading.{text_read};
@@ -8,8 +8,9 @@ ghost use Rattle.cr_wire.specs.Outcome.{Gives};
 ghost use Rattle.cr_wire.specs.Query as spec;
 ghost use Rattle.cr_wire.specs.Target.{query_of};
 
+use crate::paper::is_number;
 use crate::what::What;
-use cr_base::Query;
+use cr_base::{Ask, MOST_LABELS, MOST_LOAD, PerPaper, PlanLoad, Query, decimal_value};
 use cr_bodies::after_first;
 use cr_search_parse::{ParseError, parse};
 use form_urlencoded::{decode, raw_pairs};
@@ -77,7 +78,10 @@ fn searched(alloc: Global, only_count: bool, text: &[u8]) -> Result<What, AllocE
 {
     match parse(alloc, text) {
         Ok(search) => Ok(What::Query(Query::Search { search, only_count })),
-        Err(ParseError::BadQuery { offset }) => Ok(What::BadQuery { offset }),
+        Err(ParseError::BadQuery { offset }) => Ok(What::BadQuery {
+            ask: Ask::Search,
+            offset,
+        }),
         Err(ParseError::OutOfMemory) => Err(AllocError),
     }
 }
@@ -92,6 +96,74 @@ pub(crate) fn search_in(alloc: Global, target: &[u8]) -> Result<What, AllocError
     let only_count = asks_count(alloc, query)?;
     match value_in(alloc, b"q", query)? {
         Some(text) => searched(alloc, only_count, text.as_bytes()),
-        None => Ok(What::BadQuery { offset: 0 }),
+        None => Ok(What::BadQuery {
+            ask: Ask::Search,
+            offset: 0,
+        }),
     }
+}
+
+/// Whether a text is one to three digits, the first not 0.
+fn is_short_number(text: &[u8]) -> bool
+    ensures { result ≡ spec.is_short_number text.now }
+{
+    is_number(text) && text.len() <= 3
+}
+
+/// The number that a text is, from 1 to `most`: one to three digits, the first not 0.
+fn number_to(most: u64, text: &[u8]) -> Option<u64>
+    ensures value { result ≡ spec.number_to most text.now }
+    ensures within { IfSome result (λ number. (1 ≤ number) × (number ≤ most)) }
+{
+    if !is_short_number(text) {
+        return None;
+    }
+    let number = decimal_value(text);
+    if number > most {
+        return None;
+    }
+    Some(number)
+}
+
+/// The number that the first pair of a name tells, from 1 to `most`.
+fn number_in(alloc: Global, name: &[u8], most: u64, query: &[u8]) -> Result<Option<u64>, AllocError>
+    ensures value { IfOk result (λ number. number ≡ spec.number_in name.now most query.now) }
+    ensures within { IfOk result (λ number. IfSome number (λ n. (1 ≤ n) × (n ≤ most))) }
+{
+    match value_in(alloc, name, query)? {
+        Some(text) => Ok(number_to(most, text.as_bytes())),
+        None => Ok(None),
+    }
+}
+
+/// What is wished by the two numbers of a plan.
+fn planned(per_paper: Option<u64>, load: Option<u64>) -> What
+    requires per_paper { IfSome per_paper (λ n. (1 ≤ n) × (n ≤ 26)) }
+    requires load { IfSome load (λ n. (1 ≤ n) × (n ≤ 512)) }
+    ensures told { result ≡ spec.planned per_paper load }
+    ensures bounded { IsBoundedWhat result }
+{
+    match (per_paper, load) {
+        (Some(per_paper), Some(load)) => What::Query(Query::Plan {
+            per_paper: PerPaper::new(per_paper),
+            load: PlanLoad::new(load),
+        }),
+        _ => What::BadQuery {
+            ask: Ask::Plan,
+            offset: 0,
+        },
+    }
+}
+
+/// What is wished by what follows the first question mark of a target that asks for a plan: by its first pairs named
+/// `per_paper`, 1 to 26, and `load`, 1 to 512. Reads each pair twice at most, and copies a name or a value only where
+/// it has something to decode. Fails only for lack of memory.
+pub(crate) fn plan_in(alloc: Global, target: &[u8]) -> Result<What, AllocError>
+    ensures told { Gives result (spec.plan_in (query_of target.now)) }
+    ensures bounded { IfOk result IsBoundedWhat }
+{
+    let query = after_first(b'?', target);
+    let per_paper = number_in(alloc, b"per_paper", MOST_LABELS, query)?;
+    let load = number_in(alloc, b"load", MOST_LOAD, query)?;
+    Ok(planned(per_paper, load))
 }

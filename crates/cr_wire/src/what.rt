@@ -17,10 +17,12 @@ pub enum What {
     BadNumber(Ask),
     /// The body, or the tag in the path, isn't what the request needs: answered `bad_body`.
     BadBody(Ask),
-    /// The query string tells no search: answered `bad_query`.
+    /// The query string tells no search, or no plan that may be asked for: answered `bad_query`.
     BadQuery {
+        /// What is asked for: a search or a plan.
+        ask: Ask,
         /// The last offset in the search's text, in bytes from 0 to 1,024, up to which that can be the beginning of a
-        /// search; 0 where there is no text.
+        /// search; 0 where there is no text, and of a plan.
         offset: usize,
     },
     /// To change something.
@@ -67,7 +69,7 @@ impl What {
         match self {
             What::NoRoute | What::WrongMethod(_) => None,
             What::BadNumber(ask) | What::BadBody(ask) => Some(*ask),
-            What::BadQuery { .. } => Some(Ask::Search),
+            What::BadQuery { ask, .. } => Some(*ask),
             What::Command { command, .. } => Some(command.ask()),
             What::Query(query) => Some(query.ask()),
             What::Bulk { .. } => Some(Ask::Bulk),
@@ -75,11 +77,11 @@ impl What {
     }
 
     /// Whether a login is wanted, so that nobody is answered `unauthorized`: by each command but a registration and by
-    /// a bulk, also where its number or its body is a bad one, by a paper's page, content, reviews and comments, by
-    /// searches, also by bad ones, by reports, and by what the caller is told of herself. Registration, the list of
-    /// accounts, the state of the conference, its deadlines and the accepted papers want none, and what is no request
-    /// of these is refused alike to everybody. That a published paper's page and content are served to nobody too isn't
-    /// looked at here: the request doesn't tell which papers are.
+    /// a bulk, also where its number or its body is a bad one, by a paper's page, content, reviews and comments, by searches and
+    /// plans, also by bad ones, by reports, and by what the caller is told of herself. Registration, the list of accounts, the
+    /// state of the conference, its deadlines and the accepted papers want none, and what is no request of these is
+    /// refused alike to everybody. That a published paper's page and content are served to nobody too isn't looked at
+    /// here: the request doesn't tell which papers are.
     pub fn wants_login(&self) -> bool
         ensures { result ≡ wants_login self.now }
     {

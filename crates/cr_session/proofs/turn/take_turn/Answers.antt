@@ -32,7 +32,7 @@ returns-in-BadBody g c =
 
 pub returns-in-BadQuery : goal.returns-in-BadQuery
 returns-in-BadQuery g c =
-    bad_query _ _ (ledger_of g.K.Keeper.faults c.args.book.now) _
+    bad_query _ _ (ledger_of g.K.Keeper.faults c.args.book.now) _ _
     (may-wish _ c.args.wish _ _ _ c.in-BadQuery.is c.caller_of-caller.ensures c.is_unauthorized.ensures c.if-is_unauthorized.false)
 
 pub judge-requires : goal.judge-requires

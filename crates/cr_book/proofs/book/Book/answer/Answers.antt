@@ -5,7 +5,8 @@ use Rattle.cr_base.specs.History.{History}
 use Rattle.cr_policy.specs.Judge.{answer, needs_login}
 use Rattle.cr_policy.specs.Legal.{MayAsk}
 use Rattle.cr_policy.specs.View.{view}
-use Rattle.cr_view.specs.Replies.{AnswersAsDue}
+use Rattle.cr_view.specs.Replies.{AnswersAsDue, AnswersOrPlans}
+use Rattle.cr_view.proofs.AnswerLaws.{or-plans}
 use Rattle.cr_book.specs.Seen.{SeenBook}
 use Rattle.cr_book.proofs.BookLaws.{answered-by_view, asker-there}
 use Rattle.cr_book.proofs.book.Book.answer.Goals as goal
@@ -24,24 +25,32 @@ answer-requires g c =
     let q = c.args.query.now in
     let same = ap (λ (v : SeenBook g.row.K.Denot). v.log) c.self.view_is in
     let may = subst (λ (h : History). MayAsk h (needs_login (view None h) q) u) (sym same) c.requires in
-    record { caller = asker-there c.self.inside.log.entries u q (record { search = c.in_default.not-Search; report = c.in_default.not-Report }) may }
+    record { caller = asker-there c.self.inside.log.entries u q (record { search = c.in_default.not-Search; report = c.in_default.not-Report; plan = c.in_default.not-Plan }) may }
 
 pub returns-in-Search-clause-answered : goal.returns-in-Search-clause-answered
 returns-in-Search-clause-answered g c =
-    subst (λ (q : Query). AnswersAsDue c.answer_search.result (answer c.args.caller.now (view c.args.caller.now c.args.self.now.log) q))
-    (sym c.in-Search.is) c.answer_search.ensures
+    or-plans c.answer_search.result (answer c.args.caller.now (view c.args.caller.now c.args.self.now.log) c.args.query.now)
+    (subst (λ (q : Query). AnswersAsDue c.answer_search.result (answer c.args.caller.now (view c.args.caller.now c.args.self.now.log) q))
+    (sym c.in-Search.is) c.answer_search.ensures)
 
 pub returns-in-Report-clause-answered : goal.returns-in-Report-clause-answered
 returns-in-Report-clause-answered g c =
-    subst (λ (q : Query). AnswersAsDue c.answer_report.result (answer c.args.caller.now (view c.args.caller.now c.args.self.now.log) q))
-    (sym c.in-Report.is) c.answer_report.ensures
+    or-plans c.answer_report.result (answer c.args.caller.now (view c.args.caller.now c.args.self.now.log) c.args.query.now)
+    (subst (λ (q : Query). AnswersAsDue c.answer_report.result (answer c.args.caller.now (view c.args.caller.now c.args.self.now.log) q))
+    (sym c.in-Report.is) c.answer_report.ensures)
+
+pub returns-in-Plan-clause-answered : goal.returns-in-Plan-clause-answered
+returns-in-Plan-clause-answered g c =
+    subst (λ (q : Query). AnswersOrPlans c.answer_plan.result (answer c.args.caller.now (view c.args.caller.now c.args.self.now.log) q))
+    (sym c.in-Plan.is) c.answer_plan.ensures
 
 pub returns-in_default-clause-answered : goal.returns-in_default-clause-answered
 returns-in_default-clause-answered g c =
     let u = c.args.caller.now in
     let q = c.args.query.now in
     let same = ap (λ (v : SeenBook g.row.K.Denot). v.log) c.self.view_is in
-    subst (λ (due : Reply). AnswersAsDue c.answer.result due)
+    or-plans c.answer.result (answer u (view u c.args.self.now.log) q)
+    (subst (λ (due : Reply). AnswersAsDue c.answer.result due)
     (answered-by_view g.K.Keeper.rows c.self.inside.log.entries c.self.inside.live.tables c.self.inside.keeper u q c.self.invariant
     ∙ ap (λ (h : History). answer u (view u h) q) same)
-    c.answer.ensures.answered
+    c.answer.ensures.answered)
