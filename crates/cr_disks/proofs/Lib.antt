@@ -1,0 +1,4 @@
+mod Record
+mod Images
+mod Time
+mod Putting

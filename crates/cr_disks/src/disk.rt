@@ -1,0 +1,79 @@
+//! Bytes by offset, which last once they are synced.
+ghost use Rattle.std.specs.Prelude.{◌≡◌, ◌⊎◌, ◌<◌, ◌≤◌, ◌+◌, ◌^◌, ℕ, List, Bool, length, IsTrue, IfOk, OnOk, OnErr};
+ghost use Rattle.cr_ports.specs.Stream.{FillsWithin};
+ghost use Rattle.cr_disks.specs.Disk.{GivesAt, Holds, Torn, Only, Follows, Elapses, HasCause, ReadHasCause};
+
+use cr_ports::ReadStep;
+
+/// A call of a disk failed, which was counted.
+#[derive(Clone, Copy, Debug, PartialEq, Eq)]
+pub struct DiskFailed;
+
+/// Bytes by offset, at most 2^62 of them. A stop of the machine leaves what was synced; of what was written since, any
+/// bytes may stand in its ranges.
+pub trait Disk {
+    /// Whether it tells what it holds, and what a stop may leave. The five below speak of a disk that does.
+    ghost tells: { Bool };
+
+    /// The bytes that a read gives.
+    ghost seen: { Self → List ℕ };
+
+    /// What a stop at this moment may leave.
+    ghost may_leave: { Self → List ℕ → Type 0 };
+
+    /// The moment, as a number that doesn't fall.
+    ghost moment: { Self → ℕ };
+
+    /// What a stop at some moment from that one on might have left, during a call or between two.
+    ghost left_since: { Self → ℕ → List ℕ → Type 0 };
+
+    /// How often a call has failed.
+    ghost faults: { Self → ℕ };
+
+    /// How many bytes there are. Changes nothing.
+    fn len(&mut self) -> Result<u64, DiskFailed>
+        ensures range { IfOk result (λ n. n ≤ 2 ^ 62) }
+        ensures told { IsTrue tells → IfOk result (λ n. n ≡ length (seen self.old)) }
+        ensures seen { IsTrue tells → seen self.new ≡ seen self.old }
+        ensures crash { IsTrue tells → (image : List ℕ) → may_leave self.new image → may_leave self.old image }
+        ensures cause { HasCause (faults self.old) (faults self.new) result };
+
+    /// Reads bytes from `at` on into the front of `buf`, which isn't empty. `End` comes exactly where nothing stands at
+    /// `at` or behind it. Changes nothing.
+    fn read_at(&mut self, at: u64, buf: &mut [u8]) -> ReadStep
+        requires { 0 < length buf.old }
+        ensures size { FillsWithin result (length buf.old) }
+        ensures told { IsTrue tells → GivesAt result buf.new at (seen self.old) }
+        ensures seen { IsTrue tells → seen self.new ≡ seen self.old }
+        ensures crash { IsTrue tells → (image : List ℕ) → may_leave self.new image → may_leave self.old image }
+        ensures cause { ReadHasCause (faults self.old) (faults self.new) result };
+
+    /// Writes over what stands at `at` and behind it, and past the end. A write past 2^62 bytes fails. After one that
+    /// failed any bytes may stand in its range. Until a sync succeeds a stop may leave any bytes there as well.
+    fn write_at(&mut self, at: u64, piece: &[u8]) -> Result<(), DiskFailed>
+        requires { IsTrue tells → at ≤ length (seen self.old) }
+        ensures within { OnOk result (at + length piece.now ≤ 2 ^ 62) }
+        ensures written { IsTrue tells → OnOk result (Holds (seen self.old) at piece.now (seen self.new)) }
+        ensures torn { IsTrue tells → OnErr result (Torn at (length piece.now) (seen self.old) (seen self.new)) }
+        ensures crash { IsTrue tells → Follows (Torn at (length piece.now)) (may_leave self.old) (may_leave self.new) }
+        ensures time { IsTrue tells → Elapses (moment self.old) (moment self.new)
+            (left_since self.old) (left_since self.new) (may_leave self.new) }
+        ensures cause { HasCause (faults self.old) (faults self.new) result };
+
+    /// Makes what was written last. Once it has succeeded a stop leaves what a read gives.
+    fn sync(&mut self) -> Result<(), DiskFailed>
+        ensures durable { IsTrue tells → OnOk result (Only (seen self.old) (may_leave self.new)) }
+        ensures seen { IsTrue tells → seen self.new ≡ seen self.old }
+        ensures crash { IsTrue tells → (image : List ℕ)
+            → may_leave self.new image → may_leave self.old image ⊎ (image ≡ seen self.old) }
+        ensures time { IsTrue tells → Elapses (moment self.old) (moment self.new)
+            (left_since self.old) (left_since self.new) (may_leave self.new) }
+        ensures cause { HasCause (faults self.old) (faults self.new) result };
+
+    /// This moment is one of those since an earlier one.
+    ghost counts_now: { (disk : Self) (t : ℕ) (image : List ℕ)
+        → t ≤ moment disk → may_leave disk image → left_since disk t image };
+
+    /// Since this moment there is no other.
+    ghost only_now: { (disk : Self) (image : List ℕ) → left_since disk (moment disk) image → may_leave disk image };
+}

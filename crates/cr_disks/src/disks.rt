@@ -1,0 +1,43 @@
+//! What opens disks by their paths.
+ghost use Rattle.std.specs.Prelude.{◌≡◌, ℕ, List, IfOk, OnOk, IsTrue};
+ghost use Rattle.cr_ports.specs.Count.{Gains};
+ghost use Rattle.cr_ports.specs.Keeping.{HasCause};
+ghost use Rattle.cr_disks.specs.Disk.{with_bytes};
+
+use crate::disk::Disk;
+use cr_ports::KeeperError;
+
+/// Opens a disk over the bytes at a path, and takes it back.
+pub trait Disks {
+    /// What it opens. It may go to another thread.
+    type Disk: Disk + Drop + Send;
+
+    /// The bytes at each path, none where nothing stands, where its disks tell theirs; those that are written stand there
+    /// once the disk was shut.
+    ghost files: { Self → List ℕ → List ℕ };
+
+    /// Of which paths a disk may be taken back.
+    ghost has_opened: { Self → List ℕ → Type 0 };
+
+    /// How often a call, or one of a disk that was shut, has failed.
+    ghost faults: { Self → ℕ };
+
+    /// A disk over the bytes at the path, which has counted no fault.
+    ///
+    /// `Failed` comes only where the count of faults rose, or stands at its last value, and `OutOfMemory` only where it
+    /// is as it was.
+    fn open(&mut self, path: &str) -> Result<Self::Disk, KeeperError>
+        ensures found { IsTrue Self.Disk.tells → IfOk result (λ disk. Self.Disk.seen disk ≡ files self.old path.now) }
+        ensures fresh { IfOk result (λ disk. Self.Disk.faults disk ≡ 0) }
+        ensures opened { OnOk result (has_opened self.new path.now) }
+        ensures same { IsTrue Self.Disk.tells → files self.new ≡ files self.old }
+        ensures cause { HasCause (faults self.old) (faults self.new) result };
+
+    /// Takes back a disk that was opened at this path: its bytes then stand there. The count of faults rises by at least
+    /// the disk's. Takes no memory.
+    fn shut(&mut self, path: &str, disk: Self::Disk)
+        requires { has_opened self.old path.now }
+        ensures kept { IsTrue Self.Disk.tells
+            → files self.new ≡ with_bytes (files self.old) path.now (Self.Disk.seen disk) }
+        ensures count { Gains (faults self.old) (Self.Disk.faults disk) (faults self.new) };
+}

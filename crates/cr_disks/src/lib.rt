@@ -1,0 +1,13 @@
+//! Disks: bytes by offset, which are written and synced, with what a stop may leave of them at each moment.
+//!
+//! A disk in memory tells all of that, an adapter over a real file nothing. A count of faults never falls, and a call
+//! answers that it failed only where the count rose, or stands at its last value, 2^64 - 1.
+#![tactic(auto)]
+
+mod disk;
+mod disks;
+mod mem_disk;
+
+pub use disk::{Disk, DiskFailed};
+pub use disks::Disks;
+pub use mem_disk::{DiskCall, MemDisk};

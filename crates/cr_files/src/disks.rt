@@ -1,0 +1,127 @@
+//! Files as disks, by their paths.
+ghost use Rattle.std.specs.Prelude.{◌≡◌, [], ⊤, ℕ};
+
+use crate::disk::FileDisk;
+use crate::reason::Reason;
+use cr_disks::Disks;
+use cr_ports::KeeperError;
+use std::fs::{self, File, OpenOptions, TryLockError};
+use std::io::ErrorKind;
+use std::marker::Model;
+use std::os::unix::fs::OpenOptionsExt;
+use std::rt::HostRuntime;
+
+/// The mode of a file that is made: its owner alone reads and writes it.
+const OWNERS_ALONE: u32 = 0o600;
+
+/// Opens files as disks. While one is open, no other process can open it so.
+///
+/// Contracts see the count of faults.
+#[derive(Drop)]
+pub struct FileDisks {
+    rt: HostRuntime,
+    faults: u64,
+    reason: Option<Reason>,
+}
+
+impl Model for FileDisks {
+    ghost use Rattle.std.specs.Prelude.{ℕ};
+
+    ghost Value = { ℕ };
+
+    ghost view = { λ d. d.faults };
+}
+
+/// Makes the file for its owner alone, where it is missing, and syncs its folder then.
+fn make_missing(rt: &HostRuntime, path: &str) -> Result<(), Reason> {
+    match OpenOptions::new()
+        .write(true)
+        .create_new(true)
+        .mode(OWNERS_ALONE)
+        .open(rt, path)
+    {
+        Ok(_) => sync_folder(rt, path),
+        Err(error) if error.kind() == ErrorKind::AlreadyExists => Ok(()),
+        Err(error) => Err(Reason::System(error)),
+    }
+}
+
+/// Syncs the folder in which a file stands, so that its name lasts.
+fn sync_folder(rt: &HostRuntime, path: &str) -> Result<(), Reason> {
+    let folder = match path.rsplit_once('/') {
+        Some(("", _)) => "/",
+        Some((folder, _)) => folder,
+        None => ".",
+    };
+    match File::open(rt, folder) {
+        Ok(folder) => folder.sync_all().map_err(Reason::System),
+        Err(error) => Err(Reason::System(error)),
+    }
+}
+
+/// Opens a file and holds it for this process.
+fn open_held(rt: &HostRuntime, path: &str) -> Result<File, Reason> {
+    make_missing(rt, path)?;
+    match fs::metadata(rt, path) {
+        Ok(found) if found.is_file() => {}
+        Ok(_) => return Err(Reason::NoFile),
+        Err(error) => return Err(Reason::System(error)),
+    }
+    let file = match OpenOptions::new().read(true).write(true).open(rt, path) {
+        Ok(file) => file,
+        Err(error) => return Err(Reason::System(error)),
+    };
+    match file.try_lock() {
+        Ok(()) => Ok(file),
+        Err(TryLockError::WouldBlock) => Err(Reason::Busy),
+        Err(TryLockError::Error(error)) => Err(Reason::System(error)),
+    }
+}
+
+impl FileDisks {
+    /// Files of the system, with no fault counted. None is opened yet.
+    pub fn new(rt: &HostRuntime) -> Self
+        ensures { result ≡ 0 }
+    {
+        FileDisks {
+            rt: *rt,
+            faults: 0,
+            reason: None,
+        }
+    }
+
+    /// Why the last file that wasn't opened wasn't; none where each was.
+    pub fn reason(&self) -> Option<Reason> {
+        self.reason
+    }
+}
+
+impl Disks for FileDisks {
+    type Disk = FileDisk;
+
+    ghost files = { λ _ _. [] };
+
+    ghost has_opened = { λ _ _. ⊤ };
+
+    ghost faults = { λ d. d };
+
+    /// Makes the file where it is missing, for its owner alone, and then syncs its folder.
+    fn open(&mut self, path: &str) -> Result<FileDisk, KeeperError> {
+        match open_held(&self.rt, path) {
+            Ok(file) => Ok(FileDisk::new(file)),
+            Err(Reason::System(error)) if error.kind() == ErrorKind::OutOfMemory => {
+                Err(KeeperError::OutOfMemory)
+            }
+            Err(reason) => {
+                self.faults = self.faults.saturating_add(1);
+                self.reason = Some(reason);
+                Err(KeeperError::Failed)
+            }
+        }
+    }
+
+    /// Closes the file, which lets go of it.
+    fn shut(&mut self, _path: &str, disk: FileDisk) {
+        self.faults = self.faults.saturating_add(disk.into_faults());
+    }
+}

@@ -1,0 +1,14 @@
+mod Moments
+mod Bytes
+mod Frames
+mod Calls
+mod Whole
+mod Numbers
+mod RowLaws
+mod Groups
+mod Tails
+mod Keeping
+mod Gating
+mod GateByGate
+mod ReadLaws
+mod OpenLaws

@@ -1,0 +1,19 @@
+use Rattle.std.proofs.Common.{◌∷◌}
+use Rattle.cr_journal.specs.Keeping.{OpensTo}
+use Rattle.cr_journal.specs.Standing.{doubted}
+use Rattle.cr_journal.proofs.Keeping.{among_rest, opens_wider, stops_between}
+use Rattle.cr_journal.proofs.Moments.{started}
+use Rattle.cr_journal.proofs.keeper.JournalKeeperKeeper.append_all.Goals as goal
+
+pub returns-in-Err-clause-any_moment : goal.returns-in-Err-clause-any_moment
+returns-in-Err-clause-any_moment g c = λ told.
+    let inside = c.self.inside in
+    let rows = inside.rows.items in
+    let doubt = inside.doubt.items in
+    let before = doubted inside.journal.in_doubt doubt in
+    let group = c.args.added.now in
+    rw (← c.self.view_is) (
+    started g.D.Disk.moment g.D.Disk.left_since inside.journal.disk (OpensTo rows (group ∷ before))
+    (λ f left. opens_wider rows before (group ∷ before) f (among_rest group before)
+    (stops_between g.D.Disk.seen g.D.Disk.may_leave inside.journal rows doubt (c.self.invariant.1 told) f
+    (g.met.D.Disk.only_now inside.journal.disk f left))))

@@ -1,0 +1,7 @@
+pub mod Grammar
+pub mod Reading
+pub mod Gates
+pub mod Standing
+pub mod Keeping
+pub mod Shelving
+pub mod Either

@@ -1,0 +1,10 @@
+//! Journals over disks in memory, with ample memory: the bytes of the file, and what opens once the machine stopped at
+//! each call of the disk.
+#![tactic(auto)]
+
+#[cfg(test)]
+mod images;
+#[cfg(test)]
+mod journals;
+#[cfg(test)]
+mod rows;
