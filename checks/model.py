@@ -15,6 +15,7 @@ import re
 import urllib.parse
 
 import searches
+from best_plans import best_plan
 
 PHASES = ["setup", "submission", "bidding", "reviewing", "discussion", "notification", "closed"]
 
@@ -270,6 +271,8 @@ class Conference:
             return self.search(u, query)
         if parts[0] == "reports":
             return self.report(u, parts[1:])
+        if path == "/plan":
+            return self.plan(u, dict(reversed(urllib.parse.parse_qsl(query))))  # the first pair of a name counts
         p, rest = self.paper_told(parts[1]), parts[2:]
         if not rest:
             return self.page(u, p)
@@ -476,6 +479,22 @@ class Conference:
         if action in ("conflict", "clearconflict"):
             return err(409, "bulk_self") if self.number_of(user) == u else self.conflict(u, p, {"on": action == "conflict", "user": user})
         return self.unassign(u, p, user) if action == "clearreview" else self.assign(u, p, {"kind": kinds[action], "user": user})
+
+    # ---- plans
+    def plan(self, u, told):
+        """A plan's text; `told` is what its query tells, which is well formed."""
+        per_paper, load = int(told["per_paper"]), int(told["load"])
+        papers = [p for p in self.listed(u) if self.labels(p) + per_paper <= 26]
+        members = [v for v, _ in self.users() if self.role_of(v) != "account"]
+        r = self.first((self.role_of(u) != "chair", "not_chair"), (not self.committee(), "wrong_phase"),
+                       (per_paper * len(papers) > 512 or len(papers) * len(members) > 4096, "plan_too_large"))
+        if r:
+            return r
+        bids = {(p, v): self.bid_of(v, p) or 0 for p in papers for v in members if not self.conflicted(v, p) and self.ordinal_of(v, p) is None}
+        plan = best_plan(bids, papers, per_paper, load)
+        if plan is None:
+            return err(409, "no_plan")
+        return 200, "text: paper,action,user,tag\n" + "".join(f"{p},pcreview,{self.name_of(v)},\n" for p, v in plan)
 
     # ---- reports
     def report(self, u, parts):

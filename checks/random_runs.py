@@ -185,12 +185,12 @@ class Run:
     def deeds(self):
         """What is asked for, as often as the phase suggests."""
         asked = ["page"] * 6 + ["reviews", "comments"] * 3 + ["search"] * 6 + ["report"] * 4
-        asked += ["me", "conflict", "content", "version", "member", "accounts", "phase", "back", "tag", "decide", "accepted", "deadlines"]
+        asked += ["me", "conflict", "content", "version", "member", "accounts", "phase", "back", "tag", "decide", "accepted", "deadlines", "plan"]
         asked += ["deadline"] * (3 if self.model.late()[0] else 4)
         if self.model.phase == "submission":
             return asked + ["submit"] * 6 + ["upload", "revise", "conflict"] * 3 + ["withdraw", "bid", "assign", "unassign"]
         if self.model.phase == "bidding":
-            return asked + ["bid", "assign", "tag"] * 5 + ["unassign", "conflict", "bulk"] * 3 + ["submit", "upload", "revise", "withdraw", "review"]
+            return asked + ["bid", "assign", "tag"] * 5 + ["unassign", "conflict", "bulk", "plan"] * 3 + ["submit", "upload", "revise", "withdraw", "review"]
         if self.model.phase == "discussion":
             return asked + ["review", "comment", "tag"] * 6 + ["decide"] * 10 + ["assign", "unassign", "conflict", "bulk"] * 2 + ["bid", "submit", "upload", "revise", "withdraw"]
         if self.model.is_from("notification"):
@@ -220,6 +220,9 @@ class Run:
             self.ask(self.chair(p), "DELETE", f"/papers/{p}/reviewers/{choose.choice(reviewers + [choose.choice(NAMES + ['zoe'])])}")
         elif deed == "bulk":
             self.ask(self.chair(), "POST", "/assign", self.rows())
+        elif deed == "plan":
+            planned = f"per_paper={choose.choice([1, 1, 1, 2, 2, 3, 7])}&load={choose.choice([1, 2, 3, 5, 512])}"
+            self.ask(choose.choice([anybody, self.chair(), self.chair()]), read, f"/plan?{planned}")
         elif deed == "report":
             report = choose.choice(["papers", "scores", "load", "decisions", f"letter/{p}", f"letter/{p}"])
             self.ask(self.author(p) if report.startswith("letter") else choose.choice([anybody, self.chair()]), read, f"/reports/{report}")
