@@ -9,7 +9,8 @@ use Rattle.indexmap.specs.IndexMap.{IndexMap, get}
 use Rattle.cr_base.specs.declared.words.Role.{Role}
 use Rattle.cr_base.specs.declared.entry.Account.{Account}
 use Rattle.cr_base.specs.declared.entry.Entry.{Entry}
-use Rattle.cr_base.specs.declared.entry.Entry.TheVariants.{Named}
+use Rattle.cr_base.specs.declared.entry.Entry.TheVariants.{Named, Dismissed}
+use Rattle.cr_base.specs.declared.words.Role.TheVariants as roles
 use Rattle.cr_base.specs.Accounts.{number_at, with_role, accounts_after, AccountsFit}
 use Rattle.cr_base.proofs.AccountLaws.{number_at-push}
 use Rattle.cr_accounts.specs.Index.{IsNameIndex}
@@ -36,3 +37,6 @@ fits-along seen accounts e f h same is = subst (λ (x : Entry). AccountsFit acco
 
 pub after-named : (accounts seen : List Account) (e : Entry) (user : ℕ) (role : Role) → accounts ≡ seen → e ≡ Named user role → with_role accounts (user - 1) role ≡ accounts_after seen e
 after-named accounts seen e user role same is = ap (λ (xs : List Account). with_role xs (user - 1) role) same ∙ sym (ap (accounts_after seen) is)
+
+pub after-dismissed : (accounts seen : List Account) (e : Entry) (user : ℕ) → accounts ≡ seen → e ≡ Dismissed user → with_role accounts (user - 1) roles.Account ≡ accounts_after seen e
+after-dismissed accounts seen e user same is = ap (λ (xs : List Account). with_role xs (user - 1) roles.Account) same ∙ sym (ap (accounts_after seen) is)

@@ -1,11 +1,11 @@
 //! The accounts of a history, by user number and by name.
 ghost use Rattle.std.specs.Prelude.{◌≡◌, ◌≤◌, ◌<◌, ◌+◌, ◌-◌, [], OnOk, IfOk, is_some, option_and_then, Some};
-ghost use Rattle.std.specs.Prelude.{filter, length};
+ghost use Rattle.std.specs.Prelude.{count_by, filter, length};
 ghost use Rattle.std.specs.Option.{option_map};
-ghost use Rattle.cr_base.specs.Checks.{judged, of_role, register_checks, name_checks};
+ghost use Rattle.cr_base.specs.Checks.{judged, of_role, register_checks, name_checks, dismiss_checks};
 ghost use Rattle.cr_base.specs.Accounts.{accounts_after, account_at, role_at, role_in};
-ghost use Rattle.cr_base.specs.Accounts.{number_at, caller_at, lines_of, AccountsFit};
-ghost use Rattle.cr_base.specs.Words.{is_member};
+ghost use Rattle.cr_base.specs.Accounts.{number_at, caller_at, lines_of, chair_count, AccountsFit};
+ghost use Rattle.cr_base.specs.Words.{is_chair, is_member};
 ghost use Rattle.cr_accounts.specs.Members.{counted_by};
 
 use cr_base::{
@@ -66,6 +66,16 @@ fn counted(count: u64, role: Role) -> u64
         return count + 1;
     }
     count
+}
+
+/// How many of these are chairs'. A walk over them.
+fn chairs_among(accounts: &[Account]) -> usize
+    ensures { result ≡ count_by (λ a. is_chair a.role) accounts.now }
+{
+    accounts
+        .iter()
+        .filter(|account| account.role.is_chair())
+        .count()
 }
 
 impl Accounts {
@@ -152,8 +162,8 @@ impl Accounts {
         Some(account.name)
     }
 
-    /// The role that a user was given last, an account's where she was given none; none where nobody
-    /// has that number. One read by number.
+    /// The role that a user was given last, an account's where she was given none, or dismissed since; none where
+    /// nobody has that number. One read by number.
     pub fn role_given(&self, user: UserNo) -> Option<Role>
         ensures { result ≡ role_at self.now.accounts user }
     {
@@ -176,6 +186,51 @@ impl Accounts {
             return Err(Rule::NoUser);
         };
         may_name(by, now, role)
+    }
+
+    /// Whether the caller may dismiss a user, or the first broken rule: `NoUser` where there is no such user,
+    /// `NotChair` where the caller is no chair, `WrongPhase` after the discussion, `NotAMember` where the user is no
+    /// member of the committee, `LastChair` where she is the only chair. `by` is the caller's standing, where no paper
+    /// is named. One read by number, and where the user is a chair a walk over the accounts.
+    pub fn judge_dismiss(&self, by: &Standing, target: &Option<UserNo>) -> Result<(), Rule>
+        ensures { result ≡ judged (dismiss_checks by.now
+            (option_map of_role (option_and_then (role_at self.now.accounts) target.now))
+            (chair_count (lines_of self.now.accounts))) tt }
+    {
+        let Some(user) = target else {
+            return Err(Rule::NoUser);
+        };
+        let Some(now) = self.role_given(*user) else {
+            return Err(Rule::NoUser);
+        };
+        self.may_dismiss(by, now)
+    }
+
+    /// The same of somebody who has the role `now`.
+    fn may_dismiss(&self, by: &Standing, now: Role) -> Result<(), Rule>
+        ensures { result ≡ judged (dismiss_checks by.now (Some (of_role now))
+            (chair_count (lines_of self.now.accounts))) tt }
+    {
+        if !by.role.is_chair() {
+            return Err(Rule::NotChair);
+        }
+        if by.phase.roles_are_final() {
+            return Err(Rule::WrongPhase);
+        }
+        if !now.is_member() {
+            return Err(Rule::NotAMember);
+        }
+        if now.is_chair() && self.chair_count() <= 1 {
+            return Err(Rule::LastChair);
+        }
+        Ok(())
+    }
+
+    /// How many users are chairs. One walk over the accounts; takes no memory.
+    fn chair_count(&self) -> usize
+        ensures { result ≡ chair_count (lines_of self.now.accounts) }
+    {
+        chairs_among(&self.accounts)
     }
 
     /// How many users are members of the committee, chairs among them. One walk over the accounts; takes no memory.
@@ -238,6 +293,9 @@ impl Accounts {
             }
             Entry::Named { user, role } => {
                 self.accounts[user.from_zero()].role = *role;
+            }
+            Entry::Dismissed { user } => {
+                self.accounts[user.from_zero()].role = Role::Account;
             }
             _ => {}
         }

@@ -5,14 +5,14 @@ ghost use Rattle.cr_base.specs.Page.{shows_author, shows_reviewer, shows_writer}
 use cr_base::Standing;
 
 /// Whether a caller is told who wrote a paper: to authors always; from bidding on to chairs who
-/// aren't in conflict with it, and to such members unless the mode is anonymous; to everyone where
-/// the paper is accepted. `by` is the caller's standing at the paper. Takes no memory.
+/// aren't in conflict with it, and to such members and externals unless the mode is anonymous; to everyone
+/// where the paper is accepted. `by` is the caller's standing at the paper. Takes no memory.
 pub fn shows_author(by: &Standing, accepted: bool) -> bool
     ensures { result ≡ shows_author by.now accepted }
 {
     by.author
         || (by.is_clear_chair() && by.phase.committee_sees_authors())
-        || (by.is_clear_member() && !by.mode.is_anonymous() && by.phase.committee_sees_authors())
+        || (by.reads_paper() && !by.mode.is_anonymous() && by.phase.committee_sees_authors())
         || accepted
 }
 

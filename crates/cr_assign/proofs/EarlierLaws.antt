@@ -1,13 +1,15 @@
--- Who reviews a paper behind earlier entries, and how many labels it has given, from what these tell.
+-- Who reviews a paper behind earlier entries, how many labels it has given, and who is invited to it, from what these tell.
 use Rattle.std.proofs.Common.{ℕ, Bool, true, false, cond, ◌≡◌, ◌+◌, [], ◌∷◌, length, eqb, refl, ap, ◌∙◌, arith, fold, Option, Some}
 use Rattle.std.specs.Prelude.{not, count_by}
 use Rattle.std.proofs.lemmas.List.Sums.{sum_by-cons}
 use Rattle.cr_base.specs.declared.entry.Entry.{Entry}
 use Rattle.cr_base.specs.declared.entry.Entry.TheVariants.{Assigned}
 use Rattle.cr_base.specs.declared.entry.Stamped.{Stamped}
-use Rattle.cr_base.specs.History.{History, SeatTold, assigned_told, ordinal_told}
+use Rattle.cr_base.specs.History.{History, SeatTold, assigned_told, invite_told, ordinal_told}
+use Rattle.cr_base.specs.Invites.{InvitesState, invites_after, invites_from, is_invited_in}
 use Rattle.cr_base.specs.Lists.{given, is_nothing, last_or}
 use Rattle.cr_base.specs.Seats.{SeatsState, SeatsInOrder, SeatsFitInTurn, seats_after, seats_from, labels_in, ordinal_in}
+use Rattle.cr_base.proofs.InviteLaws.{is_invited_in-after}
 use Rattle.cr_base.proofs.SeatLaws.{seats-in_order-after, ordinal_in-after, labels_in-after}
 
 -- a user reviews a paper as the last of the entries that speaks of it says, or else as she did
@@ -40,3 +42,11 @@ labels_in-from p seats (e ∷ entries) =
     let one = given-one p e.entry in
     let count = sum_by-cons (λ (s : Stamped). cond (gives p s) 1 0) e entries in
     omega (arith, rest, first, one, count)
+
+-- a user is invited as the last of the entries that speaks of it says, or else as she was
+pub is_invited_in-from : (u : Option ℕ) (p : ℕ) (invites : InvitesState) (entries : History)
+    → is_invited_in (invites_from invites entries) u p ≡ fold (λ (b : Bool) (e : Stamped). last_or b (invite_told u p e.entry)) (is_invited_in invites u p) entries
+is_invited_in-from u p invites [] = refl
+is_invited_in-from u p invites (e ∷ entries) =
+    is_invited_in-from u p (invites_after invites e.entry) entries
+    ∙ ap (λ (on : Bool). fold (λ (b : Bool) (s : Stamped). last_or b (invite_told u p s.entry)) on entries) (is_invited_in-after u p invites e.entry)

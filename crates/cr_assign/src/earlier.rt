@@ -1,6 +1,6 @@
 //! What earlier entries of the same command make of the seats of a paper.
 ghost use Rattle.std.specs.Prelude.{◌≡◌, Some, not, fold, count_by};
-ghost use Rattle.cr_base.specs.History.{assigned_told, ordinal_told};
+ghost use Rattle.cr_base.specs.History.{assigned_told, invite_told, ordinal_told};
 ghost use Rattle.cr_base.specs.Lists.{is_nothing, last_or};
 
 use cr_base::{Entry, Ordinal, PaperNo, Stamped, UserNo};
@@ -62,4 +62,35 @@ pub(crate) fn labels_given(earlier: &[Stamped], paper: PaperNo) -> usize
         .iter()
         .filter(|stamped| gives_label(stamped, paper))
         .count()
+}
+
+/// Whether the user is invited to the paper after the entry, where `invited` says it of before.
+fn invited_after(invited: bool, stamped: &Stamped, user: UserNo, paper: PaperNo) -> bool
+    ensures { result ≡ last_or invited (invite_told (Some user) paper stamped.now.entry) }
+{
+    match &stamped.entry {
+        Entry::Invited {
+            paper: to,
+            user: who,
+        } if to.number() == paper.number() && who.number() == user.number() => true,
+        Entry::Uninvited {
+            paper: from,
+            user: who,
+        } if from.number() == paper.number() && who.number() == user.number() => false,
+        _ => invited,
+    }
+}
+
+/// The same after all of the entries. A walk over them.
+pub(crate) fn invited_behind(
+    invited: bool,
+    earlier: &[Stamped],
+    user: UserNo,
+    paper: PaperNo,
+) -> bool
+    ensures { result ≡ fold (λ b e. last_or b (invite_told (Some user) paper e.entry)) invited earlier.now }
+{
+    earlier.iter().fold(invited, |last, stamped| {
+        invited_after(last, stamped, user, paper)
+    })
 }

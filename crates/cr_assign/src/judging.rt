@@ -1,14 +1,14 @@
-//! The rules of assigning a reviewer and of taking one off a paper, a function a list of checks, each of a
-//! paper that is there and of a user who has registered.
-ghost use Rattle.std.specs.Prelude.{◌≡◌, ◌+◌, true, false, Some, unwrap_or};
+//! The rules of assigning a reviewer and of taking one off a paper, of inviting somebody and of taking that back, a
+//! function a list of checks, each of a paper that is there and of a user who has registered.
+ghost use Rattle.std.specs.Prelude.{◌≡◌, ◌+◌, true, false, Some, None, unwrap_or};
 ghost use Rattle.cr_base.specs.declared.words.Role.TheVariants.{Account};
-ghost use Rattle.cr_base.specs.Checks.{judged, assign_checks, unassign_checks};
+ghost use Rattle.cr_base.specs.Checks.{judged, assign_checks, unassign_checks, invite_checks, uninvite_checks};
 ghost use Rattle.cr_assign.specs.Targets.{target_with};
 
-use cr_base::{MOST_LABELS, Ordinal, Rule, Standing, Target};
+use cr_base::{MOST_LABELS, Ordinal, Role, Rule, Standing, Target};
 
-/// Assigning a member who is in no conflict with the paper and doesn't review it: the label behind the
-/// `labels` that were given.
+/// Assigning a member or an external of the paper who is in no conflict with it and doesn't review it: the label
+/// behind the `labels` that were given.
 pub(crate) fn assign(
     by: &Standing,
     withdrawn: bool,
@@ -23,7 +23,7 @@ pub(crate) fn assign(
         Ok(()) => {}
         Err(rule) => return Err(rule),
     }
-    if !target.role.is_member() {
+    if !(target.role.is_member() || target.external) {
         return Err(Rule::NotAMember);
     }
     if target.conflicted {
@@ -47,7 +47,7 @@ pub(crate) fn unassign(
 ) -> Result<Ordinal, Rule>
     ensures { result ≡ judged
         (unassign_checks by.now (record { there = true; withdrawn = withdrawn })
-        (Some (target_with Account false held)) has_form)
+        (Some (target_with Account false held false)) has_form)
         (unwrap_or held 0) }
 {
     match by.may_chair(withdrawn) {
@@ -59,4 +59,57 @@ pub(crate) fn unassign(
         Some(ordinal) => Ok(ordinal),
         None => Err(Rule::NotAssigned),
     }
+}
+
+/// Inviting a user who is no member, is in no conflict with the paper, and isn't invited to it.
+pub(crate) fn invite(
+    by: &Standing,
+    withdrawn: bool,
+    role: Role,
+    conflicted: bool,
+    invited: bool,
+) -> Result<(), Rule>
+    ensures { result ≡ judged
+        (invite_checks by.now (record { there = true; withdrawn = withdrawn })
+        (Some (target_with role conflicted None false)) invited) tt }
+{
+    match by.may_chair(withdrawn) {
+        Ok(()) => {}
+        Err(rule) => return Err(rule),
+    }
+    if role.is_member() {
+        return Err(Rule::IsMember);
+    }
+    if conflicted {
+        return Err(Rule::TargetConflict);
+    }
+    if invited {
+        return Err(Rule::AlreadyInvited);
+    }
+    Ok(())
+}
+
+/// Taking an invitation to the paper back, of a user who has one and doesn't review it: `held` is the ordinal under
+/// which she does.
+pub(crate) fn uninvite(
+    by: &Standing,
+    withdrawn: bool,
+    held: Option<Ordinal>,
+    invited: bool,
+) -> Result<(), Rule>
+    ensures { result ≡ judged
+        (uninvite_checks by.now (record { there = true; withdrawn = withdrawn })
+        (Some (target_with Account false held false)) invited) tt }
+{
+    match by.may_chair(withdrawn) {
+        Ok(()) => {}
+        Err(rule) => return Err(rule),
+    }
+    if !invited {
+        return Err(Rule::NotInvited);
+    }
+    if held.is_some() {
+        return Err(Rule::StillAssigned);
+    }
+    Ok(())
 }

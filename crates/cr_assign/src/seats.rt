@@ -1,38 +1,41 @@
-//! The seats of papers, and who reviews which.
-ghost use Rattle.std.specs.Prelude.{false, ◌≡◌, ◌==◌, ◌≤◌, ◌<◌, ◌+◌, OnOk, Some, ◌∷◌, []};
+//! The seats of papers, who reviews which, and who is invited to which from outside the committee.
+ghost use Rattle.std.specs.Prelude.{false, not, ◌&&◌, ◌≡◌, ◌==◌, ◌≤◌, ◌<◌, ◌+◌, OnOk, Some, ◌∷◌, []};
 ghost use Rattle.std.specs.Prelude.{length, map, is_some, slice_index};
 ghost use Rattle.std.specs.List.{All, list_any};
 ghost use Rattle.cr_base.specs.declared.pairs.Order.TheVariants.{ByPaper};
 ghost use Rattle.cr_base.specs.declared.entry.Entry.TheVariants.{Assigned, Unassigned};
-ghost use Rattle.cr_base.specs.Checks.{judged, assign_checks, unassign_checks};
+ghost use Rattle.cr_base.specs.Checks.{judged, assign_checks, unassign_checks, invite_checks, uninvite_checks};
+ghost use Rattle.cr_base.specs.Invites.{no_invites, invites_after, invites_from, is_invited_in};
 ghost use Rattle.cr_base.specs.Lists.{IsRising};
-ghost use Rattle.cr_base.specs.Pairs.{ties_of};
+ghost use Rattle.cr_base.specs.Pairs.{ties_of, with_tie, without_pair, users_tied_to, papers_tied_to};
 ghost use Rattle.cr_base.specs.History.{History};
-ghost use Rattle.cr_base.specs.Steps.{Takes};
+ghost use Rattle.cr_base.specs.Steps.{Takes, TakesAtMost, Halves};
+ghost use Rattle.cr_base.specs.Ties.{bare_tie, pair_of};
+ghost use Rattle.cr_base.specs.Words.{is_member};
 ghost use Rattle.cr_base.specs.Seats.{no_seats, seat_tie, with_seat, vacated, without_seat, seats_after};
 ghost use Rattle.cr_base.specs.Seats.{seats_from, labels_in, ordinal_in, SeatsFit, SeatsFitInTurn};
 ghost use Rattle.cr_rooms.specs.Rooms.{IsNoLess, IsOneLess};
 ghost use Rattle.cr_assign.specs.Room.{SeatsHaveRoom};
-ghost use Rattle.cr_assign.specs.Targets.{target_of, held_at, labels_at};
+ghost use Rattle.cr_assign.specs.Targets.{target_of, held_at, labels_at, invited_at};
 
-use crate::earlier::{labels_given, seat_behind};
+use crate::earlier::{invited_behind, labels_given, seat_behind};
 use crate::judging;
-use crate::told::assigned_pairs;
+use crate::told::{assigned_pairs, invited_pairs};
 use cr_base::{
     Entry, Kind, Order, Ordinal, Pair, PaperNo, Role, Rule, Seat, Stamped, Standing, Steps, Target,
     Tie, UserNo,
 };
 use cr_kept::Files;
-use cr_pairs::{PairRows, papers_of};
+use cr_pairs::{IndexedPairs, PairRows, papers_of};
 use std::alloc::{AllocError, Global};
 use std::marker::Model;
 use std::sync::ledger::Ledger;
 
-/// Who is assigned to which paper, under which label, and who has left it.
+/// Who is assigned to which paper, under which label, and who has left it; and who is invited to which.
 ///
-/// Contracts see the seats paper by paper, those of a paper by label, and for how many more of each paper and
-/// of each user there is room. Who reviews what is found by user too; that this agrees is true of every table,
-/// and so is that the labels of a paper are numbered from 1 and are at most 26.
+/// Contracts see the seats paper by paper, those of a paper by label, the invitations by paper, and for how many more
+/// of each paper and of each user there is room. Who reviews what is found by user too; that this agrees is true of
+/// every table, and so is that the labels of a paper are numbered from 1 and are at most 26.
 #[derive(Drop)]
 pub struct Seats {
     alloc: Global,
@@ -40,6 +43,8 @@ pub struct Seats {
     seats: Files<Tie<Seat>>,
     // Papers and users of the seats that nobody has left, with their ordinals, by user.
     reviewing: PairRows<Ordinal>,
+    // Papers, and the users who are invited to them, members since or not.
+    invites: IndexedPairs<()>,
 }
 
 impl Model for Seats {
@@ -51,7 +56,13 @@ impl Model for Seats {
 
     ghost view = { λ t. record {
       seats = values_in t.seats.files;
-      rooms = record { seats = t.seats.rooms; reviewing = t.reviewing.rooms };
+      invites = t.invites.ties;
+      rooms = record {
+        seats = t.seats.rooms;
+        reviewing = t.reviewing.rooms;
+        invites = t.invites.by_paper_rooms;
+        inviting = t.invites.by_user_rooms;
+      };
     } };
 
     ghost invariant = { λ t. SeatsIndexed (values_in t.seats.files) t.reviewing.order t.reviewing.ties
@@ -86,16 +97,28 @@ fn left(seat: &Tie<Seat>) -> Tie<Seat>
     }
 }
 
+/// A paper and a user who are tied.
+fn bare(paper: PaperNo, user: UserNo) -> Tie<()>
+    ensures { result ≡ bare_tie paper user }
+{
+    Tie {
+        pair: Pair { paper, user },
+        value: (),
+    }
+}
+
 /// What is read.
 impl Seats {
-    /// No assignments; takes no memory.
+    /// No assignments and no invitations; takes no memory.
     pub fn new(alloc: Global) -> Seats
-        ensures { result.seats ≡ no_seats }
+        ensures seats { result.seats ≡ no_seats }
+        ensures invites { result.invites ≡ no_invites }
     {
         Seats {
             alloc,
             seats: Files::new(alloc),
             reviewing: PairRows::new(alloc, Order::ByUser),
+            invites: IndexedPairs::new(alloc),
         }
     }
 
@@ -175,6 +198,65 @@ impl Seats {
         seat_behind(held, earlier, user, paper)
     }
 
+    /// Whether the user is invited to the paper, be she a member since or not. The paper's invitations are found by
+    /// number; a step for each of them at which the binary search looks.
+    pub fn is_invited<L: Ledger>(&self, user: UserNo, paper: PaperNo, steps: &mut Steps<L>) -> bool
+        ensures value { result ≡ is_invited_in self.now.invites (Some user) paper }
+        ensures steps { Halves (length (users_tied_to paper self.now.invites)) steps.old steps.new }
+    {
+        self.invites.contains(&Pair { paper, user }, steps)
+    }
+
+    /// Whether the user, who has this role, is an external of the paper: no member, and invited to it. As many
+    /// steps at most, and none where she is a member.
+    pub fn is_external<L: Ledger>(
+        &self,
+        user: UserNo,
+        paper: PaperNo,
+        role: Role,
+        steps: &mut Steps<L>,
+    ) -> bool
+        ensures value { result ≡ (not (is_member role) && is_invited_in self.now.invites (Some user) paper) }
+        ensures steps { TakesAtMost (length (users_tied_to paper self.now.invites)) steps.old steps.new }
+    {
+        if role.is_member() {
+            return false;
+        }
+        self.is_invited(user, paper, steps)
+    }
+
+    /// Whether she is invited to it behind earlier entries of the same command. A binary search, and a walk over them.
+    fn is_invited_behind(&self, user: UserNo, paper: PaperNo, earlier: &[Stamped]) -> bool
+        ensures { result ≡ is_invited_in (invites_from self.now.invites earlier.now) (Some user) paper }
+    {
+        let invited = self.is_invited(user, paper, &mut Steps::uncounted());
+        invited_behind(invited, earlier, user, paper)
+    }
+
+    /// Whether the user, who has this role, is an external of the paper, behind these entries. As much.
+    pub fn is_external_behind(
+        &self,
+        user: UserNo,
+        paper: PaperNo,
+        role: Role,
+        earlier: &[Stamped],
+    ) -> bool
+        ensures { result
+            ≡ (not (is_member role) && is_invited_in (invites_from self.now.invites earlier.now) (Some user) paper) }
+    {
+        !role.is_member() && self.is_invited_behind(user, paper, earlier)
+    }
+
+    /// The papers to which the user is invited, in the order of their numbers. Found by number; a step for each.
+    /// Takes no memory.
+    pub fn inviting<L: Ledger>(&self, user: UserNo, steps: &mut Steps<L>) -> &[Tie<()>]
+        ensures papers { map (λ t. t.pair.paper) result.now ≡ papers_tied_to user self.now.invites }
+        ensures rising { IsRising (papers_tied_to user self.now.invites) }
+        ensures steps { Takes (length (papers_tied_to user self.now.invites)) steps.old steps.new }
+    {
+        self.invites.of_user(user, steps)
+    }
+
     /// How many labels the paper's reviewers were given, behind earlier entries of the same command. One
     /// read by number, and a walk over the entries.
     fn labels_behind(&self, paper: PaperNo, earlier: &[Stamped]) -> u64
@@ -204,10 +286,11 @@ impl Seats {
     ) -> Result<Ordinal, Rule>
         requires { SeatsFitInTurn self.now.seats earlier.now }
         ensures { let seats = seats_from self.now.seats earlier.now in
+            let invites = invites_from self.now.invites earlier.now in
             let labels = labels_at seats paper.now in
             result ≡ judged
             (assign_checks by.now (record { there = is_some paper.now; withdrawn = withdrawn })
-            (target_of seats target_conflicted paper.now target.now) labels)
+            (target_of seats invites target_conflicted paper.now target.now) labels)
             (labels + 1) }
     {
         let Some(paper) = paper else {
@@ -222,6 +305,7 @@ impl Seats {
             author: false,
             conflicted: target_conflicted,
             reviewer: self.ordinal_behind(*user, *paper, earlier).is_some(),
+            external: self.is_external_behind(*user, *paper, *role, earlier),
         };
         let labels = self.labels_behind(*paper, earlier);
         judging::assign(by, withdrawn, &target, labels)
@@ -247,7 +331,7 @@ impl Seats {
         ensures { let seats = seats_from self.now.seats earlier.now in
             result ≡ judged
             (unassign_checks by.now (record { there = is_some paper.now; withdrawn = withdrawn })
-            (target_of seats false paper.now target.now) has_form)
+            (target_of seats self.now.invites false paper.now target.now) has_form)
             (held_at seats paper.now target.now) }
     {
         let Some(paper) = paper else {
@@ -259,6 +343,66 @@ impl Seats {
         let held = self.ordinal_behind(*user, *paper, earlier);
         judging::unassign(by, withdrawn, has_form, held)
     }
+
+    /// Whether the caller may invite this user to this paper, or the first broken rule. The parameters are those of
+    /// `judge_assign`; a bulk invites nobody, so there are no earlier entries. Two reads by number at most, and a
+    /// binary search among the paper's invitations.
+    ///
+    /// In this order: `NoPaper`, `NoUser`, `NotChair`, `Conflict`, `WrongPhase`, `Withdrawn`, `IsMember`,
+    /// `TargetConflict`, `AlreadyInvited`.
+    pub fn judge_invite(
+        &self,
+        by: &Standing,
+        paper: &Option<PaperNo>,
+        target: &Option<(UserNo, Role)>,
+        withdrawn: bool,
+        target_conflicted: bool,
+    ) -> Result<(), Rule>
+        ensures { result ≡ judged
+            (invite_checks by.now (record { there = is_some paper.now; withdrawn = withdrawn })
+            (target_of self.now.seats self.now.invites target_conflicted paper.now target.now)
+            (invited_at self.now.invites paper.now target.now))
+            tt }
+    {
+        let Some(paper) = paper else {
+            return Err(Rule::NoPaper);
+        };
+        let Some((user, role)) = target else {
+            return Err(Rule::NoUser);
+        };
+        let invited = self.is_invited(*user, *paper, &mut Steps::uncounted());
+        judging::invite(by, withdrawn, *role, target_conflicted, invited)
+    }
+
+    /// Whether the caller may take back this user's invitation to this paper, or the first broken rule. The
+    /// parameters are those of `judge_invite`. Two reads by number at most, a binary search among the paper's
+    /// invitations and a walk over its seats.
+    ///
+    /// In this order: `NoPaper`, `NoUser`, `NotChair`, `Conflict`, `WrongPhase`, `Withdrawn`, `NotInvited`,
+    /// `StillAssigned` where she reviews the paper.
+    pub fn judge_uninvite(
+        &self,
+        by: &Standing,
+        paper: &Option<PaperNo>,
+        target: &Option<(UserNo, Role)>,
+        withdrawn: bool,
+    ) -> Result<(), Rule>
+        ensures { result ≡ judged
+            (uninvite_checks by.now (record { there = is_some paper.now; withdrawn = withdrawn })
+            (target_of self.now.seats self.now.invites false paper.now target.now)
+            (invited_at self.now.invites paper.now target.now))
+            tt }
+    {
+        let Some(paper) = paper else {
+            return Err(Rule::NoPaper);
+        };
+        let Some((user, _)) = target else {
+            return Err(Rule::NoUser);
+        };
+        let invited = self.is_invited(*user, *paper, &mut Steps::uncounted());
+        let held = self.ordinal_of(*user, *paper, &mut Steps::uncounted());
+        judging::uninvite(by, withdrawn, held, invited)
+    }
 }
 
 /// What entries make of it.
@@ -268,12 +412,15 @@ impl Seats {
     pub fn room(&mut self, group: &[Stamped]) -> Result<(), AllocError>
         ensures ok { OnOk result (SeatsHaveRoom group.now self.new.rooms) }
         ensures same { self.new.seats ≡ self.old.seats }
+        ensures same_invites { self.new.invites ≡ self.old.invites }
         ensures keeps { (any : History) → SeatsHaveRoom any self.old.rooms → SeatsHaveRoom any self.new.rooms }
     {
         let pairs = assigned_pairs(self.alloc, group)?;
         let papers = papers_of(self.alloc, &pairs)?;
+        let invited = invited_pairs(self.alloc, group)?;
         self.seats.room(&papers)?;
-        self.reviewing.room(&pairs)
+        self.reviewing.room(&pairs)?;
+        self.invites.room(&invited)
     }
 
     /// One more seat, under the paper's next label, of a user who has none there; takes no memory.
@@ -282,6 +429,9 @@ impl Seats {
         requires room_by_user { 0 < slice_index self.old.rooms.reviewing user }
         requires fits { SeatsFit self.old.seats (Assigned paper user kind ordinal) }
         ensures after { self.new.seats ≡ with_seat (seat_tie paper user kind ordinal) self.old.seats }
+        ensures invites { self.new.invites ≡ self.old.invites }
+        ensures invites_rooms { self.new.rooms.invites ≡ self.old.rooms.invites }
+        ensures inviting_rooms { self.new.rooms.inviting ≡ self.old.rooms.inviting }
         ensures rooms { IsOneLess paper self.old.rooms.seats self.new.rooms.seats }
         ensures rooms_by_user { IsOneLess user self.old.rooms.reviewing self.new.rooms.reviewing }
     {
@@ -296,6 +446,9 @@ impl Seats {
     fn vacate(&mut self, paper: PaperNo, user: UserNo, ordinal: Ordinal)
         requires fits { SeatsFit self.old.seats (Unassigned paper user ordinal) }
         ensures after { self.new.seats ≡ without_seat paper ordinal self.old.seats }
+        ensures invites { self.new.invites ≡ self.old.invites }
+        ensures invites_rooms { self.new.rooms.invites ≡ self.old.rooms.invites }
+        ensures inviting_rooms { self.new.rooms.inviting ≡ self.old.rooms.inviting }
         ensures rooms { IsNoLess self.old.rooms.seats self.new.rooms.seats }
         ensures rooms_by_user { IsNoLess self.old.rooms.reviewing self.new.rooms.reviewing }
     {
@@ -305,14 +458,41 @@ impl Seats {
         self.reviewing.remove(&Pair { paper, user });
     }
 
+    /// The user is invited to the paper from now on; takes no memory.
+    fn invite(&mut self, paper: PaperNo, user: UserNo)
+        requires room { 0 < slice_index self.old.rooms.invites paper }
+        requires room_by_user { 0 < slice_index self.old.rooms.inviting user }
+        ensures after { self.new.invites ≡ with_tie ByPaper (bare_tie paper user) self.old.invites }
+        ensures seats { self.new.seats ≡ self.old.seats }
+        ensures seats_rooms { self.new.rooms.seats ≡ self.old.rooms.seats }
+        ensures reviewing_rooms { self.new.rooms.reviewing ≡ self.old.rooms.reviewing }
+        ensures rooms { IsOneLess paper self.old.rooms.invites self.new.rooms.invites }
+        ensures rooms_by_user { IsOneLess user self.old.rooms.inviting self.new.rooms.inviting }
+    {
+        self.invites.insert(bare(paper, user));
+    }
+
+    /// The user is no longer; takes no memory.
+    fn uninvite(&mut self, paper: PaperNo, user: UserNo)
+        ensures after { self.new.invites ≡ without_pair (pair_of paper user) self.old.invites }
+        ensures seats { self.new.seats ≡ self.old.seats }
+        ensures seats_rooms { self.new.rooms.seats ≡ self.old.rooms.seats }
+        ensures reviewing_rooms { self.new.rooms.reviewing ≡ self.old.rooms.reviewing }
+        ensures rooms { IsNoLess self.old.rooms.invites self.new.rooms.invites }
+        ensures rooms_by_user { IsNoLess self.old.rooms.inviting self.new.rooms.inviting }
+    {
+        self.invites.remove(&Pair { paper, user });
+    }
+
     /// One more entry, for which there is room; takes no memory. An assignment gives the paper's next label
     /// to a user who doesn't review it, and who is taken off a paper reviews it under the label told. Either
     /// costs two reads by number and a binary search among the papers that the user reviews, and a move of those
-    /// behind it, of 6 bytes each.
+    /// behind it, of 6 bytes each; an invitation, and the end of one, two reads and two such searches.
     pub fn apply(&mut self, stamped: &Stamped)
         requires room { SeatsHaveRoom (stamped.now ∷ []) self.old.rooms }
         requires fits { SeatsFit self.old.seats stamped.now.entry }
         ensures after { self.new.seats ≡ seats_after self.old.seats stamped.now.entry }
+        ensures invites { self.new.invites ≡ invites_after self.old.invites stamped.now.entry }
         ensures room { (rest : History) → SeatsHaveRoom (stamped.now ∷ rest) self.old.rooms
             → SeatsHaveRoom rest self.new.rooms }
     {
@@ -328,6 +508,8 @@ impl Seats {
                 user,
                 ordinal,
             } => self.vacate(*paper, *user, *ordinal),
+            Entry::Invited { paper, user } => self.invite(*paper, *user),
+            Entry::Uninvited { paper, user } => self.uninvite(*paper, *user),
             _ => {}
         }
     }

@@ -1,7 +1,7 @@
-//! Whom entries assign to which paper.
+//! Whom entries assign to which paper, and whom they invite.
 ghost use Rattle.std.specs.Prelude.{◌≡◌, IfOk};
 ghost use Rattle.std.specs.List.{filter_map};
-ghost use Rattle.cr_assign.specs.Room.{assigned_pair};
+ghost use Rattle.cr_assign.specs.Room.{assigned_pair, invited_pair};
 
 use cr_base::{Entry, Pair, Stamped};
 use std::alloc::{AllocError, Global};
@@ -27,5 +27,28 @@ pub(crate) fn assigned_pairs(alloc: Global, group: &[Stamped]) -> Result<Vec<Pai
     group
         .iter()
         .filter_map(|stamped| assigned_pair(stamped))
+        .collect(alloc)
+}
+
+/// The paper and the user whom the entry invites to it, where it does.
+fn invited_pair(stamped: &Stamped) -> Option<Pair>
+    ensures { result ≡ invited_pair stamped.now }
+{
+    match &stamped.entry {
+        Entry::Invited { paper, user } => Some(Pair {
+            paper: *paper,
+            user: *user,
+        }),
+        _ => None,
+    }
+}
+
+/// Those of all the entries, in their order. A walk over them; an error only for lack of memory.
+pub(crate) fn invited_pairs(alloc: Global, group: &[Stamped]) -> Result<Vec<Pair>, AllocError>
+    ensures { IfOk result (λ pairs. pairs.items ≡ filter_map invited_pair group.now) }
+{
+    group
+        .iter()
+        .filter_map(|stamped| invited_pair(stamped))
         .collect(alloc)
 }

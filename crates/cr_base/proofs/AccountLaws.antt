@@ -1,13 +1,15 @@
 -- What is read of the accounts: by number and by name, and as everyone sees them.
 use Rattle.std.proofs.Common.{ℕ, Bool, true, false, cond, ◌≡◌, ◌+◌, List, [], ◌∷◌, ◌++◌, length, refl, sym, ap, subst, ◌∙◌, arith, zero, suc, add-zero, ◌≤◌, ◌<◌, Option, Some, None, is_some, Result, Ok, Err}
-use Rattle.std.specs.Prelude.{nat_le}
+use Rattle.std.specs.Prelude.{nat_le, count_by}
+use Rattle.std.proofs.lemmas.List.Sums.{sum_by-cons}
 use Rattle.std.proofs.lemmas.Bool.Decides.{nat_tests}
 use Rattle.std.specs.List.{position_from}
 use Rattle.std.specs.Option.{option_map}
 use Rattle.std.specs.Str.{bytes_eq}
 use Rattle.std.proofs.lemmas.Slice.Eq.{bytes_eq-Decides}
 use Rattle.std.proofs.lemmas.Iterator.Adapters.{position_from-zero}
-use Rattle.cr_base.specs.Accounts.{number_at, lines_of, lines_from, with_role, AccountsFit}
+use Rattle.cr_base.specs.Accounts.{number_at, lines_of, lines_from, with_role, chair_count, AccountsFit}
+use Rattle.cr_base.specs.Words.{is_chair}
 use Rattle.cr_base.specs.Checks.{judged, register_checks}
 use Rattle.cr_base.specs.Drawn.{Drawn, registration_drawn}
 use Rattle.cr_base.specs.Calls.{stamp_of}
@@ -33,6 +35,16 @@ length-lines_from n (a ∷ accounts) = ap suc (length-lines_from (n + 1) account
 -- there are as many lines as accounts
 pub length-lines_of : (accounts : List Account) → length (lines_of accounts) ≡ length accounts
 length-lines_of accounts = length-lines_from 1 accounts
+
+-- as many lines are of chairs as accounts
+pub chair_count-lines_from : (n : ℕ) (accounts : List Account) → chair_count (lines_from n accounts) ≡ count_by (λ (a : Account). is_chair a.role) accounts
+chair_count-lines_from n [] = refl
+chair_count-lines_from n (a ∷ accounts) =
+    let rest = chair_count-lines_from (n + 1) accounts in
+    let line : AccountLine = record { user = n; name = a.name; role = a.role } in
+    let told = sum_by-cons (λ (l : AccountLine). cond (is_chair l.role) 1 0) line (lines_from (n + 1) accounts) in
+    let kept = sum_by-cons (λ (x : Account). cond (is_chair x.role) 1 0) a accounts in
+    omega (arith, rest, told, kept)
 
 -- the number of a name is found by going over the accounts
 pub number_at-from : (accounts : List Account) (name : List ℕ) → number_at accounts name ≡ option_map (λ i. i + 1) (position_from (λ a. bytes_eq a.name name) 0 accounts)

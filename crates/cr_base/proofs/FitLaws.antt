@@ -1,6 +1,6 @@
 -- The entries that a command draws fit the tables, each in its turn.
 use Rattle.std.proofs.Common.{ℕ, Bool, true, false, cond, ◌≡◌, ◌≤◌, ◌<◌, ◌+◌, ◌==◌, List, [], ◌∷◌, length, length-append, refl, sym, ap, subst, ◌∙◌, arith, Option, Some, None, is_some, Ok}
-use Rattle.std.specs.Prelude.{is_none, unwrap_or, not, nat_le, nat_lt, ◌||◌, map}
+use Rattle.std.specs.Prelude.{is_none, unwrap_or, not, nat_le, nat_lt, ◌||◌, ◌&&◌, map}
 use Rattle.std.specs.List.{flat_map, list_any}
 use Rattle.std.specs.Option.{option_map}
 use Rattle.std.proofs.lemmas.Bool.{leb-false, true≢false}
@@ -8,20 +8,22 @@ use Rattle.std.proofs.lemmas.Bool.Decides.{nat_tests}
 use Rattle.std.proofs.lemmas.List.{append-nil, length-map}
 use Rattle.cr_base.specs.History.{FormTold}
 use Rattle.cr_base.specs.declared.command.Command.{Command}
-use Rattle.cr_base.specs.declared.command.Command.TheVariants.{Register, SetPhase, Submit, Revise, Upload, Withdraw, Name, SetMode, SetConflict, Bid, Assign, Unassign, Review, Comment, Tag, Decide, SetDeadline}
+use Rattle.cr_base.specs.declared.command.Command.TheVariants.{Register, SetPhase, Submit, Revise, Upload, Withdraw, Name, SetMode, SetConflict, Bid, Assign, Unassign, Review, Comment, Tag, Decide, SetDeadline, Dismiss, Invite, Uninvite}
 use Rattle.cr_base.specs.declared.entry.Account.{Account}
 use Rattle.cr_base.specs.declared.entry.Entry.TheVariants.{Registered, Named}
 use Rattle.cr_base.specs.declared.entry.Stamp.{Stamp}
 use Rattle.cr_base.specs.declared.target.Target.{Target}
 use Rattle.cr_base.specs.declared.words.Role.{Role}
 use Rattle.cr_base.specs.declared.words.Role.TheVariants as roles
-use Rattle.cr_base.specs.Accounts.{number_at, lines_of}
+use Rattle.cr_base.specs.Accounts.{number_at, lines_of, chair_count}
 use Rattle.cr_base.specs.Calls.{call_by, maker_of}
 use Rattle.cr_base.specs.Checks.{NamedPaper, of_role, register_checks, phase_checks, deadline_checks, submit_checks, revise_checks, upload_checks}
 use Rattle.cr_base.specs.Checks.{name_checks, mode_checks, conflict_checks, bid_checks, assign_checks, unassign_checks, target_is}
-use Rattle.cr_base.specs.Checks.{review_checks, comment_checks, tag_checks, decide_checks}
+use Rattle.cr_base.specs.Checks.{review_checks, comment_checks, tag_checks, decide_checks, dismiss_checks, invite_checks, uninvite_checks}
 use Rattle.cr_base.specs.Drawn.{Drawn, grouped, registration, registration_drawn, phase_drawn, submission_drawn, revision_drawn, upload_drawn}
 use Rattle.cr_base.specs.Drawn.{withdrawal_drawn, naming_drawn, mode_drawn, conflict_drawn, bid_drawn, assignment_drawn, unassignment_drawn, review_drawn, comment_drawn, tag_drawn, decision_drawn, deadline_drawn}
+use Rattle.cr_base.specs.Drawn.{dismissal_drawn, invitation_drawn, uninvitation_drawn}
+use Rattle.cr_base.specs.Invites.{is_invited_in}
 use Rattle.cr_base.specs.Judging.{judge_by_role}
 use Rattle.cr_base.specs.Sources.{Facts, own_forms_in, standing_at, facts_of_tables, shown_in_tables, user_among, users_among, role_among, has_paper, paper_named, target_named}
 use Rattle.cr_base.specs.Papers.{paper_count, paper_numbers, uploads_at, own_count, own_bytes}
@@ -34,6 +36,7 @@ use Rattle.cr_base.specs.TagTexts.{is_for_chairs}
 use Rattle.cr_base.specs.Talk.{comments_in, comment_as_told, own_comments_in}
 use Rattle.cr_base.specs.Tables.{Tables, FitInTurn}
 use Rattle.cr_base.specs.Ties.{authors_in, AreWithin}
+use Rattle.cr_base.specs.Words.{is_member}
 use Rattle.cr_base.proofs.AccountLaws.{judge_by_role-register, registration-fits}
 use Rattle.cr_base.proofs.CheckLaws.{judged-Ok, judged-none}
 use Rattle.cr_base.proofs.CoauthorLaws.{users-within, submission-fits}
@@ -86,6 +89,7 @@ seat-named t caller (Some p) (Some v) reviews user there says = by (role_among (
       author = list_any (is_number (Some v)) (authors_in t.ties p);
       conflicted = list_any (is_number (Some v)) (authors_in t.ties p) || list_any (is_number (Some v)) (users_tied_to p t.ties.conflicts);
       reviewer = is_some (ordinal_in t.seats (Some v) p);
+      external = not (is_member role) && is_invited_in t.invites (Some v) p;
     }
 
     by : (found : Option Role) → is_none (option_map asked found) ≡ false → target_is (λ (user : Target). user.reviewer) (option_map asked found) ≡ reviews
@@ -252,3 +256,25 @@ module _ (t : Tables) (within : AreWithin (paper_count t.papers) t.ties) (stamp 
   judged-fits (SetDeadline phase until) drawn accepted =
       let k = judged-Ok (deadline_checks (standing_at t (Some maker) None) t.stage.phase phase) (deadline_drawn stamp phase until) drawn accepted in
       subst (λ (d : Drawn). FitInTurn t d.group) k.1 (record { accounts = tt; papers = tt; ties = tt; seats = tt; reviews = tt; talk = tt }, tt)
+  judged-fits (Dismiss name) drawn accepted =
+      let target : Option ℕ = user_among (lines_of t.accounts) name in
+      let k = judged-Ok
+      (dismiss_checks (standing_at t (Some maker) None) (option_map of_role (role_among (lines_of t.accounts) target)) (chair_count (lines_of t.accounts)))
+      (dismissal_drawn stamp (unwrap_or target 0) (unwrap_or name [])) drawn accepted in
+      subst (λ (d : Drawn). FitInTurn t d.group) k.1 (record { accounts = target-in t target of_role k.0.0; papers = tt; ties = tt; seats = tt; reviews = tt; talk = tt }, tt)
+  judged-fits (Invite paper name) drawn accepted =
+      let target : Option ℕ = user_among (lines_of t.accounts) name in
+      let k = judged-Ok
+      (invite_checks (standing_at t (Some maker) paper) (named paper) (target_named (facts_of_tables t (Some maker)) (shown_in_tables t) (Some maker) paper target)
+      (at_some (is_invited_in t.invites target) paper))
+      (invitation_drawn stamp (unwrap_or paper 0) (unwrap_or target 0)) drawn accepted in
+      let there = paper_within t.papers.papers paper k.0.0 in
+      subst (λ (d : Drawn). FitInTurn t d.group) k.1 (record { accounts = target-in t target _ k.0.1.0; papers = there; ties = tt; seats = tt; reviews = tt; talk = tt }, tt)
+  judged-fits (Uninvite paper name) drawn accepted =
+      let target : Option ℕ = user_among (lines_of t.accounts) name in
+      let k = judged-Ok
+      (uninvite_checks (standing_at t (Some maker) paper) (named paper) (target_named (facts_of_tables t (Some maker)) (shown_in_tables t) (Some maker) paper target)
+      (at_some (is_invited_in t.invites target) paper))
+      (uninvitation_drawn stamp (unwrap_or paper 0) (unwrap_or target 0)) drawn accepted in
+      let there = paper_within t.papers.papers paper k.0.0 in
+      subst (λ (d : Drawn). FitInTurn t d.group) k.1 (record { accounts = target-in t target _ k.0.1.0; papers = there; ties = tt; seats = tt; reviews = tt; talk = tt }, tt)

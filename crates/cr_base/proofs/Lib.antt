@@ -4,6 +4,7 @@ pub mod CheckLaws
 pub mod CoauthorLaws
 pub mod FiledLaws
 pub mod FitLaws
+pub mod InviteLaws
 pub mod LastLaws
 pub mod ListLaws
 pub mod NameLaws

@@ -120,7 +120,7 @@ in_range n p low high = grind (arith, nat_tests)
 within-push : (n paper user : ℕ) (ts : BareTies) → 1 ≤ paper → paper ≤ n → are_within n ts ≡ true → are_within n (ts ++ bare_tie paper user ∷ []) ≡ true
 within-push n paper user ts low high all = all-push _ ts (bare_tie paper user) all (in_range n paper low high)
 
-within-switched : (n : ℕ) (on : Bool) (paper user : ℕ) (ts : BareTies) → 1 ≤ paper → paper ≤ n → are_within n ts ≡ true
+pub within-switched : (n : ℕ) (on : Bool) (paper user : ℕ) (ts : BareTies) → 1 ≤ paper → paper ≤ n → are_within n ts ≡ true
     → are_within n (switched on paper user ts) ≡ true
 within-switched n true paper user ts low high all = list_all-with_tie ByPaper _ (bare_tie paper user) ts (in_range n paper low high) all
 within-switched n false paper user ts low high all = list_all-filter _ (λ r. not (is_tied (pair_of paper user) r)) ts all

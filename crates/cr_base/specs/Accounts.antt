@@ -1,6 +1,6 @@
 -- The table of accounts: what an entry makes of it, and what is read from it.
 use Rattle.std.specs.Prelude.{ℕ, Bool, ◌≡◌, ◌≤◌, ◌+◌, ◌-◌, List, [], ◌∷◌, ◌++◌, length, Option, Some}
-use Rattle.std.specs.Prelude.{None, slice_get, slice_set, position, unwrap_or, false, if◌then◌else◌}
+use Rattle.std.specs.Prelude.{count_by, None, slice_get, slice_set, position, unwrap_or, false, if◌then◌else◌}
 use Rattle.std.specs.Option.{option_map, option_map_or, option_and_then}
 use Rattle.std.specs.Str.{bytes_eq}
 use Rattle.cr_base.specs.declared.words.Role.{Role}
@@ -8,8 +8,10 @@ use Rattle.cr_base.specs.declared.words.Role.TheVariants as role
 use Rattle.cr_base.specs.declared.entry.Account.{Account}
 use Rattle.cr_base.specs.declared.entry.Entry.{Entry}
 use Rattle.cr_base.specs.declared.entry.Entry.TheVariants.{Registered, Named, Coauthor, Conflict, Assigned, Unassigned}
+use Rattle.cr_base.specs.declared.entry.Entry.TheVariants.{Dismissed, Invited, Uninvited}
 use Rattle.cr_base.specs.declared.reply.AccountLine.{AccountLine}
 use Rattle.cr_base.specs.Lists.{numbered}
+use Rattle.cr_base.specs.Words.{is_chair}
 
 -- ---- the state
 
@@ -23,6 +25,7 @@ abbrev pub accounts_after : List Account → Entry → List Account
 accounts_after accounts (Registered user name digest) =
     accounts ++ record { name = name; digest = digest; role = role.Account } ∷ []
 accounts_after accounts (Named user role) = with_role accounts (user - 1) role
+accounts_after accounts (Dismissed user) = with_role accounts (user - 1) role.Account
 accounts_after accounts _ = accounts
 
 -- ---- what is read
@@ -61,6 +64,10 @@ lines_from n (a ∷ accounts) = record { user = n; name = a.name; role = a.role 
 abbrev pub lines_of : List Account → List AccountLine
 lines_of accounts = lines_from 1 accounts
 
+-- how many of these are chairs
+abbrev pub chair_count : List AccountLine → ℕ
+chair_count accounts = count_by (λ (a : AccountLine). is_chair a.role) accounts
+
 -- ---- which entry may come next
 
 -- an entry fits: the number drawn is the next one and the name is new, or the account is there
@@ -72,4 +79,7 @@ AccountsFit accounts (Coauthor paper user) = (1 ≤ user) × (user ≤ length ac
 AccountsFit accounts (Conflict paper user on) = (1 ≤ user) × (user ≤ length accounts)
 AccountsFit accounts (Assigned paper user kind ordinal) = (1 ≤ user) × (user ≤ length accounts)
 AccountsFit accounts (Unassigned paper user ordinal) = (1 ≤ user) × (user ≤ length accounts)
+AccountsFit accounts (Dismissed user) = (1 ≤ user) × (user ≤ length accounts)
+AccountsFit accounts (Invited paper user) = (1 ≤ user) × (user ≤ length accounts)
+AccountsFit accounts (Uninvited paper user) = (1 ≤ user) × (user ≤ length accounts)
 AccountsFit accounts _ = Unit {0}

@@ -22,6 +22,7 @@ use Rattle.cr_base.specs.declared.review.ReviewLine.{ReviewLine}
 use Rattle.cr_base.specs.declared.search.Step.{Step}
 use Rattle.cr_base.specs.declared.standing.Standing.{Standing}
 use Rattle.cr_base.specs.Checks.{Check, judged, of_there, page_checks, content_checks, reviews_checks, comments_checks}
+use Rattle.cr_base.specs.Checks.{reads_all_forms}
 use Rattle.cr_base.specs.Deadlines.{deadlines_told}
 use Rattle.cr_base.specs.Decisions.{is_published}
 use Rattle.cr_base.specs.History.{Upload, BidTold, SeatTold, FormTold, CommentTold}
@@ -29,7 +30,6 @@ use Rattle.cr_base.specs.Labels.{by_labels, most_labels}
 use Rattle.cr_base.specs.Lists.{listed, last, at_some}
 use Rattle.cr_base.specs.Logins.{query_wants_login}
 use Rattle.cr_base.specs.Page.{is_clear_member, is_clear_chair, shows_reviewer, shows_writer, where_told, page_of}
-use Rattle.cr_base.specs.Phases.{members_read_reviews}
 use Rattle.cr_base.specs.Plans.{planned_papers, planned_members, best_plan, is_too_large, plan_checks, plan_reply}
 use Rattle.cr_base.specs.Reports.{report_checks, report_told}
 use Rattle.cr_base.specs.Searching.{PaperTold, is_found, found_paper}
@@ -157,7 +157,7 @@ reviews_by facts shown p =
     let told = λ (named : Bool) (o : ℕ) (forms : List FormTold).
     map (review_told by facts.accounts named (shown.assigned p o) o) forms in
     if by.author then by_labels (λ (o : ℕ). told (shows_reviewer by) o (listed (shown.last_form p o))) most_labels
-    else (if members_read_reviews by.phase
+    else (if reads_all_forms by
     then by_labels (λ (o : ℕ). told (shows_reviewer by) o (shown.forms_discussed p o)) most_labels
     else told false (unwrap_or (facts.own_ordinal p) 0) (facts.own_forms p))
 
@@ -196,6 +196,7 @@ me_by facts user = record {
   bytes = facts.own_bytes;
   comments = facts.own_comments;
   conflicts = filter (λ p. (facts.standing (Some p)).conflicted && not (facts.standing (Some p)).author) facts.papers;
+  invited = filter (λ p. (facts.standing (Some p)).external) facts.papers;
   name = unwrap_or (name_in facts.accounts user) [];
   papers = filter (λ p. (facts.standing (Some p)).author) facts.papers;
   role = (facts.standing None).role;

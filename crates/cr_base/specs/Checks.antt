@@ -11,11 +11,12 @@ use Rattle.cr_base.specs.declared.words.Phase.{Phase}
 use Rattle.cr_base.specs.declared.words.Role.{Role}
 use Rattle.cr_base.specs.declared.words.Role.TheVariants.{Account}
 use Rattle.cr_base.specs.Decisions.{is_published}
+use Rattle.cr_base.specs.Page.{is_admitted}
 use Rattle.cr_base.specs.Phases.{is_from, is_next, mode_may_be_set, accepts_submissions, papers_may_change}
 use Rattle.cr_base.specs.Phases.{authors_have_declared, conflicts_are_final, roles_are_final, committee_works}
 use Rattle.cr_base.specs.Phases.{bids_are_taken, reviews_are_written, comments_are_written, decisions_are_made}
 use Rattle.cr_base.specs.Phases.{members_see_papers, reviewers_read_own, members_read_reviews, members_read_comments}
-use Rattle.cr_base.specs.Phases.{authors_read_reviews}
+use Rattle.cr_base.specs.Phases.{authors_read_reviews, externals_read_own}
 use Rattle.cr_base.specs.Words.{role_number, is_member, is_chair}
 
 -- a rule, and whether it is broken
@@ -45,7 +46,14 @@ of_there there = record { there = there; withdrawn = false }
 
 -- what is asked of a user, where no rule asks for more than her role
 abbrev pub of_role : Role → Target
-of_role role = record { role = role; herself = false; author = false; conflicted = false; reviewer = false }
+of_role role = record {
+  role = role;
+  herself = false;
+  author = false;
+  conflicted = false;
+  reviewer = false;
+  external = false;
+}
 
 -- the role of the user named, and an account's where there is none
 abbrev pub target_role : Option Target → Role
@@ -54,6 +62,10 @@ target_role target = option_map_or (λ (user : Target). user.role) target Accoun
 -- what is said of the user named, where there is one
 abbrev pub target_is : (Target → Bool) → Option Target → Bool
 target_is says target = option_map_or says target false
+
+-- the user named may review the paper and be declared in conflict with it: a member, or an external of the paper
+abbrev pub is_of_paper : Target → Bool
+is_of_paper target = is_member target.role || target.external
 
 -- the rules about the user named, where there is one
 abbrev pub about : Option Target → (Target → List Check) → List Check
@@ -100,7 +112,7 @@ submit_checks missing by count own late =
 abbrev pub page_checks : Standing → Bool → NamedPaper → List Check
 page_checks by accepted paper =
     not paper.there breaks rules.NoPaper
-    ∷ not (is_member by.role || by.author || accepted) breaks rules.NotMember
+    ∷ not (is_admitted by || by.author || accepted) breaks rules.NotMember
     ∷ []
 
 -- revise and withdraw: the caller's standing at the paper, the paper, and whether it is too late
@@ -128,7 +140,7 @@ abbrev pub content_checks : Standing → Bool → NamedPaper → Bool → List C
 content_checks by accepted paper found =
     let free = reads_freely by accepted in
     not paper.there breaks rules.NoPaper
-    ∷ not (free || is_member by.role) breaks rules.NotMember
+    ∷ not (free || is_admitted by) breaks rules.NotMember
     ∷ (not free && by.conflicted) breaks rules.Conflict
     ∷ not (free || members_see_papers by.phase) breaks rules.WrongPhase
     ∷ not found breaks rules.NoContent
@@ -141,6 +153,16 @@ name_checks by target role =
     ∷ not (is_chair by.role) breaks rules.NotChair
     ∷ roles_are_final by.phase breaks rules.WrongPhase
     ∷ nat_le (role_number role) (role_number (target_role target)) breaks rules.AlreadyNamed
+    ∷ []
+
+-- dismiss: the caller's standing, the user named, if there is one, and how many chairs there are
+abbrev pub dismiss_checks : Standing → Option Target → ℕ → List Check
+dismiss_checks by target chairs =
+    is_none target breaks rules.NoUser
+    ∷ not (is_chair by.role) breaks rules.NotChair
+    ∷ roles_are_final by.phase breaks rules.WrongPhase
+    ∷ not (is_member (target_role target)) breaks rules.NotAMember
+    ∷ (is_chair (target_role target) && nat_le chairs 1) breaks rules.LastChair
     ∷ []
 
 -- mode: the caller's standing, and the phase now
@@ -168,13 +190,13 @@ own_checks by withdrawn =
     ∷ withdrawn breaks rules.Withdrawn
     ∷ []
 
--- on, from bidding to discussion: clear chairs declare other members
+-- on, from bidding to discussion: clear chairs declare other members, and externals of the paper
 abbrev pub other_checks : Standing → Bool → Target → List Check
 other_checks by withdrawn target =
     not (is_chair by.role) breaks rules.NotChair
     ∷ by.conflicted breaks rules.Conflict
     ∷ withdrawn breaks rules.Withdrawn
-    ∷ not (is_member target.role) breaks rules.NotAMember
+    ∷ not (is_of_paper target) breaks rules.NotAMember
     ∷ []
 
 -- on, later: never
@@ -192,11 +214,11 @@ chair_checks by withdrawn =
     ∷ withdrawn breaks rules.Withdrawn
     ∷ []
 
--- off: the same, of members who are no authors
+-- off: the same, of members and externals of the paper who are no authors
 abbrev pub off_checks : Standing → Bool → Target → List Check
 off_checks by withdrawn target =
     chair_checks by withdrawn
-    ++ not (is_member target.role) breaks rules.NotAMember
+    ++ not (is_of_paper target) breaks rules.NotAMember
     ∷ target.author breaks rules.AuthorConflict
     ∷ []
 
@@ -241,7 +263,7 @@ bid_checks by paper late =
     ∷ paper.withdrawn breaks rules.Withdrawn
     ∷ []
 
--- both: the caller's standing at the paper, the paper, and the user named, if there is one
+-- all of these: the caller's standing at the paper, the paper, and the user named, if there is one
 abbrev pub reviewer_checks : Standing → NamedPaper → Option Target → List Check
 reviewer_checks by paper target =
     not paper.there breaks rules.NoPaper
@@ -252,7 +274,7 @@ reviewer_checks by paper target =
 abbrev pub assign_checks : Standing → NamedPaper → Option Target → ℕ → List Check
 assign_checks by paper target labels =
     reviewer_checks by paper target
-    ++ not (is_member (target_role target)) breaks rules.NotAMember
+    ++ not (target_is is_of_paper target) breaks rules.NotAMember
     ∷ target_is (λ (user : Target). user.conflicted) target breaks rules.TargetConflict
     ∷ target_is (λ (user : Target). user.reviewer) target breaks rules.AlreadyAssigned
     ∷ nat_le 26 labels breaks rules.LabelsSpent
@@ -266,13 +288,31 @@ unassign_checks by paper target written =
     ∷ written breaks rules.HasReview
     ∷ []
 
+-- invite and uninvite: the same, and whether the user named is invited to the paper
+abbrev pub invite_checks : Standing → NamedPaper → Option Target → Bool → List Check
+invite_checks by paper target invited =
+    reviewer_checks by paper target
+    ++ is_member (target_role target) breaks rules.IsMember
+    ∷ target_is (λ (user : Target). user.conflicted) target breaks rules.TargetConflict
+    ∷ invited breaks rules.AlreadyInvited
+    ∷ []
+
+abbrev pub uninvite_checks : Standing → NamedPaper → Option Target → Bool → List Check
+uninvite_checks by paper target invited =
+    reviewer_checks by paper target
+    ++ not invited breaks rules.NotInvited
+    ∷ target_is (λ (user : Target). user.reviewer) target breaks rules.StillAssigned
+    ∷ []
+
 -- ---- reviews, comments and tags: the caller's standing at the paper, and the paper
 
 -- review: and whether it is too late
 abbrev pub review_checks : Standing → NamedPaper → Bool → List Check
 review_checks by paper late =
-    member_checks by paper
-    ++ not by.reviewer breaks rules.NotReviewer
+    not paper.there breaks rules.NoPaper
+    ∷ not (is_admitted by) breaks rules.NotMember
+    ∷ by.conflicted breaks rules.Conflict
+    ∷ not by.reviewer breaks rules.NotReviewer
     ∷ not (reviews_are_written by.phase) breaks rules.WrongPhase
     ∷ late breaks rules.Late
     ∷ paper.withdrawn breaks rules.Withdrawn
@@ -309,16 +349,24 @@ decide_checks by paper =
     ∷ paper.withdrawn breaks rules.Withdrawn
     ∷ []
 
--- a paper's reviews: authors from the notification; others are members in no conflict with it, from the discussion, or
--- in reviewing where they review it
+-- all forms that the committee discusses are a member's to read, and her own are a reviewer's: a member's in reviewing,
+-- an external's from then on
+abbrev pub reads_all_forms : Standing → Bool
+reads_all_forms by = is_member by.role && members_read_reviews by.phase
+
+abbrev pub reads_own_forms : Standing → Bool
+reads_own_forms by =
+    by.reviewer && (reviewers_read_own by.phase || (by.external && externals_read_own by.phase))
+
+-- a paper's reviews: authors from the notification; others are in no conflict with it, and members from the discussion,
+-- or review it
 abbrev pub reviews_checks : Standing → NamedPaper → List Check
 reviews_checks by paper =
     not paper.there breaks rules.NoPaper
     ∷ (by.author && not (authors_read_reviews by.phase)) breaks rules.WrongPhase
-    ∷ not (by.author || is_member by.role) breaks rules.NotMember
+    ∷ not (by.author || is_admitted by) breaks rules.NotMember
     ∷ (not by.author && by.conflicted) breaks rules.Conflict
-    ∷ not (by.author || members_read_reviews by.phase || (by.reviewer && reviewers_read_own by.phase))
-    breaks rules.WrongPhase
+    ∷ not (by.author || reads_all_forms by || reads_own_forms by) breaks rules.WrongPhase
     ∷ []
 
 -- the comments on a paper

@@ -6,6 +6,7 @@ use Rattle.cr_base.specs.declared.entry.Entry.TheVariants.{Registered, Named, Ph
 use Rattle.cr_base.specs.declared.entry.Entry.TheVariants.{Coauthor, Revised, Uploaded, Withdrawn, Conflict}
 use Rattle.cr_base.specs.declared.entry.Entry.TheVariants.{Bid, Assigned, Unassigned, Reviewed}
 use Rattle.cr_base.specs.declared.entry.Entry.TheVariants.{Commented, Tagged, Decided, DeadlineSet}
+use Rattle.cr_base.specs.declared.entry.Entry.TheVariants.{Dismissed, Invited, Uninvited}
 use Rattle.cr_base.specs.declared.entry.Stamp.{Stamp}
 use Rattle.cr_base.specs.declared.entry.Stamped.{Stamped}
 use Rattle.cr_base.specs.declared.reply.Receipt.{Receipt}
@@ -16,7 +17,7 @@ use Rattle.cr_base.specs.declared.words.Kind.{Kind}
 use Rattle.cr_base.specs.declared.words.Mode.{Mode}
 use Rattle.cr_base.specs.declared.words.Phase.{Phase}
 use Rattle.cr_base.specs.declared.words.Role.{Role}
-use Rattle.cr_base.specs.declared.words.Role.TheVariants.{Chair}
+use Rattle.cr_base.specs.declared.words.Role.TheVariants.{Account, Chair}
 use Rattle.cr_base.specs.History.{History}
 
 -- the entries that a command adds, and its receipt
@@ -35,7 +36,7 @@ grouped stamp (e ∷ []) = stamped stamp false e ∷ []
 grouped stamp (e ∷ next ∷ es) = stamped stamp true e ∷ grouped stamp (next ∷ es)
 
 -- ReceiptOf: what a command is answered, by the first entry that it adds; `name` is that of the user who is given a
--- role. A co-author never comes first.
+-- role, or loses it. A co-author never comes first.
 abbrev pub receipt_of : List ℕ → Entry → Receipt
 receipt_of name (Registered user own digest) = receipts.User user
 receipt_of name (Named user role) = receipts.Named name role
@@ -55,8 +56,11 @@ receipt_of name (Commented paper n ordinal text) = receipts.Comment n
 receipt_of name (Tagged paper tag on) = receipts.Changed paper
 receipt_of name (Decided paper decision) = receipts.Changed paper
 receipt_of name (DeadlineSet phase until) = receipts.Deadline phase until
+receipt_of name (Dismissed user) = receipts.Named name Account
+receipt_of name (Invited paper user) = receipts.Changed paper
+receipt_of name (Uninvited paper user) = receipts.Changed paper
 
--- what a command draws that adds one entry, and gives nobody a role
+-- what a command draws that adds one entry, and changes nobody's role
 abbrev pub alone : Stamp → Entry → Drawn
 alone stamp entry = record { group = grouped stamp (entry ∷ []); receipt = receipt_of [] entry }
 
@@ -136,3 +140,13 @@ decision_drawn stamp paper decision = alone stamp (Decided paper decision)
 
 abbrev pub deadline_drawn : Stamp → Phase → Option ℕ → Drawn
 deadline_drawn stamp phase until = alone stamp (DeadlineSet phase until)
+
+abbrev pub dismissal_drawn : Stamp → ℕ → List ℕ → Drawn
+dismissal_drawn stamp user name =
+    record { group = grouped stamp (Dismissed user ∷ []); receipt = receipt_of name (Dismissed user) }
+
+abbrev pub invitation_drawn : Stamp → ℕ → ℕ → Drawn
+invitation_drawn stamp paper user = alone stamp (Invited paper user)
+
+abbrev pub uninvitation_drawn : Stamp → ℕ → ℕ → Drawn
+uninvitation_drawn stamp paper user = alone stamp (Uninvited paper user)

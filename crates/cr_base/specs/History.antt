@@ -8,6 +8,7 @@ use Rattle.cr_base.specs.declared.entry.Entry.TheVariants.{Registered, Named, Ph
 use Rattle.cr_base.specs.declared.entry.Entry.TheVariants.{Coauthor, Revised, Uploaded, Withdrawn, Conflict}
 use Rattle.cr_base.specs.declared.entry.Entry.TheVariants.{Bid, Assigned, Unassigned, Reviewed}
 use Rattle.cr_base.specs.declared.entry.Entry.TheVariants.{Commented, Tagged, Decided, DeadlineSet}
+use Rattle.cr_base.specs.declared.entry.Entry.TheVariants.{Dismissed, Invited, Uninvited}
 use Rattle.cr_base.specs.declared.entry.Stamped.{Stamped}
 use Rattle.cr_base.specs.declared.form.Form.{Form}
 use Rattle.cr_base.specs.declared.tag.SetTag.{SetTag}
@@ -17,6 +18,7 @@ use Rattle.cr_base.specs.declared.words.Phase.{Phase}
 use Rattle.cr_base.specs.declared.words.Phase.TheVariants.{Discussion}
 use Rattle.cr_base.specs.declared.words.Mode.{Mode}
 use Rattle.cr_base.specs.declared.words.Role.{Role}
+use Rattle.cr_base.specs.declared.words.Role.TheVariants.{Account}
 use Rattle.cr_base.specs.Lists.{given, is_number}
 use Rattle.cr_base.specs.Phases.{is_phase, may_have_deadline}
 use Rattle.cr_base.specs.Tags.{tag_owner}
@@ -141,6 +143,13 @@ ordinal_told u p (Assigned paper user kind ordinal) = given (paper == p && is_nu
 ordinal_told u p (Unassigned paper user ordinal) = given (paper == p && is_number u user) None
 ordinal_told u p _ = []
 
+-- whether the user may review the paper from here on as one from outside the committee: it invites her to the paper, or
+-- takes that back
+abbrev pub invite_told : Option ℕ → ℕ → Entry → List Bool
+invite_told u p (Invited paper user) = given (paper == p && is_number u user) true
+invite_told u p (Uninvited paper user) = given (paper == p && is_number u user) false
+invite_told u p _ = []
+
 -- the reviewer whom it gives the paper, and the ordinal of the one whom it takes
 abbrev pub assigned_told : ℕ → Entry → List SeatTold
 assigned_told p (Assigned paper user kind ordinal) =
@@ -225,9 +234,10 @@ abbrev pub registration_told : Entry → List Registration
 registration_told (Registered user name digest) = record { user = user; name = name } ∷ []
 registration_told _ = []
 
--- the role to which it names the user
+-- the role to which it names the user, or an account's where it dismisses her
 abbrev pub role_told : Option ℕ → Entry → List Role
 role_told u (Named user role) = given (is_number u user) role
+role_told u (Dismissed user) = given (is_number u user) Account
 role_told u _ = []
 
 -- the user whom it registers under this name

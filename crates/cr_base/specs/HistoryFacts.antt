@@ -1,5 +1,5 @@
 -- Facts of a history: what it says of the conference, of its papers, and of a user.
-use Rattle.std.specs.Prelude.{ℕ, Bool, false, not, ◌||◌, ◌==◌, List, [], ◌++◌, Option}
+use Rattle.std.specs.Prelude.{ℕ, Bool, false, not, ◌||◌, ◌&&◌, ◌==◌, List, [], ◌++◌, Option}
 use Rattle.std.specs.Prelude.{length, map, Some, None, is_some, filter, find, fold}
 use Rattle.std.specs.List.{flat_map, list_any}
 use Rattle.std.specs.Option.{option_and_then}
@@ -17,6 +17,7 @@ use Rattle.cr_base.specs.declared.tag.SetTag.{SetTag}
 use Rattle.cr_base.specs.Decisions.{is_accepted_when}
 use Rattle.cr_base.specs.Lists.{last, last_or, listed, total, is_nothing, is_number, at_some, until, since}
 use Rattle.cr_base.specs.Tags.{with_tag}
+use Rattle.cr_base.specs.Words.{is_member}
 use Rattle.cr_base.specs.History.{History, Registration, Upload, SeatTold, all_told}
 use Rattle.cr_base.specs.History.{all_told_by, phase_told, mode_told, deadline_told, paper_told}
 use Rattle.cr_base.specs.History.{own_paper_told, author_told, conflict_told, declared_told, title_told}
@@ -24,7 +25,7 @@ use Rattle.cr_base.specs.History.{bid_told, ordinal_told, assigned_told, unassig
 use Rattle.cr_base.specs.History.{FormTold, CommentTold, TagTold, form_told, own_form_told, comment_told}
 use Rattle.cr_base.specs.History.{own_comment_told, tag_told, decision_told, opens_discussion}
 use Rattle.cr_base.specs.History.{abstract_told, upload_told, own_bytes_told, withdrawal_told}
-use Rattle.cr_base.specs.History.{registration_told, role_told, number_told, caller_told}
+use Rattle.cr_base.specs.History.{registration_told, role_told, number_told, caller_told, invite_told}
 
 -- ---- PublicFacts
 
@@ -40,7 +41,7 @@ mode_of H = last_or Blind (all_told mode_told H)
 abbrev pub deadline_of : Phase → History → Option ℕ
 deadline_of phase H = last_or None (all_told (deadline_told phase) H)
 
--- the last role that the user was named to, else account
+-- the last role that the user was named to, where she wasn't dismissed since; else account
 abbrev pub role_of : Option ℕ → History → Role
 role_of u H = last_or Account (all_told (role_told u) H)
 
@@ -91,6 +92,14 @@ ordinal_of u p H = last_or None (all_told (ordinal_told u p) H)
 abbrev pub is_reviewer : Option ℕ → ℕ → History → Bool
 is_reviewer u p H = is_some (ordinal_of u p H)
 
+-- the last invitation of the user to the paper wasn't taken back since
+abbrev pub is_invited : Option ℕ → ℕ → History → Bool
+is_invited u p H = last_or false (all_told (invite_told u p) H)
+
+-- External: she is no member of the committee, and is invited to the paper
+abbrev pub is_external : Option ℕ → ℕ → History → Bool
+is_external u p H = not (is_member (role_of u H)) && is_invited u p H
+
 -- Standing: what a user is to the conference, and to a paper, if one is named
 abbrev pub standing_of : Option ℕ → Option ℕ → History → Standing
 standing_of u paper H = record {
@@ -100,6 +109,7 @@ standing_of u paper H = record {
   author = at_some (λ p. is_author u p H) paper;
   conflicted = at_some (λ p. is_conflicted u p H) paper;
   reviewer = at_some (λ p. is_reviewer u p H) paper;
+  external = at_some (λ p. is_external u p H) paper;
 }
 
 -- ---- bids and assignments

@@ -8,20 +8,24 @@ use Rattle.cr_base.specs.declared.command.Command.{Command}
 use Rattle.cr_base.specs.declared.command.Command.TheVariants.{Register, SetPhase, Submit, Revise, Upload, Withdraw}
 use Rattle.cr_base.specs.declared.command.Command.TheVariants.{Name, SetMode, SetConflict, Bid, Assign, Unassign}
 use Rattle.cr_base.specs.declared.command.Command.TheVariants.{Review, Comment, Tag, Decide, SetDeadline}
+use Rattle.cr_base.specs.declared.command.Command.TheVariants.{Dismiss, Invite, Uninvite}
 use Rattle.cr_base.specs.declared.entry.Stamp.{Stamp}
 use Rattle.cr_base.specs.declared.form.Form.{Form}
 use Rattle.cr_base.specs.declared.reply.Rule.{Rule}
 use Rattle.cr_base.specs.declared.words.Kind.{Kind}
 use Rattle.cr_base.specs.declared.words.Role.{Role}
+use Rattle.cr_base.specs.Accounts.{chair_count}
 use Rattle.cr_base.specs.Calls.{stamp_of}
 use Rattle.cr_base.specs.Checks.{judged, of_role, register_checks, phase_checks, deadline_checks}
 use Rattle.cr_base.specs.Checks.{submit_checks, revise_checks, upload_checks}
 use Rattle.cr_base.specs.Checks.{name_checks, mode_checks, conflict_checks, bid_checks, assign_checks, unassign_checks}
 use Rattle.cr_base.specs.Checks.{review_checks, comment_checks, tag_checks, decide_checks}
+use Rattle.cr_base.specs.Checks.{dismiss_checks, invite_checks, uninvite_checks}
 use Rattle.cr_base.specs.Drawn.{Drawn, registration_drawn, phase_drawn, submission_drawn, revision_drawn, upload_drawn}
 use Rattle.cr_base.specs.Drawn.{withdrawal_drawn, naming_drawn, mode_drawn, conflict_drawn}
 use Rattle.cr_base.specs.Drawn.{bid_drawn, assignment_drawn, unassignment_drawn}
 use Rattle.cr_base.specs.Drawn.{review_drawn, comment_drawn, tag_drawn, decision_drawn, deadline_drawn}
+use Rattle.cr_base.specs.Drawn.{dismissal_drawn, invitation_drawn, uninvitation_drawn}
 use Rattle.cr_base.specs.Lists.{listed, at_some}
 use Rattle.cr_base.specs.Sources.{Facts, Shown, number_in, user_among, users_among, role_among}
 use Rattle.cr_base.specs.Sources.{paper_named, target_named, is_late, facts_of_tables, shown_in_tables}
@@ -34,6 +38,14 @@ name_judged facts stamp target name role =
     judged
     (name_checks (facts.standing None) (option_map of_role (role_among facts.accounts target)) role)
     (naming_drawn stamp (unwrap_or target 0) name role)
+
+-- dismissing this user, if there is one
+abbrev pub dismissal_judged : Facts → Stamp → Option ℕ → List ℕ → Result Drawn Rule
+dismissal_judged facts stamp target name =
+    judged
+    (dismiss_checks (facts.standing None) (option_map of_role (role_among facts.accounts target))
+    (chair_count facts.accounts))
+    (dismissal_drawn stamp (unwrap_or target 0) name)
 
 -- submitting a paper with these co-authors, those who are there
 abbrev pub submission_judged : Facts → Stamp → List (Option ℕ) → List ℕ → List ℕ → Result Drawn Rule
@@ -68,6 +80,21 @@ unassignment_judged facts shown stamp paper target =
     (unassign_checks (facts.standing paper) (paper_named facts shown paper)
     (target_named facts shown (Some stamp.maker) paper target) (at_some (shown.written p) ordinal))
     (unassignment_drawn stamp p (unwrap_or target 0) (unwrap_or ordinal 0))
+
+-- inviting this user, if there is one, to review a paper as one from outside the committee, and taking that back
+abbrev pub invitation_judged : Facts → Shown → Stamp → Option ℕ → Option ℕ → Result Drawn Rule
+invitation_judged facts shown stamp paper target =
+    judged
+    (invite_checks (facts.standing paper) (paper_named facts shown paper)
+    (target_named facts shown (Some stamp.maker) paper target) (at_some (shown.invited target) paper))
+    (invitation_drawn stamp (unwrap_or paper 0) (unwrap_or target 0))
+
+abbrev pub uninvitation_judged : Facts → Shown → Stamp → Option ℕ → Option ℕ → Result Drawn Rule
+uninvitation_judged facts shown stamp paper target =
+    judged
+    (uninvite_checks (facts.standing paper) (paper_named facts shown paper)
+    (target_named facts shown (Some stamp.maker) paper target) (at_some (shown.invited target) paper))
+    (uninvitation_drawn stamp (unwrap_or paper 0) (unwrap_or target 0))
 
 -- reviewing a paper, commenting on it, and turning a tag of it on or off
 abbrev pub review_judged : Facts → Shown → Stamp → Option ℕ → Form → Result Drawn Rule
@@ -136,6 +163,12 @@ judge_by facts shown stamp (Decide paper decision) =
     (decision_drawn stamp (unwrap_or paper 0) decision)
 judge_by facts shown stamp (SetDeadline phase until) =
     judged (deadline_checks (facts.standing None) (facts.standing None).phase phase) (deadline_drawn stamp phase until)
+judge_by facts shown stamp (Dismiss name) =
+    dismissal_judged facts stamp (user_among facts.accounts name) (unwrap_or name [])
+judge_by facts shown stamp (Invite paper name) =
+    invitation_judged facts shown stamp paper (user_among facts.accounts name)
+judge_by facts shown stamp (Uninvite paper name) =
+    uninvitation_judged facts shown stamp paper (user_among facts.accounts name)
 
 -- RoleAnswer of a command: the same by checks on the tables
 abbrev pub judge_by_role : Tables → Call → Result Drawn Rule

@@ -11,6 +11,7 @@ pub mod Drawn
 pub mod Filed
 pub mod History
 pub mod HistoryFacts
+pub mod Invites
 pub mod Judging
 pub mod Keys
 pub mod Labels

@@ -20,6 +20,7 @@ ask_wants_login asks.Phase = false
 ask_wants_login asks.Deadlines = false
 ask_wants_login asks.AcceptedPapers = false
 ask_wants_login asks.Name = true
+ask_wants_login asks.Dismiss = true
 ask_wants_login asks.SetMode = true
 ask_wants_login asks.SetPhase = true
 ask_wants_login asks.SetDeadline = true
@@ -34,6 +35,8 @@ ask_wants_login asks.SetConflict = true
 ask_wants_login asks.Bid = true
 ask_wants_login asks.Assign = true
 ask_wants_login asks.Unassign = true
+ask_wants_login asks.Invite = true
+ask_wants_login asks.Uninvite = true
 ask_wants_login asks.Review = true
 ask_wants_login asks.Reviews = true
 ask_wants_login asks.Comment = true
@@ -78,6 +81,9 @@ command_ask (commands.Tag paper tag true) = asks.Tag
 command_ask (commands.Tag paper tag false) = asks.Untag
 command_ask (commands.Decide paper decision) = asks.Decide
 command_ask (commands.SetDeadline phase until) = asks.SetDeadline
+command_ask (commands.Dismiss user) = asks.Dismiss
+command_ask (commands.Invite paper user) = asks.Invite
+command_ask (commands.Uninvite paper user) = asks.Uninvite
 
 abbrev pub report_ask : Report → Ask
 report_ask reports.Papers = asks.PapersReport

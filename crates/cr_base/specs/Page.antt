@@ -23,27 +23,43 @@ is_clear_member by = is_member by.role && not by.conflicted
 abbrev pub is_clear_chair : Standing → Bool
 is_clear_chair by = is_chair by.role && not by.conflicted
 
--- the title: authors; members from bidding; everyone, where the paper is accepted
-abbrev pub gets_title : Standing → Bool → Bool
-gets_title by accepted = by.author || (is_member by.role && members_see_papers by.phase) || accepted
+-- who may be shown the paper at all, beside its authors and what is everyone's: members, and externals of it
+abbrev pub is_admitted : Standing → Bool
+is_admitted by = is_member by.role || by.external
 
--- the abstract: authors; clear members from bidding; everyone, where the paper is published
+-- externals of the paper who are not in conflict with it
+abbrev pub is_clear_external : Standing → Bool
+is_clear_external by = by.external && not by.conflicted
+
+-- those of both who are not in conflict with it, to whom it is shown
+abbrev pub reads_paper : Standing → Bool
+reads_paper by = is_clear_member by || is_clear_external by
+
+-- the title: authors; members and clear externals from bidding; everyone, where the paper is accepted
+abbrev pub gets_title : Standing → Bool → Bool
+gets_title by accepted =
+    by.author
+    || (is_member by.role && members_see_papers by.phase)
+    || (is_clear_external by && members_see_papers by.phase)
+    || accepted
+
+-- the abstract: authors; clear members and clear externals from bidding; everyone, where the paper is published
 abbrev pub gets_abstract : Standing → Bool → Bool
 gets_abstract by accepted =
-    by.author || (is_clear_member by && members_see_papers by.phase) || is_published by.phase accepted
+    by.author || (reads_paper by && members_see_papers by.phase) || is_published by.phase accepted
 
 -- who wrote it, to its authors; from bidding on to chairs in no conflict, and unless the mode is anonymous to such
--- members; and to everyone, where the paper is accepted
+-- members and externals; and to everyone, where the paper is accepted
 abbrev pub shows_author : Standing → Bool → Bool
 shows_author by accepted =
     by.author
     || (is_clear_chair by && committee_sees_authors by.phase)
-    || (is_clear_member by && not (is_anonymous by.mode) && committee_sees_authors by.phase)
+    || (reads_paper by && not (is_anonymous by.mode) && committee_sees_authors by.phase)
     || accepted
 
--- whether she is in conflict: members and authors
+-- whether she is in conflict: members, externals and authors
 abbrev pub gets_conflict : Standing → Bool
-gets_conflict by = is_member by.role || by.author
+gets_conflict by = is_admitted by || by.author
 
 -- who is declared in conflict: clear chairs from bidding
 abbrev pub gets_conflicts : Standing → Bool
@@ -53,15 +69,18 @@ gets_conflicts by = is_clear_chair by && chairs_see_conflicts by.phase
 abbrev pub gets_declared : Standing → Bool
 gets_declared by = by.author
 
--- the versions of its content: authors all; clear members from bidding the last, and so
+-- the versions of its content: authors all; clear members and clear externals from bidding the last, and so
 -- everyone, where the paper is published
 abbrev pub gets_versions : Standing → Bool → Bool
 gets_versions by accepted =
-    by.author || (is_clear_member by && members_see_papers by.phase) || is_published by.phase accepted
+    by.author || (reads_paper by && members_see_papers by.phase) || is_published by.phase accepted
 
--- whether it is withdrawn: authors; members from bidding
+-- whether it is withdrawn: authors; members and clear externals from bidding
 abbrev pub gets_withdrawn : Standing → Bool
-gets_withdrawn by = by.author || (is_member by.role && members_see_papers by.phase)
+gets_withdrawn by =
+    by.author
+    || (is_member by.role && members_see_papers by.phase)
+    || (is_clear_external by && members_see_papers by.phase)
 
 -- her own bid: clear members from bidding
 abbrev pub gets_bid : Standing → Bool
@@ -71,9 +90,9 @@ gets_bid by = is_clear_member by && members_see_own_bids by.phase
 abbrev pub gets_bids : Standing → Bool
 gets_bids by = is_clear_chair by && chairs_see_bids by.phase
 
--- her own label: clear members who review the paper
+-- her own label: clear members and clear externals who review the paper
 abbrev pub gets_label : Standing → Bool
-gets_label by = is_clear_member by && by.reviewer
+gets_label by = reads_paper by && by.reviewer
 
 -- who reviews the paper by name: clear chairs from bidding; clear members from discussion unless anonymous; authors
 -- from notification in the open mode

@@ -118,6 +118,10 @@ members_see_reviewers phase = is_from Discussion phase
 abbrev pub reviewers_read_own : Phase → Bool
 reviewers_read_own phase = is_phase phase Reviewing
 
+-- an external who reviews a paper reads her own forms, and never another's
+abbrev pub externals_read_own : Phase → Bool
+externals_read_own phase = is_from Reviewing phase
+
 -- members read each other's reviews
 abbrev pub members_read_reviews : Phase → Bool
 members_read_reviews phase = is_from Discussion phase

@@ -4,7 +4,7 @@ use Rattle.std.specs.Prelude.{ℕ, Bool, List, [], ◌∷◌, length, Option, So
 use Rattle.std.specs.Prelude.{Result, Ok, Err}
 use Rattle.std.specs.Str.{bytes_eq}
 use Rattle.cr_base.specs.declared.entry.Entry.{Entry}
-use Rattle.cr_base.specs.declared.entry.Entry.TheVariants.{Named}
+use Rattle.cr_base.specs.declared.entry.Entry.TheVariants.{Named, Dismissed}
 use Rattle.cr_base.specs.declared.reply.AccountLine.{AccountLine}
 use Rattle.cr_base.specs.declared.reply.Receipt.{Receipt}
 use Rattle.cr_base.specs.declared.reply.Receipt.TheVariants as receipts
@@ -25,9 +25,10 @@ pub record KeptCall : Type 0 where
   pub receipt : Receipt
   pub entries : ℕ
 
--- the name that the receipt of an entry tells: of the user who is given a role
+-- the name that the receipt of an entry tells: of the user who is given a role, or loses it
 abbrev pub name_told_by : List AccountLine → Entry → List ℕ
 name_told_by accounts (Named user role) = unwrap_or (name_in accounts user) []
+name_told_by accounts (Dismissed user) = unwrap_or (name_in accounts user) []
 name_told_by accounts _ = []
 
 -- what these entries of one command tell, with the accounts as they are now

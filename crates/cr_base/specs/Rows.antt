@@ -8,6 +8,7 @@ use Rattle.cr_base.specs.declared.entry.Entry.TheVariants.{Registered, Named, Ph
 use Rattle.cr_base.specs.declared.entry.Entry.TheVariants.{Coauthor, Revised, Uploaded, Withdrawn, Conflict}
 use Rattle.cr_base.specs.declared.entry.Entry.TheVariants.{Bid, Assigned, Unassigned, Reviewed}
 use Rattle.cr_base.specs.declared.entry.Entry.TheVariants.{Commented, Tagged, Decided, DeadlineSet}
+use Rattle.cr_base.specs.declared.entry.Entry.TheVariants.{Dismissed, Invited, Uninvited}
 use Rattle.cr_base.specs.declared.entry.Stamped.{Stamped}
 use Rattle.cr_base.specs.declared.retry.RetryKey.{RetryKey}
 use Rattle.cr_base.specs.declared.row.OldVersion.{OldVersion}
@@ -51,6 +52,9 @@ kind_number kind.Commented = 15
 kind_number kind.Tagged = 16
 kind_number kind.Decided = 17
 kind_number kind.DeadlineSet = 18
+kind_number kind.Dismissed = 19
+kind_number kind.Invited = 20
+kind_number kind.Uninvited = 21
 
 -- the word for the kind: its name in lower case
 abbrev pub kind_name : EntryKind → List ℕ
@@ -72,6 +76,9 @@ kind_name kind.Commented = codes "commented"
 kind_name kind.Tagged = codes "tagged"
 kind_name kind.Decided = codes "decided"
 kind_name kind.DeadlineSet = codes "deadlineset"
+kind_name kind.Dismissed = codes "dismissed"
+kind_name kind.Invited = codes "invited"
+kind_name kind.Uninvited = codes "uninvited"
 
 -- the fields of each kind, a line a kind
 abbrev pub shape_of : EntryKind → Shape
@@ -95,6 +102,9 @@ shape_of kind.Commented = shape paper_range version_range some_ordinal_range Com
 shape_of kind.Tagged = shape paper_range bit unused Tag Nothing
 shape_of kind.Decided = shape paper_range decision_range unused Nothing Nothing
 shape_of kind.DeadlineSet = shape deadline_phase_range some_deadline_range unused Nothing Nothing
+shape_of kind.Dismissed = shape user_range unused unused Nothing Nothing
+shape_of kind.Invited = shape paper_range user_range unused Nothing Nothing
+shape_of kind.Uninvited = shape paper_range user_range unused Nothing Nothing
 
 -- the kind of an entry
 abbrev pub kind_of : Entry → EntryKind
@@ -116,6 +126,9 @@ kind_of (Commented paper n ordinal text) = kind.Commented
 kind_of (Tagged paper tag on) = kind.Tagged
 kind_of (Decided paper decision) = kind.Decided
 kind_of (DeadlineSet phase until) = kind.DeadlineSet
+kind_of (Dismissed user) = kind.Dismissed
+kind_of (Invited paper user) = kind.Invited
+kind_of (Uninvited paper user) = kind.Uninvited
 
 -- what a row tells of an entry beside its kind, its stamp and whether another follows
 pub record Fields : Type 0 where
@@ -189,6 +202,9 @@ fields_of (Commented paper n ordinal text) = fields paper n (label_number ordina
 fields_of (Tagged paper tag on) = fields paper (bit_number on) 0 tag []
 fields_of (Decided paper decision) = fields paper (decision_number decision) 0 [] []
 fields_of (DeadlineSet phase until) = fields (phase_number phase) (until_number until) 0 [] []
+fields_of (Dismissed user) = fields user 0 0 [] []
+fields_of (Invited paper user) = fields paper user 0 [] []
+fields_of (Uninvited paper user) = fields paper user 0 [] []
 
 -- the row of an entry
 abbrev pub row_of : Stamped → Row
@@ -247,6 +263,9 @@ built kind.Tagged r = Some (Tagged r.n1 r.b1 (r.n2 == 1))
 built kind.Decided r = option_map (λ (decision : Decision). Decided r.n1 decision) (decision_numbered r.n2)
 built kind.DeadlineSet r =
     option_map (λ (phase : Phase). DeadlineSet phase (until_numbered r.n2)) (phase_numbered r.n1)
+built kind.Dismissed r = Some (Dismissed r.n1)
+built kind.Invited r = Some (Invited r.n1 r.n2)
+built kind.Uninvited r = Some (Uninvited r.n1 r.n2)
 
 -- an entry with the stamp that a row's fields spell, and whether the row says that another follows
 abbrev pub stamped_by : Row → Entry → Stamped

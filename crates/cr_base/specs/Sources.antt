@@ -1,6 +1,7 @@
 -- What rules and answers read, over a record of facts and one of what is shown of a paper: filled by a view they make
 -- Judge and Answer, filled by the tables they make RoleAnswer.
-use Rattle.std.specs.Prelude.{ℕ, Bool, ◌||◌, ◌==◌, List, Option, Some, None, is_some, find, map, if◌then◌else◌}
+use Rattle.std.specs.Prelude.{ℕ, Bool, not, ◌||◌, ◌&&◌, ◌==◌, List, Option, Some, None, is_some, find, map}
+use Rattle.std.specs.Prelude.{if◌then◌else◌}
 use Rattle.std.specs.Option.{option_map, option_and_then}
 use Rattle.std.specs.List.{flat_map, list_any}
 use Rattle.std.specs.Str.{bytes_eq}
@@ -16,6 +17,7 @@ use Rattle.cr_base.specs.Calls.{maker_of}
 use Rattle.cr_base.specs.Checks.{NamedPaper}
 use Rattle.cr_base.specs.Deadlines.{deadline_in, is_past}
 use Rattle.cr_base.specs.Decisions.{decision_in, is_accepted_when}
+use Rattle.cr_base.specs.Invites.{is_invited_in}
 use Rattle.cr_base.specs.Lists.{listed, is_number, at_some}
 use Rattle.cr_base.specs.Pairs.{users_tied_to}
 use Rattle.cr_base.specs.History.{Upload, BidTold, SeatTold, FormTold, CommentTold}
@@ -27,6 +29,7 @@ use Rattle.cr_base.specs.Reviews.{last_form_in, forms_in, forms_discussed_in, is
 use Rattle.cr_base.specs.Seats.{labels_in, reviewers_in, ordinal_in, seats_in}
 use Rattle.cr_base.specs.Tags.{tags_in}
 use Rattle.cr_base.specs.Talk.{comments_in, comment_as_told, own_comments_in}
+use Rattle.cr_base.specs.Words.{is_member}
 use Rattle.cr_base.specs.Ties.{authors_in, is_author_in, is_conflicted_in, bid_in, bids_in}
 
 -- what rules and drawn numbers read: how the caller stands, to a paper if one is named;
@@ -50,9 +53,9 @@ pub record Facts : Type 0 where
 -- what pages, contents and some rules tell of a paper beside the standing: its texts, its authors, who is declared in
 -- conflict with it, and whom its authors declared, both by user number; what was uploaded to it, in order; whether it
 -- is withdrawn; the last bids on it, by user number; its reviewers, by label, under which ordinal a user reviews it,
--- how many labels were given, and to whom each; of each label the last form, the forms that the committee discusses,
--- and whether there is one; the comments on it, by number; its tags that are for a user, who may be a chair, by their
--- bytes; and the last decision on it
+-- how many labels were given, and to whom each; whether a user is invited to it; of each label the last form, the
+-- forms that the committee discusses, and whether there is one; the comments on it, by number; its tags that are for
+-- a user, who may be a chair, by their bytes; and the last decision on it
 pub record Shown : Type 0 where
   pub title : ℕ → Option (List ℕ)
   pub abstract_ : ℕ → Option (List ℕ)
@@ -66,12 +69,17 @@ pub record Shown : Type 0 where
   pub ordinal : Option ℕ → ℕ → Option ℕ
   pub labels : ℕ → ℕ
   pub assigned : ℕ → ℕ → Option ℕ
+  pub invited : Option ℕ → ℕ → Bool
   pub last_form : ℕ → ℕ → Option FormTold
   pub forms_discussed : ℕ → ℕ → List FormTold
   pub written : ℕ → ℕ → Bool
   pub comments : ℕ → List CommentTold
   pub tags : Option ℕ → Bool → ℕ → List (List ℕ)
   pub decision : ℕ → Option Decision
+
+-- the user is no member of the committee, and invited to the paper, by the tables
+abbrev pub is_external_in : Tables → Option ℕ → ℕ → Bool
+is_external_in t u p = not (is_member (role_in t.accounts u)) && is_invited_in t.invites u p
 
 -- how a user stands, by the tables
 abbrev pub standing_at : Tables → Option ℕ → Option ℕ → Standing
@@ -82,6 +90,7 @@ standing_at t u paper = record {
   author = at_some (is_author_in t.ties u) paper;
   conflicted = at_some (is_conflicted_in t.ties u) paper;
   reviewer = at_some (λ p. is_some (ordinal_in t.seats u p)) paper;
+  external = at_some (is_external_in t u) paper;
 }
 
 -- the forms that the user has written of the paper: those under her label
@@ -122,6 +131,7 @@ shown_in_tables t = record {
   ordinal = ordinal_in t.seats;
   labels = labels_in t.seats;
   assigned = λ p o. assigned_under o (seats_in t.seats p);
+  invited = is_invited_in t.invites;
   last_form = λ p o. option_map written_told (last_form_in t.reviews p o);
   forms_discussed = forms_discussed_in t.reviews;
   written = is_written_in t.reviews;
@@ -165,6 +175,7 @@ target_named facts shown caller paper user =
     let wrote = at_some (λ p. list_any (is_number user) (shown.authors p)) paper in
     let declared = at_some (λ p. list_any (is_number user) (shown.conflicts p)) paper in
     let reviews = at_some (λ p. is_some (shown.ordinal user p)) paper in
+    let invited = at_some (shown.invited user) paper in
     option_map
     (λ (role : Role). record {
       role = role;
@@ -172,6 +183,7 @@ target_named facts shown caller paper user =
       author = wrote;
       conflicted = wrote || declared;
       reviewer = reviews;
+      external = not (is_member role) && invited;
     })
     (role_among facts.accounts user)
 

@@ -6,6 +6,7 @@ use Rattle.cr_base.specs.History.{History}
 use Rattle.cr_base.specs.Accounts.{accounts_after, AccountsFit}
 use Rattle.cr_base.specs.Stage.{StageState, first_stage, stage_after}
 use Rattle.cr_base.specs.Decisions.{DecisionsState, no_decisions, decisions_after}
+use Rattle.cr_base.specs.Invites.{InvitesState, no_invites, invites_after}
 use Rattle.cr_base.specs.Papers.{PapersState, no_papers, papers_after, PapersFit}
 use Rattle.cr_base.specs.Reviews.{ReviewsState, no_reviews, reviews_after, ReviewsFit}
 use Rattle.cr_base.specs.Seats.{SeatsState, no_seats, seats_after, SeatsFit}
@@ -13,14 +14,15 @@ use Rattle.cr_base.specs.Tags.{TagsState, no_tags, tags_after}
 use Rattle.cr_base.specs.Talk.{TalkState, no_talk, talk_after, TalkFit}
 use Rattle.cr_base.specs.Ties.{TiesState, no_ties, ties_after, TiesFit}
 
--- the tables: the stage, the accounts by user number, the papers, who is tied to them, who reviews them, what was
--- written in reviews and in comments, the tags that are on, and the decisions
+-- the tables: the stage, the accounts by user number, the papers, who is tied to them, who reviews them, who is
+-- invited to review them, what was written in reviews and in comments, the tags that are on, and the decisions
 pub record Tables : Type 0 where
   pub stage : StageState
   pub accounts : List Account
   pub papers : PapersState
   pub ties : TiesState
   pub seats : SeatsState
+  pub invites : InvitesState
   pub reviews : ReviewsState
   pub talk : TalkState
   pub tags : TagsState
@@ -34,6 +36,7 @@ no_tables = record {
   papers = no_papers;
   ties = no_ties;
   seats = no_seats;
+  invites = no_invites;
   reviews = no_reviews;
   talk = no_talk;
   tags = no_tags;
@@ -48,6 +51,7 @@ tables_after t s = record {
   papers = papers_after t.papers s.stamp.maker s.entry;
   ties = ties_after t.ties s.stamp.maker s.entry;
   seats = seats_after t.seats s.entry;
+  invites = invites_after t.invites s.entry;
   reviews = reviews_after t.reviews s.entry;
   talk = talk_after t.talk s.stamp.maker s.entry;
   tags = tags_after t.tags s.stamp.maker s.entry;

@@ -11,6 +11,8 @@ pub enum Ask {
     Accounts,
     /// Another member or chair: POST of `/members`.
     Name,
+    /// One member or chair less: DELETE of `/members/{u}`.
+    Dismiss,
     /// Another mode: POST of `/mode`.
     SetMode,
     /// Phase, mode and the count of papers: GET or HEAD of `/phase`.
@@ -43,6 +45,10 @@ pub enum Ask {
     Assign,
     /// One reviewer less: DELETE of `/papers/{p}/reviewers/{u}`.
     Unassign,
+    /// One more who may review a paper from outside the committee: POST of `/papers/{p}/externals`.
+    Invite,
+    /// One of these less: DELETE of `/papers/{p}/externals/{u}`.
+    Uninvite,
     /// The reviews of a paper: GET or HEAD of `/papers/{p}/reviews`.
     Reviews,
     /// A form of the caller's review of a paper: PUT of `/papers/{p}/review`.
@@ -93,6 +99,7 @@ impl Ask {
             Ask::SetDeadline | Ask::SetConflict => true,
             Ask::Submit | Ask::Revise | Ask::Upload | Ask::Withdraw => true,
             Ask::Bid | Ask::Assign | Ask::Unassign => true,
+            Ask::Dismiss | Ask::Invite | Ask::Uninvite => true,
             Ask::Review | Ask::Comment | Ask::Tag | Ask::Untag | Ask::Decide => true,
             Ask::Me | Ask::Page | Ask::Content | Ask::Version => true,
             Ask::Reviews | Ask::Comments | Ask::Search => true,

@@ -144,6 +144,25 @@ pub enum Command {
         /// Until when what the phase opens may be done; None where it is to have no deadline.
         until: Option<Deadline>,
     },
+    /// Somebody is a member or a chair no longer.
+    Dismiss {
+        /// The name told of her; None where what was told is no name.
+        user: Option<Short>,
+    },
+    /// Somebody from outside the committee may review a paper.
+    Invite {
+        /// The paper told; None where what was told is no number of a paper.
+        paper: Option<PaperNo>,
+        /// The name told of her; None where what was told is no name.
+        user: Option<Short>,
+    },
+    /// Somebody's invitation to a paper is taken back.
+    Uninvite {
+        /// The paper told; None where what was told is no number of a paper.
+        paper: Option<PaperNo>,
+        /// The name told of her; None where what was told is no name.
+        user: Option<Short>,
+    },
 }
 
 /// A command, who gives it, when, and by which number.
@@ -244,6 +263,9 @@ impl Command {
             Command::Tag { on: false, .. } => Ask::Untag,
             Command::Decide { .. } => Ask::Decide,
             Command::SetDeadline { .. } => Ask::SetDeadline,
+            Command::Dismiss { .. } => Ask::Dismiss,
+            Command::Invite { .. } => Ask::Invite,
+            Command::Uninvite { .. } => Ask::Uninvite,
         }
     }
 

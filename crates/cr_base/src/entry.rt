@@ -101,11 +101,11 @@ pub enum Entry {
         /// How much.
         value: Bid,
     },
-    /// A member reviews a paper from here on, under a label of her own.
+    /// A member, or an external of the paper, reviews it from here on, under a label of her own.
     Assigned {
         /// The paper.
         paper: PaperNo,
-        /// Who reviews it: a member who is in no conflict with it.
+        /// Who reviews it: she is in no conflict with it.
         user: UserNo,
         /// What she is to it.
         kind: Kind,
@@ -166,6 +166,25 @@ pub enum Entry {
         /// Until when what the phase opens may be done; None where it has no deadline any more.
         until: Option<Deadline>,
     },
+    /// A user is no member and no chair from here on: she has an account, as before she was named.
+    Dismissed {
+        /// Who is dismissed.
+        user: UserNo,
+    },
+    /// A user who is no member may review a paper from here on, and reads it: she is an external of it.
+    Invited {
+        /// The paper.
+        paper: PaperNo,
+        /// Who is invited.
+        user: UserNo,
+    },
+    /// A user's invitation to a paper is taken back from here on.
+    Uninvited {
+        /// The paper.
+        paper: PaperNo,
+        /// Whose invitation it was.
+        user: UserNo,
+    },
 }
 
 /// The kind of an entry.
@@ -207,6 +226,12 @@ pub enum EntryKind {
     Decided,
     /// An [`Entry::DeadlineSet`].
     DeadlineSet,
+    /// An [`Entry::Dismissed`].
+    Dismissed,
+    /// An [`Entry::Invited`].
+    Invited,
+    /// An [`Entry::Uninvited`].
+    Uninvited,
 }
 
 /// What a command's entries have alike, beside what each says: who gave it, when, and by which number.
@@ -267,6 +292,9 @@ impl Entry {
             Entry::Tagged { .. } => EntryKind::Tagged,
             Entry::Decided { .. } => EntryKind::Decided,
             Entry::DeadlineSet { .. } => EntryKind::DeadlineSet,
+            Entry::Dismissed { .. } => EntryKind::Dismissed,
+            Entry::Invited { .. } => EntryKind::Invited,
+            Entry::Uninvited { .. } => EntryKind::Uninvited,
         }
     }
 
@@ -387,6 +415,15 @@ impl Entry {
             Entry::DeadlineSet { phase, until } => Ok(Entry::DeadlineSet {
                 phase: *phase,
                 until: *until,
+            }),
+            Entry::Dismissed { user } => Ok(Entry::Dismissed { user: *user }),
+            Entry::Invited { paper, user } => Ok(Entry::Invited {
+                paper: *paper,
+                user: *user,
+            }),
+            Entry::Uninvited { paper, user } => Ok(Entry::Uninvited {
+                paper: *paper,
+                user: *user,
             }),
         }
     }

@@ -19,6 +19,8 @@ pub struct Me {
     pub comments: u64,
     /// The papers with which she is in conflict and whose author she isn't.
     pub conflicts: PaperNos,
+    /// The papers of which she is an external.
+    pub invited: PaperNos,
     /// Her name.
     pub name: Short,
     /// The papers whose author she is.

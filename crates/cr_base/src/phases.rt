@@ -8,7 +8,8 @@ ghost use Rattle.cr_base.specs.Phases.{committee_works, bids_are_taken, reviews_
 ghost use Rattle.cr_base.specs.Phases.{comments_are_written, decisions_are_made, members_see_papers};
 ghost use Rattle.cr_base.specs.Phases.{committee_sees_authors, chairs_see_conflicts, members_see_own_bids};
 ghost use Rattle.cr_base.specs.Phases.{chairs_see_bids, committee_sees_tags, chairs_see_reviewers};
-ghost use Rattle.cr_base.specs.Phases.{members_see_reviewers, reviewers_read_own, members_read_reviews};
+ghost use Rattle.cr_base.specs.Phases.{members_see_reviewers, reviewers_read_own, externals_read_own};
+ghost use Rattle.cr_base.specs.Phases.{members_read_reviews};
 ghost use Rattle.cr_base.specs.Phases.{members_read_comments, members_read_decisions, authors_read_reviews};
 ghost use Rattle.cr_base.specs.Phases.{authors_see_reviewers, authors_read_decisions, letters_are_sent};
 ghost use Rattle.cr_base.specs.Phases.{papers_may_be_accepted, papers_are_published};
@@ -207,6 +208,13 @@ impl Phase {
         ensures { result ≡ reviewers_read_own self }
     {
         self.is(Phase::Reviewing)
+    }
+
+    /// Whether an external who reviews a paper reads her own forms, and never another's.
+    pub fn externals_read_own(self) -> bool
+        ensures { result ≡ externals_read_own self }
+    {
+        self.is_from(Phase::Reviewing)
     }
 
     /// Whether members read each other's reviews.

@@ -38,11 +38,12 @@ pub enum Rule {
     NoPaper,
     /// The caller is no author of the paper.
     NotAuthor,
-    /// The user named is no member of the committee.
+    /// The user named is no member of the committee; nor, where she is to review a paper, or a chair declares her in
+    /// conflict with it or takes that back, an external of the paper.
     NotAMember,
-    /// The caller is no member of the committee, and bids, declares a conflict of her own, reviews, comments, tags, or
-    /// asks for comments; or she is no author of the paper either, and asks for its reviews, or for its page or its
-    /// content where it isn't accepted or published.
+    /// The caller is no member of the committee, and bids, declares a conflict of her own, comments, tags, or asks for
+    /// comments; or she is no external of the paper either, and reviews it; or no author besides, and asks for its
+    /// reviews, or for its page or its content where it isn't accepted or published.
     NotMember,
     /// The caller is in conflict with the paper.
     Conflict,
@@ -80,6 +81,16 @@ pub enum Rule {
     PlanTooLarge,
     /// There is no plan as it is asked for.
     NoPlan,
+    /// The user named is the only chair, and stays one.
+    LastChair,
+    /// The user named is a member of the committee, and so isn't invited from outside it.
+    IsMember,
+    /// The user named is invited to the paper.
+    AlreadyInvited,
+    /// The user named isn't invited to the paper.
+    NotInvited,
+    /// The user named reviews the paper, and so stays invited to it.
+    StillAssigned,
 }
 
 /// What an accepted command is answered.
@@ -100,7 +111,7 @@ pub enum Receipt {
         /// Its number.
         paper: PaperNo,
     },
-    /// A user has this role now.
+    /// A user has this role now; an account's where she was dismissed.
     Named {
         /// Her name.
         name: Short,
@@ -113,7 +124,8 @@ pub enum Receipt {
         mode: Mode,
     },
     /// The paper that was revised or withdrawn, with which a conflict was turned on or off, that has lost a reviewer,
-    /// at which a tag was turned on or off, or on which the committee decided.
+    /// to which somebody was invited or is no longer, at which a tag was turned on or off, or on which the committee
+    /// decided.
     Changed {
         /// Its number.
         paper: PaperNo,

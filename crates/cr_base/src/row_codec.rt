@@ -51,6 +51,9 @@ impl EntryKind {
             EntryKind::Tagged => 16,
             EntryKind::Decided => 17,
             EntryKind::DeadlineSet => 18,
+            EntryKind::Dismissed => 19,
+            EntryKind::Invited => 20,
+            EntryKind::Uninvited => 21,
         }
     }
 
@@ -79,6 +82,9 @@ impl EntryKind {
             16 => Some(EntryKind::Tagged),
             17 => Some(EntryKind::Decided),
             18 => Some(EntryKind::DeadlineSet),
+            19 => Some(EntryKind::Dismissed),
+            20 => Some(EntryKind::Invited),
+            21 => Some(EntryKind::Uninvited),
             _ => None,
         }
     }
@@ -106,6 +112,9 @@ impl EntryKind {
             EntryKind::Tagged => "tagged",
             EntryKind::Decided => "decided",
             EntryKind::DeadlineSet => "deadlineset",
+            EntryKind::Dismissed => "dismissed",
+            EntryKind::Invited => "invited",
+            EntryKind::Uninvited => "uninvited",
         }
     }
 
@@ -123,7 +132,9 @@ impl EntryKind {
             EntryKind::Submitted | EntryKind::Revised => {
                 Shape::of(PAPERS, UNUSED, UNUSED, TextKind::Title, TextKind::Abstract)
             }
-            EntryKind::Coauthor => Shape::of_numbers(PAPERS, USERS, UNUSED),
+            EntryKind::Coauthor | EntryKind::Invited | EntryKind::Uninvited => {
+                Shape::of_numbers(PAPERS, USERS, UNUSED)
+            }
             EntryKind::Uploaded => Shape::of(
                 PAPERS,
                 VERSIONS,
@@ -155,6 +166,7 @@ impl EntryKind {
             EntryKind::Tagged => Shape::of(PAPERS, BIT, UNUSED, TextKind::Tag, TextKind::Nothing),
             EntryKind::Decided => Shape::of_numbers(PAPERS, DECISIONS, UNUSED),
             EntryKind::DeadlineSet => Shape::of_numbers(DEADLINE_PHASES, SOME_DEADLINES, UNUSED),
+            EntryKind::Dismissed => Shape::of_numbers(USERS, UNUSED, UNUSED),
         }
     }
 }
@@ -246,6 +258,9 @@ impl Entry {
             Entry::DeadlineSet { phase, until } => {
                 RowNumbers::of(phase.number(), number_of_until(until), 0)
             }
+            Entry::Dismissed { user } => RowNumbers::of(user.number(), 0, 0),
+            Entry::Invited { paper, user } => RowNumbers::of(paper.number(), user.number(), 0),
+            Entry::Uninvited { paper, user } => RowNumbers::of(paper.number(), user.number(), 0),
         }
     }
 
@@ -281,7 +296,10 @@ impl Entry {
             | Entry::Assigned { .. }
             | Entry::Unassigned { .. }
             | Entry::Decided { .. }
-            | Entry::DeadlineSet { .. } => Ok(RowBytes::none()),
+            | Entry::DeadlineSet { .. }
+            | Entry::Dismissed { .. }
+            | Entry::Invited { .. }
+            | Entry::Uninvited { .. } => Ok(RowBytes::none()),
         }
     }
 }
@@ -590,6 +608,17 @@ fn entry_from(kind: EntryKind, row: &Row) -> Result<Option<Entry>, AllocError>
             let until = until_of_number(row.n2);
             Ok(Phase::from_number(row.n1).map(|phase| Entry::DeadlineSet { phase, until }))
         }
+        EntryKind::Dismissed => Ok(Some(Entry::Dismissed {
+            user: UserNo::new(row.n1),
+        })),
+        EntryKind::Invited => Ok(Some(Entry::Invited {
+            paper: PaperNo::new(row.n1),
+            user: UserNo::new(row.n2),
+        })),
+        EntryKind::Uninvited => Ok(Some(Entry::Uninvited {
+            paper: PaperNo::new(row.n1),
+            user: UserNo::new(row.n2),
+        })),
     }
 }
 

@@ -1,7 +1,9 @@
 //! What a caller is to the conference, and to one paper.
 ghost use Rattle.std.specs.Prelude.{◌≡◌, true};
 ghost use Rattle.cr_base.specs.Checks.{judged, of_there, member_checks, chair_checks};
+ghost use Rattle.cr_base.specs.Checks.{reads_all_forms, reads_own_forms};
 ghost use Rattle.cr_base.specs.Page.{is_clear_member, is_clear_chair};
+ghost use Rattle.cr_base.specs.Page.{is_admitted, is_clear_external, reads_paper};
 
 use crate::reply::Rule;
 use crate::words::{Mode, Phase, Role};
@@ -23,6 +25,8 @@ pub struct Standing {
     pub conflicted: bool,
     /// Whether she reviews the paper.
     pub reviewer: bool,
+    /// Whether she is an external of the paper: no member of the committee, and invited to the paper.
+    pub external: bool,
 }
 
 impl Standing {
@@ -38,6 +42,45 @@ impl Standing {
         ensures { result ≡ is_clear_chair self.now }
     {
         self.role.is_chair() && !self.conflicted
+    }
+
+    /// Whether she is a member of the committee, or an external of the paper.
+    pub fn is_admitted(&self) -> bool
+        ensures { result ≡ is_admitted self.now }
+    {
+        self.role.is_member() || self.external
+    }
+
+    /// Whether she is an external of the paper who isn't in conflict with it.
+    pub fn is_clear_external(&self) -> bool
+        ensures { result ≡ is_clear_external self.now }
+    {
+        self.external && !self.conflicted
+    }
+
+    /// Whether the paper is shown to her, from the bidding on, who is no author of it: she is a member or an external
+    /// of it who isn't in conflict with it.
+    pub fn reads_paper(&self) -> bool
+        ensures { result ≡ reads_paper self.now }
+    {
+        self.is_clear_member() || self.is_clear_external()
+    }
+
+    /// Whether she reads all forms of the paper's reviews that the committee discusses, in no conflict with it.
+    pub fn reads_all_forms(&self) -> bool
+        ensures { result ≡ reads_all_forms self.now }
+    {
+        self.role.is_member() && self.phase.members_read_reviews()
+    }
+
+    /// Whether she reads her own forms of the paper's reviews, in no conflict with it: a member who reviews it in
+    /// reviewing, an external who does from then on.
+    pub fn reads_own_forms(&self) -> bool
+        ensures { result ≡ reads_own_forms self.now }
+    {
+        self.reviewer
+            && (self.phase.reviewers_read_own()
+                || (self.external && self.phase.externals_read_own()))
     }
 
     /// Whether she may do to the paper, which is there, what members in no conflict with it do, or the first broken

@@ -15,4 +15,6 @@ pub struct Target {
     pub conflicted: bool,
     /// Whether she reviews the paper named; false where none is.
     pub reviewer: bool,
+    /// Whether she is an external of the paper named; false where none is.
+    pub external: bool,
 }

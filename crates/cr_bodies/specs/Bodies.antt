@@ -54,6 +54,9 @@ command_in asks.Assign paper d = do
   kind ← kind_under (codes "kind") d
   user ← user_under (codes "user") d
   Some (commands.Assign paper user kind)
+command_in asks.Invite paper d = do
+  user ← user_under (codes "user") d
+  Some (commands.Invite paper user)
 command_in asks.Review paper d = do
   score ← grade_under (codes "score") d
   confidence ← grade_under (codes "confidence") d
@@ -72,11 +75,13 @@ command_in asks.Phase paper d = None
 command_in asks.Deadlines paper d = None
 command_in asks.AcceptedPapers paper d = None
 command_in asks.Page paper d = None
+command_in asks.Dismiss paper d = None
 command_in asks.Withdraw paper d = None
 command_in asks.Content paper d = None
 command_in asks.Upload paper d = None
 command_in asks.Version paper d = None
 command_in asks.Unassign paper d = None
+command_in asks.Uninvite paper d = None
 command_in asks.Reviews paper d = None
 command_in asks.Comments paper d = None
 command_in asks.Tag paper d = None

@@ -120,6 +120,15 @@ fn assignment(paper: Option<PaperNo>, body: &Value) -> Result<Command, DecodeErr
     Ok(Command::Assign { paper, user, kind })
 }
 
+/// The invitation that a JSON value tells.
+fn invitation(paper: Option<PaperNo>, body: &Value) -> Result<Command, DecodeError>
+    ensures told { Decodes result (command_in_text Ask.Invite paper (view body.now)) }
+    ensures bounded { IfOk result IsBoundedCommand }
+{
+    let user = user(body, "user")?;
+    Ok(Command::Invite { paper, user })
+}
+
 /// The review that a JSON value tells.
 fn review(alloc: Global, paper: Option<PaperNo>, body: &Value) -> Result<Command, DecodeError>
     ensures told { Decodes result (command_in_text Ask.Review paper (view body.now)) }
@@ -180,6 +189,7 @@ fn command_in(
         Ask::SetConflict => conflict(paper, body),
         Ask::Bid => bidding(paper, body),
         Ask::Assign => assignment(paper, body),
+        Ask::Invite => invitation(paper, body),
         Ask::Review => review(alloc, paper, body),
         Ask::Comment => comment(alloc, paper, body),
         Ask::Decide => {
@@ -190,6 +200,7 @@ fn command_in(
         Ask::Deadlines | Ask::Me | Ask::Search | Ask::Withdraw => Err(DecodeError::Malformed),
         Ask::Content | Ask::Upload | Ask::Version | Ask::Tag => Err(DecodeError::Malformed),
         Ask::Unassign | Ask::Reviews | Ask::Comments | Ask::Untag => Err(DecodeError::Malformed),
+        Ask::Dismiss | Ask::Uninvite => Err(DecodeError::Malformed),
         Ask::Bulk | Ask::PapersReport | Ask::ScoresReport => Err(DecodeError::Malformed),
         Ask::LoadReport | Ask::DecisionsReport | Ask::Letter | Ask::Plan => Err(
             DecodeError::Malformed,
@@ -200,7 +211,7 @@ fn command_in(
 /// The command that the JSON body of a request tells, with the paper that its path tells, where the command is
 /// about one. Reads the body once. `Malformed` comes exactly where the body is no JSON object with the members that
 /// such a request must have, memory aside; so it does where what is asked for is told by no JSON body: a query, an
-/// upload, a withdrawal, that a reviewer leaves, a tag, or a bulk.
+/// upload, a withdrawal, that a member, a reviewer or an external leaves, a tag, or a bulk.
 pub fn read_command(
     alloc: Global,
     ask: Ask,

@@ -1,6 +1,7 @@
 pub mod BookLaws
 pub mod EarlierLaws
 pub mod FollowLaws
+pub mod GiverLaws
 pub mod JudgingLaws
 pub mod OpeningAuthors
 pub mod OpeningBulkRows

@@ -13,10 +13,12 @@ use Rattle.cr_base.specs.declared.command.Command.{Command}
 use Rattle.cr_base.specs.declared.command.Command.TheVariants as commands
 use Rattle.cr_base.specs.declared.command.Command.TheVariants.{Register, SetPhase, Submit, Revise, Upload, Withdraw, Name, SetMode, SetConflict}
 use Rattle.cr_base.specs.declared.command.Command.TheVariants.{Assign, Unassign, Review, Comment, Tag, Decide, SetDeadline}
+use Rattle.cr_base.specs.declared.command.Command.TheVariants.{Dismiss, Invite, Uninvite}
 use Rattle.cr_base.specs.declared.entry.Entry.{Entry}
 use Rattle.cr_base.specs.declared.entry.Entry.TheVariants as entries
 use Rattle.cr_base.specs.declared.entry.Entry.TheVariants.{Registered, Named, PhaseSet, ModeSet, Submitted, Revised, Uploaded, Withdrawn, Conflict}
 use Rattle.cr_base.specs.declared.entry.Entry.TheVariants.{Assigned, Unassigned, Reviewed, Commented, Tagged, Decided, DeadlineSet}
+use Rattle.cr_base.specs.declared.entry.Entry.TheVariants.{Dismissed, Invited, Uninvited}
 use Rattle.cr_base.specs.declared.entry.Stamp.{Stamp}
 use Rattle.cr_base.specs.declared.entry.Stamped.{Stamped}
 use Rattle.cr_base.specs.declared.form.Form.{Form}
@@ -26,13 +28,14 @@ use Rattle.cr_base.specs.declared.reply.Rule.TheVariants as rules
 use Rattle.cr_base.specs.declared.retry.RetryKey.{RetryKey}
 use Rattle.cr_base.specs.declared.row.Row.{Row}
 use Rattle.cr_base.specs.declared.standing.Standing.{Standing}
+use Rattle.cr_base.specs.declared.target.Target.{Target}
 use Rattle.cr_base.specs.declared.words.Decision.{Decision}
 use Rattle.cr_base.specs.declared.words.Mode.{Mode}
 use Rattle.cr_base.specs.declared.words.Phase.{Phase}
 use Rattle.cr_base.specs.declared.words.Phase.TheVariants.{Setup, Submission, Bidding, Reviewing, Discussion, Notification, Closed}
 use Rattle.cr_base.specs.declared.words.Role.{Role}
 use Rattle.cr_base.specs.declared.words.Role.TheVariants as roles
-use Rattle.cr_base.specs.Accounts.{lines_of}
+use Rattle.cr_base.specs.Accounts.{chair_count, lines_of}
 use Rattle.cr_base.specs.Bounds.{IsBoundedCommand, IsForm}
 use Rattle.cr_base.specs.Bulk.{entries_of}
 use Rattle.cr_base.specs.HistoryFacts.{role_of}
@@ -41,17 +44,20 @@ use Rattle.cr_base.specs.Judging.{judge_by_role}
 use Rattle.cr_base.specs.Calls.{call_by, stamp_of}
 use Rattle.cr_base.specs.Drawn.{Drawn, besides, stamped, grouped, registration_drawn, phase_drawn, submission_drawn, revision_drawn, upload_drawn, withdrawal_drawn, naming_drawn, mode_drawn}
 use Rattle.cr_base.specs.Drawn.{bid_drawn, review_drawn, comment_drawn, decision_drawn, deadline_drawn}
-use Rattle.cr_base.specs.Lists.{is_nothing, listed}
+use Rattle.cr_base.specs.Drawn.{dismissal_drawn, invitation_drawn, uninvitation_drawn}
+use Rattle.cr_base.specs.Invites.{is_invited_in}
+use Rattle.cr_base.specs.Lists.{at_some, is_nothing, listed}
 use Rattle.cr_base.specs.Logins.{command_wants_login}
 use Rattle.cr_base.specs.Papers.{own_bytes, uploads_at}
 use Rattle.cr_base.specs.Seats.{ordinal_in}
 use Rattle.cr_base.specs.Sources.{Facts, is_late, number_in, paper_named, role_among, shown_in_tables, users_among, facts_of_tables, standing_at}
-use Rattle.cr_base.specs.Sources.{own_forms_in}
+use Rattle.cr_base.specs.Sources.{own_forms_in, target_named, user_among}
 use Rattle.cr_base.specs.Talk.{comments_in, comment_as_told, own_comments_in}
 use Rattle.cr_base.specs.Checks.{Check, NamedPaper, judged, of_role, register_checks, phase_checks, submit_checks, revise_checks, upload_checks, name_checks, mode_checks}
 use Rattle.cr_base.specs.Checks.{bid_checks, review_checks, comment_checks, decide_checks, deadline_checks}
+use Rattle.cr_base.specs.Checks.{dismiss_checks, invite_checks, uninvite_checks}
 use Rattle.cr_base.specs.Texts.{IsTitle, IsAbstract}
-use Rattle.cr_base.proofs.CheckLaws.{judged-Ok, judged-none}
+use Rattle.cr_base.proofs.CheckLaws.{NoneBroken, judged-Ok, judged-none}
 use Rattle.cr_book.proofs.OpeningAuthors.{new-besides, found-back, none-missing, all-listed, coauthors, grouped-cons, numbers, begin-first, told-first, open-rest, same-begin, IsNumber, bounded-numbers, Rebuilt, rebuilt, Become, become}
 use Rattle.cr_policy.proofs.AccountNames.{AreNamedOnce, found_by_name}
 use Rattle.cr_book.proofs.OpeningNames.{named}
@@ -288,15 +294,73 @@ module _ (t : Tables) (rows : List Row) (drawn : Drawn) (begins : take (length r
             told-single stamp (Named v role) (Name (Some name) role) (naming_drawn stamp v name role) refl (ap (λ (o : Option ℕ). naming_drawn stamp (unwrap_or o 0) name role) (sym is) ∙ k.1) known
             (ap (λ (o : Option (List ℕ)). option_map (call_by stamp) (option_map (λ (n : List ℕ). Name (Some n) role) o)) (named t name v (sym (number_in-lines_of t.accounts name) ∙ is))) accepted
 
+    -- What else names a user wants her to be there. It adds one entry, which tells the command.
+    user-told : (name : Option (List ℕ)) (made : Option (List ℕ) → Command) (entry : ℕ → Entry) (checks : Option ℕ → List Check)
+        (draws : Option (List ℕ) → Option ℕ → Drawn)
+        → ((named : Option (List ℕ)) → judge_by_role t (call_by stamp (made named))
+        ≡ judged (checks (user_among (lines_of t.accounts) named)) (draws named (user_among (lines_of t.accounts) named)))
+        → (NoneBroken (checks None) → ⊥)
+        → ((n : List ℕ) (v : ℕ) → (draws (Some n) (Some v)).group ≡ grouped stamp (entry v ∷ []))
+        → ((v : ℕ) → call_told t (authors_told t stamp.maker rows) (stamped stamp false (entry v))
+        ≡ option_map (call_by stamp) (option_map (λ (n : List ℕ). made (Some n)) (name_told t v)))
+        → judge_by_role t (call_by stamp (made name)) ≡ Ok drawn → ToldByRows t rows drawn
+    user-told None made entry checks draws judges none group tells accepted =
+        absurd (none (judged-Ok (checks None) (draws None None) drawn (sym (judges None) ∙ accepted)).0)
+    user-told (Some name) made entry checks draws judges none group tells accepted =
+        by (number_in (lines_of t.accounts) name) refl
+        (judged-Ok (checks (number_in (lines_of t.accounts) name)) (draws (Some name) (number_in (lines_of t.accounts) name)) drawn (sym (judges (Some name)) ∙ accepted))
+      where
+        by : (target : Option ℕ) → number_in (lines_of t.accounts) name ≡ target
+            → NoneBroken (checks (number_in (lines_of t.accounts) name)) × (draws (Some name) (number_in (lines_of t.accounts) name) ≡ drawn) → ToldByRows t rows drawn
+        by None is kept = absurd (none (subst (λ (o : Option ℕ). NoneBroken (checks o)) is kept.0))
+        by (Some v) is kept =
+            told-single stamp (entry v) (made (Some name)) (draws (Some name) (Some v)) (group name v) (ap (draws (Some name)) (sym is) ∙ kept.1) known
+            (tells v ∙ ap (λ (o : Option (List ℕ)). option_map (call_by stamp) (option_map (λ (n : List ℕ). made (Some n)) o))
+            (named t name v (sym (number_in-lines_of t.accounts name) ∙ is))) accepted
+
+    dismissal-told : (name : Option (List ℕ)) → judge_by_role t (call_by stamp (Dismiss name)) ≡ Ok drawn → ToldByRows t rows drawn
+    dismissal-told name =
+        user-told name Dismiss Dismissed
+        (λ target. dismiss_checks (standing_at t (Some stamp.maker) None) (option_map of_role (role_among (lines_of t.accounts) target)) (chair_count (lines_of t.accounts)))
+        (λ named target. dismissal_drawn stamp (unwrap_or target 0) (unwrap_or named [])) (λ named. refl) (λ none. true≢false none.0) (λ n v. refl) (λ v. refl)
+
+    -- the paper and the user named, as the rules ask of them
+    abbrev named_paper : Option ℕ → NamedPaper
+    named_paper paper = paper_named (facts_of_tables t (Some stamp.maker)) (shown_in_tables t) paper
+
+    abbrev named_user : Option ℕ → Option ℕ → Option Target
+    named_user paper target = target_named (facts_of_tables t (Some stamp.maker)) (shown_in_tables t) (Some stamp.maker) paper target
+
+    abbrev inviting : Option ℕ → Option ℕ → List Check
+    inviting paper target =
+        invite_checks (standing_at t (Some stamp.maker) paper) (named_paper paper) (named_user paper target) (at_some (is_invited_in t.invites target) paper)
+
+    abbrev uninviting : Option ℕ → Option ℕ → List Check
+    uninviting paper target =
+        uninvite_checks (standing_at t (Some stamp.maker) paper) (named_paper paper) (named_user paper target) (at_some (is_invited_in t.invites target) paper)
+
+    invitation-told : (paper : Option ℕ) (name : Option (List ℕ)) → judge_by_role t (call_by stamp (Invite paper name)) ≡ Ok drawn → ToldByRows t rows drawn
+    invitation-told None name accepted =
+        let target : Option ℕ = user_among (lines_of t.accounts) name in
+        absurd (true≢false (judged-Ok (inviting None target) (invitation_drawn stamp 0 (unwrap_or target 0)) drawn accepted).0.0)
+    invitation-told (Some p) name accepted =
+        user-told name (λ named. Invite (Some p) named) (Invited p) (inviting (Some p)) (λ named target. invitation_drawn stamp p (unwrap_or target 0))
+        (λ named. refl) (λ none. true≢false none.1.0) (λ n v. refl) (λ v. refl) accepted
+
+    uninvitation-told : (paper : Option ℕ) (name : Option (List ℕ)) → judge_by_role t (call_by stamp (Uninvite paper name)) ≡ Ok drawn → ToldByRows t rows drawn
+    uninvitation-told None name accepted =
+        let target : Option ℕ = user_among (lines_of t.accounts) name in
+        absurd (true≢false (judged-Ok (uninviting None target) (uninvitation_drawn stamp 0 (unwrap_or target 0)) drawn accepted).0.0)
+    uninvitation-told (Some p) name accepted =
+        user-told name (λ named. Uninvite (Some p) named) (Uninvited p) (uninviting (Some p)) (λ named target. uninvitation_drawn stamp p (unwrap_or target 0))
+        (λ named. refl) (λ none. true≢false none.1.0) (λ n v. refl) (λ v. refl) accepted
+
     -- a command that a row of a bulk may tell as well
     row-told : (command : Command) → IsRowCommand command → judge_by_role t (call_by stamp command) ≡ Ok drawn → ToldByRows t rows drawn
     row-told command of_row accepted =
         let one = row-adds t stamp drawn command of_row accepted in
         told-single stamp one.entry command drawn one.group_is refl known
         (row-call t (authors_told t stamp.maker rows) (stamped stamp false one.entry) command one.of_row one.told) accepted
-
-    abbrev named_paper : Option ℕ → NamedPaper
-    named_paper paper = paper_named (facts_of_tables t (Some stamp.maker)) (shown_in_tables t) paper
 
     -- What is done to a paper without naming a user wants the paper to be there. It adds one entry, which tells the command.
     paper-told : (paper : Option ℕ) (made : Option ℕ → Command) (entry : ℕ → Entry) (checks : ℕ → List Check) (draws : ℕ → Drawn)
@@ -425,6 +489,9 @@ accepted-told H call drawn r behind legal allowed accepted begins bounded =
     by (Some user) (Upload paper content) is within key judges = upload-told t rows drawn begins (stamp user) (registered user is) paper content judges
     by (Some user) (Withdraw paper) is within key judges = withdrawal-told t rows drawn begins (stamp user) (registered user is) paper judges
     by (Some user) (Name name role) is within key judges = name-told t rows drawn begins (stamp user) (registered user is) name role judges
+    by (Some user) (Dismiss name) is within key judges = dismissal-told t rows drawn begins (stamp user) (registered user is) name judges
+    by (Some user) (Invite paper name) is within key judges = invitation-told t rows drawn begins (stamp user) (registered user is) paper name judges
+    by (Some user) (Uninvite paper name) is within key judges = uninvitation-told t rows drawn begins (stamp user) (registered user is) paper name judges
     by (Some user) (SetConflict paper name on) is within key judges =
         row-told t rows drawn begins (stamp user) (registered user is) (SetConflict paper name on) tt judges
     by (Some user) (commands.Bid paper value) is within key judges = bid-told t rows drawn begins (stamp user) (registered user is) paper value judges
@@ -570,6 +637,12 @@ module _ (H : History) (legal : Legal H) where
       target-allowed stamp may user command (λ name. Assign (Some paper) (Some name) kind) (λ name. made) (λ name. tt) told
   user-allowed authors stamp more (Unassigned paper user ordinal) command bounded may made told =
       target-allowed stamp may user command (λ name. Unassign (Some paper) (Some name)) (λ name. made) (λ name. tt) told
+  user-allowed authors stamp more (Dismissed user) command bounded may made told =
+      target-allowed stamp may user command (λ name. Dismiss (Some name)) (λ name. made) (λ name. tt) told
+  user-allowed authors stamp more (Invited paper user) command bounded may made told =
+      target-allowed stamp may user command (λ name. Invite (Some paper) (Some name)) (λ name. made) (λ name. tt) told
+  user-allowed authors stamp more (Uninvited paper user) command bounded may made told =
+      target-allowed stamp may user command (λ name. Uninvite (Some paper) (Some name)) (λ name. made) (λ name. tt) told
   user-allowed authors stamp more e command bounded may made told = absurd (none_some command told)
 
   -- and so is any

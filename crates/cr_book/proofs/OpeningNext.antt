@@ -22,6 +22,7 @@ use Rattle.cr_base.specs.Bulk.{bulk_checks, turns_own_conflict, entries_of}
 use Rattle.cr_base.specs.Calls.{call_by}
 use Rattle.cr_base.specs.Checks.{NamedPaper, about, conflict_case, own_checks, other_checks, conflict_checks, assign_checks, unassign_checks, tag_checks}
 use Rattle.cr_base.specs.Drawn.{Drawn, conflict_drawn, assignment_drawn, unassignment_drawn, tag_drawn}
+use Rattle.cr_base.specs.Invites.{is_invited_in}
 use Rattle.cr_base.specs.Judging.{judge_by_role}
 use Rattle.cr_base.specs.Lists.{is_number, at_some}
 use Rattle.cr_base.specs.Pairs.{has_pair, same_pair, users_tied_to}
@@ -124,7 +125,14 @@ module _ (t : Tables) (stamp : Stamp) (work : IsAtWork t stamp.maker) where
           let target : Option ℕ = user_among (lines_of t.accounts) (Some name) in
           let wrote : Bool = list_any (is_number target) (authors_in t.ties p) in
           let declared : Bool = list_any (is_number target) (users_tied_to p t.ties.conflicts) in
-          record { role = role; herself = is_number target stamp.maker; author = wrote; conflicted = wrote || declared; reviewer = is_some (ordinal_in t.seats target p) }
+          record {
+            role = role;
+            herself = is_number target stamp.maker;
+            author = wrote;
+            conflicted = wrote || declared;
+            reviewer = is_some (ordinal_in t.seats target p);
+            external = not (is_member role) && is_invited_in t.invites target p;
+          }
 
       phases : (authors_have_declared t.stage.phase ≡ true) × (conflicts_are_final t.stage.phase ≡ false)
       phases = committee (authors_have_declared t.stage.phase) (conflicts_are_final t.stage.phase) work.phase

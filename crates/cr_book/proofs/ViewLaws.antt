@@ -27,6 +27,7 @@ module _ (H : History) (legal : Legal H) where
     rank = ap (λ (s : Standing). s.role) (same u None) i;
     author = λ p. ap (λ (s : Standing). s.author) (same u (Some p)) i;
     conflicted = λ p. ap (λ (s : Standing). s.conflicted) (same u (Some p)) i;
+    external = λ p. ap (λ (s : Standing). s.external) (same u (Some p)) i;
     wrote = λ v p. ap (λ (s : Standing). s.author) (same (Some v) (Some p)) i;
     accepted = λ p. is_accepted-tables p H (Legal-fits H legal) i;
   }

@@ -13,6 +13,7 @@ use Rattle.cr_base.specs.declared.entry.Entry.TheVariants.{Registered, Named, Ph
 use Rattle.cr_base.specs.declared.entry.Entry.TheVariants.{Revised, Uploaded, Withdrawn}
 use Rattle.cr_base.specs.declared.entry.Entry.TheVariants.{Conflict, Bid, Assigned, Unassigned}
 use Rattle.cr_base.specs.declared.entry.Entry.TheVariants.{Reviewed, Commented, Tagged, Decided, DeadlineSet}
+use Rattle.cr_base.specs.declared.entry.Entry.TheVariants.{Dismissed, Invited, Uninvited}
 use Rattle.cr_base.specs.declared.entry.Stamped.{Stamped}
 use Rattle.cr_base.specs.declared.retry.RetryKey.{RetryKey}
 use Rattle.cr_base.specs.declared.row.Row.{Row}
@@ -71,6 +72,15 @@ abbrev pub giver_told : ℕ → Entry → Option ℕ
 giver_told maker (Registered user name digest) = None
 giver_told maker e = Some maker
 
+-- what a user's command was that dismisses a user, invites one to a paper or takes that back, where she is there
+abbrev pub external_command_told : Tables → Entry → Option Command
+external_command_told t (Dismissed user) = option_map (λ name. commands.Dismiss (Some name)) (name_told t user)
+external_command_told t (Invited paper user) =
+    option_map (λ name. commands.Invite (Some paper) (Some name)) (name_told t user)
+external_command_told t (Uninvited paper user) =
+    option_map (λ name. commands.Uninvite (Some paper) (Some name)) (name_told t user)
+external_command_told t _ = None
+
 -- what a user's command that names a user was, where the user named is there
 abbrev pub target_command_told : Tables → Entry → Option Command
 target_command_told t (Named user role) = option_map (λ name. commands.Name (Some name) role) (name_told t user)
@@ -80,7 +90,7 @@ target_command_told t (Assigned paper user kind ordinal) =
     option_map (λ name. commands.Assign (Some paper) (Some name) kind) (name_told t user)
 target_command_told t (Unassigned paper user ordinal) =
     option_map (λ name. commands.Unassign (Some paper) (Some name)) (name_told t user)
-target_command_told t _ = None
+target_command_told t e = external_command_told t e
 
 -- what a user's command was that is on a paper and names no user, or that names one who is there
 abbrev pub paper_command_told : Tables → Entry → Option Command

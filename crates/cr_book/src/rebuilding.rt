@@ -6,6 +6,7 @@ ghost use Rattle.cr_base.specs.Tables.{FitInTurn};
 ghost use Rattle.cr_base.specs.declared.command.Command.TheVariants as commands;
 ghost use Rattle.cr_judge.specs.Effects.{drawn_by, group_of};
 ghost use Rattle.cr_book.specs.Rebuilding.{giver_told, call_told, command_told, target_command_told};
+ghost use Rattle.cr_book.specs.Rebuilding.{external_command_told};
 ghost use Rattle.cr_book.specs.Rebuilding.{paper_command_told, user_command_told};
 ghost use Rattle.cr_book.specs.Rebuilding.{drawn_told, is_givers, is_known, may_have_key, IsBegun, NoneBegun};
 ghost use Rattle.cr_base.specs.declared.row.Row.{Row};
@@ -169,6 +170,33 @@ fn target_command_of(live: &Live, first: Entry) -> Option<Command>
         Entry::Unassigned { paper, user, .. } => {
             let name = live.name_of(user)?;
             Some(Command::Unassign {
+                paper: Some(paper),
+                user: Some(name),
+            })
+        }
+        other => external_command_of(live, other),
+    }
+}
+
+/// The same, where it dismisses the user, invites her to a paper or takes that back.
+fn external_command_of(live: &Live, first: Entry) -> Option<Command>
+    ensures { result ≡ external_command_told live.now.tables first }
+{
+    match first {
+        Entry::Dismissed { user } => {
+            let name = live.name_of(user)?;
+            Some(Command::Dismiss { user: Some(name) })
+        }
+        Entry::Invited { paper, user } => {
+            let name = live.name_of(user)?;
+            Some(Command::Invite {
+                paper: Some(paper),
+                user: Some(name),
+            })
+        }
+        Entry::Uninvited { paper, user } => {
+            let name = live.name_of(user)?;
+            Some(Command::Uninvite {
                 paper: Some(paper),
                 user: Some(name),
             })

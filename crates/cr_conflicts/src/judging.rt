@@ -57,7 +57,7 @@ fn own(by: &Standing, withdrawn: bool) -> Result<(), Rule>
     Ok(())
 }
 
-/// From bidding to discussion: a clear chair declares another member.
+/// From bidding to discussion: a clear chair declares another member, or an external of the paper.
 fn other(by: &Standing, withdrawn: bool, target: &Target) -> Result<(), Rule>
     ensures { result ≡ judged (other_checks by.now withdrawn target.now) tt }
 {
@@ -70,7 +70,7 @@ fn other(by: &Standing, withdrawn: bool, target: &Target) -> Result<(), Rule>
     if withdrawn {
         return Err(Rule::Withdrawn);
     }
-    if !target.role.is_member() {
+    if !(target.role.is_member() || target.external) {
         return Err(Rule::NotAMember);
     }
     Ok(())
@@ -92,7 +92,7 @@ pub(crate) fn on(by: &Standing, withdrawn: bool, target: &Target, late: bool) ->
     other(by, withdrawn, target)
 }
 
-/// Off: a clear chair, of a member who is no author of the paper.
+/// Off: a clear chair, of a member or an external of the paper who is no author of it.
 pub(crate) fn off(by: &Standing, withdrawn: bool, target: &Target) -> Result<(), Rule>
     ensures { result ≡ judged (off_checks by.now withdrawn target.now) tt }
 {
@@ -100,7 +100,7 @@ pub(crate) fn off(by: &Standing, withdrawn: bool, target: &Target) -> Result<(),
         Ok(()) => {}
         Err(rule) => return Err(rule),
     }
-    if !target.role.is_member() {
+    if !(target.role.is_member() || target.external) {
         return Err(Rule::NotAMember);
     }
     if target.author {

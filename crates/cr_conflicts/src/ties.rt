@@ -307,9 +307,10 @@ impl Ties {
     /// Whether the caller may turn this user's conflict with this paper on or off, or the first broken
     /// rule, behind earlier entries of the same command, whatever these are. `by` is her standing at
     /// the paper, `maker` her number; `paper` is none where there is no such paper, `target` none where
-    /// there is no such user. Whether the paper is withdrawn stands in none of the ties. `late` is what
-    /// `Stage::is_late` says at the request's moment. A walk over the paper's authors, a binary search among its
-    /// conflicts, and two walks over the earlier entries, of which there are none but in a command of many parts.
+    /// there is no such user. `external` is whether the target is an external of the paper, and `withdrawn` whether the
+    /// paper is withdrawn: neither stands in the ties. `late` is what `Stage::is_late` says at the request's moment. A
+    /// walk over the paper's authors, a binary search among its conflicts, and two walks over the earlier entries, of
+    /// which there are none but in a command of many parts.
     ///
     /// First come `NoPaper` and `NoUser`. On, before the bidding: `NotAuthor`, `Late` where it is too late,
     /// `Withdrawn`, `NotAMember`; from the bidding to the discussion, of herself: `NotMember`, `Withdrawn`,
@@ -322,6 +323,7 @@ impl Ties {
         maker: UserNo,
         paper: &Option<PaperNo>,
         target: &Option<(UserNo, Role)>,
+        external: bool,
         on: bool,
         withdrawn: bool,
         earlier: &[Stamped],
@@ -329,7 +331,7 @@ impl Ties {
     ) -> Result<(), Rule>
         ensures { let ties = ties_from self.now.ties earlier.now in
             result ≡ judged (conflict_checks by.now (record { there = is_some paper.now; withdrawn = withdrawn })
-            (target_of ties maker paper.now target.now) on late) tt }
+            (target_of ties maker paper.now target.now external) on late) tt }
     {
         let Some(paper) = paper else {
             return Err(Rule::NoPaper);
@@ -345,6 +347,7 @@ impl Ties {
             author,
             conflicted: author || declared,
             reviewer: false,
+            external,
         };
         if on {
             judging::on(by, withdrawn, &target, late)

@@ -139,7 +139,8 @@ every_kind =
     kinds.Registered ∷ kinds.Named ∷ kinds.PhaseSet ∷ kinds.ModeSet ∷ kinds.Submitted ∷ kinds.Coauthor ∷ kinds.Revised
     ∷ kinds.Uploaded ∷ kinds.Withdrawn ∷ kinds.Conflict ∷ kinds.Bid ∷ kinds.Assigned
     ∷ kinds.Unassigned ∷ kinds.Reviewed
-    ∷ kinds.Commented ∷ kinds.Tagged ∷ kinds.Decided ∷ kinds.DeadlineSet ∷ []
+    ∷ kinds.Commented ∷ kinds.Tagged ∷ kinds.Decided ∷ kinds.DeadlineSet
+    ∷ kinds.Dismissed ∷ kinds.Invited ∷ kinds.Uninvited ∷ []
 
 -- a word and a number behind it
 abbrev pub counted : List ℕ → ℕ → List ℕ

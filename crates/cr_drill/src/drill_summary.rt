@@ -14,7 +14,7 @@ use itoa::Buffer;
 use std::alloc::{AllocError, Global};
 
 /// The kinds of entries in the order of their numbers.
-const EVERY_KIND: [EntryKind; 18] = [
+const EVERY_KIND: [EntryKind; 21] = [
     EntryKind::Registered,
     EntryKind::Named,
     EntryKind::PhaseSet,
@@ -33,6 +33,9 @@ const EVERY_KIND: [EntryKind; 18] = [
     EntryKind::Tagged,
     EntryKind::Decided,
     EntryKind::DeadlineSet,
+    EntryKind::Dismissed,
+    EntryKind::Invited,
+    EntryKind::Uninvited,
 ];
 
 /// Appends a piece; an error only for lack of memory.

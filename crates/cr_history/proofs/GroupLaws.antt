@@ -11,6 +11,7 @@ use Rattle.cr_base.specs.declared.entry.Account.{Account}
 use Rattle.cr_base.specs.declared.entry.Entry.{Entry}
 use Rattle.cr_base.specs.declared.entry.Entry.TheVariants.{Registered, Named, PhaseSet, ModeSet, Submitted, Coauthor, Revised, Uploaded, Withdrawn}
 use Rattle.cr_base.specs.declared.entry.Entry.TheVariants.{Conflict, Bid, Assigned, Unassigned, Reviewed, Commented, Tagged, Decided, DeadlineSet}
+use Rattle.cr_base.specs.declared.entry.Entry.TheVariants.{Dismissed, Invited, Uninvited}
 use Rattle.cr_base.specs.declared.entry.Stamp.{Stamp}
 use Rattle.cr_base.specs.declared.entry.Stamped.{Stamped}
 use Rattle.cr_base.specs.declared.reply.AccountLine.{AccountLine}
@@ -120,6 +121,9 @@ module _ (H : History) (fits : FitInTurn no_tables H) where
   fits-about stamp more (Commented paper n ordinal text) fit = submitted-within paper fit.papers.0 fit.papers.1
   fits-about stamp more (Tagged paper tag on) fit = submitted-within paper fit.papers.0 fit.papers.1
   fits-about stamp more (Decided paper decision) fit = submitted-within paper fit.papers.0 fit.papers.1
+  fits-about stamp more (Dismissed user) fit = registered-within user fit.accounts.0 fit.accounts.1
+  fits-about stamp more (Invited paper user) fit = (submitted-within paper fit.papers.0 fit.papers.1, registered-within user fit.accounts.0 fit.accounts.1)
+  fits-about stamp more (Uninvited paper user) fit = (submitted-within paper fit.papers.0 fit.papers.1, registered-within user fit.accounts.0 fit.accounts.1)
   fits-about stamp more e fit = tt
 
 -- ---- numbers of fields
@@ -340,6 +344,12 @@ module _ (H : History) (fits : FitInTurn no_tables H) where
         b1 = refl;
         b2 = refl;
       }
+  told-in stamp more (Dismissed user) ruled fit =
+      record { n1 = account_numbered user fit.accounts; n2 = zero_in; n3 = zero_in; n4 = zero_in; n5 = zero_in; b1 = refl; b2 = refl }
+  told-in stamp more (Invited paper user) ruled fit =
+      record { n1 = paper_numbered paper fit.papers; n2 = account_numbered user fit.accounts; n3 = zero_in; n4 = zero_in; n5 = zero_in; b1 = refl; b2 = refl }
+  told-in stamp more (Uninvited paper user) ruled fit =
+      record { n1 = paper_numbered paper fit.papers; n2 = account_numbered user fit.accounts; n3 = zero_in; n4 = zero_in; n5 = zero_in; b1 = refl; b2 = refl }
 
   -- who makes it has a number that a row can hold, the new user too
   made-in : (stamp : Stamp) (more : Bool) (e : Entry) → IsMadeByUser H stamp.maker e → Fits (tables_of H) (stamped stamp more e) → InRange user_range stamp.maker

@@ -12,6 +12,7 @@ use Rattle.cr_history.proofs.DecisionAgreement.{decision_of-tables, is_accepted-
 use Rattle.cr_history.proofs.GroupLaws.{grown-bounded}
 use Rattle.cr_history.proofs.InOrder.{in_order-append, whole-added}
 use Rattle.cr_history.proofs.InTime.{in_time-nil, in_time-append, discussed-append}
+use Rattle.cr_history.proofs.InviteAgreement.{is_invited-tables}
 use Rattle.cr_history.proofs.LineAgreement.{accounts_of-tables}
 use Rattle.cr_history.proofs.NumberAgreement.{number_of-tables, caller_of-tables}
 use Rattle.cr_history.proofs.PaperAgreement.{papers_of-tables, own_papers_of-tables, own_bytes_of-tables, title_of-tables, abstract_of-tables, uploads_of-tables, is_withdrawn-tables, authors_of-tables}
@@ -45,6 +46,7 @@ tables_tell H fits first = record {
   labels = λ p. labels-tables p H;
   seats = λ p. seats_of-tables p H;
   reviewers = λ p. reviewers_of-tables p H fits;
+  invited = λ u p. is_invited-tables u p H;
   forms = λ p o. forms_of-tables p o H;
   comments = λ p. comments_of-tables p H;
   own_comments = λ u. own_comments_of-tables u H;

@@ -102,11 +102,12 @@ early-new H soon maker (Conflict paper user on) h = by_author _ _ _ _ soon h
 early-new H soon maker e h = tt
 
 late-new : (H : History) → authors_have_declared (phase_of H) ≡ true → (maker : ℕ) (e : Entry) → EntryAllowed H maker e → ByHerselfOrOther H maker e
-late-new H begun maker (Conflict paper user on) h = by_other _ _ _ _ _ _ begun h
+late-new H begun maker (Conflict paper user on) h = by_other _ _ _ _ _ _ _ begun h
   where
-    by_other : (begun own on chair author declared : Bool) → begun ≡ true → cond begun ((own && on) || (chair && not (author || declared))) (author && on)
+    by_other : (begun own on may chair author declared : Bool) → begun ≡ true
+        → cond begun ((own && may) || (chair && not (author || declared))) (author && on)
         ≡ true → own ≡ false → author ≡ false
-    by_other begun own on chair author declared is h other = grind arith
+    by_other begun own on may chair author declared is h other = grind arith
 late-new H begun maker e h = tt
 
 -- papers are submitted, and co-authors told, before the bidding only

@@ -10,6 +10,7 @@ pub mod Grouped
 pub mod GrowthLaws
 pub mod InOrder
 pub mod InTime
+pub mod InviteAgreement
 pub mod LineAgreement
 pub mod ListCuts
 pub mod NumberAgreement

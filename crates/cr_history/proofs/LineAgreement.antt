@@ -6,13 +6,13 @@ use Rattle.std.proofs.lemmas.Bool.{eq-eqb, ne_eqb}
 use Rattle.std.proofs.lemmas.List.{map-append}
 use Rattle.cr_base.specs.declared.entry.Account.{Account}
 use Rattle.cr_base.specs.declared.entry.Entry.{Entry}
-use Rattle.cr_base.specs.declared.entry.Entry.TheVariants.{Registered, Named}
+use Rattle.cr_base.specs.declared.entry.Entry.TheVariants.{Registered, Named, Dismissed}
 use Rattle.cr_base.specs.declared.entry.Stamp.{Stamp}
 use Rattle.cr_base.specs.declared.entry.Stamped.{Stamped}
 use Rattle.cr_base.specs.declared.words.Role.{Role}
 use Rattle.cr_base.specs.declared.words.Role.TheVariants as role
 use Rattle.cr_base.specs.declared.reply.AccountLine.{AccountLine}
-use Rattle.cr_base.specs.Lists.{given, last_or}
+use Rattle.cr_base.specs.Lists.{given, is_number, last_or}
 use Rattle.cr_base.specs.Drawn.{stamped}
 use Rattle.cr_base.specs.History.{History, Registration, all_told, registration_told, role_told}
 use Rattle.cr_base.specs.HistoryFacts.{accounts_of, role_of}
@@ -47,21 +47,27 @@ lines_from-push n user (x ∷ accounts) a is =
     let line : AccountLine = record { user = n; name = x.name; role = x.role } in
     ap (λ ls. line ∷ ls) (lines_from-push (n + 1) user accounts a (omega (arith, is)))
 
--- ---- an entry that names a user
+-- ---- an entry that gives a user a role
 
-module _ (H : History) (stamp : Stamp) (more : Bool) (user : ℕ) (role' : Role) where
-  abbrev naming : Stamped
-  naming = stamped stamp more (Named user role')
+module _ (H : History) (stamp : Stamp) (more : Bool) (e : Entry) (user : ℕ) (role' : Role) (gives : (u : ℕ) → role_told (Some u) e ≡ given (is_number (Some u) user) role') where
+  abbrev turn : Stamped
+  turn = stamped stamp more e
+
+  -- a user's line after it
+  after-turn : (line : AccountLine) → after (turn ∷ H) line ≡ record { user = line.user; name = line.name; role = last_or line.role (given (is_number (Some line.user) user) role' ++ all_told (role_told (Some line.user)) H) }
+  after-turn line =
+      let told : List Role → AccountLine = λ rs. record { user = line.user; name = line.name; role = last_or line.role (rs ++ all_told (role_told (Some line.user)) H) } in
+      ap told (gives line.user)
 
   -- the line of another user
-  after-other : (line : AccountLine) → (line.user ≡ user → ⊥) → after (naming ∷ H) line ≡ after H line
+  after-other : (line : AccountLine) → (line.user ≡ user → ⊥) → after (turn ∷ H) line ≡ after H line
   after-other line h =
       let told : Bool → AccountLine = λ b. record { user = line.user; name = line.name; role = last_or line.role (given b role' ++ all_told (role_told (Some line.user)) H) } in
-      ap told (ne_eqb line.user user h)
+      after-turn line ∙ ap told (ne_eqb line.user user h)
 
-  after-others : (lines : List AccountLine) → AllByRecursion (λ (l : AccountLine). l.user ≡ user → ⊥) lines → map (after (naming ∷ H)) lines ≡ map (after H) lines
+  after-others : (lines : List AccountLine) → AllByRecursion (λ (l : AccountLine). l.user ≡ user → ⊥) lines → map (after (turn ∷ H)) lines ≡ map (after H) lines
   after-others [] h = refl
-  after-others (line ∷ lines) h = ap (λ l. l ∷ map (after (naming ∷ H)) lines) (after-other line h.0) ∙ ap (λ ls. after H line ∷ ls) (after-others lines h.1)
+  after-others (line ∷ lines) h = ap (λ l. l ∷ map (after (turn ∷ H)) lines) (after-other line h.0) ∙ ap (λ ls. after H line ∷ ls) (after-others lines h.1)
 
   later_lines : (n : ℕ) (accounts : List Account) → user < n → AllByRecursion (λ (l : AccountLine). l.user ≡ user → ⊥) (lines_from n accounts)
   later_lines n [] h = tt
@@ -71,23 +77,35 @@ module _ (H : History) (stamp : Stamp) (more : Bool) (user : ℕ) (role' : Role)
   new_lines n [] h later = tt
   new_lines n (r ∷ rs) h later = ((λ e. let first = later.0 in omega (arith, e, h, first)), new_lines n rs h later.1)
 
-  -- the user's own line: the role named is the last, or comes before the later ones
-  after-named : (n : ℕ) (a : Account) → user ≡ n → after H (record { user = n; name = a.name; role = role' }) ≡ after (naming ∷ H) (record { user = n; name = a.name; role = a.role })
+  -- the user's own line: that role is the last, or comes before the later ones
+  after-named : (n : ℕ) (a : Account) → user ≡ n → after H (record { user = n; name = a.name; role = role' }) ≡ after (turn ∷ H) (record { user = n; name = a.name; role = a.role })
   after-named n a is =
       let roles : List Role = all_told (role_told (Some n)) H in
       let line : Role → AccountLine = λ r. record { user = n; name = a.name; role = r } in
+      let own : AccountLine = record { user = n; name = a.name; role = a.role } in
       ap line (sym (last_or-cons a.role role' roles) ∙ ap (λ b. last_or a.role (given b role' ++ roles)) (sym (eq-eqb n user (sym is))))
+      ∙ sym (after-turn own)
 
-  lines-named : (n k : ℕ) (accounts : List Account) → user ≡ n + k → map (after H) (lines_from n (with_role accounts k role')) ≡ map (after (naming ∷ H)) (lines_from n accounts)
+  lines-named : (n k : ℕ) (accounts : List Account) → user ≡ n + k → map (after H) (lines_from n (with_role accounts k role')) ≡ map (after (turn ∷ H)) (lines_from n accounts)
   lines-named n k [] is = refl
   lines-named n zero (a ∷ accounts) is =
       ap (λ l. l ∷ map (after H) (lines_from (n + 1) accounts)) (after-named n a (omega (arith, is)))
-      ∙ ap (λ ls. after (naming ∷ H) (record { user = n; name = a.name; role = a.role }) ∷ ls) (sym (after-others (lines_from (n + 1) accounts) (later_lines (n + 1) accounts (omega (arith, is)))))
+      ∙ ap (λ ls. after (turn ∷ H) (record { user = n; name = a.name; role = a.role }) ∷ ls) (sym (after-others (lines_from (n + 1) accounts) (later_lines (n + 1) accounts (omega (arith, is)))))
   lines-named n (suc k) (a ∷ accounts) is =
       let line : AccountLine = record { user = n; name = a.name; role = a.role } in
       ap (λ xs. map (after H) (lines_from n xs)) (with_role-suc a accounts k role')
       ∙ ap (λ l. l ∷ map (after H) (lines_from (n + 1) (with_role accounts k role'))) (sym (after-other line (λ e. omega (arith, e, is))))
-      ∙ ap (λ ls. after (naming ∷ H) line ∷ ls) (lines-named (n + 1) k accounts (omega (arith, is)))
+      ∙ ap (λ ls. after (turn ∷ H) line ∷ ls) (lines-named (n + 1) k accounts (omega (arith, is)))
+
+  -- all lines, those of users who register later behind them
+  lines-given : (accounts : List Account) (rs : List Registration) → 1 ≤ user → user ≤ length accounts → AllByRecursion (λ (r : Registration). length accounts < r.user) rs
+      → map (after H) (lines_of (with_role accounts (user - 1) role') ++ map new_line rs) ≡ map (after (turn ∷ H)) (lines_of accounts ++ map new_line rs)
+  lines-given accounts rs first fits later =
+      let is : user ≡ 1 + (user - 1) = omega (arith, first) in
+      map-append (after H) (lines_of (with_role accounts (user - 1) role')) (map new_line rs)
+      ∙ ap (λ ls. ls ++ map (after H) (map new_line rs)) (lines-named 1 (user - 1) accounts is)
+      ∙ ap (λ ls. map (after (turn ∷ H)) (lines_of accounts) ++ ls) (sym (after-others (map new_line rs) (new_lines (length accounts) rs fits later)))
+      ∙ sym (map-append (after (turn ∷ H)) (lines_of accounts) (map new_line rs))
 
 -- ---- one entry, and then all
 
@@ -100,13 +118,8 @@ lines-entry accounts stamp more (Registered user name digest) H rs fits later =
     let is : user ≡ 1 + length accounts = let n = fits.0 in omega (arith, n) in
     ap (λ ls. map (after H) (ls ++ map new_line rs)) (lines_from-push 1 user accounts a is)
     ∙ ap (map (after H)) (append_assoc (lines_of accounts) (new_line r ∷ []) (map new_line rs))
-lines-entry accounts stamp more (Named user role') H rs fits later =
-    let now : List Account = with_role accounts (user - 1) role' in
-    let is : user ≡ 1 + (user - 1) = let n = fits.0 in omega (arith, n) in
-    map-append (after H) (lines_of now) (map new_line rs)
-    ∙ ap (λ ls. ls ++ map (after H) (map new_line rs)) (lines-named H stamp more user role' 1 (user - 1) accounts is)
-    ∙ ap (λ ls. map (after (stamped stamp more (Named user role') ∷ H)) (lines_of accounts) ++ ls) (sym (after-others H stamp more user role' (map new_line rs) (new_lines H stamp more user role' (length accounts) rs fits.1 later)))
-    ∙ sym (map-append (after (stamped stamp more (Named user role') ∷ H)) (lines_of accounts) (map new_line rs))
+lines-entry accounts stamp more (Named user role') H rs fits later = lines-given H stamp more (Named user role') user role' (λ u. refl) accounts rs fits.0 fits.1 later
+lines-entry accounts stamp more (Dismissed user) H rs fits later = lines-given H stamp more (Dismissed user) user role.Account (λ u. refl) accounts rs fits.0 fits.1 later
 lines-entry accounts stamp more e H rs fits later = refl
 
 -- there are never fewer accounts than before
@@ -115,6 +128,7 @@ length-after accounts (Registered user name digest) =
     let a : Account = record { name = name; digest = digest; role = role.Account } in
     let n = length-append accounts (a ∷ []) in omega (arith, n)
 length-after accounts (Named user role') = let n = length-with_role accounts (user - 1) role' in omega (arith, n)
+length-after accounts (Dismissed user) = let n = length-with_role accounts (user - 1) role.Account in omega (arith, n)
 length-after accounts e = omega arith
 
 later-entry : (n : ℕ) (accounts : List Account) (e : Entry) (rs : List Registration) → AccountsFit accounts e → n ≤ length accounts → AllByRecursion (λ (r : Registration). n < r.user) rs → AllByRecursion (λ (r : Registration). n < r.user) (registration_told e ++ rs)

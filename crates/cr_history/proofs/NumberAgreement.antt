@@ -6,7 +6,7 @@ use Rattle.std.proofs.lemmas.Bool.{eq-eqb, ne_eqb}
 use Rattle.std.proofs.lemmas.Slice.Eq.{bytes_eq-Decides}
 use Rattle.cr_base.specs.declared.entry.Account.{Account}
 use Rattle.cr_base.specs.declared.entry.Entry.{Entry}
-use Rattle.cr_base.specs.declared.entry.Entry.TheVariants.{Registered, Named}
+use Rattle.cr_base.specs.declared.entry.Entry.TheVariants.{Registered, Named, Dismissed}
 use Rattle.cr_base.specs.declared.entry.Stamped.{Stamped}
 use Rattle.cr_base.specs.declared.words.Role.TheVariants as role
 use Rattle.cr_base.specs.Lists.{last_from}
@@ -29,6 +29,8 @@ number-entry name accounts (Registered user name' digest) fits rest =
     last_from-given (bytes_eq name' name) user (number_at accounts name) rest
     ∙ ap (λ o. last_from o rest) (sym (number_at-push accounts a user fits.0 fits.2 name))
 number-entry name accounts (Named user role') fits rest = ap (λ o. last_from o rest) (sym (number_at-with_role accounts (user - 1) role' name))
+number-entry name accounts (Dismissed user) fits rest =
+    ap (λ o. last_from o rest) (sym (number_at-with_role accounts (user - 1) role.Account name))
 number-entry name accounts e fits rest = refl
 
 -- the user of a name is the one among the accounts
@@ -78,6 +80,11 @@ caller-entry name digest accounts (Named user role') fits rest =
     ap (λ o. last_from o rest)
     (passed-same (has_digest accounts digest) (has_digest now digest) (number_at accounts name) (λ v _. sym (has_digest-with_role accounts digest user v role' fits.0))
     ∙ ap (passed (has_digest now digest)) (sym (number_at-with_role accounts (user - 1) role' name)))
+caller-entry name digest accounts (Dismissed user) fits rest =
+    let now : List Account = with_role accounts (user - 1) role.Account in
+    ap (λ o. last_from o rest)
+    (passed-same (has_digest accounts digest) (has_digest now digest) (number_at accounts name) (λ v _. sym (has_digest-with_role accounts digest user v role.Account fits.0))
+    ∙ ap (passed (has_digest now digest)) (sym (number_at-with_role accounts (user - 1) role.Account name)))
 caller-entry name digest accounts e fits rest = refl
 
 -- the user of a name and a digest is the one among the accounts

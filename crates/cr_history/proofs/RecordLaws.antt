@@ -6,7 +6,7 @@ use Rattle.std.proofs.lemmas.Bool.{true≢false}
 use Rattle.std.proofs.lemmas.List.{length-map}
 use Rattle.cr_base.specs.declared.entry.Entry.{Entry}
 use Rattle.cr_base.specs.declared.entry.Entry.TheVariants.{Submitted, Coauthor, Uploaded, Conflict}
-use Rattle.cr_base.specs.declared.entry.Entry.TheVariants.{Bid, Assigned, Unassigned, Reviewed, Tagged}
+use Rattle.cr_base.specs.declared.entry.Entry.TheVariants.{Bid, Assigned, Unassigned, Reviewed, Tagged, Invited, Uninvited}
 use Rattle.cr_base.specs.declared.entry.Stamped.{Stamped}
 use Rattle.cr_base.specs.declared.filed.Filed.{Filed}
 use Rattle.cr_base.specs.declared.pairs.Order.TheVariants.{ByPaper}
@@ -202,6 +202,8 @@ kept-entry p t s = by s.entry
     by (Tagged paper tag on) =
         let more = tags-more p on (filed paper (record { tag = tag; owner = tag_owner tag s.stamp.maker })) t.tags in
         omega (arith, more)
+    by (Invited paper user) = let more = conflicts-more p true paper user t.invites in omega (arith, more)
+    by (Uninvited paper user) = let more = conflicts-more p false paper user t.invites in omega (arith, more)
     by e = omega arith
 
 declared-entry : (p : ℕ) (t : Tables) (s : Stamped) → records_declared p (tables_after t s) ≤ records_declared p t + one (is_on p s.entry)
@@ -221,6 +223,8 @@ declared-entry p t s = by s.entry
     by (Tagged paper tag on) =
         let more = tags-more p on (filed paper (record { tag = tag; owner = tag_owner tag s.stamp.maker })) t.tags in
         omega (arith, more)
+    by (Invited paper user) = let more = conflicts-more p true paper user t.invites in omega (arith, more)
+    by (Uninvited paper user) = let more = conflicts-more p false paper user t.invites in omega (arith, more)
     by e = omega arith
 
 -- ---- all of them

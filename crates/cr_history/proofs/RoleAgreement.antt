@@ -4,7 +4,7 @@ use Rattle.std.specs.Prelude.{unwrap_or}
 use Rattle.std.specs.Option.{option_map}
 use Rattle.cr_base.specs.declared.entry.Account.{Account}
 use Rattle.cr_base.specs.declared.entry.Entry.{Entry}
-use Rattle.cr_base.specs.declared.entry.Entry.TheVariants.{Registered, Named}
+use Rattle.cr_base.specs.declared.entry.Entry.TheVariants.{Registered, Named, Dismissed}
 use Rattle.cr_base.specs.declared.entry.Stamped.{Stamped}
 use Rattle.cr_base.specs.declared.words.Role.{Role}
 use Rattle.cr_base.specs.declared.words.Role.TheVariants as role
@@ -22,12 +22,16 @@ use Rattle.cr_history.proofs.Folds.{told-fitting}
 role-entry : (u : Option ℕ) (accounts : List Account) (e : Entry) → AccountsFit accounts e → (rest : List Role) → last_or (role_in accounts u) (role_told u e ++ rest) ≡ last_or (role_in (accounts_after accounts e) u) rest
 role-entry None accounts (Registered user name digest) fits rest = refl
 role-entry None accounts (Named user role') fits rest = refl
+role-entry None accounts (Dismissed user) fits rest = refl
 role-entry (Some n) accounts (Registered user name digest) fits rest =
     let a : Account = record { name = name; digest = digest; role = role.Account } in
     ap (λ r. last_or r rest) (sym (role_in-push accounts a n refl))
 role-entry (Some n) accounts (Named user role') fits rest =
     last_or-given (eqb n user) (role_in accounts (Some n)) role' rest
     ∙ ap (λ r. last_or r rest) (sym (role_in-with_role accounts user n role' fits.0 fits.1))
+role-entry (Some n) accounts (Dismissed user) fits rest =
+    last_or-given (eqb n user) (role_in accounts (Some n)) role.Account rest
+    ∙ ap (λ r. last_or r rest) (sym (role_in-with_role accounts user n role.Account fits.0 fits.1))
 role-entry u accounts e fits rest = refl
 
 role-first : (u : Option ℕ) → role_in [] u ≡ role.Account

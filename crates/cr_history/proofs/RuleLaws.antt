@@ -1,7 +1,7 @@
 -- What an accepted command adds, by the rules on the history before it.
 use Rattle.std.proofs.Common.{ℕ, Bool, true, false, cond, ◌≡◌, ◌≤◌, ◌<◌, ◌+◌, arith, List, [], ◌∷◌, length, eqb, refl}
 use Rattle.std.proofs.Common.{sym, ap, subst, ◌∙◌, ◌||◌, ◌&&◌, Option, Some, None, Ok}
-use Rattle.std.specs.Prelude.{not, is_some, is_none, unwrap_or, map}
+use Rattle.std.specs.Prelude.{not, nat_le, is_some, is_none, unwrap_or, map}
 use Rattle.std.specs.List.{AllByRecursion, list_any, find, flat_map}
 use Rattle.std.specs.Option.{option_map}
 use Rattle.std.specs.Str.{bytes_eq}
@@ -9,10 +9,11 @@ use Rattle.std.proofs.lemmas.Bool.{eqb-true, eq-eqb, leb-false, true≢false, an
 use Rattle.cr_base.specs.declared.command.Command.{Command}
 use Rattle.cr_base.specs.declared.command.Command.TheVariants.{Register, SetPhase, Submit, Revise, Upload, Withdraw, Name, SetMode, SetConflict}
 use Rattle.cr_base.specs.declared.command.Command.TheVariants.{Bid, Assign, Unassign, Review, Comment, Tag, Decide, SetDeadline}
+use Rattle.cr_base.specs.declared.command.Command.TheVariants.{Dismiss, Invite, Uninvite}
 use Rattle.cr_base.specs.declared.entry.Entry.TheVariants as entries
 use Rattle.cr_base.specs.declared.entry.Stamp.{Stamp}
 use Rattle.cr_base.specs.declared.entry.Entry.TheVariants.{Registered, Named, PhaseSet, ModeSet, Revised, Uploaded, Withdrawn, Conflict, Assigned, Unassigned}
-use Rattle.cr_base.specs.declared.entry.Entry.TheVariants.{Reviewed, Commented, Tagged, Decided, DeadlineSet}
+use Rattle.cr_base.specs.declared.entry.Entry.TheVariants.{Reviewed, Commented, Tagged, Decided, DeadlineSet, Dismissed, Invited, Uninvited}
 use Rattle.cr_base.specs.declared.form.Form.{Form}
 use Rattle.cr_base.specs.declared.reply.AccountLine.{AccountLine}
 use Rattle.cr_base.specs.declared.standing.Standing.{Standing}
@@ -26,8 +27,10 @@ use Rattle.cr_base.specs.declared.words.Role.TheVariants.{Account, Chair}
 use Rattle.cr_base.specs.Lists.{at_some, is_number, listed}
 use Rattle.cr_base.specs.History.{History, Registration, all_told, registration_told}
 use Rattle.cr_base.specs.HistoryFacts.{phase_of, deadline_of, role_of, accounts_of, papers_of, own_papers_of, own_bytes_of}
+use Rattle.cr_base.specs.HistoryFacts.{is_external, is_invited}
 use Rattle.cr_base.specs.HistoryFacts.{is_author, is_conflicted, bid_of, ordinal_of, seats_of, is_written, own_forms_of, own_comments_of, is_accepted, standing_of}
-use Rattle.cr_base.specs.Page.{gets_conflicts}
+use Rattle.cr_base.specs.Accounts.{chair_count}
+use Rattle.cr_base.specs.Page.{gets_conflicts, is_admitted}
 use Rattle.cr_base.specs.Phases.{is_from, is_next, mode_may_be_set, accepts_submissions, authors_have_declared, conflicts_are_final, committee_works, bids_are_taken, reviews_are_written, comments_are_written, decisions_are_made}
 use Rattle.cr_base.specs.Words.{role_number, is_member, is_chair}
 use Rattle.cr_base.specs.Bounds.{IsForm, IsBoundedCommand}
@@ -36,16 +39,18 @@ use Rattle.cr_base.specs.Texts.{IsName, IsCommentText}
 use Rattle.cr_base.specs.Checks.{Check, of_role, target_role, register_checks, phase_checks, deadline_checks, submit_checks, revise_checks, upload_checks, name_checks, mode_checks}
 use Rattle.cr_base.specs.Checks.{chair_checks, conflict_case, conflict_checks, bid_checks, assign_checks, unassign_checks}
 use Rattle.cr_base.specs.Checks.{review_checks, comment_checks, tag_checks, decide_checks}
+use Rattle.cr_base.specs.Checks.{dismiss_checks, invite_checks, uninvite_checks}
 use Rattle.cr_base.specs.Drawn.{Drawn, grouped, registration_drawn, phase_drawn, submission_drawn, revision_drawn, upload_drawn}
 use Rattle.cr_base.specs.Drawn.{withdrawal_drawn, naming_drawn, mode_drawn, conflict_drawn, bid_drawn, assignment_drawn, unassignment_drawn}
 use Rattle.cr_base.specs.Drawn.{review_drawn, comment_drawn, tag_drawn, decision_drawn, deadline_drawn}
+use Rattle.cr_base.specs.Drawn.{dismissal_drawn, invitation_drawn, uninvitation_drawn}
 use Rattle.cr_base.specs.Judging.{judge_by}
 use Rattle.cr_base.specs.Sources.{Facts, Shown, number_in, user_among, users_among, role_among, paper_named, target_named, is_late}
 use Rattle.cr_base.proofs.CheckLaws.{NoneBroken, judged-Ok}
 use Rattle.cr_base.proofs.CoauthorLaws.{users-each}
 use Rattle.cr_base.proofs.FitLaws.{none-where, some-where}
 use Rattle.cr_base.proofs.TargetLaws.{is_none-asked, target_role-of}
-use Rattle.cr_history.specs.Invariants.{IsRegistered, IsByRight}
+use Rattle.cr_history.specs.Invariants.{IsRegistered, IsByRight, is_of_paper}
 use Rattle.cr_history.specs.Groups.{IsRuled, IsBoundedStamp, Adds, single, submitted, first_user}
 
 -- ---- the facts of a history
@@ -139,29 +144,25 @@ not_final Discussion h = absurd (true≢false h)
 not_final Notification h = absurd (true≢false h)
 not_final Closed h = absurd (true≢false h)
 
-clear-right : (begun own on chair conflicted author : Bool) → begun ≡ true → chair ≡ true → conflicted ≡ false
-    → cond begun ((own && on) || (chair && not conflicted)) (author && on) ≡ true
-clear-right true own on true false author hb hc hf = by own on
-  where
-    by : (own on : Bool) → ((own && on) || true) ≡ true
-    by true true = refl
-    by true false = refl
-    by false on = refl
-clear-right true own on true true author hb hc hf = absurd (true≢false hf)
-clear-right true own on false conflicted author hb hc hf = absurd (true≢false (sym hc))
-clear-right false own on chair conflicted author hb hc hf = absurd (true≢false (sym hb))
+clear-right : (begun own on member chair conflicted author : Bool) → begun ≡ true → chair ≡ true → conflicted ≡ false
+    → cond begun ((own && (on && member)) || (chair && not conflicted)) (author && on) ≡ true
+clear-right true own on member true false author hb hc hf = or_right (own && (on && member)) true refl
+clear-right true own on member true true author hb hc hf = absurd (true≢false hf)
+clear-right true own on member false conflicted author hb hc hf = absurd (true≢false (sym hc))
+clear-right false own on member chair conflicted author hb hc hf = absurd (true≢false (sym hb))
 
-own-right : (begun own chair conflicted author : Bool) → begun ≡ true → own ≡ true
-    → cond begun ((own && true) || (chair && not conflicted)) (author && true) ≡ true
-own-right true true chair conflicted author hb ho = refl
-own-right true false chair conflicted author hb ho = absurd (true≢false (sym ho))
-own-right false own chair conflicted author hb ho = absurd (true≢false (sym hb))
+own-right : (begun own member chair conflicted author : Bool) → begun ≡ true → own ≡ true → member ≡ true
+    → cond begun ((own && (true && member)) || (chair && not conflicted)) (author && true) ≡ true
+own-right true true true chair conflicted author hb ho hm = refl
+own-right true true false chair conflicted author hb ho hm = absurd (true≢false (sym hm))
+own-right true false member chair conflicted author hb ho hm = absurd (true≢false (sym ho))
+own-right false own member chair conflicted author hb ho hm = absurd (true≢false (sym hb))
 
-author-right : (begun own chair conflicted author : Bool) → begun ≡ false → author ≡ true
-    → cond begun ((own && true) || (chair && not conflicted)) (author && true) ≡ true
-author-right true own chair conflicted author hb ha = absurd (true≢false hb)
-author-right false own chair conflicted true hb ha = refl
-author-right false own chair conflicted false hb ha = absurd (true≢false (sym ha))
+author-right : (begun own member chair conflicted author : Bool) → begun ≡ false → author ≡ true
+    → cond begun ((own && (true && member)) || (chair && not conflicted)) (author && true) ≡ true
+author-right true own member chair conflicted author hb ha = absurd (true≢false hb)
+author-right false own member chair conflicted true hb ha = refl
+author-right false own member chair conflicted false hb ha = absurd (true≢false (sym ha))
 
 -- the five lists of rules say who turns which conflict when
 module _ (H : History) (maker paper user : ℕ) where
@@ -174,31 +175,53 @@ module _ (H : History) (maker paper user : ℕ) where
   abbrev by_maker : Standing
   by_maker = standing_of (Some maker) (Some paper) H
 
-  conflict-ruled : (on : Bool) → final ≡ false → is_member (role_of (Some user) H) ≡ true → IsByRight H maker (Conflict paper user on)
+  conflict-ruled : (on : Bool) → final ≡ false → is_of_paper H user paper ≡ true → IsByRight H maker (Conflict paper user on)
       → IsRuled H maker (Conflict paper user on)
   conflict-ruled on early member right = record { phase = early; chair = tt; role = tt; member = member; right = right; seat = tt; texts = tt }
 
-  abbrev named : Role → Bool → Bool → Bool → Bool → Target
-  named role herself author conflicted reviewer = record { role = role; herself = herself; author = author; conflicted = conflicted; reviewer = reviewer }
+  abbrev outside : Bool
+  outside = is_external (Some user) paper H
 
-  case-ruled : (on bidding after withdrawn late : Bool) (role : Role) (herself author conflicted reviewer : Bool) → begun ≡ bidding → final ≡ after
-      → role ≡ role_of (Some user) H → eqb user maker ≡ herself
-      → NoneBroken (conflict_case on bidding after by_maker withdrawn (named role herself author conflicted reviewer) late)
+  -- a member is of the paper, and so is an external
+  member-of : (role : Role) → role ≡ role_of (Some user) H → is_member role ≡ true → is_of_paper H user paper ≡ true
+  member-of role r h = or_left (is_member (role_of (Some user) H)) outside (ap is_member (sym r) ∙ h)
+
+  of-paper : (role : Role) (external : Bool) → role ≡ role_of (Some user) H → external ≡ outside → (is_member role || external) ≡ true
+      → is_of_paper H user paper ≡ true
+  of-paper role external r e h = sym (λ i. is_member (r i) || e i) ∙ h
+
+  -- a chair in no conflict with the paper is told all of its conflicts, from the bidding
+  told-all : (chair conflicted early : Bool) → chair ≡ true → conflicted ≡ false → early ≡ true → ((chair && not conflicted) && early) ≡ true
+  told-all chair conflicted early hc hf hb = grind arith
+
+  abbrev named : Role → Bool → Bool → Bool → Bool → Bool → Target
+  named role herself author conflicted reviewer external =
+      record { role = role; herself = herself; author = author; conflicted = conflicted; reviewer = reviewer; external = external }
+
+  case-ruled : (on bidding after withdrawn late : Bool) (role : Role) (herself author conflicted reviewer external : Bool) → begun ≡ bidding → final ≡ after
+      → role ≡ role_of (Some user) H → eqb user maker ≡ herself → (gets_conflicts by_maker ≡ true → external ≡ outside)
+      → NoneBroken (conflict_case on bidding after by_maker withdrawn (named role herself author conflicted reviewer external) late)
       → IsRuled H maker (Conflict paper user on)
-  case-ruled false bidding after withdrawn late role herself author conflicted reviewer b l r h none =
+  case-ruled false bidding after withdrawn late role herself author conflicted reviewer external b l r h e none =
       let now = and_parts begun (not final) (not-false (begun && not final) none.1.1.0) in
-      conflict-ruled false (not-true final now.1) (ap is_member (sym r) ∙ not-false (is_member role) none.1.1.1.1.0)
-      (clear-right begun (eqb user maker) false (is_chair by_maker.role) by_maker.conflicted by_maker.author now.0 (not-false (is_chair by_maker.role) none.0) none.1.0)
-  case-ruled true false after withdrawn late role herself author conflicted reviewer b l r h none =
-      conflict-ruled true (not_final (phase_of H) b) (ap is_member (sym r) ∙ not-false (is_member role) none.1.1.1.0)
-      (author-right begun (eqb user maker) (is_chair by_maker.role) by_maker.conflicted by_maker.author b (not-false by_maker.author none.0))
-  case-ruled true true true withdrawn late role herself author conflicted reviewer b l r h none = absurd (true≢false none.0)
-  case-ruled true true false withdrawn late role true author conflicted reviewer b l r h none =
-      conflict-ruled true l (ap (λ n. is_member (role_of (Some n) H)) (eqb-true user maker h) ∙ not-false (is_member by_maker.role) none.0)
-      (own-right begun (eqb user maker) (is_chair by_maker.role) by_maker.conflicted by_maker.author b h)
-  case-ruled true true false withdrawn late role false author conflicted reviewer b l r h none =
-      conflict-ruled true l (ap is_member (sym r) ∙ not-false (is_member role) none.1.1.1.0)
-      (clear-right begun (eqb user maker) true (is_chair by_maker.role) by_maker.conflicted by_maker.author b (not-false (is_chair by_maker.role) none.0) none.1.0)
+      let chair = not-false (is_chair by_maker.role) none.0 in
+      let told = told-all (is_chair by_maker.role) by_maker.conflicted begun chair none.1.0 now.0 in
+      conflict-ruled false (not-true final now.1) (of-paper role external r (e told) (not-false (is_member role || external) none.1.1.1.1.0))
+      (clear-right begun (eqb user maker) false (is_member by_maker.role) (is_chair by_maker.role) by_maker.conflicted by_maker.author now.0 chair none.1.0)
+  case-ruled true false after withdrawn late role herself author conflicted reviewer external b l r h e none =
+      conflict-ruled true (not_final (phase_of H) b) (member-of role r (not-false (is_member role) none.1.1.1.0))
+      (author-right begun (eqb user maker) (is_member by_maker.role) (is_chair by_maker.role) by_maker.conflicted by_maker.author b (not-false by_maker.author none.0))
+  case-ruled true true true withdrawn late role herself author conflicted reviewer external b l r h e none = absurd (true≢false none.0)
+  case-ruled true true false withdrawn late role true author conflicted reviewer external b l r h e none =
+      conflict-ruled true l
+      (member-of (role_of (Some user) H) refl (ap (λ n. is_member (role_of (Some n) H)) (eqb-true user maker h) ∙ not-false (is_member by_maker.role) none.0))
+      (own-right begun (eqb user maker) (is_member by_maker.role) (is_chair by_maker.role) by_maker.conflicted by_maker.author b h
+      (not-false (is_member by_maker.role) none.0))
+  case-ruled true true false withdrawn late role false author conflicted reviewer external b l r h e none =
+      let chair = not-false (is_chair by_maker.role) none.0 in
+      let told = told-all (is_chair by_maker.role) by_maker.conflicted begun chair none.1.0 b in
+      conflict-ruled true l (of-paper role external r (e told) (not-false (is_member role || external) none.1.1.1.0))
+      (clear-right begun (eqb user maker) true (is_member by_maker.role) (is_chair by_maker.role) by_maker.conflicted by_maker.author b chair none.1.0)
 
 -- ---- seats
 
@@ -206,14 +229,15 @@ module _ (H : History) (maker paper user : ℕ) where
 abbrev pub is_told_all : History → ℕ → ℕ → Bool
 is_told_all H maker p = gets_conflicts (standing_of (Some maker) (Some p) H)
 
--- where the maker is such a chair, she is shown of a user and of a paper's labels what the history tells, and under which of
--- them a form is written
+-- where the maker is such a chair, she is shown of a user and of a paper's labels what the history tells, under which of
+-- them a form is written, and who is invited to the paper
 pub record TellsSeats (H : History) (maker : ℕ) (shown : Shown) : Type 0 where
   pub conflicted : (p v : ℕ) → IsRegistered H v → is_told_all H maker p ≡ true
       → (list_any (is_number (Some v)) (shown.authors p) || list_any (is_number (Some v)) (shown.conflicts p)) ≡ is_conflicted (Some v) p H
   pub ordinal : (p v : ℕ) → is_told_all H maker p ≡ true → shown.ordinal (Some v) p ≡ ordinal_of (Some v) p H
   pub labels : (p : ℕ) → is_told_all H maker p ≡ true → shown.labels p ≡ length (seats_of p H)
   pub written : (p o : ℕ) → is_told_all H maker p ≡ true → shown.written p o ≡ is_written p o H
+  pub invited : (p v : ℕ) → is_told_all H maker p ≡ true → shown.invited (Some v) p ≡ is_invited (Some v) p H
 
 -- ---- all commands
 
@@ -260,8 +284,16 @@ module _ (H : History) (stamp : Stamp) (shown : Shown) (bounds : IsBoundedStamp 
   abbrev declared : ℕ → ℕ → Bool
   declared p v = list_any (is_number (Some v)) (shown.conflicts p)
 
+  -- whether she is an external of the paper, who has this role, as the maker is shown
+  abbrev external_by : ℕ → ℕ → Role → Bool
+  external_by p v role = not (is_member role) && shown.invited (Some v) p
+
+  outside-told : (p v : ℕ) (role : Role) → role ≡ role_of (Some v) H → is_told_all H maker p ≡ true → external_by p v role ≡ is_external (Some v) p H
+  outside-told p v role held all = λ i. not (is_member (held i)) && tells.invited p v all i
+
   abbrev asked_in : ℕ → ℕ → Role → Target
-  asked_in p v role = named H maker p v role (eqb v maker) (wrote p v) (wrote p v || declared p v) (is_some (shown.ordinal (Some v) p))
+  asked_in p v role =
+      named H maker p v role (eqb v maker) (wrote p v) (wrote p v || declared p v) (is_some (shown.ordinal (Some v) p)) (external_by p v role)
 
   -- what holds of a user named who is there
   record HoldsOf (P : Option Target → Type 0) (p v : ℕ) : Type 0 where
@@ -288,7 +320,8 @@ module _ (H : History) (stamp : Stamp) (shown : Shown) (bounds : IsBoundedStamp 
       let by = standing_of (Some maker) (Some p) H in
       let k = asked-there (λ target. NoneBroken (conflict_checks by (paper_named facts shown (Some p)) target on late)) p v none.1.0 none in
       case-ruled H maker p v on (authors_have_declared (phase_of H)) (conflicts_are_final (phase_of H)) (shown.withdrawn p) late k.role
-      (eqb v maker) (wrote p v) (wrote p v || declared p v) (is_some (shown.ordinal (Some v) p)) refl refl k.held refl k.holds.1.1
+      (eqb v maker) (wrote p v) (wrote p v || declared p v) (is_some (shown.ordinal (Some v) p)) (external_by p v k.role) refl refl k.held refl
+      (outside-told p v k.role k.held) k.holds.1.1
 
   -- ---- bids and assignments
 
@@ -336,7 +369,8 @@ module _ (H : History) (stamp : Stamp) (shown : Shown) (bounds : IsBoundedStamp 
         phase = not-false (committee_works by.phase) of_chair.1.1.0;
         chair = not-false (is_chair by.role) of_chair.0;
         role = tt;
-        member = ap is_member (sym k.held) ∙ not-false (is_member k.role) of_target.0;
+        member = of-paper H maker p v k.role (external_by p v k.role) k.held (outside-told p v k.role k.held all)
+            (not-false (is_member k.role || external_by p v k.role) of_target.0);
         right = of_chair.1.0;
         seat = (
           sym (tells.conflicted p v k.there all) ∙ of_target.1.0,
@@ -371,6 +405,53 @@ module _ (H : History) (stamp : Stamp) (shown : Shown) (bounds : IsBoundedStamp 
         texts = tt;
       }
 
+  -- ---- invitations
+
+  invited-ruled : (paper target : Option ℕ)
+      → NoneBroken (invite_checks (standing_of (Some maker) paper H) (paper_named facts shown paper) (asked paper target) (at_some (shown.invited target) paper))
+      → IsRuled H maker (Invited (unwrap_or paper 0) (unwrap_or target 0))
+  invited-ruled None target none = absurd (true≢false none.0)
+  invited-ruled (Some p) None none = absurd (true≢false none.1.0)
+  invited-ruled (Some p) (Some v) none =
+      let by = standing_of (Some maker) (Some p) H in
+      let k = asked-there (λ target. NoneBroken (invite_checks by (paper_named facts shown (Some p)) target (shown.invited (Some v) p))) p v none.1.0 none in
+      let of_chair = k.holds.1.1 in
+      let of_target = of_chair.1.1.1.1 in
+      let all = chair-told p (shown.withdrawn p) (of_chair.0, (of_chair.1.0, (of_chair.1.1.0, (of_chair.1.1.1.0, tt)))) in
+      record {
+        phase = not-false (committee_works by.phase) of_chair.1.1.0;
+        chair = not-false (is_chair by.role) of_chair.0;
+        role = tt;
+        member = sym (ap is_member k.held) ∙ of_target.0;
+        right = of_chair.1.0;
+        seat = (sym (tells.conflicted p v k.there all) ∙ of_target.1.0, sym (tells.invited p v all) ∙ of_target.1.1.0);
+        texts = tt;
+      }
+
+  uninvited-ruled : (paper target : Option ℕ)
+      → NoneBroken (uninvite_checks (standing_of (Some maker) paper H) (paper_named facts shown paper) (asked paper target) (at_some (shown.invited target) paper))
+      → IsRuled H maker (Uninvited (unwrap_or paper 0) (unwrap_or target 0))
+  uninvited-ruled None target none = absurd (true≢false none.0)
+  uninvited-ruled (Some p) None none = absurd (true≢false none.1.0)
+  uninvited-ruled (Some p) (Some v) none =
+      let by = standing_of (Some maker) (Some p) H in
+      let k = asked-there (λ target. NoneBroken (uninvite_checks by (paper_named facts shown (Some p)) target (shown.invited (Some v) p))) p v none.1.0 none in
+      let of_chair = k.holds.1.1 in
+      let of_target = of_chair.1.1.1.1 in
+      let all = chair-told p (shown.withdrawn p) (of_chair.0, (of_chair.1.0, (of_chair.1.1.0, (of_chair.1.1.1.0, tt)))) in
+      record {
+        phase = not-false (committee_works by.phase) of_chair.1.1.0;
+        chair = not-false (is_chair by.role) of_chair.0;
+        role = tt;
+        member = tt;
+        right = of_chair.1.0;
+        seat = (
+          sym (tells.invited p v all) ∙ not-false (shown.invited (Some v) p) of_target.0,
+          sym (tells.ordinal p v all) ∙ none-where (shown.ordinal (Some v) p) of_target.1.0,
+        );
+        texts = tt;
+      }
+
   -- ---- reviews, comments, tags and decisions
 
   reviewed-ruled : (paper : Option ℕ) (version : ℕ) (form : Form) → IsForm form
@@ -384,7 +465,7 @@ module _ (H : History) (stamp : Stamp) (shown : Shown) (bounds : IsBoundedStamp 
         chair = tt;
         role = tt;
         member = tt;
-        right = clear (is_member by.role) by.conflicted (not-false (is_member by.role) none.1.0) none.1.1.0;
+        right = clear (is_admitted by) by.conflicted (not-false (is_admitted by) none.1.0) none.1.1.0;
         seat = some-where (facts.own_ordinal p) (not-false (is_some (facts.own_ordinal p)) none.1.1.1.0);
         texts = bounded;
       }
@@ -536,3 +617,33 @@ module _ (H : History) (stamp : Stamp) (shown : Shown) (bounds : IsBoundedStamp 
       let k = judged-Ok (deadline_checks standing (phase_of H) phase) (deadline_drawn stamp phase until) drawn accepted in
       subst (λ (d : Drawn). Adds H d.group) k.1
       (single stamp (DeadlineSet phase until) bounds registered tt (record { phase = (not-false (is_from (phase_of H) phase) k.0.1.0, bounded.0); chair = not-false (is_chair standing.role) k.0.0; role = tt; member = tt; right = tt; seat = tt; texts = bounded.1 }))
+  command-adds (Dismiss name) drawn bounded accepted =
+      let target : Option ℕ = user_among facts.accounts name in
+      let before : Option Role = role_among facts.accounts target in
+      let asked : Option Target = option_map of_role before in
+      let k = judged-Ok (dismiss_checks standing asked (chair_count facts.accounts)) (dismissal_drawn stamp (unwrap_or target 0) (unwrap_or name [])) drawn accepted in
+      let there : is_none before ≡ false = sym (is_none-asked of_role before) ∙ k.0.0 in
+      subst (λ (d : Drawn). Adds H d.group) k.1
+      (single stamp (Dismissed (unwrap_or target 0)) bounds registered tt (record {
+        phase = k.0.1.1.0;
+        chair = not-false (is_chair standing.role) k.0.1.0;
+        role = subst (λ (r : Role). (is_member r ≡ true) × ((is_chair r && nat_le (chair_count (accounts_of H)) 1) ≡ false))
+            (target_role-of before ∙ (role-among H target there).0)
+            (not-false (is_member (target_role asked)) k.0.1.1.1.0, k.0.1.1.1.1.0);
+        member = tt;
+        right = tt;
+        seat = tt;
+        texts = tt;
+      }))
+  command-adds (Invite paper name) drawn bounded accepted =
+      let target : Option ℕ = user_among facts.accounts name in
+      let k = judged-Ok (invite_checks (standing_of (Some maker) paper H) (paper_named facts shown paper) (asked paper target) (at_some (shown.invited target) paper))
+      (invitation_drawn stamp (unwrap_or paper 0) (unwrap_or target 0)) drawn accepted in
+      subst (λ (d : Drawn). Adds H d.group) k.1
+      (single stamp (Invited (unwrap_or paper 0) (unwrap_or target 0)) bounds registered tt (invited-ruled paper target k.0))
+  command-adds (Uninvite paper name) drawn bounded accepted =
+      let target : Option ℕ = user_among facts.accounts name in
+      let k = judged-Ok (uninvite_checks (standing_of (Some maker) paper H) (paper_named facts shown paper) (asked paper target) (at_some (shown.invited target) paper))
+      (uninvitation_drawn stamp (unwrap_or paper 0) (unwrap_or target 0)) drawn accepted in
+      subst (λ (d : Drawn). Adds H d.group) k.1
+      (single stamp (Uninvited (unwrap_or paper 0) (unwrap_or target 0)) bounds registered tt (uninvited-ruled paper target k.0))

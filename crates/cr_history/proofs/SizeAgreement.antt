@@ -3,7 +3,7 @@
 use Rattle.std.proofs.Common.{ℕ, ◌≤◌, ◌-◌, List, [], ◌∷◌, length, refl, arith, length-append, IsTrue}
 use Rattle.cr_base.specs.declared.entry.Account.{Account}
 use Rattle.cr_base.specs.declared.entry.Entry.{Entry}
-use Rattle.cr_base.specs.declared.entry.Entry.TheVariants.{Registered, Named, Submitted, Revised, Withdrawn}
+use Rattle.cr_base.specs.declared.entry.Entry.TheVariants.{Registered, Named, Submitted, Revised, Withdrawn, Dismissed}
 use Rattle.cr_base.specs.declared.words.Role.TheVariants as role
 use Rattle.cr_base.specs.Accounts.{accounts_after, AccountsFit}
 use Rattle.cr_base.specs.Papers.{PapersState, new_paper, with_texts, as_withdrawn, papers_after, paper_count, PapersFit}
@@ -30,6 +30,7 @@ accounts-few accounts (Registered user name digest) fits h =
     let few = fits.1 in
     omega (arith, n, next, few)
 accounts-few accounts (Named user role') fits h = let n = length-with_role accounts (user - 1) role' in omega (arith, n, h)
+accounts-few accounts (Dismissed user) fits h = let n = length-with_role accounts (user - 1) role.Account in omega (arith, n, h)
 accounts-few accounts e fits h = h
 
 papers-few : (state : PapersState) (maker : ℕ) (e : Entry) → PapersFit state maker e → paper_count state ≤ 9999

@@ -11,6 +11,7 @@ use Rattle.cr_base.specs.Rows.{row_of, rows_of}
 use Rattle.cr_base.specs.Tables.{Tables, no_tables, tables_after, tables_from, tables_of, FitInTurn}
 use Rattle.cr_base.specs.Sources.{standing_at}
 use Rattle.cr_history.proofs.ConflictAgreement.{is_conflicted-tables}
+use Rattle.cr_history.proofs.InviteAgreement.{is_external-tables}
 use Rattle.cr_history.proofs.StageAgreement.{phase_of-tables, mode_of-tables}
 use Rattle.cr_history.proofs.RoleAgreement.{role_of-tables}
 use Rattle.cr_history.proofs.PaperAgreement.{is_author-tables}
@@ -44,6 +45,7 @@ standing_of-tables u paper H fits =
     let author = ap (λ (says : ℕ → Bool). at_some says paper) (λ i p. is_author-tables u p H i) in
     let conflicted = ap (λ (says : ℕ → Bool). at_some says paper) (λ i p. is_conflicted-tables u p H i) in
     let reviewer = ap (λ (says : ℕ → Bool). at_some says paper) (λ i p. is_some (ordinal_of-tables u p H fits i)) in
+    let external = ap (λ (says : ℕ → Bool). at_some says paper) (λ i p. is_external-tables u p H fits i) in
     λ i. record {
       phase = phase_of-tables H i;
       mode = mode_of-tables H i;
@@ -51,4 +53,5 @@ standing_of-tables u paper H fits =
       author = author i;
       conflicted = conflicted i;
       reviewer = reviewer i;
+      external = external i;
     }

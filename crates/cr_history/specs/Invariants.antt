@@ -1,16 +1,19 @@
 -- Invariants: what is so of each entry of a legal history, on the history before it, and of the history as a whole.
 use Rattle.std.specs.Prelude.{ℕ, Bool, false, ◌≡◌, ◌==◌, ◌<◌, ◌+◌, ◌&&◌, ◌||◌, not, [], ◌∷◌}
-use Rattle.std.specs.Prelude.{◌++◌, length, Some, None, IsTrue, IsFalse, if◌then◌else◌}
+use Rattle.std.specs.Prelude.{◌++◌, length, nat_le, Some, None, IsTrue, IsFalse, if◌then◌else◌}
 use Rattle.std.specs.List.{All, AllByRecursion, list_any}
 use Rattle.cr_base.specs.declared.entry.Entry.{Entry}
 use Rattle.cr_base.specs.declared.entry.Entry.TheVariants.{Registered, Named, PhaseSet, ModeSet, Submitted}
 use Rattle.cr_base.specs.declared.entry.Entry.TheVariants.{Coauthor, Revised, Uploaded, Withdrawn, Conflict}
 use Rattle.cr_base.specs.declared.entry.Entry.TheVariants.{Bid, Assigned, Unassigned, Reviewed}
 use Rattle.cr_base.specs.declared.entry.Entry.TheVariants.{Commented, Tagged, Decided, DeadlineSet}
+use Rattle.cr_base.specs.declared.entry.Entry.TheVariants.{Dismissed, Invited, Uninvited}
 use Rattle.cr_base.specs.declared.entry.Stamped.{Stamped}
 use Rattle.cr_base.specs.declared.words.Phase.TheVariants.{Bidding, Discussion}
+use Rattle.cr_base.specs.Accounts.{chair_count}
 use Rattle.cr_base.specs.HistoryFacts.{phase_of, role_of, accounts_of, papers_of, uploads_of}
-use Rattle.cr_base.specs.HistoryFacts.{number_of, is_author, is_conflicted, ordinal_of, seats_of}
+use Rattle.cr_base.specs.HistoryFacts.{number_of, is_author, is_conflicted, is_invited, is_external, ordinal_of}
+use Rattle.cr_base.specs.HistoryFacts.{seats_of}
 use Rattle.cr_base.specs.HistoryFacts.{forms_of, is_written, comments_of}
 use Rattle.cr_base.specs.History.{History, Registration, all_told, registration_told, opens, opens_discussion}
 use Rattle.cr_base.specs.Lists.{until, since}
@@ -49,6 +52,9 @@ IsMadeByUser H maker (Commented paper n ordinal text) = IsRegistered H maker
 IsMadeByUser H maker (Tagged paper tag on) = IsRegistered H maker
 IsMadeByUser H maker (Decided paper decision) = IsRegistered H maker
 IsMadeByUser H maker (DeadlineSet phase until) = IsRegistered H maker
+IsMadeByUser H maker (Dismissed user) = IsRegistered H maker
+IsMadeByUser H maker (Invited paper user) = IsRegistered H maker
+IsMadeByUser H maker (Uninvited paper user) = IsRegistered H maker
 
 -- of the entries that commands add, the first user's registration has another of its command behind it; a submission,
 -- its co-authors and the entries of a bulk may have one
@@ -98,13 +104,17 @@ IsAboutThose H (Reviewed paper ordinal version form) = IsSubmitted H paper
 IsAboutThose H (Commented paper n ordinal text) = IsSubmitted H paper
 IsAboutThose H (Tagged paper tag on) = IsSubmitted H paper
 IsAboutThose H (Decided paper decision) = IsSubmitted H paper
+IsAboutThose H (Dismissed user) = IsRegistered H user
+IsAboutThose H (Invited paper user) = IsSubmitted H paper × IsRegistered H user
+IsAboutThose H (Uninvited paper user) = IsSubmitted H paper × IsRegistered H user
 IsAboutThose H _ = Unit {0}
 
 -- the phase goes on by one; the mode is set in setup; papers are submitted, changed and withdrawn in submission; from
--- the notification on nobody is named a member or a chair, and no conflict is turned on or off; bids are told in
--- bidding; reviewers are assigned and unassigned, and tags turned on and off, from bidding to discussion; forms are
--- written in reviewing and in the discussion, and comments in the discussion, where the committee decides too; and
--- deadlines are set of the current phase, and of later ones, where the phase may have one
+-- the notification on nobody is named a member or a chair or dismissed, and no conflict is turned on or off; bids are
+-- told in bidding; reviewers are assigned and unassigned, externals invited and no longer, and tags turned on and
+-- off, from bidding to discussion; forms are written in reviewing and in the discussion, and comments in the
+-- discussion, where the committee decides too; and deadlines are set of the current phase, and of later ones, where
+-- the phase may have one
 abbrev pub IsInPhase : History → Entry → Type 0
 IsInPhase H (Registered user name digest) = Unit {0}
 IsInPhase H (Named user role) = IsFalse (roles_are_final (phase_of H))
@@ -124,9 +134,13 @@ IsInPhase H (Commented paper n ordinal text) = IsTrue (comments_are_written (pha
 IsInPhase H (Tagged paper tag on) = IsTrue (committee_works (phase_of H))
 IsInPhase H (Decided paper decision) = IsTrue (decisions_are_made (phase_of H))
 IsInPhase H (DeadlineSet phase until) = IsTrue (is_from (phase_of H) phase) × IsTrue (may_have_deadline phase)
+IsInPhase H (Dismissed user) = IsFalse (roles_are_final (phase_of H))
+IsInPhase H (Invited paper user) = IsTrue (committee_works (phase_of H))
+IsInPhase H (Uninvited paper user) = IsTrue (committee_works (phase_of H))
 
--- chairs set the phase, the mode and deadlines, name members and chairs, assign and unassign reviewers, and decide;
--- the first user alone is named otherwise, as she registers, by the second entry of all
+-- chairs set the phase, the mode and deadlines, name members and chairs and dismiss them, assign and unassign
+-- reviewers, invite externals and take that back, and decide; the first user alone is named otherwise, as she
+-- registers, by the second entry of all
 abbrev pub IsByChair : History → ℕ → Entry → Type 0
 IsByChair H maker (Named user role) = IsTrue (is_chair (role_of (Some maker) H) || length H == 1)
 IsByChair H maker (PhaseSet phase) = IsTrue (is_chair (role_of (Some maker) H))
@@ -135,34 +149,51 @@ IsByChair H maker (Assigned paper user kind ordinal) = IsTrue (is_chair (role_of
 IsByChair H maker (Unassigned paper user ordinal) = IsTrue (is_chair (role_of (Some maker) H))
 IsByChair H maker (Decided paper decision) = IsTrue (is_chair (role_of (Some maker) H))
 IsByChair H maker (DeadlineSet phase until) = IsTrue (is_chair (role_of (Some maker) H))
+IsByChair H maker (Dismissed user) = IsTrue (is_chair (role_of (Some maker) H))
+IsByChair H maker (Invited paper user) = IsTrue (is_chair (role_of (Some maker) H))
+IsByChair H maker (Uninvited paper user) = IsTrue (is_chair (role_of (Some maker) H))
 IsByChair H maker _ = Unit {0}
 
--- roles only rise
+-- naming raises a role, and dismissing ends a member's, and never that of the only chair
 abbrev pub RaisesRole : History → Entry → Type 0
 RaisesRole H (Named user role) = role_number (role_of (Some user) H) < role_number role
+RaisesRole H (Dismissed user) =
+    IsTrue (is_member (role_of (Some user) H))
+    × IsFalse (is_chair (role_of (Some user) H) && nat_le (chair_count (accounts_of H)) 1)
 RaisesRole H _ = Unit {0}
 
--- only members are declared in conflict, or assigned
+-- the user is a member, or an external of the paper
+abbrev pub is_of_paper : History → ℕ → ℕ → Bool
+is_of_paper H user paper = is_member (role_of (Some user) H) || is_external (Some user) paper H
+
+-- only such users are declared in conflict, or assigned; and no member is invited
 abbrev pub IsOfMember : History → Entry → Type 0
-IsOfMember H (Conflict paper user on) = IsTrue (is_member (role_of (Some user) H))
-IsOfMember H (Assigned paper user kind ordinal) = IsTrue (is_member (role_of (Some user) H))
+IsOfMember H (Conflict paper user on) = IsTrue (is_of_paper H user paper)
+IsOfMember H (Assigned paper user kind ordinal) = IsTrue (is_of_paper H user paper)
+IsOfMember H (Invited paper user) = IsFalse (is_member (role_of (Some user) H))
 IsOfMember H _ = Unit {0}
 
--- before the bidding authors alone declare conflicts with their paper, and turn none off; from the bidding on a user
+-- before the bidding authors alone declare conflicts with their paper, and turn none off; from the bidding on a member
 -- declares her own, and chairs in no conflict with the paper turn anybody's on and off
 abbrev pub may_turn : History → ℕ → ℕ → ℕ → Bool → Bool
 may_turn H maker paper user on =
     if authors_have_declared (phase_of H)
-    then (user == maker && on) || (is_chair (role_of (Some maker) H) && not (is_conflicted (Some maker) paper H))
+    then (user == maker && (on && is_member (role_of (Some maker) H)))
+    || (is_chair (role_of (Some maker) H) && not (is_conflicted (Some maker) paper H))
     else is_author (Some maker) paper H && on
 
 -- a member in no conflict with the paper
 abbrev pub is_clear_member_of : History → ℕ → ℕ → Bool
 is_clear_member_of H maker paper = is_member (role_of (Some maker) H) && not (is_conflicted (Some maker) paper H)
 
+-- such a user in no conflict with the paper
+abbrev pub is_clear_of_paper : History → ℕ → ℕ → Bool
+is_clear_of_paper H maker paper = is_of_paper H maker paper && not (is_conflicted (Some maker) paper H)
+
 -- and a paper's authors alone name its co-authors, revise it, upload its content and withdraw it; members in no
--- conflict with it bid on it, review it, comment on it and tag it, chairs alone with tags for chairs; and chairs in
--- none assign and unassign its reviewers, and decide on it
+-- conflict with it bid on it, comment on it and tag it, chairs alone with tags for chairs; they and its externals in
+-- none review it; and chairs in none assign and unassign its reviewers, invite externals and take that back, and
+-- decide on it
 abbrev pub IsByRight : History → ℕ → Entry → Type 0
 IsByRight H maker (Coauthor paper user) = IsTrue (is_author (Some maker) paper H)
 IsByRight H maker (Revised paper title abstract) = IsTrue (is_author (Some maker) paper H)
@@ -172,16 +203,19 @@ IsByRight H maker (Conflict paper user on) = IsTrue (may_turn H maker paper user
 IsByRight H maker (Bid paper value) = IsTrue (is_clear_member_of H maker paper)
 IsByRight H maker (Assigned paper user kind ordinal) = IsFalse (is_conflicted (Some maker) paper H)
 IsByRight H maker (Unassigned paper user ordinal) = IsFalse (is_conflicted (Some maker) paper H)
-IsByRight H maker (Reviewed paper ordinal version form) = IsTrue (is_clear_member_of H maker paper)
+IsByRight H maker (Reviewed paper ordinal version form) = IsTrue (is_clear_of_paper H maker paper)
 IsByRight H maker (Commented paper n ordinal text) = IsTrue (is_clear_member_of H maker paper)
 IsByRight H maker (Tagged paper tag on) =
     IsTrue (is_clear_member_of H maker paper) × IsFalse (is_for_chairs tag && not (is_chair (role_of (Some maker) H)))
 IsByRight H maker (Decided paper decision) = IsFalse (is_conflicted (Some maker) paper H)
+IsByRight H maker (Invited paper user) = IsFalse (is_conflicted (Some maker) paper H)
+IsByRight H maker (Uninvited paper user) = IsFalse (is_conflicted (Some maker) paper H)
 IsByRight H maker _ = Unit {0}
 
 -- whoever is assigned is in no conflict with the paper and doesn't review it, and it has a label left; whoever is
 -- unassigned reviews it under that label, and has written no form under it; a form is under its maker's own label, and
--- a comment tells that label, where its maker has one
+-- a comment tells that label, where its maker has one; whoever is invited is in no conflict with the paper and isn't
+-- invited to it, and whose invitation is taken back is, and doesn't review it
 abbrev pub IsSeated : History → ℕ → Entry → Type 0
 IsSeated H maker (Assigned paper user kind ordinal) =
     IsFalse (is_conflicted (Some user) paper H) × (ordinal_of (Some user) paper H ≡ None)
@@ -190,6 +224,10 @@ IsSeated H maker (Unassigned paper user ordinal) =
     (ordinal_of (Some user) paper H ≡ Some ordinal) × IsFalse (is_written paper ordinal H)
 IsSeated H maker (Reviewed paper ordinal version form) = ordinal_of (Some maker) paper H ≡ Some ordinal
 IsSeated H maker (Commented paper n ordinal text) = ordinal_of (Some maker) paper H ≡ ordinal
+IsSeated H maker (Invited paper user) =
+    IsFalse (is_conflicted (Some user) paper H) × IsFalse (is_invited (Some user) paper H)
+IsSeated H maker (Uninvited paper user) =
+    IsTrue (is_invited (Some user) paper H) × (ordinal_of (Some user) paper H ≡ None)
 IsSeated H maker _ = Unit {0}
 
 -- the entry turns a conflict with the paper on or off

@@ -8,7 +8,7 @@ use Rattle.cr_base.specs.HistoryFacts.{papers_of, own_papers_of, own_bytes_of}
 use Rattle.cr_base.specs.HistoryFacts.{bid_of, ordinal_of, seats_of, reviewers_of, forms_of}
 use Rattle.cr_base.specs.HistoryFacts.{forms_discussed_of, own_forms_of, comments_of, own_comments_of, tags_of}
 use Rattle.cr_base.specs.HistoryFacts.{title_of, abstract_of, uploads_of, is_withdrawn, decision_of}
-use Rattle.cr_base.specs.HistoryFacts.{is_accepted, authors_of, is_conflict_on, declared_by_authors}
+use Rattle.cr_base.specs.HistoryFacts.{is_accepted, authors_of, is_conflict_on, is_invited, declared_by_authors}
 use Rattle.cr_base.specs.declared.entry.Stamped.{Stamped}
 use Rattle.cr_base.specs.History.{History}
 use Rattle.cr_base.specs.Deadlines.{deadline_in}
@@ -16,6 +16,7 @@ use Rattle.cr_base.specs.Decisions.{decision_in}
 use Rattle.cr_base.specs.Filed.{filed_of}
 use Rattle.cr_base.specs.Reviews.{forms_in, forms_discussed_in, written_told}
 use Rattle.cr_base.specs.Sources.{standing_at, own_forms_in, is_accepted_in}
+use Rattle.cr_base.specs.Invites.{is_invited_in}
 use Rattle.cr_base.specs.Pairs.{has_pair}
 use Rattle.cr_base.specs.Papers.{paper_numbers, own_count, own_bytes, title_at}
 use Rattle.cr_base.specs.Papers.{abstract_at, uploads_at, is_withdrawn_at}
@@ -49,6 +50,7 @@ pub record AreTold (H : History) : Type 0 where
   pub labels : (p : ℕ) → length (seats_of p H) ≡ labels_in (tables_of H).seats p
   pub seats : (p : ℕ) → seats_of p H ≡ seats_in (tables_of H).seats p
   pub reviewers : (p : ℕ) → reviewers_of p H ≡ reviewers_in (tables_of H).seats p
+  pub invited : (u : Option ℕ) (p : ℕ) → is_invited u p H ≡ is_invited_in (tables_of H).invites u p
   pub forms : (p o : ℕ) → forms_of p o H ≡ map written_told (forms_in (tables_of H).reviews p o)
   pub comments : (p : ℕ) → comments_of p H ≡ map comment_as_told (comments_in (tables_of H).talk p)
   pub own_comments : (u : Option ℕ) → own_comments_of u H ≡ own_comments_in (tables_of H).talk u

@@ -5,7 +5,7 @@ use Rattle.std.specs.Prelude.{ℕ, Bool, false, ◌==◌, ◌+◌, length, filte
 use Rattle.cr_base.specs.declared.entry.Entry.{Entry}
 use Rattle.cr_base.specs.declared.entry.Entry.TheVariants.{Submitted, Coauthor, Revised, Uploaded, Withdrawn, Conflict}
 use Rattle.cr_base.specs.declared.entry.Entry.TheVariants.{Bid, Assigned, Unassigned, Reviewed}
-use Rattle.cr_base.specs.declared.entry.Entry.TheVariants.{Commented, Tagged, Decided}
+use Rattle.cr_base.specs.declared.entry.Entry.TheVariants.{Commented, Tagged, Decided, Invited, Uninvited}
 use Rattle.cr_base.specs.declared.entry.Stamped.{Stamped}
 use Rattle.cr_base.specs.declared.pairs.Order.TheVariants.{ByPaper}
 use Rattle.cr_base.specs.Filed.{filed_of}
@@ -32,6 +32,8 @@ is_on p (Reviewed paper ordinal version form) = p == paper
 is_on p (Commented paper n ordinal text) = p == paper
 is_on p (Tagged paper tag on) = p == paper
 is_on p (Decided paper decision) = p == paper
+is_on p (Invited paper user) = p == paper
+is_on p (Uninvited paper user) = p == paper
 is_on p _ = false
 
 -- how many of the history's are
@@ -41,10 +43,11 @@ entries_on p H = length (filter (λ (s : Stamped). is_on p s.entry) H)
 -- ---- records
 
 -- how many the tables keep of the paper: its authors, and those who are tied to it by the ties at hand, its seats,
--- the bids on it, its forms, its uploads, and its tags
+-- its invitations, the bids on it, its forms, its uploads, and its tags
 abbrev pub records_with : BareTies → ℕ → Tables → ℕ
 records_with ties p t =
     length (authors_in t.ties p) + length (users_tied_to p ties) + length (ties_of ByPaper p t.seats)
+    + length (users_tied_to p t.invites)
     + length (bids_in t.ties p) + length (filed_of p t.reviews.forms) + length (uploads_at t.papers p)
     + length (filed_of p t.tags)
 

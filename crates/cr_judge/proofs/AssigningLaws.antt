@@ -1,8 +1,8 @@
 -- What a command draws that names a paper and a user, by reads of the tables; `user` is whom they have for the name.
-use Rattle.std.proofs.Common.{ℕ, Bool, true, false, ◌≡◌, ◌+◌, List, ◌∷◌, refl, sym, ap, subst, ◌∙◌, ◌||◌, Option, Some, None, Result, Ok}
-use Rattle.std.specs.Prelude.{IsSome, is_some, unwrap_or}
+use Rattle.std.proofs.Common.{ℕ, Bool, true, false, ◌≡◌, ◌+◌, List, ◌∷◌, refl, sym, ap, subst, ◌∙◌, ◌||◌, ◌&&◌, Option, Some, None, Result, Ok}
+use Rattle.std.specs.Prelude.{IsSome, is_some, not, unwrap_or}
 use Rattle.std.specs.List.{list_any}
-use Rattle.std.specs.Option.{option_map, option_and_then}
+use Rattle.std.specs.Option.{option_map, option_map_or, option_and_then}
 use Rattle.cr_base.specs.declared.entry.Account.{Account}
 use Rattle.cr_base.specs.declared.entry.Stamp.{Stamp}
 use Rattle.cr_base.specs.declared.pairs.Order.TheVariants.{ByPaper}
@@ -14,7 +14,9 @@ use Rattle.cr_base.specs.declared.words.Kind.{Kind}
 use Rattle.cr_base.specs.declared.words.Role.{Role}
 use Rattle.cr_base.specs.Accounts.{role_at}
 use Rattle.cr_base.specs.Checks.{Check, NamedPaper, ◌breaks◌, judged, conflict_case, conflict_checks, assign_checks, unassign_checks}
-use Rattle.cr_base.specs.Drawn.{Drawn, conflict_drawn, assignment_drawn, unassignment_drawn}
+use Rattle.cr_base.specs.Checks.{invite_checks, uninvite_checks}
+use Rattle.cr_base.specs.Drawn.{Drawn, conflict_drawn, assignment_drawn, unassignment_drawn, invitation_drawn, uninvitation_drawn}
+use Rattle.cr_base.specs.Invites.{InvitesState, is_invited_in}
 use Rattle.cr_base.specs.Lists.{at_some, is_number}
 use Rattle.cr_base.specs.Pairs.{users_tied_to}
 use Rattle.cr_base.specs.Papers.{is_withdrawn_at}
@@ -24,6 +26,7 @@ use Rattle.cr_base.specs.Sources.{standing_at}
 use Rattle.cr_base.specs.Stage.{is_late_in}
 use Rattle.cr_base.specs.Tables.{Tables}
 use Rattle.cr_base.specs.Ties.{TiesState, is_author_in, is_conflicted_in}
+use Rattle.cr_base.specs.Words.{is_member}
 use Rattle.cr_base.proofs.CheckLaws.{NoneBroken, judged-Ok}
 use Rattle.cr_base.proofs.ListLaws.{role_among-lines_of}
 use Rattle.cr_base.proofs.PairLaws.{list_any-others_of}
@@ -31,7 +34,7 @@ use Rattle.cr_assign.specs.Targets as seats
 use Rattle.cr_conflicts.specs.Targets as ties
 use Rattle.cr_view.proofs.JudgeLaws.{made_of, judged-made}
 use Rattle.cr_judge.specs.declared.named.Named.{Named}
-use Rattle.cr_judge.specs.Named.{there_in, named_at, target_with, written_at, asked_at, conflict_at, assignment_at, unassignment_at}
+use Rattle.cr_judge.specs.Named.{there_in, named_at, target_with, written_at, asked_at, conflict_at, assignment_at, unassignment_at, invitation_at, uninvitation_at}
 use Rattle.cr_judge.proofs.NamedLaws.{there-judged}
 
 -- ---- the user
@@ -68,6 +71,7 @@ module _ (t : Tables) (stamp : Stamp) where
     author = at_some (is_author_in t.ties user) paper;
     conflicted = at_some (is_conflicted_in t.ties user) paper;
     reviewer = at_some (λ p. is_some (ordinal_in t.seats user p)) paper;
+    external = not (is_member role) && at_some (is_invited_in t.invites user) paper;
   }
 
   -- the facts of the tables ask the same of her
@@ -81,6 +85,7 @@ module _ (t : Tables) (stamp : Stamp) where
         author = is_author_in t.ties (Some v) p;
         conflicted = is_author_in t.ties (Some v) p || declared;
         reviewer = is_some (ordinal_in t.seats (Some v) p);
+        external = not (is_member role) && is_invited_in t.invites (Some v) p;
       } in
       let declared : Bool = list_any (is_number (Some v)) (users_tied_to p t.ties.conflicts) in
       ap (λ (now : Option Role). option_map (asked declared) now) (role_among-lines_of t.accounts (Some v))
@@ -119,17 +124,24 @@ module _ (t : Tables) (stamp : Stamp) where
     abbrev mine : Option (ℕ × Role)
     mine = target_with t.accounts user
 
+    -- whether the user named is an external of the paper
+    abbrev external_of : Option ℕ → Option (ℕ × Role) → Bool
+    external_of at o = option_map_or (λ (x : ℕ × Role). at_some (λ p. not (is_member x.1) && is_invited_in t.invites (Some x.0) p) at) o false
+
     -- a conflict: no rule reads whether she reviews the paper
-    pub conflict-drawn : (on late : Bool) → late ≡ is_late_in t.stage stamp.at → (seen : TiesState) → seen ≡ t.ties → (kept : Result (Unit {0}) Rule)
-        → kept ≡ judged (conflict_checks named.by told (ties.target_of seen maker named.paper target) on late) tt
+    pub conflict-drawn : (on late : Bool) → late ≡ is_late_in t.stage stamp.at → (seen : TiesState) → seen ≡ t.ties
+        → (external : Bool) → external ≡ external_of named.paper target → (kept : Result (Unit {0}) Rule)
+        → kept ≡ judged (conflict_checks named.by told (ties.target_of seen maker named.paper target external) on late) tt
         → made_of (λ (done : Unit {0}). conflict_drawn stamp (unwrap_or named.paper 0) (unwrap_or user 0) on) kept ≡ conflict_at t stamp paper user on
-    conflict-drawn on late when seen same kept judges =
-        judged-made (conflict_checks named.by told (ties.target_of seen maker named.paper target) on past)
+    conflict-drawn on late when seen same external outside kept judges =
+        judged-made (conflict_checks named.by told (ties.target_of seen maker named.paper target external) on past)
         (λ (done : Unit {0}). made named.paper) tt kept
-        (judges ∙ ap (λ (b : Bool). judged (conflict_checks named.by told (ties.target_of seen maker named.paper target) on b) tt) when)
-        ∙ ap (λ (x : TiesState). judged (conflict_checks named.by told (ties.target_of x maker named.paper target) on past) (made named.paper)) same
-        ∙ ap (λ (o : Option (ℕ × Role)). judged (conflict_checks named.by told (ties.target_of t.ties maker named.paper o) on past) (made named.paper)) has
-        ∙ ap (λ (n : Named). judged (conflict_checks n.by (record { there = is_some n.paper; withdrawn = n.withdrawn }) (ties.target_of t.ties maker n.paper mine) on past) (made n.paper)) given
+        (judges ∙ ap (λ (b : Bool). judged (conflict_checks named.by told (ties.target_of seen maker named.paper target external) on b) tt) when)
+        ∙ ap (λ (x : TiesState). judged (conflict_checks named.by told (ties.target_of x maker named.paper target external) on past) (made named.paper)) same
+        ∙ ap (λ (b : Bool). judged (conflict_checks named.by told (ties.target_of t.ties maker named.paper target b) on past) (made named.paper)) outside
+        ∙ ap (λ (o : Option (ℕ × Role)). judged (conflict_checks named.by told (ties.target_of t.ties maker named.paper o (external_of named.paper o)) on past) (made named.paper)) has
+        ∙ ap (λ (n : Named). judged (conflict_checks n.by (record { there = is_some n.paper; withdrawn = n.withdrawn })
+        (ties.target_of t.ties maker n.paper mine (external_of n.paper mine)) on past) (made n.paper)) given
         ∙ there-judged t.papers asked due refl (λ (at : Option ℕ). refl) some paper
       where
         past : Bool
@@ -139,45 +151,47 @@ module _ (t : Tables) (stamp : Stamp) where
         made at = conflict_drawn stamp (unwrap_or at 0) (unwrap_or user 0) on
 
         asked : Option ℕ → Result Drawn Rule
-        asked at = judged (conflict_checks (standing_here at) (paper_told (is_some at) at) (ties.target_of t.ties maker at mine) on past) (made at)
+        asked at = judged (conflict_checks (standing_here at) (paper_told (is_some at) at) (ties.target_of t.ties maker at mine (external_of at mine)) on past) (made at)
 
         due : Bool → Option ℕ → Result Drawn Rule
         due there at = judged (conflict_checks (standing_here at) (paper_told there at) (asked_at t maker at user) on past) (made at)
 
-        alike : (p v : ℕ) (role : Role) (reviews turned bidding final : Bool)
-            → conflict_case turned bidding final (standing_here (Some p)) (is_withdrawn_at t.papers p) (ties.target_in t.ties maker (Some p) v role) past
+        alike : (p v : ℕ) (role : Role) (external reviews turned bidding final : Bool)
+            → conflict_case turned bidding final (standing_here (Some p)) (is_withdrawn_at t.papers p) (ties.target_in t.ties maker (Some p) external v role) past
             ≡ conflict_case turned bidding final (standing_here (Some p)) (is_withdrawn_at t.papers p)
-            (record (ties.target_in t.ties maker (Some p) v role) { reviewer = reviews }) past
-        alike p v role reviews false bidding final = refl
-        alike p v role reviews true false final = refl
-        alike p v role reviews true true true = refl
-        alike p v role reviews true true false = refl
+            (record (ties.target_in t.ties maker (Some p) external v role) { reviewer = reviews }) past
+        alike p v role external reviews false bidding final = refl
+        alike p v role external reviews true false final = refl
+        alike p v role external reviews true true true = refl
+        alike p v role external reviews true true false = refl
 
         some : (p : ℕ) → asked (Some p) ≡ due true (Some p)
         some p =
             target-judged (Some p) user
-            (λ (o : Option (ℕ × Role)). judged (conflict_checks (standing_here (Some p)) (paper_told true (Some p)) (ties.target_of t.ties maker (Some p) o) on past) (made (Some p)))
+            (λ (o : Option (ℕ × Role)). judged (conflict_checks (standing_here (Some p)) (paper_told true (Some p))
+            (ties.target_of t.ties maker (Some p) o (external_of (Some p) o)) on past) (made (Some p)))
             (λ (o : Option Target). judged (conflict_checks (standing_here (Some p)) (paper_told true (Some p)) o on past) (made (Some p)))
             refl
             (λ (v : ℕ) (role : Role) is.
             ap (λ (checks : List Check). judged (false breaks rules.NoPaper ∷ false breaks rules.NoUser ∷ checks) (made (Some p)))
-            (alike p v role (is_some (ordinal_in t.seats (Some v) p)) on (authors_have_declared (standing_here (Some p)).phase)
+            (alike p v role (not (is_member role) && is_invited_in t.invites (Some v) p) (is_some (ordinal_in t.seats (Some v) p)) on (authors_have_declared (standing_here (Some p)).phase)
             (conflicts_are_final (standing_here (Some p)).phase)))
 
     -- an assignment: no rule reads whether she is the caller, or an author
-    pub assignment-drawn : (kind : Kind) (seen : SeatsState) → seen ≡ t.seats → (conflicted : Bool)
+    pub assignment-drawn : (kind : Kind) (seen : SeatsState) → seen ≡ t.seats → (invites : InvitesState) → invites ≡ t.invites → (conflicted : Bool)
         → conflicted ≡ at_some (is_conflicted_in t.ties user) named.paper → (r : Result ℕ Rule)
-        → r ≡ judged (assign_checks named.by told (seats.target_of seen conflicted named.paper target) (seats.labels_at seen named.paper)) (seats.labels_at seen named.paper + 1)
+        → r ≡ judged (assign_checks named.by told (seats.target_of seen invites conflicted named.paper target) (seats.labels_at seen named.paper)) (seats.labels_at seen named.paper + 1)
         → made_of (assignment_drawn stamp (unwrap_or named.paper 0) (unwrap_or user 0) kind) r ≡ assignment_at t stamp paper user kind
-    assignment-drawn kind seen same conflicted clear r judges =
-        judged-made (assign_checks named.by told (seats.target_of seen conflicted named.paper target) (seats.labels_at seen named.paper))
+    assignment-drawn kind seen same invites asks conflicted clear r judges =
+        judged-made (assign_checks named.by told (seats.target_of seen invites conflicted named.paper target) (seats.labels_at seen named.paper))
         (assignment_drawn stamp (unwrap_or named.paper 0) (unwrap_or user 0) kind) (seats.labels_at seen named.paper + 1) r judges
-        ∙ ap (λ (x : SeatsState). judged (assign_checks named.by told (seats.target_of x conflicted named.paper target) (seats.labels_at x named.paper))
+        ∙ ap (λ (x : SeatsState). judged (assign_checks named.by told (seats.target_of x invites conflicted named.paper target) (seats.labels_at x named.paper))
         (made named.paper (seats.labels_at x named.paper + 1))) same
-        ∙ ap (λ (o : Option (ℕ × Role)). judged (assign_checks named.by told (seats.target_of t.seats conflicted named.paper o) (labels named.paper)) (made named.paper (labels named.paper + 1))) has
-        ∙ ap (λ (c : Bool). judged (assign_checks named.by told (seats.target_of t.seats c named.paper mine) (labels named.paper)) (made named.paper (labels named.paper + 1))) clear
+        ∙ ap (λ (x : InvitesState). judged (assign_checks named.by told (seats.target_of t.seats x conflicted named.paper target) (labels named.paper)) (made named.paper (labels named.paper + 1))) asks
+        ∙ ap (λ (o : Option (ℕ × Role)). judged (assign_checks named.by told (seats.target_of t.seats t.invites conflicted named.paper o) (labels named.paper)) (made named.paper (labels named.paper + 1))) has
+        ∙ ap (λ (c : Bool). judged (assign_checks named.by told (seats.target_of t.seats t.invites c named.paper mine) (labels named.paper)) (made named.paper (labels named.paper + 1))) clear
         ∙ ap (λ (n : Named). judged (assign_checks n.by (record { there = is_some n.paper; withdrawn = n.withdrawn })
-        (seats.target_of t.seats (at_some (is_conflicted_in t.ties user) n.paper) n.paper mine) (labels n.paper)) (made n.paper (labels n.paper + 1))) given
+        (seats.target_of t.seats t.invites (at_some (is_conflicted_in t.ties user) n.paper) n.paper mine) (labels n.paper)) (made n.paper (labels n.paper + 1))) given
         ∙ there-judged t.papers asked due refl (λ (at : Option ℕ). refl) some paper
       where
         made : Option ℕ → ℕ → Drawn
@@ -188,7 +202,7 @@ module _ (t : Tables) (stamp : Stamp) where
 
         asked : Option ℕ → Result Drawn Rule
         asked at =
-            judged (assign_checks (standing_here at) (paper_told (is_some at) at) (seats.target_of t.seats (at_some (is_conflicted_in t.ties user) at) at mine) (labels at)) (made at (labels at + 1))
+            judged (assign_checks (standing_here at) (paper_told (is_some at) at) (seats.target_of t.seats t.invites (at_some (is_conflicted_in t.ties user) at) at mine) (labels at)) (made at (labels at + 1))
 
         due : Bool → Option ℕ → Result Drawn Rule
         due there at = judged (assign_checks (standing_here at) (paper_told there at) (asked_at t maker at user) (labels at)) (made at (labels at + 1))
@@ -197,25 +211,26 @@ module _ (t : Tables) (stamp : Stamp) where
         some p =
             target-judged (Some p) user
             (λ (o : Option (ℕ × Role)). judged (assign_checks (standing_here (Some p)) (paper_told true (Some p))
-            (seats.target_of t.seats (is_conflicted_in t.ties user p) (Some p) o) (labels (Some p))) (made (Some p) (labels (Some p) + 1)))
+            (seats.target_of t.seats t.invites (is_conflicted_in t.ties user p) (Some p) o) (labels (Some p))) (made (Some p) (labels (Some p) + 1)))
             (λ (o : Option Target). judged (assign_checks (standing_here (Some p)) (paper_told true (Some p)) o (labels (Some p))) (made (Some p) (labels (Some p) + 1)))
             refl
             (λ (v : ℕ) (role : Role) is.
             ap (λ (u : Option ℕ). judged (assign_checks (standing_here (Some p)) (paper_told true (Some p))
-            (seats.target_of t.seats (is_conflicted_in t.ties u p) (Some p) (Some (v, role))) (labels (Some p))) (made (Some p) (labels (Some p) + 1))) is)
+            (seats.target_of t.seats t.invites (is_conflicted_in t.ties u p) (Some p) (Some (v, role))) (labels (Some p))) (made (Some p) (labels (Some p) + 1))) is)
 
     -- and its end: nor whether she is in conflict with the paper
-    pub unassignment-drawn : (seen : SeatsState) → seen ≡ t.seats → (written : Bool) → written ≡ written_at t user named.paper → (r : Result ℕ Rule)
-        → r ≡ judged (unassign_checks named.by told (seats.target_of seen false named.paper target) written) (seats.held_at seen named.paper target)
+    pub unassignment-drawn : (seen : SeatsState) → seen ≡ t.seats → (invites : InvitesState) → invites ≡ t.invites → (written : Bool) → written ≡ written_at t user named.paper → (r : Result ℕ Rule)
+        → r ≡ judged (unassign_checks named.by told (seats.target_of seen invites false named.paper target) written) (seats.held_at seen named.paper target)
         → made_of (unassignment_drawn stamp (unwrap_or named.paper 0) (unwrap_or user 0)) r ≡ unassignment_at t stamp paper user
-    unassignment-drawn seen same written is r judges =
-        judged-made (unassign_checks named.by told (seats.target_of seen false named.paper target) written)
+    unassignment-drawn seen same invites asks written is r judges =
+        judged-made (unassign_checks named.by told (seats.target_of seen invites false named.paper target) written)
         (unassignment_drawn stamp (unwrap_or named.paper 0) (unwrap_or user 0)) (seats.held_at seen named.paper target) r judges
-        ∙ ap (λ (x : SeatsState). judged (unassign_checks named.by told (seats.target_of x false named.paper target) written) (made named.paper (seats.held_at x named.paper target))) same
-        ∙ ap (λ (o : Option (ℕ × Role)). judged (unassign_checks named.by told (seats.target_of t.seats false named.paper o) written) (made named.paper (seats.held_at t.seats named.paper o))) has
-        ∙ ap (λ (w : Bool). judged (unassign_checks named.by told (seats.target_of t.seats false named.paper mine) w) (made named.paper (seats.held_at t.seats named.paper mine))) is
+        ∙ ap (λ (x : SeatsState). judged (unassign_checks named.by told (seats.target_of x invites false named.paper target) written) (made named.paper (seats.held_at x named.paper target))) same
+        ∙ ap (λ (x : InvitesState). judged (unassign_checks named.by told (seats.target_of t.seats x false named.paper target) written) (made named.paper (seats.held_at t.seats named.paper target))) asks
+        ∙ ap (λ (o : Option (ℕ × Role)). judged (unassign_checks named.by told (seats.target_of t.seats t.invites false named.paper o) written) (made named.paper (seats.held_at t.seats named.paper o))) has
+        ∙ ap (λ (w : Bool). judged (unassign_checks named.by told (seats.target_of t.seats t.invites false named.paper mine) w) (made named.paper (seats.held_at t.seats named.paper mine))) is
         ∙ ap (λ (n : Named). judged (unassign_checks n.by (record { there = is_some n.paper; withdrawn = n.withdrawn })
-        (seats.target_of t.seats false n.paper mine) (written_at t user n.paper)) (made n.paper (seats.held_at t.seats n.paper mine))) given
+        (seats.target_of t.seats t.invites false n.paper mine) (written_at t user n.paper)) (made n.paper (seats.held_at t.seats n.paper mine))) given
         ∙ there-judged t.papers asked due refl (λ (at : Option ℕ). refl) some paper
       where
         made : Option ℕ → ℕ → Drawn
@@ -225,7 +240,7 @@ module _ (t : Tables) (stamp : Stamp) where
         seat at = unwrap_or (ordinal_in t.seats user (unwrap_or at 0)) 0
 
         asked : Option ℕ → Result Drawn Rule
-        asked at = judged (unassign_checks (standing_here at) (paper_told (is_some at) at) (seats.target_of t.seats false at mine) (written_at t user at)) (made at (seats.held_at t.seats at mine))
+        asked at = judged (unassign_checks (standing_here at) (paper_told (is_some at) at) (seats.target_of t.seats t.invites false at mine) (written_at t user at)) (made at (seats.held_at t.seats at mine))
 
         due : Bool → Option ℕ → Result Drawn Rule
         due there at =
@@ -234,10 +249,82 @@ module _ (t : Tables) (stamp : Stamp) where
         some : (p : ℕ) → asked (Some p) ≡ due true (Some p)
         some p =
             target-judged (Some p) user
-            (λ (o : Option (ℕ × Role)). judged (unassign_checks (standing_here (Some p)) (paper_told true (Some p)) (seats.target_of t.seats false (Some p) o) (written_at t user (Some p)))
+            (λ (o : Option (ℕ × Role)). judged (unassign_checks (standing_here (Some p)) (paper_told true (Some p)) (seats.target_of t.seats t.invites false (Some p) o) (written_at t user (Some p)))
             (made (Some p) (seats.held_at t.seats (Some p) o)))
             (λ (o : Option Target). judged (unassign_checks (standing_here (Some p)) (paper_told true (Some p)) o (written_at t user (Some p))) (made (Some p) (seat (Some p))))
             refl
             (λ (v : ℕ) (role : Role) is.
-            ap (λ (u : Option ℕ). judged (unassign_checks (standing_here (Some p)) (paper_told true (Some p)) (seats.target_of t.seats false (Some p) (Some (v, role)))
+            ap (λ (u : Option ℕ). judged (unassign_checks (standing_here (Some p)) (paper_told true (Some p)) (seats.target_of t.seats t.invites false (Some p) (Some (v, role)))
             (written_at t user (Some p))) (made (Some p) (unwrap_or (ordinal_in t.seats u p) 0))) (sym is))
+
+    -- an invitation: no rule reads whether she is the caller, an author, a reviewer or an external
+    pub invitation-drawn : (seen : SeatsState) (invites : InvitesState) → invites ≡ t.invites → (conflicted : Bool)
+        → conflicted ≡ at_some (is_conflicted_in t.ties user) named.paper → (kept : Result (Unit {0}) Rule)
+        → kept ≡ judged (invite_checks named.by told (seats.target_of seen invites conflicted named.paper target) (seats.invited_at invites named.paper target)) tt
+        → made_of (λ (done : Unit {0}). invitation_drawn stamp (unwrap_or named.paper 0) (unwrap_or user 0)) kept ≡ invitation_at t stamp paper user
+    invitation-drawn seen invites asks conflicted clear kept judges =
+        judged-made (invite_checks named.by told (seats.target_of seen invites conflicted named.paper target) (seats.invited_at invites named.paper target))
+        (λ (done : Unit {0}). made named.paper) tt kept judges
+        ∙ ap (λ (x : InvitesState). judged (invite_checks named.by told (seats.target_of seen x conflicted named.paper target) (seats.invited_at x named.paper target)) (made named.paper)) asks
+        ∙ ap (λ (o : Option (ℕ × Role)). judged (invite_checks named.by told (seats.target_of seen t.invites conflicted named.paper o) (seats.invited_at t.invites named.paper o)) (made named.paper)) has
+        ∙ ap (λ (c : Bool). judged (invite_checks named.by told (seats.target_of seen t.invites c named.paper mine) (seats.invited_at t.invites named.paper mine)) (made named.paper)) clear
+        ∙ ap (λ (n : Named). judged (invite_checks n.by (record { there = is_some n.paper; withdrawn = n.withdrawn })
+        (seats.target_of seen t.invites (at_some (is_conflicted_in t.ties user) n.paper) n.paper mine) (seats.invited_at t.invites n.paper mine)) (made n.paper)) given
+        ∙ there-judged t.papers asked due refl (λ (at : Option ℕ). refl) some paper
+      where
+        made : Option ℕ → Drawn
+        made at = invitation_drawn stamp (unwrap_or at 0) (unwrap_or user 0)
+
+        asked : Option ℕ → Result Drawn Rule
+        asked at =
+            judged (invite_checks (standing_here at) (paper_told (is_some at) at)
+            (seats.target_of seen t.invites (at_some (is_conflicted_in t.ties user) at) at mine) (seats.invited_at t.invites at mine)) (made at)
+
+        due : Bool → Option ℕ → Result Drawn Rule
+        due there at = judged (invite_checks (standing_here at) (paper_told there at) (asked_at t maker at user) (at_some (is_invited_in t.invites user) at)) (made at)
+
+        some : (p : ℕ) → asked (Some p) ≡ due true (Some p)
+        some p =
+            let told_of : Option Target → Bool → Result Drawn Rule = λ target invited.
+            judged (invite_checks (standing_here (Some p)) (paper_told true (Some p)) target invited) (made (Some p)) in
+            target-judged (Some p) user
+            (λ (o : Option (ℕ × Role)). told_of (seats.target_of seen t.invites (is_conflicted_in t.ties user p) (Some p) o) (seats.invited_at t.invites (Some p) o))
+            (λ (o : Option Target). told_of o (is_invited_in t.invites user p))
+            refl
+            (λ (v : ℕ) (role : Role) is.
+            ap (λ (u : Option ℕ). told_of (seats.target_of seen t.invites (is_conflicted_in t.ties u p) (Some p) (Some (v, role))) (is_invited_in t.invites (Some v) p)) is
+            ∙ ap (λ (u : Option ℕ). told_of (Some (asked_for (Some p) (Some v) role)) (is_invited_in t.invites u p)) (sym is))
+
+    -- and its end: nor whether she is in conflict with the paper, but whether she reviews it
+    pub uninvitation-drawn : (seen : SeatsState) → seen ≡ t.seats → (invites : InvitesState) → invites ≡ t.invites → (kept : Result (Unit {0}) Rule)
+        → kept ≡ judged (uninvite_checks named.by told (seats.target_of seen invites false named.paper target) (seats.invited_at invites named.paper target)) tt
+        → made_of (λ (done : Unit {0}). uninvitation_drawn stamp (unwrap_or named.paper 0) (unwrap_or user 0)) kept ≡ uninvitation_at t stamp paper user
+    uninvitation-drawn seen same invites asks kept judges =
+        judged-made (uninvite_checks named.by told (seats.target_of seen invites false named.paper target) (seats.invited_at invites named.paper target))
+        (λ (done : Unit {0}). made named.paper) tt kept judges
+        ∙ ap (λ (x : SeatsState). judged (uninvite_checks named.by told (seats.target_of x invites false named.paper target) (seats.invited_at invites named.paper target)) (made named.paper)) same
+        ∙ ap (λ (x : InvitesState). judged (uninvite_checks named.by told (seats.target_of t.seats x false named.paper target) (seats.invited_at x named.paper target)) (made named.paper)) asks
+        ∙ ap (λ (o : Option (ℕ × Role)). judged (uninvite_checks named.by told (seats.target_of t.seats t.invites false named.paper o) (seats.invited_at t.invites named.paper o)) (made named.paper)) has
+        ∙ ap (λ (n : Named). judged (uninvite_checks n.by (record { there = is_some n.paper; withdrawn = n.withdrawn })
+        (seats.target_of t.seats t.invites false n.paper mine) (seats.invited_at t.invites n.paper mine)) (made n.paper)) given
+        ∙ there-judged t.papers asked due refl (λ (at : Option ℕ). refl) some paper
+      where
+        made : Option ℕ → Drawn
+        made at = uninvitation_drawn stamp (unwrap_or at 0) (unwrap_or user 0)
+
+        asked : Option ℕ → Result Drawn Rule
+        asked at =
+            judged (uninvite_checks (standing_here at) (paper_told (is_some at) at) (seats.target_of t.seats t.invites false at mine) (seats.invited_at t.invites at mine)) (made at)
+
+        due : Bool → Option ℕ → Result Drawn Rule
+        due there at = judged (uninvite_checks (standing_here at) (paper_told there at) (asked_at t maker at user) (at_some (is_invited_in t.invites user) at)) (made at)
+
+        some : (p : ℕ) → asked (Some p) ≡ due true (Some p)
+        some p =
+            let told_of : Option Target → Bool → Result Drawn Rule = λ target invited.
+            judged (uninvite_checks (standing_here (Some p)) (paper_told true (Some p)) target invited) (made (Some p)) in
+            target-judged (Some p) user
+            (λ (o : Option (ℕ × Role)). told_of (seats.target_of t.seats t.invites false (Some p) o) (seats.invited_at t.invites (Some p) o))
+            (λ (o : Option Target). told_of o (is_invited_in t.invites user p))
+            refl
+            (λ (v : ℕ) (role : Role) is. ap (λ (u : Option ℕ). told_of (Some (asked_for (Some p) (Some v) role)) (is_invited_in t.invites u p)) (sym is))

@@ -1,6 +1,6 @@
 -- What the entries of a bulk's rows leave as it was, and what is read behind them.
-use Rattle.std.proofs.Common.{ℕ, Bool, ◌≡◌, List, [], ◌∷◌, fold, refl, sym, ap, subst, ◌∙◌, Option, Some, None}
-use Rattle.std.specs.Prelude.{is_some}
+use Rattle.std.proofs.Common.{ℕ, Bool, true, false, ◌≡◌, ◌&&◌, List, [], ◌∷◌, fold, refl, sym, ap, subst, ◌∙◌, Option, Some, None}
+use Rattle.std.specs.Prelude.{is_some, not}
 use Rattle.std.specs.List.{list_any}
 use Rattle.std.specs.Option.{option_and_then}
 use Rattle.cr_base.specs.declared.entry.Account.{Account}
@@ -15,16 +15,18 @@ use Rattle.cr_base.specs.declared.words.Role.{Role}
 use Rattle.cr_base.specs.Accounts.{role_in}
 use Rattle.cr_base.specs.Bulk.{IsRowEntry}
 use Rattle.cr_base.specs.History.{History}
+use Rattle.cr_base.specs.Invites.{InvitesState, invites_from, is_invited_in}
 use Rattle.cr_base.specs.Lists.{at_some, is_number}
 use Rattle.cr_base.specs.Pairs.{users_tied_to}
 use Rattle.cr_base.specs.Papers.{PapersState, paper_count, is_withdrawn_at}
 use Rattle.cr_base.specs.Reviews.{ReviewsState, is_written_in}
 use Rattle.cr_base.specs.Seats.{SeatsState, ordinal_in, seats_after, seats_from, SeatsFitInTurn}
-use Rattle.cr_base.specs.Sources.{standing_at}
+use Rattle.cr_base.specs.Sources.{is_external_in, standing_at}
 use Rattle.cr_base.specs.Stage.{is_late_in}
 use Rattle.cr_base.specs.Tables.{Tables, tables_after, tables_from, FitInTurn}
 use Rattle.cr_base.specs.Tags.{TagsState, tags_after}
 use Rattle.cr_base.specs.Ties.{BareTies, TiesState, ties_after, ties_from, is_author_in, is_conflicted_in, AreWithin}
+use Rattle.cr_base.specs.Words.{is_member}
 use Rattle.cr_base.proofs.TieLaws.{within-after}
 use Rattle.cr_view.proofs.NobodyLaws.{nobody-seat}
 use Rattle.cr_judge.specs.Named.{there_in, named_at, target_with, user_named, written_at}
@@ -73,6 +75,11 @@ rows-authors ties (s ∷ entries) are = rows-authors (ties_after ties s.stamp.ma
     by (Tagged paper tag on) is = refl
     by _ is = absurd is
 
+-- who is invited, by these entries
+pub invites-behind : (t : Tables) (entries : History) → invites_from t.invites entries ≡ (tables_from t entries).invites
+invites-behind t [] = refl
+invites-behind t (s ∷ entries) = invites-behind (tables_after t s) entries
+
 -- ---- what fits
 
 -- the seats fit in their turn, where all do
@@ -93,6 +100,25 @@ within-from t (s ∷ entries) fits within =
 pub nobody-ordinal : (seats : SeatsState) (user paper : Option ℕ) → user ≡ None → None ≡ option_and_then (ordinal_in seats user) paper
 nobody-ordinal seats user None is = refl
 nobody-ordinal seats user (Some p) is = nobody-seat seats user p is
+
+-- nor is nobody invited
+pub nobody-invited : (member : Bool) (invites : InvitesState) (user paper : Option ℕ) → user ≡ None
+    → false ≡ at_some (λ p. not member && is_invited_in invites user p) paper
+nobody-invited member invites user None is = refl
+nobody-invited member invites user (Some p) is = sym (ap (λ (u : Option ℕ). not member && is_invited_in invites u p) is ∙ no (not member))
+  where
+    no : (b : Bool) → (b && false) ≡ false
+    no true = refl
+    no false = refl
+
+-- whether a user who is no member, or one who is, is invited to a paper behind them
+pub invited-behind : (t : Tables) (earlier : History) (member : Bool) (user paper : Option ℕ) (seen : InvitesState) → seen ≡ t.invites
+    → (u p : ℕ) (told : Bool) → user ≡ Some u → paper ≡ Some p → told ≡ (not member && is_invited_in (invites_from seen earlier) (Some u) p)
+    → told ≡ at_some (λ q. not member && is_invited_in (tables_from t earlier).invites user q) paper
+invited-behind t earlier member user paper seen same u p told user-is paper-is is =
+    is
+    ∙ ap (λ (x : InvitesState). not member && is_invited_in x (Some u) p) (ap (λ (x : InvitesState). invites_from x earlier) same ∙ invites-behind t earlier)
+    ∙ sym (λ i. at_some (λ q. not member && is_invited_in (tables_from t earlier).invites (user-is i) q) (paper-is i))
 
 module _ (t : Tables) (earlier : History) (are : AreRowEntries earlier) where
   abbrev now : Tables
@@ -134,6 +160,13 @@ module _ (t : Tables) (earlier : History) (are : AreRowEntries earlier) where
   pub seats-seen : (seen : SeatsState) → seen ≡ t.seats → seats_from seen earlier ≡ now.seats
   seats-seen seen same = ap (λ (x : SeatsState). seats_from x earlier) same ∙ seats-behind
 
+  -- who is invited, which no row changes
+  pub invites-kept : (seen : InvitesState) → seen ≡ t.invites → seen ≡ now.invites
+  invites-kept seen same = same ∙ ap (λ (x : Tables). x.invites) (rows-mark t earlier are)
+
+  pub invites-seen : (seen : InvitesState) → seen ≡ t.invites → invites_from seen earlier ≡ now.invites
+  invites-seen seen same = ap (λ (x : InvitesState). invites_from x earlier) same ∙ invites-behind t earlier
+
   -- the seats fit
   pub seats-fit : (seen : SeatsState) → seen ≡ t.seats → FitInTurn t earlier → SeatsFitInTurn seen earlier
   seats-fit seen same fits = subst (λ (x : SeatsState). SeatsFitInTurn x earlier) (sym same) (seats-in-turn t earlier fits)
@@ -165,12 +198,14 @@ module _ (t : Tables) (earlier : History) (are : AreRowEntries earlier) where
         ∙ sym (ap (written_at now user) paper-is)
 
     -- how she stands to it
-    pub standing-behind : (phase : Phase) (mode : Mode) (role : Role) (author conflicted reviewer : Bool)
+    pub standing-behind : (phase : Phase) (mode : Mode) (role : Role) (author conflicted reviewer external : Bool)
         → phase ≡ t.stage.phase → mode ≡ t.stage.mode → role ≡ role_in t.accounts user → author ≡ at_some (is_author_in t.ties user) paper
         → conflicted ≡ at_some (is_conflicted_in now.ties user) paper → reviewer ≡ is_some (option_and_then (ordinal_in now.seats user) paper)
-        → record { phase = phase; mode = mode; role = role; author = author; conflicted = conflicted; reviewer = reviewer } ≡ standing_at now user paper
-    standing-behind phase mode role author conflicted reviewer p m r a c v =
-        λ i. record { phase = phase_is i; mode = mode_is i; role = role_is i; author = author_is i; conflicted = c i; reviewer = reviewer_is i }
+        → external ≡ at_some (λ p. not (is_member role) && is_invited_in now.invites user p) paper
+        → record { phase = phase; mode = mode; role = role; author = author; conflicted = conflicted; reviewer = reviewer; external = external }
+        ≡ standing_at now user paper
+    standing-behind phase mode role author conflicted reviewer external p m r a c v e =
+        λ i. record { phase = phase_is i; mode = mode_is i; role = role_is i; author = author_is i; conflicted = c i; reviewer = reviewer_is i; external = external_is i }
       where
         phase_is : phase ≡ now.stage.phase
         phase_is = p ∙ ap (λ (x : Tables). x.stage.phase) (rows-mark t earlier are)
@@ -193,6 +228,9 @@ module _ (t : Tables) (earlier : History) (are : AreRowEntries earlier) where
 
         reviewer_is : reviewer ≡ at_some (λ p. is_some (ordinal_in now.seats user p)) paper
         reviewer_is = v ∙ seated paper
+
+        external_is : external ≡ at_some (is_external_in now user) paper
+        external_is = e ∙ ap (λ (x : Role). at_some (λ p. not (is_member x) && is_invited_in now.invites user p) paper) role_is
 
   -- the paper named
   pub named-behind : (maker : ℕ) (paper at : Option ℕ) (by : Standing) (withdrawn : Bool) → at ≡ there_in t.papers paper

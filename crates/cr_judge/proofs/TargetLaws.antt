@@ -4,19 +4,19 @@ use Rattle.std.specs.Prelude.{IsSome, map, is_some, is_none, not, unwrap_or}
 use Rattle.std.specs.List.{flat_map, list_any}
 use Rattle.std.specs.Option.{option_map, option_and_then}
 use Rattle.std.proofs.lemmas.Bool.{true≢false}
-use Rattle.cr_base.specs.declared.command.Command.TheVariants.{Submit, Name}
+use Rattle.cr_base.specs.declared.command.Command.TheVariants.{Dismiss, Name, Submit}
 use Rattle.cr_base.specs.declared.entry.Account.{Account}
 use Rattle.cr_base.specs.declared.entry.Entry.{Entry}
-use Rattle.cr_base.specs.declared.entry.Entry.TheVariants.{Named, Submitted}
+use Rattle.cr_base.specs.declared.entry.Entry.TheVariants.{Dismissed, Named, Submitted}
 use Rattle.cr_base.specs.declared.entry.Stamp.{Stamp}
 use Rattle.cr_base.specs.declared.reply.Rule.{Rule}
 use Rattle.cr_base.specs.declared.standing.Standing.{Standing}
 use Rattle.cr_base.specs.declared.words.Role.{Role}
-use Rattle.cr_base.specs.Accounts.{role_at, account_at, lines_of}
+use Rattle.cr_base.specs.Accounts.{role_at, account_at, chair_count, lines_of}
 use Rattle.cr_base.specs.Calls.{call_by}
-use Rattle.cr_base.specs.Checks.{judged, of_role, submit_checks, name_checks}
-use Rattle.cr_base.specs.Drawn.{Drawn, besides, submission_drawn, naming_drawn}
-use Rattle.cr_base.specs.Judging.{name_judged, submission_judged, judge_by_role}
+use Rattle.cr_base.specs.Checks.{judged, of_role, submit_checks, name_checks, dismiss_checks}
+use Rattle.cr_base.specs.Drawn.{Drawn, besides, submission_drawn, naming_drawn, dismissal_drawn}
+use Rattle.cr_base.specs.Judging.{name_judged, dismissal_judged, submission_judged, judge_by_role}
 use Rattle.cr_base.specs.Lists.{listed}
 use Rattle.cr_base.specs.Papers.{PapersState, paper_count, own_count}
 use Rattle.cr_base.specs.Retries.{name_told_by}
@@ -29,7 +29,7 @@ use Rattle.cr_base.proofs.ListLaws.{length-numbers_from, name_in-lines_of, role_
 use Rattle.cr_view.proofs.JudgeLaws.{made_of, judged-made}
 use Rattle.cr_judge.specs.declared.effect.Rest.TheVariants as rests
 use Rattle.cr_judge.specs.Effects.{alone, drawn_by}
-use Rattle.cr_judge.specs.Named.{submission_of, submission_at, naming_at}
+use Rattle.cr_judge.specs.Named.{submission_of, submission_at, naming_at, dismissal_at}
 use Rattle.cr_judge.specs.Targets.{target_at, users_at, coauthors_of}
 use Rattle.cr_base.proofs.NameLaws.{name-found}
 
@@ -55,6 +55,12 @@ pub judge-name : (t : Tables) (stamp : Stamp) (name : Option (List ℕ)) (role :
 judge-name t stamp name role =
     ap (λ (v : Option ℕ). name_judged (facts_of_tables t (Some stamp.maker)) stamp v (unwrap_or name []) role) (target-among t.accounts name)
     ∙ ap (λ (now : Option Role). judged (name_checks (standing_at t (Some stamp.maker) None) (option_map of_role now) role) (naming_drawn stamp (unwrap_or (target_at t.accounts name) 0) (unwrap_or name []) role)) (role_among-lines_of t.accounts (target_at t.accounts name))
+
+pub judge-dismiss : (t : Tables) (stamp : Stamp) (name : Option (List ℕ)) → judge_by_role t (call_by stamp (Dismiss name)) ≡ dismissal_at t stamp name
+judge-dismiss t stamp name =
+    ap (λ (v : Option ℕ). dismissal_judged (facts_of_tables t (Some stamp.maker)) stamp v (unwrap_or name [])) (target-among t.accounts name)
+    ∙ ap (λ (now : Option Role). judged (dismiss_checks (standing_at t (Some stamp.maker) None) (option_map of_role now) (chair_count (lines_of t.accounts)))
+    (dismissal_drawn stamp (unwrap_or (target_at t.accounts name) 0) (unwrap_or name []))) (role_among-lines_of t.accounts (target_at t.accounts name))
 
 -- ---- a submission
 
@@ -121,7 +127,7 @@ name-told accounts None user is = cc
 name-told accounts (Some name) user is =
     ap (λ (o : Option (List ℕ)). unwrap_or o []) (name_in-lines_of accounts user ∙ name-found accounts name user is)
 
--- and that of a user to whom an entry gives a role
+-- and that of a user to whom an entry gives a role, or takes it from
 pub name-for : (accounts : List Account) (user : ℕ) (told : Option (List ℕ)) (entry : Entry) (role : Role)
     → told ≡ option_map (λ (a : Account). a.name) (account_at accounts user) → entry ≡ Named user role → unwrap_or told [] ≡ name_told_by (lines_of accounts) entry
 name-for accounts user told entry role is names =
@@ -154,3 +160,40 @@ module _ (t : Tables) (stamp : Stamp) (name : Option (List ℕ)) (role : Role) (
       ∙ ap (λ (o : Option ℕ). Ok (naming_drawn stamp (unwrap_or o 0) (unwrap_or name []) role)) (sym found_as)
       ∙ ap (made_of (λ (done : Unit {0}). naming_drawn stamp (unwrap_or user 0) (unwrap_or name []) role)) (sym is)
       ∙ naming-made
+
+-- ---- a dismissal
+
+pub name-dismissed : (accounts : List Account) (user : ℕ) (told : Option (List ℕ)) (entry : Entry)
+    → told ≡ option_map (λ (a : Account). a.name) (account_at accounts user) → entry ≡ Dismissed user → unwrap_or told [] ≡ name_told_by (lines_of accounts) entry
+name-dismissed accounts user told entry is names =
+    ap (λ (o : Option (List ℕ)). unwrap_or o []) (is ∙ sym (name_in-lines_of accounts user)) ∙ ap (name_told_by (lines_of accounts)) (sym names)
+
+module _ (t : Tables) (stamp : Stamp) (name : Option (List ℕ)) (user : Option ℕ) (found : user ≡ target_at t.accounts name)
+    (by : Standing) (stands : by ≡ standing_at t (Some stamp.maker) None) (seen : List Account) (same : seen ≡ t.accounts)
+    (kept : Result (Unit {0}) Rule)
+    (judges : kept ≡ judged (dismiss_checks by (option_map of_role (option_and_then (role_at seen) user)) (chair_count (lines_of seen))) tt) where
+  -- where no rule is broken, she is there
+  pub is-dismissed : kept ≡ Ok tt → IsSome user
+  is-dismissed is =
+      of user (judged-Ok (dismiss_checks by (option_map of_role (option_and_then (role_at seen) user)) (chair_count (lines_of seen))) tt tt (sym judges ∙ is)).0.0
+    where
+      of : (o : Option ℕ) → is_none (option_map of_role (option_and_then (role_at seen) o)) ≡ false → IsSome o
+      of None none = absurd (true≢false none)
+      of (Some v) none = refl
+
+  pub dismissal-made : made_of (λ (done : Unit {0}). dismissal_drawn stamp (unwrap_or user 0) (unwrap_or name [])) kept ≡ dismissal_at t stamp name
+  dismissal-made =
+      judged-made (dismiss_checks by (option_map of_role (option_and_then (role_at seen) user)) (chair_count (lines_of seen))) (λ (done : Unit {0}). make user) tt kept judges
+      ∙ ap (λ (x : List Account). judged (dismiss_checks by (option_map of_role (option_and_then (role_at x) user)) (chair_count (lines_of x))) (make user)) same
+      ∙ (λ i. judged (dismiss_checks (stands i) (option_map of_role (option_and_then (role_at t.accounts) (found i))) (chair_count (lines_of t.accounts))) (make (found i)))
+    where
+      make : Option ℕ → Drawn
+      make v = dismissal_drawn stamp (unwrap_or v 0) (unwrap_or name [])
+
+  pub dismissal-drawn : kept ≡ Ok tt → (v : ℕ) → user ≡ Some v
+      → ◌≡◌ {A = Result Drawn Rule} (Ok (drawn_by t.accounts (alone stamp (Dismissed v)))) (dismissal_at t stamp name)
+  dismissal-drawn is v found_as =
+      ap (λ (n : List ℕ). Ok (dismissal_drawn stamp v n)) (name-told t.accounts name v (sym found ∙ found_as))
+      ∙ ap (λ (o : Option ℕ). Ok (dismissal_drawn stamp (unwrap_or o 0) (unwrap_or name []))) (sym found_as)
+      ∙ ap (made_of (λ (done : Unit {0}). dismissal_drawn stamp (unwrap_or user 0) (unwrap_or name []))) (sym is)
+      ∙ dismissal-made

@@ -11,11 +11,13 @@ use Rattle.cr_base.specs.declared.retry.RetryKey.{RetryKey}
 use Rattle.cr_base.specs.declared.target.Target.{Target}
 use Rattle.cr_base.specs.declared.words.Kind.{Kind}
 use Rattle.cr_base.specs.declared.words.Role.{Role}
-use Rattle.cr_base.specs.Accounts.{number_at, role_at, lines_of}
+use Rattle.cr_base.specs.Accounts.{number_at, role_at, lines_of, chair_count}
 use Rattle.cr_base.specs.Calls.{stamp_by}
 use Rattle.cr_base.specs.Checks.{NamedPaper, judged, of_role, register_checks, submit_checks, name_checks}
-use Rattle.cr_base.specs.Drawn.{Drawn, registration_drawn, submission_drawn, naming_drawn}
+use Rattle.cr_base.specs.Checks.{dismiss_checks}
+use Rattle.cr_base.specs.Drawn.{Drawn, registration_drawn, submission_drawn, naming_drawn, dismissal_drawn}
 use Rattle.cr_base.specs.Judging.{conflict_judged, assignment_judged, unassignment_judged}
+use Rattle.cr_base.specs.Judging.{invitation_judged, uninvitation_judged}
 use Rattle.cr_base.specs.Lists.{listed, at_some}
 use Rattle.cr_base.specs.Papers.{PapersState, paper_count, paper_numbers, own_count, is_withdrawn_at}
 use Rattle.cr_base.specs.Reviews.{is_written_in}
@@ -94,6 +96,17 @@ naming_of t stamp target name role =
 abbrev pub naming_at : Tables → Stamp → Option (List ℕ) → Role → Result Drawn Rule
 naming_at t stamp name role = naming_of t stamp (target_at t.accounts name) (unwrap_or name []) role
 
+-- dismissing this user, if there is one; and the user of a name
+abbrev pub dismissal_of : Tables → Stamp → Option ℕ → List ℕ → Result Drawn Rule
+dismissal_of t stamp target name =
+    let asked = option_map of_role (option_and_then (role_at t.accounts) target) in
+    judged
+    (dismiss_checks (standing_at t (Some stamp.maker) None) asked (chair_count (lines_of t.accounts)))
+    (dismissal_drawn stamp (unwrap_or target 0) name)
+
+abbrev pub dismissal_at : Tables → Stamp → Option (List ℕ) → Result Drawn Rule
+dismissal_at t stamp name = dismissal_of t stamp (target_at t.accounts name) (unwrap_or name [])
+
 -- turning the conflict of this user on or off, assigning her, and taking her off the paper
 abbrev pub conflict_at : Tables → Stamp → Option ℕ → Option ℕ → Bool → Result Drawn Rule
 conflict_at t stamp paper user on =
@@ -106,3 +119,12 @@ assignment_at t stamp paper user kind =
 abbrev pub unassignment_at : Tables → Stamp → Option ℕ → Option ℕ → Result Drawn Rule
 unassignment_at t stamp paper user =
     unassignment_judged (facts_of_tables t (Some stamp.maker)) (shown_in_tables t) stamp paper user
+
+-- inviting this user to the paper, and taking that back
+abbrev pub invitation_at : Tables → Stamp → Option ℕ → Option ℕ → Result Drawn Rule
+invitation_at t stamp paper user =
+    invitation_judged (facts_of_tables t (Some stamp.maker)) (shown_in_tables t) stamp paper user
+
+abbrev pub uninvitation_at : Tables → Stamp → Option ℕ → Option ℕ → Result Drawn Rule
+uninvitation_at t stamp paper user =
+    uninvitation_judged (facts_of_tables t (Some stamp.maker)) (shown_in_tables t) stamp paper user

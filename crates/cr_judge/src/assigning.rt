@@ -1,4 +1,4 @@
-//! What is judged of a paper, and of a user who is named with it: conflicts, bids and assignments.
+//! What is judged of a paper, and of a user who is named with it: conflicts, bids, assignments and invitations.
 ghost use Rattle.std.specs.Prelude.{◌≡◌};
 ghost use Rattle.cr_base.specs.Calls.{call_by};
 ghost use Rattle.cr_base.specs.Judging.{judge_by_role};
@@ -9,7 +9,9 @@ ghost use Rattle.cr_judge.specs.Named.{conflict_at, written_at};
 ghost use Rattle.cr_judge.specs.Rows.{AreEarlier};
 
 use crate::effect::{Effect, alone};
-use crate::named::{held, is_conflicted, is_late, named_paper, ordinal_of, target_of, user_of};
+use crate::named::{
+    held, is_conflicted, is_external_target, is_late, named_paper, ordinal_of, target_of, user_of,
+};
 use cr_base::{Bid, Entry, Kind, PaperNo, Rule, Short, Stamp, Stamped, Steps, UserNo};
 use cr_view::Live;
 
@@ -52,6 +54,7 @@ pub(crate) fn conflict(
         stamp.maker,
         &named.paper,
         &target,
+        is_external_target(live, &target, &named.paper, earlier),
         on,
         named.withdrawn,
         earlier,
@@ -126,6 +129,53 @@ pub(crate) fn unassignment(
         user,
         ordinal,
     })
+}
+
+/// The entry that invites the user of a name to the paper.
+pub(crate) fn invitation(
+    live: &Live,
+    stamp: &Stamp,
+    paper: &Option<PaperNo>,
+    name: &Option<Short>,
+) -> Result<Effect, Rule>
+    ensures { drawn_or_rule live.now.tables.accounts result
+        ≡ judge_by_role live.now.tables (call_by stamp.now (commands.Invite paper.now name.now)) }
+{
+    let named = named_paper(live, stamp.maker, paper, &[]);
+    let user = user_of(live, name);
+    live.seat_table().judge_invite(
+        &named.by,
+        &named.paper,
+        &target_of(live, &user),
+        named.withdrawn,
+        is_conflicted(live, &user, &named.paper, &[]),
+    )?;
+    let paper = held(&named.paper);
+    let user = held(&user);
+    Ok(alone(stamp, Entry::Invited { paper, user }))
+}
+
+/// The entry that takes the invitation of the user of a name back.
+pub(crate) fn uninvitation(
+    live: &Live,
+    stamp: &Stamp,
+    paper: &Option<PaperNo>,
+    name: &Option<Short>,
+) -> Result<Effect, Rule>
+    ensures { drawn_or_rule live.now.tables.accounts result
+        ≡ judge_by_role live.now.tables (call_by stamp.now (commands.Uninvite paper.now name.now)) }
+{
+    let named = named_paper(live, stamp.maker, paper, &[]);
+    let user = user_of(live, name);
+    live.seat_table().judge_uninvite(
+        &named.by,
+        &named.paper,
+        &target_of(live, &user),
+        named.withdrawn,
+    )?;
+    let paper = held(&named.paper);
+    let user = held(&user);
+    Ok(alone(stamp, Entry::Uninvited { paper, user }))
 }
 
 /// Whether a form is written under the label under which the user reviews the paper behind the earlier entries; false

@@ -7,10 +7,10 @@ ghost use Rattle.cr_base.specs.Tables.{FitInTurn};
 ghost use Rattle.cr_base.specs.declared.command.Command.TheVariants as commands;
 ghost use Rattle.cr_judge.specs.Callers.{HasCaller, HasFewAuthors};
 ghost use Rattle.cr_judge.specs.Effects.{drawn_or_rule, group_of};
-ghost use Rattle.cr_judge.specs.Named.{registration_at, submission_at, naming_at};
+ghost use Rattle.cr_judge.specs.Named.{registration_at, submission_at, naming_at, dismissal_at};
 ghost use Rattle.cr_judge.specs.declared.effect.Rest.TheVariants as rests;
 
-use crate::assigning::{assignment, bid, conflict, unassignment};
+use crate::assigning::{assignment, bid, conflict, invitation, unassignment, uninvitation};
 use crate::coauthors::coauthors;
 use crate::effect::{Effect, Rest, alone, alone_or_rule};
 use crate::named::{held, is_late, user_of};
@@ -25,10 +25,11 @@ use cr_view::Live;
 /// a registration; a submission tells at most 19 co-authors. The entries may be applied in their
 /// turn.
 ///
-/// The rules and their order stand at the table that has each list: `register_check` and `judge_name` of the
-/// accounts, `judge_phase`, `judge_mode` and `judge_deadline` of the stage, `judge_submit`, `judge_revise`,
-/// `judge_upload` and `judge_withdraw` of the papers, `judge_conflict` and `judge_bid` of the ties, `judge_assign`
-/// and `judge_unassign` of the seats, and `judge_review`, `judge_comment`, `judge_tag` and `judge_decide`.
+/// The rules and their order stand at the table that has each list: `register_check`, `judge_name` and
+/// `judge_dismiss` of the accounts, `judge_phase`, `judge_mode` and `judge_deadline` of the stage, `judge_submit`,
+/// `judge_revise`, `judge_upload` and `judge_withdraw` of the papers, `judge_conflict` and `judge_bid` of the ties,
+/// `judge_assign`, `judge_unassign`, `judge_invite` and `judge_uninvite` of the seats, and `judge_review`,
+/// `judge_comment`, `judge_tag` and `judge_decide`.
 ///
 /// Takes no memory: the command's texts and its content are moved. A registration, a naming, a
 /// conflict, an assignment and the end of one take one look-up by name, a submission one for each
@@ -119,6 +120,9 @@ fn user_effect_of(live: &Live, stamp: &Stamp, command: Command) -> Result<Effect
             decision: made,
         } => decision(live, stamp, &paper, made),
         Command::SetDeadline { phase, until } => deadline(live, stamp, phase, until),
+        Command::Dismiss { user } => dismissal(live, stamp, &user),
+        Command::Invite { paper, user } => invitation(live, stamp, &paper, &user),
+        Command::Uninvite { paper, user } => uninvitation(live, stamp, &paper, &user),
     }
 }
 
@@ -202,6 +206,16 @@ fn naming(live: &Live, stamp: &Stamp, name: &Option<Short>, role: Role) -> Resul
     live.account_table().judge_name(&by, &user, role)?;
     let user = held(&user);
     Ok(alone(stamp, Entry::Named { user, role }))
+}
+
+fn dismissal(live: &Live, stamp: &Stamp, name: &Option<Short>) -> Result<Effect, Rule>
+    ensures { drawn_or_rule live.now.tables.accounts result ≡ dismissal_at live.now.tables stamp.now name.now }
+{
+    let user = user_of(live, name);
+    let by = live.standing(&Some(stamp.maker), &None);
+    live.account_table().judge_dismiss(&by, &user)?;
+    let user = held(&user);
+    Ok(alone(stamp, Entry::Dismissed { user }))
 }
 
 fn mode(live: &Live, stamp: &Stamp, to: Mode) -> Result<Effect, Rule>

@@ -73,7 +73,7 @@ impl Rest {
 }
 
 impl Effect {
-    /// What the command is answered. Takes no memory; where it gives a role one read by number.
+    /// What the command is answered. Takes no memory; where it changes a role one read by number.
     pub fn receipt(&self, live: &Live) -> Receipt
         ensures { result ≡ (drawn_by live.now.tables.accounts self.now).receipt }
     {
@@ -129,19 +129,20 @@ fn stamped(stamp: &Stamp, more: bool, entry: Entry) -> Stamped
 }
 
 /// What a command is answered whose first entry this is, also where it was added before: what it tells is in the entry,
-/// but for the name of the user to whom it gives a role. Takes no memory; where it gives one, one read by number.
+/// but for the name of the user whose role it changes. Takes no memory; where it changes one, one read by number.
 pub fn receipt_of(live: &Live, first: &Entry) -> Receipt
     ensures { result ≡ receipt_of (name_told_by (lines_of live.now.tables.accounts) first.now) first.now }
 {
     receipt_with(first, &name_for(live, first))
 }
 
-/// The name of the user to whom the entry gives a role.
+/// The name of the user whose role the entry changes.
 fn name_for(live: &Live, first: &Entry) -> Option<Short>
     ensures { unwrap_or result [] ≡ name_told_by (lines_of live.now.tables.accounts) first.now }
 {
     match first {
         Entry::Named { user, .. } => live.name_of(*user),
+        Entry::Dismissed { user } => live.name_of(*user),
         _ => None,
     }
 }
@@ -175,6 +176,12 @@ fn receipt_with(first: &Entry, name: &Option<Short>) -> Receipt
             phase: *phase,
             until: *until,
         },
+        Entry::Dismissed { .. } => Receipt::Named {
+            name: given(name),
+            role: Role::Account,
+        },
+        Entry::Invited { paper, .. } => Receipt::Changed { paper: *paper },
+        Entry::Uninvited { paper, .. } => Receipt::Changed { paper: *paper },
     }
 }
 

@@ -1,8 +1,9 @@
 //! What a command names, as the rules ask of it: a paper, and a user, by the tables behind earlier entries of the same
 //! bulk, none of which makes a paper, a user or an author, or changes a role or the phase. Where there is no such
 //! paper or no such user, none goes on in its place, and the rules tell that.
-ghost use Rattle.std.specs.Prelude.{◌≡◌, IsSome, Some};
-ghost use Rattle.std.specs.Option.{option_and_then};
+ghost use Rattle.std.specs.Prelude.{◌≡◌, ◌&&◌, not, false, IsSome, Some};
+ghost use Rattle.std.specs.Option.{option_and_then, option_map_or};
+ghost use Rattle.cr_base.specs.Invites.{is_invited_in};
 ghost use Rattle.cr_base.specs.Lists.{at_some};
 ghost use Rattle.cr_base.specs.Papers.{is_withdrawn_at};
 ghost use Rattle.cr_base.specs.Seats.{ordinal_in};
@@ -10,6 +11,7 @@ ghost use Rattle.cr_base.specs.Sources.{standing_at};
 ghost use Rattle.cr_base.specs.Stage.{is_late_in};
 ghost use Rattle.cr_base.specs.Tables.{tables_from};
 ghost use Rattle.cr_base.specs.Ties.{is_conflicted_in};
+ghost use Rattle.cr_base.specs.Words.{is_member};
 ghost use Rattle.cr_judge.specs.Named.{named_at, there_in, target_with};
 ghost use Rattle.cr_judge.specs.Rows.{AreEarlier};
 ghost use Rattle.cr_judge.specs.Targets.{target_at};
@@ -91,8 +93,8 @@ pub(crate) fn is_late(live: &Live, stamp: &Stamp) -> bool
 }
 
 /// What a user is to the conference and to the paper. Takes no memory; a few reads by number, two walks over the
-/// paper's authors, one over its seats, a binary search among its conflicts, and three walks over the earlier
-/// entries.
+/// paper's authors, one over its seats, a binary search among its conflicts and one among its invitations, and four
+/// walks over the earlier entries.
 fn standing_behind(
     live: &Live,
     user: &Option<UserNo>,
@@ -105,13 +107,15 @@ fn standing_behind(
     let stage = live.stage_table();
     let phase = stage.phase(&mut Steps::uncounted());
     let mode = stage.mode(&mut Steps::uncounted());
+    let role = live.account_table().standing_for(user);
     Standing {
         phase,
         mode,
-        role: live.account_table().standing_for(user),
+        role,
         author: live.is_author(user, paper),
         conflicted: is_conflicted(live, user, paper, earlier),
         reviewer: ordinal_of(live, user, paper, earlier).is_some(),
+        external: is_external(live, user, role, paper, earlier),
     }
 }
 
@@ -134,6 +138,44 @@ pub(crate) fn is_conflicted(
             live.tie_table()
                 .is_conflicted(*user, *paper, earlier, &mut Steps::uncounted())
         }
+        None => false,
+    }
+}
+
+/// Whether the user, who has this role, is an external of the paper; false for nobody, and for none.
+fn is_external(
+    live: &Live,
+    user: &Option<UserNo>,
+    role: Role,
+    paper: &Option<PaperNo>,
+    earlier: &[Stamped],
+) -> bool
+    ensures { result ≡ at_some (λ p. not (is_member role)
+        && is_invited_in (tables_from live.now.tables earlier.now).invites user.now p) paper.now }
+{
+    let Some(user) = user else {
+        return false;
+    };
+    match paper {
+        Some(paper) => live
+            .seat_table()
+            .is_external_behind(*user, *paper, role, earlier),
+        None => false,
+    }
+}
+
+/// The same of a user whom a command names, with her role.
+pub(crate) fn is_external_target(
+    live: &Live,
+    target: &Option<(UserNo, Role)>,
+    paper: &Option<PaperNo>,
+    earlier: &[Stamped],
+) -> bool
+    ensures { result ≡ option_map_or (λ t. at_some (λ p. not (is_member t.1)
+        && is_invited_in (tables_from live.now.tables earlier.now).invites (Some t.0) p) paper.now) target.now false }
+{
+    match target {
+        Some((user, role)) => is_external(live, &Some(*user), *role, paper, earlier),
         None => false,
     }
 }

@@ -1,5 +1,5 @@
-//! Plans of who might review what, by what members bid: from the tables to a problem of `cr_match`, and from what answers
-//! it to the text that a bulk reads.
+//! Plans of who might review what, by what members bid: from the tables to a problem of `cr_match`, and from what
+//! answers it to the text that a bulk reads.
 #![tactic(auto)]
 
 mod planned;

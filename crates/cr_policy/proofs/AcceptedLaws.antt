@@ -38,7 +38,7 @@ use Rattle.cr_policy.proofs.BidAgreement.{users-registered}
 use Rattle.cr_policy.proofs.DecisionTells.{accepted-seen}
 use Rattle.cr_policy.proofs.JudgeAgreement.{judge-tables}
 use Rattle.cr_policy.proofs.PageTells.{authors-seen, conflicts-seen}
-use Rattle.cr_policy.proofs.ReviewerTells.{seat-seen_by_chair, labels-seen}
+use Rattle.cr_policy.proofs.ReviewerTells.{invited-seen_by_chair, seat-seen_by_chair, labels-seen}
 use Rattle.cr_policy.proofs.ReviewTells.{own_forms-seen, written-seen}
 use Rattle.cr_policy.proofs.StandingLaws.{standing_from_view, deadline-seen, accounts-seen, papers-seen, own_papers-seen, own_bytes-seen, own_bid-seen, seat-seen, own_comments-seen}
 
@@ -107,6 +107,7 @@ module _ (user : ℕ) (H : History) where
     ordinal = λ p v told. seat-seen_by_chair (Some user) (Some v) p H told;
     labels = λ p told. labels-seen (Some user) p H told;
     written = λ p o told. written-seen (Some user) p o H (and_parts (is_clear_chair (standing_of (Some user) (Some p) H)) _ told).0;
+    invited = λ p v told. invited-seen_by_chair (Some user) (Some v) p H told;
   }
     where
       shown : (author chair member accepted : Bool) → chair ≡ true → (author || chair || member || accepted) ≡ true

@@ -10,9 +10,10 @@ use Rattle.std.proofs.lemmas.List.Elements.{recursion_from_All}
 use Rattle.std.proofs.lemmas.Slice.Eq.{bytes_eq-Decides}
 use Rattle.cr_base.specs.declared.entry.Account.{Account}
 use Rattle.cr_base.specs.declared.entry.Entry.{Entry}
-use Rattle.cr_base.specs.declared.entry.Entry.TheVariants.{Registered, Named}
+use Rattle.cr_base.specs.declared.entry.Entry.TheVariants.{Registered, Named, Dismissed}
 use Rattle.cr_base.specs.declared.entry.Stamp.{Stamp}
 use Rattle.cr_base.specs.declared.words.Role.{Role}
+use Rattle.cr_base.specs.declared.words.Role.TheVariants as roles
 use Rattle.cr_base.specs.Accounts.{number_at, account_at, accounts_after, with_role, AccountsFit}
 use Rattle.cr_base.specs.Drawn.{stamped}
 use Rattle.cr_base.specs.History.{History}
@@ -69,6 +70,8 @@ name_at-with_role accounts user role v low =
 once-after : (accounts : List Account) (e : Entry) → AccountsFit accounts e → AreNamedOnce accounts → AreNamedOnce (accounts_after accounts e)
 once-after accounts (Registered user name digest) fits once = once-push accounts _ user fits.0 fits.2 once
 once-after accounts (Named user role) fits once = λ v name told. number_at-with_role accounts (user - 1) role name ∙ once v name (sym (name_at-with_role accounts user role v fits.0) ∙ told)
+once-after accounts (Dismissed user) fits once =
+    λ v name told. number_at-with_role accounts (user - 1) roles.Account name ∙ once v name (sym (name_at-with_role accounts user roles.Account v fits.0) ∙ told)
 once-after accounts e fits once = once
 
 once-from : (t : Tables) (H : History) → FitInTurn t H → AreNamedOnce t.accounts → AreNamedOnce (tables_from t H).accounts
@@ -106,6 +109,8 @@ names-after : (accounts : List Account) (stamp : Stamp) (more : Bool) (e : Entry
     → AreNames (accounts_after accounts e)
 names-after accounts stamp more (Registered user name digest) bounded names = names-push accounts _ (name-tested name bounded.b1) names
 names-after accounts stamp more (Named user role) bounded names = λ v name told. names v name (sym (name_at-with_role accounts user role v bounded.n1.0) ∙ told)
+names-after accounts stamp more (Dismissed user) bounded names =
+    λ v name told. names v name (sym (name_at-with_role accounts user roles.Account v bounded.n1.0) ∙ told)
 names-after accounts stamp more e bounded names = names
 
 names-from : (t : Tables) (H : History) → AllByRecursion IsBoundedEntry H → AreNames t.accounts → AreNames (tables_from t H).accounts

@@ -25,23 +25,27 @@ use Rattle.cr_base.specs.declared.words.Kind.{Kind}
 use Rattle.cr_base.specs.declared.words.Mode.{Mode}
 use Rattle.cr_base.specs.declared.words.Phase.{Phase}
 use Rattle.cr_base.specs.declared.words.Role.{Role}
-use Rattle.cr_base.specs.declared.words.Role.TheVariants.{Chair}
+use Rattle.cr_base.specs.declared.words.Role.TheVariants.{Account, Chair}
+use Rattle.cr_base.specs.Accounts.{chair_count}
 use Rattle.cr_base.specs.Checks.{Check, NamedPaper, target_is, register_checks, phase_checks, deadline_checks, mode_checks, submit_checks, revise_checks, upload_checks}
 use Rattle.cr_base.specs.Calls.{stamp_by, stamp_of, call_of}
 use Rattle.cr_base.specs.Checks.{of_role, name_checks, conflict_checks, bid_checks, assign_checks, unassign_checks, judged}
 use Rattle.cr_base.specs.Checks.{review_checks, comment_checks, tag_checks, decide_checks}
+use Rattle.cr_base.specs.Checks.{dismiss_checks, invite_checks, uninvite_checks}
 use Rattle.cr_base.specs.Drawn.{Drawn, grouped, registration, besides, submission, submission_drawn, naming_drawn, conflict_drawn, assignment_drawn}
-use Rattle.cr_base.specs.Drawn.{unassignment_drawn, review_drawn}
+use Rattle.cr_base.specs.Drawn.{unassignment_drawn, review_drawn, dismissal_drawn, invitation_drawn, uninvitation_drawn}
 use Rattle.cr_base.specs.Drawn.{registration_drawn}
 use Rattle.cr_base.specs.History.{History, FormTold}
 use Rattle.cr_base.specs.HistoryFacts.{standing_of, phase_of, accounts_of, papers_of, number_of, ordinal_of, seats_of, forms_of, own_forms_of}
-use Rattle.cr_base.specs.HistoryFacts.{own_papers_of, own_bytes_of, own_comments_of, is_written}
+use Rattle.cr_base.specs.HistoryFacts.{own_papers_of, own_bytes_of, own_comments_of, is_invited, is_written}
 use Rattle.cr_base.specs.Judging.{name_judged, conflict_judged, assignment_judged, unassignment_judged}
+use Rattle.cr_base.specs.Judging.{dismissal_judged, invitation_judged, uninvitation_judged}
 use Rattle.cr_base.specs.Lists.{listed, given, at_some, is_number, is_nothing}
 use Rattle.cr_base.specs.Reviews.{forms_in, written_told}
 use Rattle.cr_base.specs.Sources.{number_in, user_among, users_among, role_among, paper_named, target_named, is_late}
 use Rattle.cr_base.specs.Tables.{tables_of}
 use Rattle.cr_base.specs.TagTexts.{is_for_chairs}
+use Rattle.cr_base.specs.Words.{is_member}
 use Rattle.cr_base.proofs.CheckLaws.{NoneBroken, judged-Ok}
 use Rattle.cr_base.proofs.FiledLaws.{filter-filter}
 use Rattle.cr_history.proofs.RuleLaws.{facts_of}
@@ -299,6 +303,52 @@ module _ (w : ℕ) (H : History) (legal : Legal H) (m : ℕ) (key : Option Retry
           (judged-Ok (name_checks (standing_of u None H) (option_map of_role (role_among (accounts_of H) (Some v))) role) (naming_drawn stamp v name role) drawn is).1
           (group-added stamp (entries.Named v role ∷ []) (receipts.Named name role))
 
+  dismissals : (name : Option (List ℕ)) (drawn : Drawn) → Accepted (commands.Dismiss name) drawn → Adds (commands.Dismiss name) drawn
+  dismissals None drawn accepted = refused rules.NoUser drawn (judged-by u H legal m key (commands.Dismiss None) drawn accepted)
+  dismissals (Some name) drawn accepted =
+      each (number_of name H)
+      (ap (λ (target : Option ℕ). dismissal_judged (facts_of u H) stamp target name) (sym (user-same u H legal (Some name)))
+      ∙ judged-by u H legal m key (commands.Dismiss (Some name)) drawn accepted)
+    where
+      each : (target : Option ℕ) → dismissal_judged (facts_of u H) stamp target name ≡ Ok drawn
+          → IsAdded stamp (listed (option_map (λ v. entries.Dismissed v) target)) (receipts.Named name Account ∷ []) drawn
+      each None is = refused rules.NoUser drawn is
+      each (Some v) is =
+          subst (IsAdded stamp (entries.Dismissed v ∷ []) (receipts.Named name Account ∷ []))
+          (judged-Ok (dismiss_checks (standing_of u None H) (option_map of_role (role_among (accounts_of H) (Some v))) (chair_count (accounts_of H))) (dismissal_drawn stamp v name) drawn is).1
+          (group-added stamp (entries.Dismissed v ∷ []) (receipts.Named name Account))
+
+  invitations : (paper : Option ℕ) (name : Option (List ℕ)) (drawn : Drawn) → Accepted (commands.Invite paper name) drawn → Adds (commands.Invite paper name) drawn
+  invitations None name drawn accepted = refused rules.NoPaper drawn (judged-by u H legal m key (commands.Invite None name) drawn accepted)
+  invitations (Some p) name drawn accepted =
+      each (user_named name H)
+      (ap (λ (target : Option ℕ). invitation_judged (facts_of u H) (shown_of H) stamp (Some p) target) (sym (user-same u H legal name))
+      ∙ judged-by u H legal m key (commands.Invite (Some p) name) drawn accepted)
+    where
+      each : (target : Option ℕ) → invitation_judged (facts_of u H) (shown_of H) stamp (Some p) target ≡ Ok drawn
+          → IsAdded stamp (listed (option_map (λ v. entries.Invited p v) target)) (receipts.Changed p ∷ []) drawn
+      each None is = absurd (true≢false (judged-Ok (invite_checks (by p) (named p) None (is_invited None p H)) (invitation_drawn stamp p 0) drawn is).0.1.0)
+      each (Some v) is =
+          subst (IsAdded stamp (entries.Invited p v ∷ []) (receipts.Changed p ∷ []))
+          (judged-Ok (invite_checks (by p) (named p) (asked p (Some v)) (is_invited (Some v) p H)) (invitation_drawn stamp p v) drawn is).1
+          (group-added stamp (entries.Invited p v ∷ []) (receipts.Changed p))
+
+  uninvitations : (paper : Option ℕ) (name : Option (List ℕ)) (drawn : Drawn) → Accepted (commands.Uninvite paper name) drawn
+      → Adds (commands.Uninvite paper name) drawn
+  uninvitations None name drawn accepted = refused rules.NoPaper drawn (judged-by u H legal m key (commands.Uninvite None name) drawn accepted)
+  uninvitations (Some p) name drawn accepted =
+      each (user_named name H)
+      (ap (λ (target : Option ℕ). uninvitation_judged (facts_of u H) (shown_of H) stamp (Some p) target) (sym (user-same u H legal name))
+      ∙ judged-by u H legal m key (commands.Uninvite (Some p) name) drawn accepted)
+    where
+      each : (target : Option ℕ) → uninvitation_judged (facts_of u H) (shown_of H) stamp (Some p) target ≡ Ok drawn
+          → IsAdded stamp (listed (option_map (λ v. entries.Uninvited p v) target)) (receipts.Changed p ∷ []) drawn
+      each None is = absurd (true≢false (judged-Ok (uninvite_checks (by p) (named p) None (is_invited None p H)) (uninvitation_drawn stamp p 0) drawn is).0.1.0)
+      each (Some v) is =
+          subst (IsAdded stamp (entries.Uninvited p v ∷ []) (receipts.Changed p ∷ []))
+          (judged-Ok (uninvite_checks (by p) (named p) (asked p (Some v)) (is_invited (Some v) p H)) (uninvitation_drawn stamp p v) drawn is).1
+          (group-added stamp (entries.Uninvited p v ∷ []) (receipts.Changed p))
+
   conflicts : (paper : Option ℕ) (name : Option (List ℕ)) (on : Bool) (drawn : Drawn) → Accepted (commands.SetConflict paper name on) drawn
       → Adds (commands.SetConflict paper name on) drawn
   conflicts None name on drawn accepted = refused rules.NoPaper drawn (judged-by u H legal m key (commands.SetConflict None name on) drawn accepted)
@@ -350,6 +400,7 @@ module _ (w : ℕ) (H : History) (legal : Legal H) (m : ℕ) (key : Option Retry
             author = wrote;
             conflicted = wrote || list_any (is_number (Some v)) ((shown_of H).conflicts p);
             reviewer = is_some (ordinal_of (Some v) p H);
+            external = not (is_member role) && is_invited (Some v) p H;
           }
 
       -- who reviews has a seat
@@ -425,6 +476,9 @@ adds_as_said H call drawn = by call.caller call.command
     by (Some w) (commands.Bid paper value) legal calls accepted = bids w H legal call.at call.key paper value drawn accepted
     by (Some w) (commands.Assign paper name kind) legal calls accepted = assignments w H legal call.at call.key paper name kind drawn accepted
     by (Some w) (commands.Unassign paper name) legal calls accepted = unassignments w H legal call.at call.key paper name drawn accepted
+    by (Some w) (commands.Dismiss name) legal calls accepted = dismissals w H legal call.at call.key name drawn accepted
+    by (Some w) (commands.Invite paper name) legal calls accepted = invitations w H legal call.at call.key paper name drawn accepted
+    by (Some w) (commands.Uninvite paper name) legal calls accepted = uninvitations w H legal call.at call.key paper name drawn accepted
     by (Some w) (commands.Review paper form) legal calls accepted = reviewed w H legal call.at call.key paper form drawn accepted
     by (Some w) (commands.Comment paper text) legal calls accepted = comments w H legal call.at call.key paper text drawn accepted
     by (Some w) (commands.Tag paper tag on) legal calls accepted = tags w H legal call.at call.key paper tag on drawn accepted

@@ -1,30 +1,27 @@
--- What the bounds leave for outsiders, for strangers and for nobody.
-use Rattle.std.proofs.Common.{◌≡◌, ℕ, Bool, true, false, cond, List, [], ◌∷◌, ◌++◌, refl, sym, ap, subst, ◌∙◌, arith, ◌||◌, ◌&&◌, Option, Some, None}
+-- What the bounds leave for outsiders.
+use Rattle.std.proofs.Common.{◌≡◌, ℕ, Bool, true, false, cond, List, refl, sym, ap, subst, ◌∙◌, arith, ◌||◌, ◌&&◌, Option, Some, None}
 use Rattle.std.specs.Prelude.{not}
-use Rattle.std.specs.List.{list_any, AllByRecursion}
-use Rattle.std.proofs.lemmas.Bool.{eqb-true, or_parts, or_from, and_parts, false≢true, true≢false}
+use Rattle.std.proofs.lemmas.Bool.{eqb-true, or_parts, or_from, and_parts, false≢true}
 use Rattle.cr_base.specs.declared.entry.Entry.{Entry}
-use Rattle.cr_base.specs.declared.entry.Entry.TheVariants.{Registered, Named, Submitted, Coauthor, Revised, Uploaded, Withdrawn, Conflict}
+use Rattle.cr_base.specs.declared.entry.Entry.TheVariants.{Registered, Submitted, Coauthor, Revised, Uploaded, Withdrawn, Conflict}
 use Rattle.cr_base.specs.declared.entry.Entry.TheVariants.{Bid, Assigned, Unassigned, Reviewed, Commented, Tagged, Decided}
+use Rattle.cr_base.specs.declared.entry.Entry.TheVariants.{Invited, Uninvited}
 use Rattle.cr_base.specs.declared.entry.EntryKind.TheVariants as kinds
 use Rattle.cr_base.specs.declared.entry.Stamp.{Stamp}
 use Rattle.cr_base.specs.declared.entry.Stamped.{Stamped}
-use Rattle.cr_base.specs.declared.words.Role.{Role}
-use Rattle.cr_base.specs.declared.words.Role.TheVariants.{Account}
-use Rattle.cr_base.specs.Lists.{last_or, is_number}
-use Rattle.cr_base.specs.History.{History, all_told, role_told}
-use Rattle.cr_base.specs.HistoryFacts.{mode_of, phase_of, role_of, authors_of, is_author}
+use Rattle.cr_base.specs.Lists.{is_number}
+use Rattle.cr_base.specs.History.{History}
+use Rattle.cr_base.specs.HistoryFacts.{mode_of, phase_of, role_of, is_author}
 use Rattle.cr_policy.specs.Sighting.{Sighting, blank}
 use Rattle.cr_policy.specs.ViewFacts.{is_user}
-use Rattle.cr_policy.specs.ShownTo.{is_on_committee, chairs_committee, is_past_submission, is_past_reviewing, is_past_discussion}
-use Rattle.cr_policy.specs.ShownTo.{hides_authors, hides_reviewers, names_reviewers, has_conflict, serves, is_eligible, oversees, administers, discusses, is_answered}
+use Rattle.cr_policy.specs.ShownTo.{chairs_committee, is_past_reviewing, is_past_discussion}
+use Rattle.cr_policy.specs.ShownTo.{hides_authors, hides_reviewers, names_reviewers, serves, is_eligible, oversees, administers, discusses, is_answered}
 use Rattle.cr_policy.specs.ShownTo.{is_in_programme, appears, is_decided_again, learns_outcome, is_announced}
 use Rattle.cr_policy.specs.ShownTo.{is_replaced, is_superseded, is_reviewed, is_discussed, is_party, is_told, where_known, paper_for, reviewer_for}
-use Rattle.cr_policy.specs.ShownTo.{knows_writers, learns_form, is_committees, is_chairs}
-use Rattle.cr_policy.specs.ViewBounds.{outsider, IsLeft, OutsidersShown, IsPublicIn, names_her, is_reviewing, IsStranger, StrangersShown, NobodyShown}
+use Rattle.cr_policy.specs.ShownTo.{knows_writers, learns_form, is_committees, is_chairs, reads_visiting, has_before_her}
+use Rattle.cr_policy.specs.ViewBounds.{outsider, IsLeft, OutsidersShown}
 use Rattle.cr_policy.proofs.BoundsParts.{IsWriters}
 use Rattle.cr_policy.proofs.BoundsWalk.{shown_to, writers-all, all-view}
-use Rattle.cr_policy.proofs.Walk.{list_any-nobody}
 
 -- ---- what is hidden
 
@@ -32,46 +29,46 @@ pub known-not : {A : Type 0} (known : Bool) (x : A) → known ≡ false → wher
 known-not known x h = ap (λ b. where_known b x) h
 
 -- what is known to those alone of whom a test holds
-known-alone : {A : Type 0} (known test : Bool) (x : A) → (test ≡ false → known ≡ false) → where_known known x ≡ cond test (where_known known x) None
+pub known-alone : {A : Type 0} (known test : Bool) (x : A) → (test ≡ false → known ≡ false) → where_known known x ≡ cond test (where_known known x) None
 known-alone known true x h = refl
 known-alone known false x h = known-not known x (h refl)
 
 -- a text isn't shown to one who is no author of the paper and may not know the last one, where it isn't public; nor is who made it
--- to one who isn't eligible for the paper
-text-hidden : (a n s p : Bool) → a ≡ false → (s || p) ≡ false → (a || (n && (s || p))) ≡ false
-text-hidden a n s p ha hs = grind (arith, ha, hs)
+-- to one whom the paper isn't before. `v` is that she reads it as an external, `b` that it is before her
+text-hidden : (a n s v p : Bool) → a ≡ false → v ≡ false → (s || p) ≡ false → (a || (n && (s || v || p))) ≡ false
+text-hidden a n s v p ha hv hs = grind (arith, ha, hv, hs)
 
-text-unread : (own a n h p : Bool) → a ≡ false → h ≡ false → (own || p) ≡ false → ((own || a) || (n && (h || p))) ≡ false
-text-unread own a n h p ha hh hp = grind (arith, ha, hh, hp)
+text-unread : (own a n b p : Bool) → a ≡ false → b ≡ false → (own || p) ≡ false → ((own || a) || (n && (b || p))) ≡ false
+text-unread own a n b p ha hb hp = grind (arith, ha, hb, hp)
 
-maker-hidden : (a h leads hides p : Bool) → a ≡ false → h ≡ false → p ≡ false → (a || (h && leads) || (h && not hides) || p) ≡ false
-maker-hidden a h leads hides p ha hh hp = grind (arith, ha, hh, hp)
+maker-hidden : (a h leads b hides p : Bool) → a ≡ false → h ≡ false → b ≡ false → p ≡ false → (a || (h && leads) || (b && not hides) || p) ≡ false
+maker-hidden a h leads b hides p ha hh hb hp = grind (arith, ha, hh, hb, hp)
 
 -- who is told of a co-author, a revision, an upload or a withdrawal: their maker; of a revision and a withdrawal besides who serves; and
 -- everyone where it is public
-coauthor-left : (own a h leads hides p : Bool) → a ≡ false → h ≡ false → ((own || a) || (h && leads) || (h && not hides) || p) ≡ true → (own || p) ≡ true
-coauthor-left own a h leads hides p ha hh told = grind (arith, ha, hh, told)
+coauthor-left : (own a h leads b hides p : Bool) → a ≡ false → h ≡ false → b ≡ false → ((own || a) || (h && leads) || (b && not hides) || p) ≡ true
+    → (own || p) ≡ true
+coauthor-left own a h leads b hides p ha hh hb told = grind (arith, ha, hh, hb, told)
 
-upload-left : (own a n h p : Bool) → a ≡ false → h ≡ false → ((own || a) || (n && (h || p))) ≡ true → (own || p) ≡ true
-upload-left own a n h p ha hh told = grind (arith, ha, hh, told)
+upload-left : (own a n b p : Bool) → a ≡ false → b ≡ false → ((own || a) || (n && (b || p))) ≡ true → (own || p) ≡ true
+upload-left own a n b p ha hb told = grind (arith, ha, hb, told)
 
-revision-left : (own a n s p : Bool) → a ≡ false → ((own || a) || (n && (s || p))) ≡ true → (own || s || p) ≡ true
-revision-left own a n s p ha told = grind (arith, ha, told)
+revision-left : (own a n s v p : Bool) → a ≡ false → v ≡ false → ((own || a) || (n && (s || v || p))) ≡ true → (own || s || p) ≡ true
+revision-left own a n s v p ha hv told = grind (arith, ha, hv, told)
 
-withdrawal-left : (own a s : Bool) → a ≡ false → ((own || a) || s) ≡ true → (own || s) ≡ true
-withdrawal-left own a s ha told = grind (arith, ha, told)
+withdrawal-left : (own a s v : Bool) → a ≡ false → v ≡ false → ((own || a) || s || v) ≡ true → (own || s) ≡ true
+withdrawal-left own a s v ha hv told = grind (arith, ha, hv, told)
 
--- of bids none is told but their maker, and of assignments none but their parties
-bid-own : (own h leads : Bool) → h ≡ false → (own || (h && leads)) ≡ true → own ≡ true
+-- of bids none is told but their maker, and of assignments and invitations none but their parties
+pub bid-own : (own h leads : Bool) → h ≡ false → (own || (h && leads)) ≡ true → own ≡ true
 bid-own own h leads hh told = grind (arith, hh, told)
 
 seat-left : (n own l h d v a names past : Bool) → h ≡ false → a ≡ false → ((n || own || l) || (h && d) || (a && names && past)) ≡ true
     → (own || (((n || own || l) || (h && d && v) || (a && names && past)) && n) || l) ≡ true
 seat-left n own l h d v a names past hh ha told = grind (arith, hh, ha, told)
 
-seat-untold : (n own chair clear h d a names past : Bool) → n ≡ false → own ≡ false → (chair && true) ≡ false → h ≡ false → a ≡ false
-    → ((n || own || (chair && clear)) || (h && d) || (a && names && past)) ≡ true → ⊥
-seat-untold n own chair clear h d a names past hn ho hl hh ha told = grind (arith, hn, ho, hl, hh, ha, told)
+party-left : (n own l : Bool) → (n || own || l) ≡ true → (own || n || l) ≡ true
+party-left n own l told = grind (arith, told)
 
 -- of forms none is told but their makers and those who administer the paper, and these read nothing of them; of comments and tags none
 -- but their makers
@@ -112,34 +109,63 @@ user-known u false user = refl
 -- ---- who neither wrote a paper nor is eligible for it
 
 module _ (u : Option ℕ) (H : History) (paper : ℕ) (wrote : is_author u paper H ≡ false) (handled : is_eligible u paper H ≡ false) where
-  -- who submitted the paper is known where the paper is in the programme; a title to those who serve besides; and a text that isn't
-  -- her own where the paper appears
-  abbrev maker_known : Bool
-  maker_known = is_author u paper H || oversees u paper H || (is_eligible u paper H && not (hides_authors (mode_of H))) || is_in_programme paper H
+  -- who submitted the paper, and its texts, as those may know them who made the entry (`own`), where others follow (`replaced`)
+  abbrev pub maker_known : Bool
+  maker_known = is_author u paper H || oversees u paper H || (has_before_her u paper H && not (hides_authors (mode_of H))) || is_in_programme paper H
 
-  maker-left : (maker : ℕ) → where_known maker_known maker ≡ cond (is_in_programme paper H) (where_known maker_known maker) None
-  maker-left maker =
-      known-alone maker_known (is_in_programme paper H) maker
-      (maker-hidden (is_author u paper H) (is_eligible u paper H) (chairs_committee (role_of u H)) (hides_authors (mode_of H)) (is_in_programme paper H)
-      wrote handled)
+  abbrev pub title_known : Bool → Bool
+  title_known replaced = is_author u paper H || (not replaced && (serves u H || reads_visiting u paper H || is_in_programme paper H))
 
-  abbrev title_known : Bool → Bool
-  title_known replaced = is_author u paper H || (not replaced && (serves u H || is_in_programme paper H))
+  abbrev pub text_known : Bool → Bool → Bool
+  text_known own replaced = (own || is_author u paper H) || (not replaced && (has_before_her u paper H || appears paper H))
 
-  title-left : (replaced : Bool) (title : List ℕ)
-      → where_known (title_known replaced) title ≡ cond (serves u H || is_in_programme paper H) (where_known (title_known replaced) title) None
-  title-left replaced title =
-      known-alone (title_known replaced) (serves u H || is_in_programme paper H) title
-      (text-hidden (is_author u paper H) (not replaced) (serves u H) (is_in_programme paper H) wrote)
+  -- nor reads it as an external: who submitted the paper is known where the paper is in the programme; a title to those who serve
+  -- besides; and a text that isn't her own where the paper appears
+  module _ (away : reads_visiting u paper H ≡ false) where
+    apart : has_before_her u paper H ≡ false
+    apart = or_from (is_eligible u paper H) (reads_visiting u paper H) handled away
 
-  abbrev text_known : Bool → Bool → Bool
-  text_known own replaced = (own || is_author u paper H) || (not replaced && (is_eligible u paper H || appears paper H))
+    pub maker-left : (maker : ℕ) → where_known maker_known maker ≡ cond (is_in_programme paper H) (where_known maker_known maker) None
+    maker-left maker =
+        known-alone maker_known (is_in_programme paper H) maker
+        (maker-hidden (is_author u paper H) (is_eligible u paper H) (chairs_committee (role_of u H)) (has_before_her u paper H)
+        (hides_authors (mode_of H)) (is_in_programme paper H) wrote handled apart)
 
-  text-left : (own replaced : Bool) (text : List ℕ)
-      → where_known (text_known own replaced) text ≡ cond (own || appears paper H) (where_known (text_known own replaced) text) None
-  text-left own replaced text =
-      known-alone (text_known own replaced) (own || appears paper H) text
-      (text-unread own (is_author u paper H) (not replaced) (is_eligible u paper H) (appears paper H) wrote handled)
+    pub title-left : (replaced : Bool) (title : List ℕ)
+        → where_known (title_known replaced) title ≡ cond (serves u H || is_in_programme paper H) (where_known (title_known replaced) title) None
+    title-left replaced title =
+        known-alone (title_known replaced) (serves u H || is_in_programme paper H) title
+        (text-hidden (is_author u paper H) (not replaced) (serves u H) (reads_visiting u paper H) (is_in_programme paper H) wrote away)
+
+    pub text-left : (own replaced : Bool) (text : List ℕ)
+        → where_known (text_known own replaced) text ≡ cond (own || appears paper H) (where_known (text_known own replaced) text) None
+    text-left own replaced text =
+        known-alone (text_known own replaced) (own || appears paper H) text
+        (text-unread own (is_author u paper H) (not replaced) (has_before_her u paper H) (appears paper H) wrote apart)
+
+    -- who is told of a co-author, a revision, an upload or a withdrawal
+    abbrev pub coauthor_known : Bool → Bool
+    coauthor_known own =
+        (own || is_author u paper H) || oversees u paper H || (has_before_her u paper H && not (hides_authors (mode_of H)))
+        || is_in_programme paper H
+
+    pub left-coauthor : (own : Bool) → coauthor_known own ≡ true → (own || is_in_programme paper H) ≡ true
+    left-coauthor own =
+        coauthor-left own (is_author u paper H) (is_eligible u paper H) (chairs_committee (role_of u H)) (has_before_her u paper H)
+        (hides_authors (mode_of H)) (is_in_programme paper H) wrote handled apart
+
+    pub left-revision : (own replaced : Bool)
+        → ((own || is_author u paper H) || (not replaced && (serves u H || reads_visiting u paper H || is_in_programme paper H))) ≡ true
+        → (own || serves u H || is_in_programme paper H) ≡ true
+    left-revision own replaced =
+        revision-left own (is_author u paper H) (not replaced) (serves u H) (reads_visiting u paper H) (is_in_programme paper H) wrote away
+
+    pub left-upload : (own superseded : Bool) → text_known own superseded ≡ true → (own || appears paper H) ≡ true
+    left-upload own superseded =
+        upload-left own (is_author u paper H) (not superseded) (has_before_her u paper H) (appears paper H) wrote apart
+
+    pub left-withdrawal : (own : Bool) → ((own || is_author u paper H) || serves u H || reads_visiting u paper H) ≡ true → (own || serves u H) ≡ true
+    left-withdrawal own = withdrawal-left own (is_author u paper H) (serves u H) (reads_visiting u paper H) wrote away
 
   -- whoever is told of an assignment is a party to it
   party : (user maker : ℕ) → (is_party u H maker paper user || discusses u paper H || is_answered u paper H) ≡ true
@@ -161,7 +187,7 @@ module _ (u : Option ℕ) (H : History) (paper : ℕ) (wrote : is_author u paper
     abbrev done_known : Bool → Bool
     done_known led = led && not (is_reviewed paper ordinal before)
 
-    left-form : (own : Bool) → (form_known own || done_known (administers u paper H) || learns_form u H later paper ordinal) ≡ true → (own || administers u paper H) ≡ true
+    pub left-form : (own : Bool) → (form_known own || done_known (administers u paper H) || learns_form u H later paper ordinal) ≡ true → (own || administers u paper H) ≡ true
     left-form own told =
         form-left own (is_eligible u paper H) (is_past_reviewing (phase_of H)) (is_discussed paper ordinal before later) (administers u paper H)
         (not (is_reviewed paper ordinal before)) (is_author u paper H) (is_past_discussion (phase_of H)) (not (is_reviewed paper ordinal later))
@@ -186,20 +212,20 @@ module _ (u : Option ℕ) (H : History) (paper : ℕ) (wrote : is_author u paper
     abbrev verdict_known : Bool → Bool
     verdict_known own = (own || discusses u paper H) || learns_outcome u H later paper
 
-    decision-told : (own : Bool) → (verdict_known own || is_announced H later paper) ≡ true → (own || is_announced H later paper) ≡ true
+    pub decision-told : (own : Bool) → (verdict_known own || is_announced H later paper) ≡ true → (own || is_announced H later paper) ≡ true
     decision-told own told =
         decision-left own (is_eligible u paper H) (is_past_reviewing (phase_of H)) (not (is_decided_again paper later)) (is_author u paper H)
         (is_past_discussion (phase_of H)) (is_announced H later paper) handled wrote told
 
-    announced-in : is_announced H later paper ≡ true → is_in_programme paper H ≡ true
+    pub announced-in : is_announced H later paper ≡ true → is_in_programme paper H ≡ true
     announced-in announced = (and_parts (not (is_decided_again paper later)) (is_in_programme paper H) announced).1
 
-    verdict-unknown : (own : Bool) → own ≡ false → verdict_known own ≡ false
+    pub verdict-unknown : (own : Bool) → own ≡ false → verdict_known own ≡ false
     verdict-unknown own other =
         verdict-unread own (is_eligible u paper H) (is_past_reviewing (phase_of H)) (not (is_decided_again paper later)) (is_author u paper H)
         (is_past_discussion (phase_of H)) other handled wrote
 
-    outcome-unknown : learns_outcome u H later paper ≡ false
+    pub outcome-unknown : learns_outcome u H later paper ≡ false
     outcome-unknown = outcome-unlearnt (not (is_decided_again paper later)) (is_author u paper H) (is_past_discussion (phase_of H)) wrote
 
     accepted-left : where_known (is_announced H later paper) true
@@ -210,7 +236,8 @@ module _ (u : Option ℕ) (H : History) (paper : ℕ) (wrote : is_author u paper
 -- what the bounds leave of an entry, on its paper
 abbrev LeftAt : Option ℕ → History → Sighting → Option ℕ → Type 0
 LeftAt u H s None = Unit {0}
-LeftAt u H s (Some paper) = is_author u paper H ≡ false → is_eligible u paper H ≡ false → IsLeft u (outsider u paper H) s.kind s
+LeftAt u H s (Some paper) =
+    is_author u paper H ≡ false → is_eligible u paper H ≡ false → reads_visiting u paper H ≡ false → IsLeft u (outsider u paper H) s.kind s
 
 module _ (u : Option ℕ) (H : History) where
   -- the moment is left to who made the entry, and so is the key
@@ -222,12 +249,12 @@ module _ (u : Option ℕ) (H : History) where
 
   left-one : (before later : History) (stamp : Stamp) (e : Entry) → IsWriters u H stamp.maker e → is_told u H before later stamp.maker e ≡ true
       → LeftAt u H (shown_to u H before later stamp e) (paper_for u H before later stamp e)
-  left-one before later stamp (Submitted paper title abstract) writes told = λ wrote handled. λ i. record (blank kinds.Submitted) {
+  left-one before later stamp (Submitted paper title abstract) writes told = λ wrote handled away. λ i. record (blank kinds.Submitted) {
     mine = other wrote i;
     paper = Some paper;
-    by = maker-left u H paper wrote handled stamp.maker i;
-    title = title-left u H paper wrote handled (is_replaced paper later) title i;
-    abstract = text-left u H paper wrote handled false (is_replaced paper later) abstract i;
+    by = maker-left u H paper wrote handled away stamp.maker i;
+    title = title-left u H paper wrote handled away (is_replaced paper later) title i;
+    abstract = text-left u H paper wrote handled away false (is_replaced paper later) abstract i;
     at = known-not _ stamp.at (other wrote) i;
     key = known-not _ stamp.key (other wrote) i;
   }
@@ -238,26 +265,27 @@ module _ (u : Option ℕ) (H : History) where
           by : (own : Bool) → (own ≡ true → is_author u paper H ≡ true) → own ≡ false
           by true h = absurd (false≢true (sym wrote ∙ h refl))
           by false h = refl
-  left-one before later stamp (Coauthor paper user) writes told = λ wrote handled. (
-    coauthor-left (is_number u stamp.maker) (is_author u paper H) (is_eligible u paper H) (chairs_committee (role_of u H)) (hides_authors (mode_of H))
-        (is_in_programme paper H) wrote handled told,
+  left-one before later stamp (Coauthor paper user) writes told = λ wrote handled away. (
+    left-coauthor u H paper wrote handled away (is_number u stamp.maker) told,
     λ i. record (shown_to u H before later stamp (Coauthor paper user)) { at = moment-left stamp i; key = key-left stamp i },
   )
-  left-one before later stamp (Revised paper title abstract) writes told = λ wrote handled. (
-    revision-left (is_number u stamp.maker) (is_author u paper H) (not (is_replaced paper later)) (serves u H) (is_in_programme paper H) wrote told,
+  left-one before later stamp (Revised paper title abstract) writes told = λ wrote handled away. (
+    left-revision u H paper wrote handled away (is_number u stamp.maker) (is_replaced paper later) told,
     λ i. record (shown_to u H before later stamp (Revised paper title abstract)) {
       at = moment-left stamp i;
       key = key-left stamp i;
-      abstract = text-left u H paper wrote handled (is_number u stamp.maker) (is_replaced paper later) abstract i;
+      abstract = text-left u H paper wrote handled away (is_number u stamp.maker) (is_replaced paper later) abstract i;
     },
   )
-  left-one before later stamp (Uploaded paper version content) writes told = λ wrote handled. (
-    upload-left (is_number u stamp.maker) (is_author u paper H) (not (is_superseded paper later)) (is_eligible u paper H) (appears paper H) wrote handled told,
+  left-one before later stamp (Uploaded paper version content) writes told = λ wrote handled away. (
+    left-upload u H paper wrote handled away (is_number u stamp.maker) (is_superseded paper later) told,
     λ i. record (shown_to u H before later stamp (Uploaded paper version content)) { at = moment-left stamp i; key = key-left stamp i },
   )
-  left-one before later stamp (Withdrawn paper) writes told = λ wrote handled.
-      (withdrawal-left (is_number u stamp.maker) (is_author u paper H) (serves u H) wrote told, λ i. record (shown_to u H before later stamp (Withdrawn paper)) { at = moment-left stamp i; key = key-left stamp i })
-  left-one before later stamp (Conflict paper user on) writes told = λ wrote handled. (
+  left-one before later stamp (Withdrawn paper) writes told = λ wrote handled away. (
+    left-withdrawal u H paper wrote handled away (is_number u stamp.maker) told,
+    λ i. record (shown_to u H before later stamp (Withdrawn paper)) { at = moment-left stamp i; key = key-left stamp i },
+  )
+  left-one before later stamp (Conflict paper user on) writes told = λ wrote handled away. (
     hers (is_number u user) (is_number u stamp.maker) (is_author u paper H) (is_author (Some stamp.maker) paper H) (oversees u paper H) wrote
         (ap (λ b. b && chairs_committee (role_of u H)) handled) told,
     λ i. record (shown_to u H before later stamp (Conflict paper user on)) { at = moment-left stamp i; key = key-left stamp i },
@@ -265,7 +293,7 @@ module _ (u : Option ℕ) (H : History) where
     where
       hers : (named own a w o : Bool) → a ≡ false → o ≡ false → (named || own || (a && w) || o) ≡ true → (own || named) ≡ true
       hers named own a w o ha ho h = grind arith
-  left-one before later stamp (Bid paper value) writes told = λ wrote handled. (
+  left-one before later stamp (Bid paper value) writes told = λ wrote handled away. (
     bid-own (is_number u stamp.maker) (is_eligible u paper H) (chairs_committee (role_of u H)) handled told,
     λ i. record (shown_to u H before later stamp (Bid paper value)) {
       at = moment-left stamp i;
@@ -273,9 +301,17 @@ module _ (u : Option ℕ) (H : History) where
       by = known-not _ stamp.maker (ap (λ b. b && chairs_committee (role_of u H)) handled) i;
     },
   )
-  left-one before later stamp (Assigned paper user review_kind ordinal) writes told = λ wrote handled. (party u H paper wrote handled user stamp.maker told, λ i. record (shown_to u H before later stamp (Assigned paper user review_kind ordinal)) { at = moment-left stamp i; key = key-left stamp i })
-  left-one before later stamp (Unassigned paper user ordinal) writes told = λ wrote handled. (party u H paper wrote handled user stamp.maker told, λ i. record (shown_to u H before later stamp (Unassigned paper user ordinal)) { at = moment-left stamp i; key = key-left stamp i })
-  left-one before later stamp (Reviewed paper ordinal version form) writes told = λ wrote handled. (
+  left-one before later stamp (Assigned paper user review_kind ordinal) writes told = λ wrote handled away. (party u H paper wrote handled user stamp.maker told, λ i. record (shown_to u H before later stamp (Assigned paper user review_kind ordinal)) { at = moment-left stamp i; key = key-left stamp i })
+  left-one before later stamp (Unassigned paper user ordinal) writes told = λ wrote handled away. (party u H paper wrote handled user stamp.maker told, λ i. record (shown_to u H before later stamp (Unassigned paper user ordinal)) { at = moment-left stamp i; key = key-left stamp i })
+  left-one before later stamp (Invited paper user) writes told = λ wrote handled away. (
+    party-left (is_number u user) (is_number u stamp.maker) (administers u paper H) told,
+    λ i. record (shown_to u H before later stamp (Invited paper user)) { at = moment-left stamp i; key = key-left stamp i },
+  )
+  left-one before later stamp (Uninvited paper user) writes told = λ wrote handled away. (
+    party-left (is_number u user) (is_number u stamp.maker) (administers u paper H) told,
+    λ i. record (shown_to u H before later stamp (Uninvited paper user)) { at = moment-left stamp i; key = key-left stamp i },
+  )
+  left-one before later stamp (Reviewed paper ordinal version form) writes told = λ wrote handled away. (
     left-form u H paper wrote handled before later ordinal (is_number u stamp.maker) told,
     λ i. record (shown_to u H before later stamp (Reviewed paper ordinal version form)) {
       at = moment-left stamp i;
@@ -288,7 +324,7 @@ module _ (u : Option ℕ) (H : History) where
       done = done-led u H paper wrote handled before later ordinal (administers u paper H) i;
     },
   )
-  left-one before later stamp (Commented paper n ordinal text) writes told = λ wrote handled. (
+  left-one before later stamp (Commented paper n ordinal text) writes told = λ wrote handled away. (
     comment-own (is_number u stamp.maker) (is_eligible u paper H) (is_past_reviewing (phase_of H)) handled told,
     λ i. record (shown_to u H before later stamp (Commented paper n ordinal text)) {
       at = moment-left stamp i;
@@ -296,11 +332,11 @@ module _ (u : Option ℕ) (H : History) where
       by = known-not _ stamp.maker (form-unread (is_eligible u paper H) (is_past_reviewing (phase_of H)) (knows_writers u H) handled) i;
     },
   )
-  left-one before later stamp (Tagged paper tag on) writes told = λ wrote handled. (
+  left-one before later stamp (Tagged paper tag on) writes told = λ wrote handled away. (
     tag-own (is_number u stamp.maker) (is_committees tag) (is_chairs tag) (is_eligible u paper H) (chairs_committee (role_of u H)) handled told,
     λ i. record (shown_to u H before later stamp (Tagged paper tag on)) { at = moment-left stamp i; key = key-left stamp i },
   )
-  left-one before later stamp (Decided paper decision) writes told = λ wrote handled. (
+  left-one before later stamp (Decided paper decision) writes told = λ wrote handled away. (
     own-or-in (is_number u stamp.maker) (is_announced H later paper) (decision-told u H paper wrote handled later (is_number u stamp.maker) told)
         (announced-in u H paper wrote handled later),
     λ i. record (shown_to u H before later stamp (Decided paper decision)) {
@@ -330,183 +366,8 @@ outsiders-shown u p H out =
     on-paper s None left on_it = absurd (false≢true on_it)
     on-paper s (Some paper) left on_it =
         let same : paper ≡ p = eqb-true paper p on_it in
-        let parts = or_parts (is_author u p H) (is_eligible u p H) out in
+        let away = or_parts (is_author u p H || is_eligible u p H) (reads_visiting u p H) out in
+        let parts = or_parts (is_author u p H) (is_eligible u p H) away.0 in
         subst (λ n. IsLeft u (outsider u n H) s.kind s) same
-        (left (ap (λ n. is_author u n H) same ∙ parts.0) (ap (λ n. is_eligible u n H) same ∙ parts.1))
-
--- ---- strangers, and nobody
-
--- the entry doesn't name her on a paper, nor is she a chair whom it would show an assignment or a form
-abbrev IsUnnamed : Option ℕ → History → Entry → Type 0
-IsUnnamed u H e = (names_her u e ≡ false) × ((chairs_committee (role_of u H) && is_reviewing e) ≡ false)
-
-module _ (u : Option ℕ) (H : History) (stranger : IsStranger u H) where
-  unhandled : (p : ℕ) → is_eligible u p H ≡ false
-  unhandled p = ap (λ b. b && not (has_conflict u p H)) stranger.serving
-
-  untold : (paper user maker : ℕ) → is_number u user ≡ false → (chairs_committee (role_of u H) && true) ≡ false
-      → (is_party u H maker paper user || discusses u paper H || is_answered u paper H) ≡ true → is_number u maker ≡ false → ⊥
-  untold paper user maker unnamed chair told other =
-      seat-untold (is_number u user) (is_number u maker) (chairs_committee (role_of u H)) (not (has_conflict u paper H)) (is_eligible u paper H)
-      (is_past_reviewing (phase_of H)) (is_author u paper H) (names_reviewers (mode_of H)) (is_past_discussion (phase_of H))
-      unnamed other chair (unhandled paper) (stranger.author paper) told
-
-  -- what is her own alone isn't another's
-  hers : {A : Type 0} {own : Bool} → own ≡ false → own ≡ true → A
-  hers other own = absurd (true≢false (sym own ∙ other))
-
-  -- and what is her own, or public, is public where it is another's
-  public : (own p : Bool) → own ≡ false → (own || p) ≡ true → p ≡ true
-  public own p other left = ap (λ b. b || p) (sym other) ∙ left
-
-  title-public : (paper : ℕ) (replaced : Bool) (title : List ℕ)
-      → where_known (title_known u H paper (stranger.author paper) (unhandled paper) replaced) title
-      ≡ cond (is_in_programme paper H) (where_known (title_known u H paper (stranger.author paper) (unhandled paper) replaced) title) None
-  title-public paper replaced title =
-      let shown : Option (List ℕ) = where_known (title_known u H paper (stranger.author paper) (unhandled paper) replaced) title in
-      title-left u H paper (stranger.author paper) (unhandled paper) replaced title
-      ∙ ap (λ b. cond (b || is_in_programme paper H) shown None) stranger.serving
-
-  text-public : (paper : ℕ) (own replaced : Bool) (text : List ℕ) → own ≡ false
-      → where_known (text_known u H paper (stranger.author paper) (unhandled paper) own replaced) text
-      ≡ cond (appears paper H) (where_known (text_known u H paper (stranger.author paper) (unhandled paper) own replaced) text) None
-  text-public paper own replaced text other =
-      let shown : Option (List ℕ) = where_known (text_known u H paper (stranger.author paper) (unhandled paper) own replaced) text in
-      text-left u H paper (stranger.author paper) (unhandled paper) own replaced text
-      ∙ ap (λ b. cond (b || appears paper H) shown None) other
-
-  public-one : (before later : History) (stamp : Stamp) (e : Entry) → IsUnnamed u H e
-      → is_told u H before later stamp.maker e ≡ true → is_number u stamp.maker ≡ false → IsPublicIn H (shown_to u H before later stamp e)
-  public-one before later stamp (Registered user name digest) unnamed told other = λ i. record (blank kinds.Registered) {
-    mine = other i;
-    user = Some user;
-    name = Some name;
-    digest = where_known (other i) digest;
-    at = where_known (other i) stamp.at;
-    key = where_known (other i) stamp.key;
-  }
-  public-one before later stamp (Submitted paper title abstract) unnamed told other = λ i. record (blank kinds.Submitted) {
-    mine = other i;
-    paper = Some paper;
-    by = maker-left u H paper (stranger.author paper) (unhandled paper) stamp.maker i;
-    title = title-public paper (is_replaced paper later) title i;
-    abstract = text-public paper false (is_replaced paper later) abstract refl i;
-    at = where_known (other i) stamp.at;
-    key = where_known (other i) stamp.key;
-  }
-  public-one before later stamp (Coauthor paper user) unnamed told other = (
-    public (is_number u stamp.maker) (is_in_programme paper H) other
-        (coauthor-left (is_number u stamp.maker) (is_author u paper H) (is_eligible u paper H) (chairs_committee (role_of u H)) (hides_authors (mode_of H))
-        (is_in_programme paper H) (stranger.author paper) (unhandled paper) told),
-    λ i. record (shown_to u H before later stamp (Coauthor paper user)) { mine = other i; at = where_known (other i) stamp.at; key = where_known (other i) stamp.key },
-  )
-  public-one before later stamp (Revised paper title abstract) unnamed told other = (
-    public (is_number u stamp.maker || serves u H) (is_in_programme paper H) (or_from (is_number u stamp.maker) (serves u H) other stranger.serving)
-        (revision-left (is_number u stamp.maker) (is_author u paper H) (not (is_replaced paper later)) (serves u H) (is_in_programme paper H)
-        (stranger.author paper) told),
-    λ i. record (shown_to u H before later stamp (Revised paper title abstract)) {
-      mine = other i;
-      at = where_known (other i) stamp.at;
-      key = where_known (other i) stamp.key;
-      abstract = text-public paper (is_number u stamp.maker) (is_replaced paper later) abstract other i;
-    },
-  )
-  public-one before later stamp (Uploaded paper version content) unnamed told other = (
-    public (is_number u stamp.maker) (appears paper H) other
-        (upload-left (is_number u stamp.maker) (is_author u paper H) (not (is_superseded paper later)) (is_eligible u paper H) (appears paper H)
-        (stranger.author paper) (unhandled paper) told),
-    λ i. record (shown_to u H before later stamp (Uploaded paper version content)) { mine = other i; at = where_known (other i) stamp.at; key = where_known (other i) stamp.key },
-  )
-  public-one before later stamp (Bid paper value) unnamed told other =
-      hers other (bid-own (is_number u stamp.maker) (is_eligible u paper H) (chairs_committee (role_of u H)) (unhandled paper) told)
-  public-one before later stamp (Assigned paper user review_kind ordinal) unnamed told other = absurd (untold paper user stamp.maker unnamed.0 unnamed.1 told other)
-  public-one before later stamp (Unassigned paper user ordinal) unnamed told other = absurd (untold paper user stamp.maker unnamed.0 unnamed.1 told other)
-  public-one before later stamp (Reviewed paper ordinal version form) unnamed told other =
-      absurd (unreviewed (is_number u stamp.maker) (chairs_committee (role_of u H)) (not (has_conflict u paper H)) other unnamed.1
-      (left-form u H paper (stranger.author paper) (unhandled paper) before later ordinal (is_number u stamp.maker) told))
-    where
-      unreviewed : (own chair clear : Bool) → own ≡ false → (chair && true) ≡ false → (own || (chair && clear)) ≡ true → ⊥
-      unreviewed own chair clear o c led = grind (arith, o, c, led)
-  public-one before later stamp (Commented paper n ordinal text) unnamed told other =
-      hers other (comment-own (is_number u stamp.maker) (is_eligible u paper H) (is_past_reviewing (phase_of H)) (unhandled paper) told)
-  public-one before later stamp (Tagged paper tag on) unnamed told other =
-      hers other
-      (tag-own (is_number u stamp.maker) (is_committees tag) (is_chairs tag) (is_eligible u paper H) (chairs_committee (role_of u H)) (unhandled paper) told)
-  public-one before later stamp (Withdrawn paper) unnamed told other =
-      hers (or_from (is_number u stamp.maker) (serves u H) other stranger.serving)
-      (withdrawal-left (is_number u stamp.maker) (is_author u paper H) (serves u H) (stranger.author paper) told)
-  public-one before later stamp (Conflict paper user on) unnamed told other = absurd (undeclared unnamed.0 other (stranger.author paper) stranger.serving)
-    where
-      undeclared : is_number u user ≡ false → is_number u stamp.maker ≡ false → is_author u paper H ≡ false → serves u H ≡ false → ⊥
-      undeclared n o a s = grind (arith, told, n, o, a, s)
-  public-one before later stamp (Decided paper decision) unnamed told other = (
-    announced-in u H paper (stranger.author paper) (unhandled paper) later announced,
-    λ i. record (shown_to u H before later stamp (Decided paper decision)) {
-      mine = other i;
-      at = where_known (other i) stamp.at;
-      key = where_known (other i) stamp.key;
-      decision = known-not _ decision (verdict-unknown u H paper (stranger.author paper) (unhandled paper) later (is_number u stamp.maker) other) i;
-      outcome = known-not _ true (outcome-unknown u H paper (stranger.author paper) (unhandled paper) later) i;
-      accepted = where_known (announced i) true;
-    },
-  )
-    where
-      announced : is_announced H later paper ≡ true
-      announced =
-          public (is_number u stamp.maker) (is_announced H later paper) other
-          (decision-told u H paper (stranger.author paper) (unhandled paper) later (is_number u stamp.maker) told)
-  public-one before later stamp e unnamed told other = λ i. record (shown_to u H before later stamp e) { mine = other i; at = where_known (other i) stamp.at; key = where_known (other i) stamp.key }
-
-  unnamed-all : (G : History) → list_any (λ (e : Stamped). names_her u e.entry) G ≡ false
-      → (chairs_committee (role_of u H) && list_any (λ (e : Stamped). is_reviewing e.entry) G) ≡ false
-      → AllByRecursion (λ (e : Stamped). IsUnnamed u H e.entry) G
-  unnamed-all [] named led = tt
-  unnamed-all (e ∷ G) named led =
-      let names = or_parts (names_her u e.entry) (list_any (λ (e : Stamped). names_her u e.entry) G) named in
-      let leads = either (chairs_committee (role_of u H)) (is_reviewing e.entry) (list_any (λ (e : Stamped). is_reviewing e.entry) G) led in
-      ((names.0, leads.0), unnamed-all G names.1 leads.1)
-    where
-      either : (l a b : Bool) → (l && (a || b)) ≡ false → ((l && a) ≡ false) × ((l && b) ≡ false)
-      either true a b h = or_parts a b h
-      either false a b h = (refl, refl)
-
-pub strangers-shown : StrangersShown
-strangers-shown u H stranger =
-    all-view u H (λ (s : Sighting). s.mine ≡ false → IsPublicIn H s) (λ (e : Stamped). IsUnnamed u H e.entry)
-    (λ before later stamp more e unnamed told. public-one u H stranger before later stamp e unnamed told)
-    (unnamed-all u H stranger H stranger.named stranger.leading)
-
--- nobody is a stranger
-nobody-stranger : (H : History) → IsStranger None H
-nobody-stranger H = record {
-  author = λ p. list_any-nobody (authors_of p H);
-  serving = ap (λ (role : Role). is_on_committee role && is_past_submission (phase_of H)) (ap (last_or Account) (no-role H));
-  named = no-name H;
-  leading = ap (λ (role : Role). chairs_committee role && list_any (λ (e : Stamped). is_reviewing e.entry) H) (ap (last_or Account) (no-role H));
-}
-  where
-    role-entry : (e : Entry) → role_told None e ≡ []
-    role-entry (Named user role) = refl
-    role-entry e = refl
-
-    no-role : (H : History) → all_told (role_told None) H ≡ []
-    no-role [] = refl
-    no-role (e ∷ H) = ap (λ xs. xs ++ all_told (role_told None) H) (role-entry e.entry) ∙ no-role H
-
-    name-entry : (e : Entry) → names_her None e ≡ false
-    name-entry (Coauthor paper user) = refl
-    name-entry (Conflict paper user on) = refl
-    name-entry (Assigned paper user review_kind ordinal) = refl
-    name-entry (Unassigned paper user ordinal) = refl
-    name-entry e = refl
-
-    no-name : (H : History) → list_any (λ (e : Stamped). names_her None e.entry) H ≡ false
-    no-name [] = refl
-    no-name (e ∷ H) = ap (λ b. b || list_any (λ (e : Stamped). names_her None e.entry) H) (name-entry e.entry) ∙ no-name H
-
-pub nobody-shown : NobodyShown
-nobody-shown H =
-    let stranger = nobody-stranger H in
-    all-view None H (λ (s : Sighting). IsPublicIn H s) (λ (e : Stamped). IsUnnamed None H e.entry)
-    (λ before later stamp more e unnamed told. public-one None H stranger before later stamp e unnamed told refl)
-    (unnamed-all None H stranger H stranger.named stranger.leading)
+        (left (ap (λ n. is_author u n H) same ∙ parts.0) (ap (λ n. is_eligible u n H) same ∙ parts.1)
+        (ap (λ n. reads_visiting u n H) same ∙ away.1))

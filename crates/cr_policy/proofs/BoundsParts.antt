@@ -5,7 +5,8 @@ use Rattle.std.specs.List.{list_any}
 use Rattle.std.proofs.lemmas.Bool.{true≢false, false≢true, and_right}
 use Rattle.std.proofs.Math.Bool.{or-false}
 use Rattle.cr_base.specs.declared.entry.Entry.{Entry}
-use Rattle.cr_base.specs.declared.entry.Entry.TheVariants.{Registered, Submitted, Coauthor, Revised, Uploaded, Conflict, Bid, Assigned, Unassigned, PhaseSet}
+use Rattle.cr_base.specs.declared.entry.Entry.TheVariants.{Registered, Withdrawn, Submitted, Coauthor, Revised, Uploaded, Conflict, Bid, Assigned, Unassigned, PhaseSet}
+use Rattle.cr_base.specs.declared.entry.Entry.TheVariants.{Invited, Uninvited}
 use Rattle.cr_base.specs.declared.entry.Entry.TheVariants.{Reviewed, Commented, Tagged, Decided}
 use Rattle.cr_base.specs.declared.entry.Stamp.{Stamp}
 use Rattle.cr_base.specs.declared.entry.Stamped.{Stamped}
@@ -22,7 +23,7 @@ use Rattle.cr_base.specs.Decisions.{is_published}
 use Rattle.cr_base.specs.Lists.{given, is_nothing, is_number, until}
 use Rattle.cr_base.specs.Drawn.{stamped}
 use Rattle.cr_base.specs.History.{History, all_told, opens, opens_discussion, title_told, upload_told, form_told, decision_told, whole_form}
-use Rattle.cr_base.specs.HistoryFacts.{phase_of, mode_of, role_of, is_author, is_conflicted, is_withdrawn, decision_of, is_accepted}
+use Rattle.cr_base.specs.HistoryFacts.{phase_of, mode_of, role_of, is_author, is_conflicted, is_external, is_invited, is_withdrawn, decision_of, is_accepted}
 use Rattle.cr_base.specs.Phases.{is_from, is_phase}
 use Rattle.cr_base.specs.TagTexts.{is_for_all, is_for_chairs}
 use Rattle.cr_base.specs.Words.{is_anonymous, is_overt, is_member, is_chair, is_accept}
@@ -40,6 +41,7 @@ use Rattle.cr_policy.specs.ShownTo.{gives_texts, is_replaced, gives_content, is_
 use Rattle.cr_policy.specs.ShownTo.{kind_for, mark_for, moment_for, key_for, paper_for, reviewer_for, user_for, name_for, digest_for, role_for, phase_for, until_for, mode_for, maker_for}
 use Rattle.cr_policy.specs.ShownTo.{title_for, abstract_for, version_for, content_for, switch_for, value_for, review_kind_for, ordinal_for}
 use Rattle.cr_policy.specs.ShownTo.{score_for, confidence_for, to_authors_for, to_pc_for, done_for, n_for, text_for, tag_for, decision_for, outcome_for, accepted_for}
+use Rattle.cr_policy.specs.ShownTo.{has_before_her, reads_visiting}
 
 -- ---- the words of the table, and those of the bounds
 
@@ -100,7 +102,7 @@ for-committee : (tag : List ℕ) → is_for_all tag ≡ is_committees tag
 for-committee [] = refl
 for-committee (a ∷ tag) = refl
 
-for-chairs : (tag : List ℕ) → is_for_chairs tag ≡ is_chairs tag
+pub for-chairs : (tag : List ℕ) → is_for_chairs tag ≡ is_chairs tag
 for-chairs [] = refl
 for-chairs (a ∷ []) = and_right (eqb a 126) false refl
 for-chairs (a ∷ b ∷ tag) = refl
@@ -215,10 +217,22 @@ submitter-seen a c m h f k o s h' p ho hs hh hp = grind (arith, ho, hs, hh, hp)
 
 -- who is told of a revision: its title's readers, since who may read the abstract may read the title. `k` is that the paper is
 -- accepted, `z` that the conference is closed
-revision-seen : (a n m f c k z own n' s p : Bool) → n ≡ n' → (m && f) ≡ s → k ≡ p
-    → (a || ((n && m && f) || ((n && (m && not c) && f) || ((n && k) || ((n && (k && z)) || (own || false))))))
-    ≡ ((own || a) || (n' && (s || p)))
-revision-seen a n m f c k z own n' s p hn hs hp = grind (arith, hn, hs, hp)
+revision-seen : (a n m f c e k z own n' s v p : Bool) → n ≡ n' → (m && f) ≡ s → (e && f) ≡ v → k ≡ p
+    → (a || ((n && m && f) || ((n && e && f) || ((n && ((m && not c) || e) && f) || ((n && k) || ((n && (k && z)) || (own || false)))))))
+    ≡ ((own || a) || (n' && (s || v || p)))
+revision-seen a n m f c e k z own n' s v p hn hs hv hp = grind (arith, hn, hs, hv, hp)
+
+-- a title: members see it, and `e` that the reader is an external in no conflict
+title-known : (a n m e f k own n' s v p : Bool) → n ≡ n' → (m && f) ≡ s → (e && f) ≡ v → k ≡ p
+    → (a || ((n && m && f) || ((n && e && f) || ((n && k) || (own || false))))) ≡ ((own || a) || (n' && (s || v || p)))
+title-known a n m e f k own n' s v p hn hs hv hp = grind (arith, hn, hs, hv, hp)
+
+-- a withdrawal, and an invitation, of which `n` is that it names the reader, `c` that she is a chair in no conflict
+withdrawal-seen : (a m e f own s v : Bool) → (m && f) ≡ s → (e && f) ≡ v → (a || ((m && f) || ((e && f) || (own || false)))) ≡ ((own || a) || s || v)
+withdrawal-seen a m e f own s v hs hv = grind (arith, hs, hv)
+
+invitation-seen : (n c own l : Bool) → c ≡ l → (n || (c || (own || false))) ≡ (n || own || l)
+invitation-seen n c own l hc = grind (arith, hc)
 
 -- an assignment: who is told of it, who is told the reviewer, what she is to the paper, and her label. `n` is that it names the
 -- reader, `c` that she is a chair in no conflict, `m` a member in none, `f` that it is the discussion, `h` that members who wrote are
@@ -282,6 +296,25 @@ module _ (u : Option ℕ) (H : History) (at : Around) (stamp : Stamp) (more : Bo
     where
       by : (m c f s : Bool) → (m && f) ≡ s → (m && c && f) ≡ (s && c)
       by m c f s h = grind (arith, h)
+
+  -- she is an external in no conflict with the paper, and is told of it from the bidding
+  abbrev outside : ℕ → Bool
+  outside p = is_external u p H && not (is_conflicted u p H)
+
+  visiting-same : (p : ℕ) → (outside p && is_from Bidding (phase_of H)) ≡ reads_visiting u p H
+  visiting-same p =
+      λ i. ((not (member-committee (role_of u H) i) && is_invited u p H) && not (is_conflicted u p H)) && (phase-words (phase_of H)).bidding i
+
+  -- or such a member: the paper is before her
+  abbrev reading : ℕ → Bool
+  reading p = (is_member (role_of u H) && not (is_conflicted u p H)) || outside p
+
+  before-same : (p : ℕ) → (reading p && is_from Bidding (phase_of H)) ≡ has_before_her u p H
+  before-same p =
+      by (is_member (role_of u H) && not (is_conflicted u p H)) (outside p) (is_from Bidding (phase_of H)) _ _ (is_eligible-same p) (visiting-same p)
+    where
+      by : (m e f s v : Bool) → (m && f) ≡ s → (e && f) ≡ v → ((m || e) && f) ≡ (s || v)
+      by m e f s v hs hv = grind (arith, hs, hv)
 
   oversees-same : (p : ℕ) → ((is_chair (role_of u H) && not (is_conflicted u p H)) && is_from Bidding (phase_of H)) ≡ oversees u p H
   oversees-same p =
@@ -481,15 +514,21 @@ module _ (u : Option ℕ) (H : History) (at : Around) (stamp : Stamp) (more : Bo
   seen-told (Registered user name digest) = refl
   seen-told (Coauthor paper user) =
       coauthor-seen (is_author u paper H) (is_chair (role_of u H) && not (is_conflicted u paper H))
-      (is_member (role_of u H) && not (is_conflicted u paper H)) (is_anonymous (mode_of H)) (is_from Bidding (phase_of H)) (is_accepted paper H)
-      (is_number u stamp.maker) _ _ _ _ (oversees-same paper) (is_eligible-same paper) (mode-words (mode_of H)).authors (programme-same paper)
+      (reading paper) (is_anonymous (mode_of H)) (is_from Bidding (phase_of H)) (is_accepted paper H)
+      (is_number u stamp.maker) _ _ _ _ (oversees-same paper) (before-same paper) (mode-words (mode_of H)).authors (programme-same paper)
   seen-told (Revised paper title abstract) =
-      revision-seen (is_author u paper H) _ (is_member (role_of u H)) (is_from Bidding (phase_of H)) (is_conflicted u paper H) (is_accepted paper H)
-      (is_from Closed (phase_of H)) (is_number u stamp.maker) _ _ _ (none_in-replaced paper at.after) serves-same (programme-same paper)
+      revision-seen (is_author u paper H) _ (is_member (role_of u H)) (is_from Bidding (phase_of H)) (is_conflicted u paper H) (outside paper)
+      (is_accepted paper H) (is_from Closed (phase_of H)) (is_number u stamp.maker) _ _ _ _ (none_in-replaced paper at.after) serves-same
+      (visiting-same paper) (programme-same paper)
   seen-told (Uploaded paper version content) =
-      text-known (is_author u paper H) _ (is_member (role_of u H) && not (is_conflicted u paper H)) (is_from Bidding (phase_of H))
+      text-known (is_author u paper H) _ (reading paper) (is_from Bidding (phase_of H))
       (is_published (phase_of H) (is_accepted paper H)) (is_number u stamp.maker) _ _ _
-      (none_in-superseded paper at.after) (is_eligible-same paper) (appears-same paper)
+      (none_in-superseded paper at.after) (before-same paper) (appears-same paper)
+  seen-told (Withdrawn paper) =
+      withdrawal-seen (is_author u paper H) (is_member (role_of u H)) (outside paper) (is_from Bidding (phase_of H)) (is_number u stamp.maker) _ _
+      serves-same (visiting-same paper)
+  seen-told (Invited paper user) = invitation-seen (is_number u user) _ (is_number u stamp.maker) _ (administers-same paper)
+  seen-told (Uninvited paper user) = invitation-seen (is_number u user) _ (is_number u stamp.maker) _ (administers-same paper)
   seen-told (Assigned paper user review_kind ordinal) = assignment-seen paper user
   seen-told (Unassigned paper user ordinal) = assignment-seen paper user
   seen-told (Reviewed paper ordinal version form) = review-seen paper ordinal version form
@@ -539,6 +578,8 @@ module _ (u : Option ℕ) (H : History) (at : Around) (stamp : Stamp) (more : Bo
   user-one (Conflict paper user on) told = ap (λ b. where_known b user) (seen-told (Conflict paper user on) ∙ told)
   user-one (Assigned paper user review_kind ordinal) told = reviewer-shown paper user
   user-one (Unassigned paper user ordinal) told = reviewer-shown paper user
+  user-one (Invited paper user) told = ap (λ b. where_known b user) (seen-told (Invited paper user) ∙ told)
+  user-one (Uninvited paper user) told = ap (λ b. where_known b user) (seen-told (Uninvited paper user) ∙ told)
   user-one e told = refl
 
   pub digest-one : (e : Entry) → (seen e).digest ≡ digest_for u H at.before at.after stamp e
@@ -555,8 +596,8 @@ module _ (u : Option ℕ) (H : History) (at : Around) (stamp : Stamp) (more : Bo
   maker-one (Submitted paper title abstract) =
       known-same _ _ stamp.maker
       (submitter-seen (is_author u paper H) (is_chair (role_of u H) && not (is_conflicted u paper H))
-      (is_member (role_of u H) && not (is_conflicted u paper H)) (is_anonymous (mode_of H)) (is_from Bidding (phase_of H)) (is_accepted paper H)
-      _ _ _ _ (oversees-same paper) (is_eligible-same paper) (mode-words (mode_of H)).authors (programme-same paper))
+      (reading paper) (is_anonymous (mode_of H)) (is_from Bidding (phase_of H)) (is_accepted paper H)
+      _ _ _ _ (oversees-same paper) (before-same paper) (mode-words (mode_of H)).authors (programme-same paper))
   maker-one (Bid paper value) = known-same _ _ stamp.maker (or-false _ ∙ oversees-same paper)
   maker-one (Commented paper n ordinal text) = known-same _ _ stamp.maker (or-false _ ∙ writer-same paper)
   maker-one e = refl
@@ -580,19 +621,27 @@ module _ (u : Option ℕ) (H : History) (at : Around) (stamp : Stamp) (more : Bo
       ∙ same)
 
   title-shown : (paper : ℕ) (title : List ℕ) (known : Bool)
-      → (owns u H stamp.maker paper || (not (is_replaced paper at.after) && (serves u H || is_in_programme paper H))) ≡ known
-      → IsTextShown paper (is_member (role_of u H)) (is_accepted paper H) known title
+      → (owns u H stamp.maker paper || (not (is_replaced paper at.after) && (serves u H || reads_visiting u paper H || is_in_programme paper H))) ≡ known
+      → where_shown
+      (is_author u paper H
+      || ((none_in (title_told paper) at.after && is_member (role_of u H) && is_from Bidding (phase_of H))
+      || ((none_in (title_told paper) at.after && outside paper && is_from Bidding (phase_of H))
+      || ((none_in (title_told paper) at.after && is_accepted paper H) || (is_number u stamp.maker || false)))))
+      (Some title)
+      ≡ where_known known title
   title-shown paper title known same =
-      text-one paper (is_member (role_of u H)) (serves u H) (is_accepted paper H) (is_in_programme paper H) known title
-      serves-same (programme-same paper) same
+      known-same _ _ title
+      (title-known (is_author u paper H) _ (is_member (role_of u H)) (outside paper) (is_from Bidding (phase_of H)) (is_accepted paper H) (is_number u stamp.maker)
+      _ _ _ _ (none_in-replaced paper at.after) serves-same (visiting-same paper) (programme-same paper)
+      ∙ same)
 
   abstract-shown : (paper : ℕ) (abstract : List ℕ) (known : Bool)
-      → (owns u H stamp.maker paper || (not (is_replaced paper at.after) && (is_eligible u paper H || appears paper H))) ≡ known
-      → IsTextShown paper (is_member (role_of u H) && not (is_conflicted u paper H)) (is_published (phase_of H) (is_accepted paper H)) known abstract
+      → (owns u H stamp.maker paper || (not (is_replaced paper at.after) && (has_before_her u paper H || appears paper H))) ≡ known
+      → IsTextShown paper (reading paper) (is_published (phase_of H) (is_accepted paper H)) known abstract
   abstract-shown paper abstract known same =
-      text-one paper (is_member (role_of u H) && not (is_conflicted u paper H)) (is_eligible u paper H)
+      text-one paper (reading paper) (has_before_her u paper H)
       (is_published (phase_of H) (is_accepted paper H)) (appears paper H) known abstract
-      (is_eligible-same paper) (appears-same paper) same
+      (before-same paper) (appears-same paper) same
 
   pub title-one : (e : Entry) → IsWriters u H stamp.maker e → (seen e).title ≡ title_for u H at.before at.after stamp e
   title-one (Submitted paper title abstract) writes = title-shown paper title _ (own-author (is_author u paper H) (is_number u stamp.maker) _ writes)

@@ -18,7 +18,7 @@ use Rattle.cr_base.specs.HistoryFacts.{is_author}
 use Rattle.cr_policy.specs.Sighting.{Sighting}
 use Rattle.cr_policy.specs.View.{view}
 use Rattle.cr_policy.specs.ViewFacts.{only}
-use Rattle.cr_policy.specs.ShownTo.{serves, is_eligible, discusses, is_notified, is_in_programme, appears, decides, is_decided_again, is_told, where_known, gives_texts, is_replaced, gives_content, is_superseded, each_told}
+use Rattle.cr_policy.specs.ShownTo.{serves, reads_visiting, has_before_her, discusses, is_notified, is_in_programme, appears, decides, is_decided_again, is_told, where_known, gives_texts, is_replaced, gives_content, is_superseded, each_told}
 use Rattle.cr_policy.specs.ViewBounds.{part_shown, OneTitle, OneAbstract, OneContent, OneDecision}
 use Rattle.cr_policy.proofs.BoundsWalk.{shown_to, view-told}
 use Rattle.cr_policy.proofs.Walk.{only-true, only-false, flat_map-given}
@@ -159,7 +159,7 @@ pub one-title : OneTitle
 one-title u p H stranger = one-view u p H (gives_texts p) title_given (may p) (part_shown (λ (s : Sighting). s.title) p) shows
   where
     may : ℕ → Bool
-    may n = serves u H || is_in_programme n H
+    may n = serves u H || reads_visiting u n H || is_in_programme n H
 
     shows : ShowsLast u p H (gives_texts p) title_given (may p) (part_shown (λ (s : Sighting). s.title) p)
     shows before later stamp (Submitted paper title abstract) =
@@ -172,7 +172,7 @@ pub one-abstract : OneAbstract
 one-abstract u p H stranger = one-view u p H (gives_texts p) abstract_given (may p) (part_shown (λ (s : Sighting). s.abstract) p) shows
   where
     may : ℕ → Bool
-    may n = is_eligible u n H || appears n H
+    may n = has_before_her u n H || appears n H
 
     shows : ShowsLast u p H (gives_texts p) abstract_given (may p) (part_shown (λ (s : Sighting). s.abstract) p)
     shows before later stamp (Submitted paper title abstract) =
@@ -185,7 +185,7 @@ pub one-content : OneContent
 one-content u p H stranger = one-view u p H (gives_content p) content_given (may p) (part_shown (λ (s : Sighting). s.content) p) shows
   where
     may : ℕ → Bool
-    may n = is_eligible u n H || appears n H
+    may n = has_before_her u n H || appears n H
 
     shows : ShowsLast u p H (gives_content p) content_given (may p) (part_shown (λ (s : Sighting). s.content) p)
     shows before later stamp (Uploaded paper version content) =

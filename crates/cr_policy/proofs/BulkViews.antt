@@ -7,6 +7,7 @@ use Rattle.std.proofs.lemmas.List.Concat.{flat_map-append}
 use Rattle.cr_base.specs.declared.entry.Entry.{Entry}
 use Rattle.cr_base.specs.declared.entry.Entry.TheVariants.{Registered, Named, PhaseSet, ModeSet, Submitted, Coauthor, Revised, Uploaded, Withdrawn}
 use Rattle.cr_base.specs.declared.entry.Entry.TheVariants.{Conflict, Assigned, Unassigned, Reviewed, Tagged, Decided}
+use Rattle.cr_base.specs.declared.entry.Entry.TheVariants.{Dismissed, Invited, Uninvited}
 use Rattle.cr_base.specs.declared.entry.Stamp.{Stamp}
 use Rattle.cr_base.specs.declared.entry.Stamped.{Stamped}
 use Rattle.cr_base.specs.declared.words.Mode.TheVariants.{Blind}
@@ -15,8 +16,9 @@ use Rattle.cr_base.specs.declared.words.Role.TheVariants.{Account}
 use Rattle.cr_base.specs.Decisions.{is_accepted_when}
 use Rattle.cr_base.specs.Drawn.{stamped}
 use Rattle.cr_base.specs.History.{History, phase_told, mode_told, role_told, author_told, conflict_told, withdrawal_told, decision_told, registration_told}
-use Rattle.cr_base.specs.History.{title_told, upload_told, form_told, opens, opens_discussion}
+use Rattle.cr_base.specs.History.{invite_told, title_told, upload_told, form_told, opens, opens_discussion}
 use Rattle.cr_base.specs.Lists.{given, last, last_or, is_nothing, is_number, until}
+use Rattle.cr_base.specs.Words.{is_member}
 use Rattle.cr_base.proofs.ListLaws.{turned}
 use Rattle.cr_base.specs.Bulk.{IsRowEntry}
 use Rattle.cr_history.specs.Invariants.{IsRegistered}
@@ -55,6 +57,7 @@ module _ (user : ℕ) where
 
   no_role : (e : Entry) → LeavesStanding user e → role_told (Some user) e ≡ []
   no_role (Named other role) row = absurd row
+  no_role (Dismissed other) row = absurd row
   no_role e row = refl
 
   no_author : (e : Entry) → LeavesStanding user e → (p : ℕ) → author_told p user e ≡ []
@@ -69,6 +72,11 @@ module _ (user : ℕ) where
       by true own h = ap (λ (b : Bool). given b on) h
       by false own h = refl
   no_own_conflict e row p = refl
+
+  no_own_invite : (e : Entry) → LeavesStanding user e → (p : ℕ) → invite_told (Some user) p e ≡ []
+  no_own_invite (Invited paper other) row p = absurd row
+  no_own_invite (Uninvited paper other) row p = absurd row
+  no_own_invite e row p = refl
 
   no_withdrawal : (e : Entry) → LeavesStanding user e → (p : ℕ) → withdrawal_told p e ≡ []
   no_withdrawal (Withdrawn paper) row p = absurd row
@@ -149,6 +157,7 @@ module _ (stamp : Stamp) (more : Bool) (e : Entry) (row : LeavesStanding stamp.m
       let roles = behind-silent (λ (x : Stamped). role_told (Some user) x.entry) H s (no_role user e row) in
       let authors = λ (p : ℕ). behind-silent (λ (x : Stamped). author_told p x.stamp.maker x.entry) H s (no_author user e row p) in
       let conflicts = λ (p : ℕ). behind-silent (λ (x : Stamped). conflict_told (Some user) p x.entry) H s (no_own_conflict user e row p) in
+      let invites = λ (p : ℕ). behind-silent (λ (x : Stamped). invite_told (Some user) p x.entry) H s (no_own_invite user e row p) in
       let withdrawals = λ (p : ℕ). behind-silent (λ (x : Stamped). withdrawal_told p x.entry) H s (no_withdrawal user e row p) in
       let decisions = λ (p : ℕ). behind-silent (λ (x : Stamped). decision_told p x.entry) H s (no_decision user e row p) in
       λ i. record {
@@ -158,6 +167,7 @@ module _ (stamp : Stamp) (more : Bool) (e : Entry) (row : LeavesStanding stamp.m
         rank = last_or Account (roles i);
         author = λ p. list_any (is_number (Some user)) (authors p i);
         conflicted = λ p. list_any (is_number (Some user)) (authors p i) || last_or false (conflicts p i);
+        external = λ p. not (is_member (last_or Account (roles i))) && last_or false (invites p i);
         wrote = λ v p. list_any (is_number (Some v)) (authors p i);
         accepted = λ p. is_accepted_when (last_or Setup (phases i)) (last_or false (withdrawals p i)) (last (decisions p i));
       }

@@ -9,6 +9,7 @@ use Rattle.cr_base.specs.declared.command.Call.{Call}
 use Rattle.cr_base.specs.declared.command.Command.{Command}
 use Rattle.cr_base.specs.declared.command.Command.TheVariants.{SetPhase, Submit, Revise, Upload, Withdraw, Name, SetMode, SetConflict}
 use Rattle.cr_base.specs.declared.command.Command.TheVariants.{Bid, Assign, Unassign, Review, Comment, Tag, Decide, SetDeadline}
+use Rattle.cr_base.specs.declared.command.Command.TheVariants.{Dismiss, Invite, Uninvite}
 use Rattle.cr_base.specs.declared.form.Form.{Form}
 use Rattle.cr_base.specs.declared.retry.RetryKey.{RetryKey}
 use Rattle.cr_base.specs.declared.words.Decision.{Decision}
@@ -25,10 +26,10 @@ use Rattle.cr_base.specs.Lists.{is_nothing}
 use Rattle.cr_base.specs.Logins.{command_wants_login}
 use Rattle.cr_base.specs.Texts.{IsName, IsTitle, IsAbstract, IsReviewText, IsCommentText, is_name_byte, is_name, is_title_byte}
 use Rattle.cr_base.specs.Moments.{IsMoment}
-use Rattle.cr_policy.specs.Conference.{alice, bob, carol, dave, fay, gus, hal, next_morning, Digests, AreDigests, Asides, AreAsides, other_than}
+use Rattle.cr_policy.specs.Conference.{alice, bob, carol, dave, fay, gus, hal, ivy, next_morning, Digests, AreDigests, Asides, AreAsides, other_than}
 use Rattle.cr_policy.specs.Conference.{proofs, we_prove, types, we_type, drafts, we_draft, fewer_proofs, we_prove_less, more_proofs, we_prove_more}
 use Rattle.cr_policy.specs.Conference.{first_version, second_version, only_version, hot, own_tag, chairs_tag}
-use Rattle.cr_policy.specs.Conference.{first_form, second_form, last_form, alices_form, agreed}
+use Rattle.cr_policy.specs.Conference.{first_form, second_form, last_form, alices_form, ivys_form, agreed}
 use Rattle.cr_policy.specs.Conference.{registered, opened, submitted, before_bidding, having_tags, in_bidding, in_reviewing, having_comments}
 use Rattle.cr_policy.specs.Conference.{Verdicts, verdicts, in_discussion, at_notification, at_close}
 use Rattle.cr_policy.specs.ConferenceLaws.{IsReviewed, IsDecided, ConferenceLegal}
@@ -191,6 +192,7 @@ registered-legal d are =
     ∷ joins (codes "fay") d.fay refl are.fay
     ∷ joins (codes "gus") d.gus refl are.gus
     ∷ joins (codes "hal") d.hal refl are.hal
+    ∷ joins (codes "ivy") d.ivy refl are.ivy
     ∷ []
     )
     refl ([], refl)
@@ -203,6 +205,8 @@ opened-legal d mode =
     ∷ by alice (Name (Some (codes "dave")) Member) refl
     ∷ by alice (Name (Some (codes "fay")) Chair) refl
     ∷ by alice (Name (Some (codes "hal")) Member) refl
+    ∷ by alice (Name (Some (codes "ivy")) Member) refl
+    ∷ by alice (Dismiss (Some (codes "ivy"))) tt
     ∷ by alice (SetMode mode) tt
     ∷ by alice (SetPhase Submission) tt
     ∷ by alice (SetDeadline Submission (Some next_morning)) (refl, (omega arith, omega arith))
@@ -271,6 +275,10 @@ assigning_turns twin =
     by alice (Assign (Some 1) (Some (assigned_name twin)) Primary) tt
     ∷ by alice (Assign (Some 1) (Some (codes "alice")) Secondary) tt
     ∷ by alice (Assign (Some 2) (Some (codes "fay")) Pc) tt
+    ∷ by alice (Invite (Some 1) (Some (codes "ivy"))) tt
+    ∷ by alice (Uninvite (Some 1) (Some (codes "ivy"))) tt
+    ∷ by alice (Invite (Some 2) (Some (codes "ivy"))) tt
+    ∷ by alice (Assign (Some 2) (Some (codes "ivy")) Secondary) tt
     ∷ []
 
 abbrev reviewing_turns : Bool → List Turn
@@ -281,6 +289,7 @@ reviewing_turns twin =
     ∷ by (assigned twin) (Review (Some 1) first_form) (bounded-form first_form refl refl refl (ascii-review first_form.to_pc refl))
     ∷ by alice (Review (Some 1) alices_form) (bounded-form alices_form refl refl refl (ascii-review alices_form.to_pc refl))
     ∷ by (assigned twin) (Review (Some 1) second_form) (bounded-form second_form refl refl refl (ascii-review second_form.to_pc refl))
+    ∷ by ivy (Review (Some 2) ivys_form) (bounded-form ivys_form refl refl refl (ascii-review ivys_form.to_pc refl))
     ∷ []
 
 abbrev comment_turns : (a : Asides) → AreAsides a → Bool → List Turn

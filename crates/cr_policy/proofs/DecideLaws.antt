@@ -5,7 +5,6 @@ use Rattle.std.specs.Str.{bytes_eq}
 use Rattle.cr_base.specs.declared.bulk.Broken.TheVariants as broken
 use Rattle.cr_base.specs.declared.command.Call.{Call}
 use Rattle.cr_base.specs.declared.reply.AccountLine.{AccountLine}
-use Rattle.cr_base.specs.declared.reply.Rule.{Rule}
 use Rattle.cr_base.specs.declared.reply.Rule.TheVariants as rules
 use Rattle.cr_base.specs.declared.retry.RetryKey.{RetryKey}
 use Rattle.cr_base.specs.Bulk.{bulk_by_role}

@@ -7,6 +7,7 @@ use Rattle.cr_base.specs.Answering.{uploads_told}
 use Rattle.cr_base.specs.History.{History}
 use Rattle.cr_base.specs.HistoryFacts.{standing_of, is_author, uploads_of, is_accepted}
 use Rattle.cr_base.specs.Decisions.{decision_in}
+use Rattle.cr_base.specs.Invites.{is_invited_in}
 use Rattle.cr_base.specs.Page.{gets_title, gets_abstract, shows_author, gets_conflicts, gets_versions, gets_withdrawn, gets_decision}
 use Rattle.cr_base.specs.Papers.{title_at, abstract_at, uploads_at, is_withdrawn_at}
 use Rattle.cr_base.specs.Seats.{ordinal_in, labels_in}
@@ -16,10 +17,10 @@ use Rattle.cr_base.specs.Sources.{standing_at, is_accepted_in, decision_by, fact
 use Rattle.cr_history.specs.Laws.{AreTold, AreFormsTold}
 use Rattle.cr_policy.specs.View.{view}
 use Rattle.cr_policy.specs.ViewFacts.{title_in_view, abstract_in_view, authors_in_view, uploads_in_view, is_withdrawn_in_view, decision_in_view}
-use Rattle.cr_policy.specs.ViewFacts.{ordinal_in_view, seats_in_view, facts_in_view, shown_in_view}
+use Rattle.cr_policy.specs.ViewFacts.{is_invited_in_view, ordinal_in_view, seats_in_view, facts_in_view, shown_in_view}
 use Rattle.cr_policy.proofs.DecisionTells.{accepted-seen, decision-seen}
 use Rattle.cr_policy.proofs.StandingLaws.{standing_from_view, deadline-seen, accounts-seen, papers-seen, own_papers-seen, own_bytes-seen, own_comments-seen, own_bid-seen, seat-seen}
-use Rattle.cr_policy.proofs.ReviewerTells.{seat-seen_by_chair, labels-seen}
+use Rattle.cr_policy.proofs.ReviewerTells.{invited-seen_by_chair, seat-seen_by_chair, labels-seen}
 use Rattle.cr_policy.proofs.ReviewTells.{own_forms-seen}
 use Rattle.cr_policy.proofs.PageTells.{title-seen, abstract-seen, authors-seen, uploads-seen_by_author, uploads-seen, withdrawn-seen}
 
@@ -107,6 +108,10 @@ module _ (u : Option ℕ) (H : History) (told : AreTold H) (p : ℕ) where
   -- the seat of any user
   pub seat-tables : gets_conflicts by ≡ true → (v : Option ℕ) → ordinal_in_view v p (view u H) ≡ ordinal_in (tables_of H).seats v p
   seat-tables may v = seat-seen_by_chair u v p H (ap gets_conflicts (told.standing u (Some p)) ∙ may) ∙ told.ordinal v p
+
+  -- whether she is invited
+  pub invited-tables : gets_conflicts by ≡ true → (v : Option ℕ) → is_invited_in_view v p (view u H) ≡ is_invited_in (tables_of H).invites v p
+  invited-tables may v = invited-seen_by_chair u v p H (ap gets_conflicts (told.standing u (Some p)) ∙ may) ∙ told.invited v p
 
   -- and how many labels were given
   pub labels-tables : gets_conflicts by ≡ true → length (seats_in_view p (view u H)) ≡ labels_in (tables_of H).seats p

@@ -1,16 +1,16 @@
 -- Which rule is told in each case of the small conference: by computing.
 use Rattle.std.proofs.Common.{true, [], ◌∷◌, refl, arith, Some}
 use Rattle.std.specs.Prelude.{codes}
-use Rattle.cr_base.specs.declared.command.Command.TheVariants.{Name, SetConflict, SetDeadline}
+use Rattle.cr_base.specs.declared.command.Command.TheVariants.{Name, Dismiss, SetConflict, SetDeadline, Invite}
 use Rattle.cr_base.specs.declared.words.Mode.TheVariants.{Blind}
 use Rattle.cr_base.specs.declared.words.Phase.TheVariants.{Submission, Bidding, Discussion}
 use Rattle.cr_base.specs.declared.words.Role.TheVariants.{Chair}
 use Rattle.cr_base.specs.Bulk.{row_command}
 use Rattle.cr_base.specs.Deadlines.{IsDeadline}
 use Rattle.cr_policy.specs.Conference.{alice, dave, Digests, AreDigests, Asides, AreAsides}
-use Rattle.cr_policy.specs.FirstTold.{submission, bidding, discussion, gus_a_chair, dave_in_conflict}
+use Rattle.cr_policy.specs.FirstTold.{submission, bidding, discussion, gus_a_chair, dave_in_conflict, erin_in_conflict, carol_dismissed}
 use Rattle.cr_policy.specs.FirstTold.{submission_due, bidding_due, discussion_due, AreStagesLegal, FirstTold}
-use Rattle.cr_policy.specs.FirstTold.{OfTheConference, OfPapers, OfConflicts, OfReviewers, OfTheDiscussion, OfQueries, OfBulks}
+use Rattle.cr_policy.specs.FirstTold.{OfTheConference, OfPapers, OfConflicts, OfReviewers, OfExternals, OfTheDiscussion, OfQueries, OfBulks}
 use Rattle.cr_policy.specs.Witness.{morning}
 use Rattle.cr_policy.proofs.ConferenceProofs.{conference-legal, goes_on, by}
 
@@ -29,6 +29,12 @@ stages-legal d a digests asides =
       gus_a_chair = goes_on (bidding d a) (gus_a_chair d a) (by alice (Name (Some (codes "gus")) Chair) refl ∷ []) refl legal.reviewed.bidding.legal;
       dave_in_conflict =
           goes_on (bidding d a) (dave_in_conflict d a) (by dave (SetConflict (Some 1) (Some (codes "dave")) true) tt ∷ []) refl legal.reviewed.bidding.legal;
+      erin_in_conflict =
+          goes_on (bidding d a) (erin_in_conflict d a)
+          (by alice (Invite (Some 1) (Some (codes "erin"))) tt ∷ by alice (SetConflict (Some 1) (Some (codes "erin")) true) tt ∷ [])
+          refl legal.reviewed.bidding.legal;
+      carol_dismissed =
+          goes_on (bidding d a) (carol_dismissed d a) (by alice (Dismiss (Some (codes "carol"))) tt ∷ []) refl legal.reviewed.bidding.legal;
       submission_due =
           goes_on (submission d a) (submission_due d a) (by alice (SetDeadline Submission (Some morning)) (refl, in_range) ∷ []) refl legal.before.legal;
       bidding_due =
@@ -42,6 +48,9 @@ conference-told d a = record {
   name_nobody = refl;
   name_by_account = refl;
   name_out_of_phase = refl;
+  dismiss_nobody = refl;
+  dismiss_by_member = refl;
+  dismiss_out_of_phase = refl;
   mode_by_account = refl;
   phase_by_account = refl;
   deadline_by_account = refl;
@@ -116,6 +125,25 @@ reviewers-told d a = record {
   unassign_withdrawn = refl;
 }
 
+externals-told : (d : Digests) (a : Asides) → OfExternals d a
+externals-told d a = record {
+  invite_none = refl;
+  invite_nobody = refl;
+  invite_by_member = refl;
+  invite_in_conflict = refl;
+  invite_early = refl;
+  invite_withdrawn = refl;
+  invite_member = refl;
+  invite_in_conflict_again = refl;
+  uninvite_none = refl;
+  uninvite_nobody = refl;
+  uninvite_by_member = refl;
+  uninvite_in_conflict = refl;
+  uninvite_early = refl;
+  uninvite_withdrawn = refl;
+  uninvite_reviewer = refl;
+}
+
 discussion-told : (d : Digests) (a : Asides) → OfTheDiscussion d a
 discussion-told d a = record {
   review_none = refl;
@@ -146,10 +174,12 @@ queries-told d a = record {
   page_none = refl;
   content_none = refl;
   content_to_account = refl;
+  content_to_dismissed = refl;
   content_in_conflict = refl;
   content_early = refl;
   reviews_none = refl;
   reviews_to_account = refl;
+  reviews_to_dismissed = refl;
   reviews_in_conflict = refl;
   comments_none = refl;
   comments_to_author = refl;
@@ -182,6 +212,7 @@ first_told d a = record {
   papers = papers-told d a;
   conflicts = conflicts-told d a;
   reviewers = reviewers-told d a;
+  externals = externals-told d a;
   discussion = discussion-told d a;
   queries = queries-told d a;
   bulks = bulks-told d a;

@@ -9,6 +9,7 @@ use Rattle.cr_base.specs.declared.entry.Entry.{Entry}
 use Rattle.cr_base.specs.declared.entry.Entry.TheVariants.{Registered, Named, PhaseSet, ModeSet, Submitted}
 use Rattle.cr_base.specs.declared.entry.Entry.TheVariants.{Coauthor, Revised, Uploaded, Withdrawn, Conflict}
 use Rattle.cr_base.specs.declared.entry.Entry.TheVariants.{Bid, Assigned, Unassigned, Reviewed, Commented, Tagged, Decided, DeadlineSet}
+use Rattle.cr_base.specs.declared.entry.Entry.TheVariants.{Dismissed, Invited, Uninvited}
 use Rattle.cr_base.specs.declared.entry.EntryKind.{EntryKind}
 use Rattle.cr_base.specs.declared.entry.EntryKind.TheVariants as kinds
 use Rattle.cr_base.specs.declared.entry.Stamp.{Stamp}
@@ -20,16 +21,17 @@ use Rattle.cr_base.specs.declared.words.Phase.TheVariants.{Setup, Discussion}
 use Rattle.cr_base.specs.declared.words.Mode.TheVariants.{Blind}
 use Rattle.cr_base.specs.declared.words.Role.TheVariants.{Account}
 use Rattle.cr_base.specs.Lists.{given, listed, is_number, is_nothing, last_or, until}
-use Rattle.cr_base.specs.History.{History, phase_told, mode_told, role_told, author_told, conflict_told}
+use Rattle.cr_base.specs.History.{History, phase_told, mode_told, role_told, author_told, conflict_told, invite_told}
 use Rattle.cr_base.specs.History.{opens_discussion, title_told, upload_told, form_told, decision_told}
-use Rattle.cr_base.specs.HistoryFacts.{phase_of, mode_of, role_of, authors_of, is_author, is_conflict_on, is_accepted}
+use Rattle.cr_base.specs.HistoryFacts.{phase_of, mode_of, role_of, authors_of, is_author, is_conflict_on, is_invited, is_accepted}
 use Rattle.cr_base.specs.Phases.{is_phase}
+use Rattle.cr_base.specs.Words.{is_member}
 use Rattle.cr_policy.specs.Part as part
 use Rattle.cr_policy.specs.Part.{Part, whole, own_parts}
 use Rattle.cr_policy.specs.Sighting.{Sighting, where_shown, masked, entire}
 use Rattle.cr_policy.specs.Triggers.{Reader, reader, Around, Position, position_of, TriggerRow, rows, ◌see◌, applies_any, shows, none_in, none_alike, user_named}
 use Rattle.cr_policy.specs.View.{rows_at, sight, sights}
-use Rattle.cr_policy.specs.ViewFacts.{only, is_user}
+use Rattle.cr_policy.specs.ViewFacts.{only, is_user, role_by_kind, invite_by_kind}
 use Rattle.cr_policy.specs.HiddenPayload.{all_of, Outline, outline, PlaceByPlace, IsHiddenFrom, IsDeclaredAlike, HiddenPayload}
 use Rattle.cr_policy.proofs.Walk.{is_nothing-append}
 
@@ -86,6 +88,9 @@ blank_entry o user = of_kind o.kind
     of_kind kinds.Tagged = Tagged (number_in o.paper) (unwrap_or o.tag []) false
     of_kind kinds.Decided = Decided (number_in o.paper) Reject
     of_kind kinds.DeadlineSet = DeadlineSet Setup None
+    of_kind kinds.Dismissed = Dismissed user
+    of_kind kinds.Invited = Invited (number_in o.paper) user
+    of_kind kinds.Uninvited = Uninvited (number_in o.paper) user
 
 -- the same, where it is told of the reader alone whether she is named
 abbrev plain : Option ℕ → Stamped → Entry
@@ -104,6 +109,8 @@ rows-plain r at by e = of e.entry
     of (Conflict paper user on) = λ i. (sym (stands_in r.number user) i see whole) ∷ behind (rows r at by (Conflict paper user on))
     of (Assigned paper user review_kind ordinal) = λ i. (sym (stands_in r.number user) i see whole) ∷ behind (rows r at by (Assigned paper user review_kind ordinal))
     of (Unassigned paper user ordinal) = λ i. (sym (stands_in r.number user) i see whole) ∷ behind (rows r at by (Unassigned paper user ordinal))
+    of (Invited paper user) = λ i. (sym (stands_in r.number user) i see whole) ∷ behind (rows r at by (Invited paper user))
+    of (Uninvited paper user) = λ i. (sym (stands_in r.number user) i see whole) ∷ behind (rows r at by (Uninvited paper user))
     of entry = refl
 
 -- so entries alike in these have the same rows
@@ -310,12 +317,13 @@ given-only : {A : Type 0} (b : Bool) (x : A) → given b x ≡ only b (x ∷ [])
 given-only true x = refl
 given-only false x = refl
 
-role-part : (u : Option ℕ) (e : Stamped) → role_told u e.entry ≡ only (names u e) (listed (all_of e).role)
+role-part : (u : Option ℕ) (e : Stamped) → role_told u e.entry ≡ only (names u e) (role_by_kind (outline e).kind (all_of e).role)
 role-part u e = of e.entry
   where
     of : (entry : Entry) → role_told u entry
-        ≡ only (names u (record { stamp = e.stamp; more = e.more; entry = entry })) (listed (all_of (record { stamp = e.stamp; more = e.more; entry = entry })).role)
+        ≡ only (names u (record { stamp = e.stamp; more = e.more; entry = entry })) (role_by_kind (outline (record { stamp = e.stamp; more = e.more; entry = entry })).kind (all_of (record { stamp = e.stamp; more = e.more; entry = entry })).role)
     of (Named user role) = given-only (is_number u user) role
+    of (Dismissed user) = given-only (is_number u user) Account
     of entry = refl
 
 -- whether it turns a conflict of the user's on or off
@@ -326,18 +334,32 @@ conflict_with p o named on = only (named && is_number o.paper p) (of_kind o.kind
     of_kind kinds.Conflict = listed on
     of_kind _ = []
 
+-- it and the paper that is asked for are named
+turned : (a b x : Bool) → given (a && b) x ≡ only (b && a) (x ∷ [])
+turned true true x = refl
+turned true false x = refl
+turned false true x = refl
+turned false false x = refl
+
 conflict-part : (u : Option ℕ) (p : ℕ) (e : Stamped) → conflict_told u p e.entry ≡ conflict_with p (outline e) (names u e) (all_of e).on
 conflict-part u p e = of e.entry
   where
-    turned : (a b on : Bool) → given (a && b) on ≡ only (b && a) (on ∷ [])
-    turned true true on = refl
-    turned true false on = refl
-    turned false true on = refl
-    turned false false on = refl
-
     of : (entry : Entry) → conflict_told u p entry
         ≡ conflict_with p (outline (record { stamp = e.stamp; more = e.more; entry = entry })) (names u (record { stamp = e.stamp; more = e.more; entry = entry })) (all_of (record { stamp = e.stamp; more = e.more; entry = entry })).on
     of (Conflict paper user on) = turned (eqb paper p) (is_number u user) on
+    of entry = refl
+
+-- whether it invites the user, or takes that back
+abbrev invite_with : ℕ → Outline → Bool → List Bool
+invite_with p o named = only (named && is_number o.paper p) (invite_by_kind o.kind)
+
+invite-part : (u : Option ℕ) (p : ℕ) (e : Stamped) → invite_told u p e.entry ≡ invite_with p (outline e) (names u e)
+invite-part u p e = of e.entry
+  where
+    of : (entry : Entry) → invite_told u p entry
+        ≡ invite_with p (outline (record { stamp = e.stamp; more = e.more; entry = entry })) (names u (record { stamp = e.stamp; more = e.more; entry = entry }))
+    of (Invited paper user) = turned (eqb paper p) (is_number u user) true
+    of (Uninvited paper user) = turned (eqb paper p) (is_number u user) false
     of entry = refl
 
 phase-same : (u : Option ℕ) (H H' : History) → SamePlaces u H H' → phase_of H ≡ phase_of H'
@@ -354,7 +376,13 @@ role-same : (u : Option ℕ) (H H' : History) → SamePlaces u H H' → role_of 
 role-same u H H' same =
     ap (last_or Account)
     (told-same u (λ (e : Stamped). role_told u e.entry)
-    (λ e other here. role-part u e ∙ (λ i. only (here.named i) (listed (here.role i))) ∙ sym (role-part u other)) H H' same)
+    (λ e other here. role-part u e ∙ (λ i. only (here.named i) (role_by_kind (here.alike i).kind (here.role i))) ∙ sym (role-part u other)) H H' same)
+
+invite-same : (u : Option ℕ) (p : ℕ) (H H' : History) → SamePlaces u H H' → is_invited u p H ≡ is_invited u p H'
+invite-same u p H H' same =
+    ap (last_or false)
+    (told-same u (λ (e : Stamped). invite_told u p e.entry)
+    (λ e other here. invite-part u p e ∙ (λ i. invite_with p (here.alike i) (here.named i)) ∙ sym (invite-part u p other)) H H' same)
 
 conflict-same : (u : Option ℕ) (p : ℕ) (H H' : History) → SamePlaces u H H' → is_conflict_on u p H ≡ is_conflict_on u p H'
 conflict-same u p H H' same =
@@ -362,7 +390,7 @@ conflict-same u p H H' same =
     (told-same u (λ (e : Stamped). conflict_told u p e.entry)
     (λ e other here.
     conflict-part u p e
-    ∙ turned (names u e) (outline e) (all_of e).on (all_of other).on here.on
+    ∙ on_alike (names u e) (outline e) (all_of e).on (all_of other).on here.on
     ∙ (λ i. conflict_with p (here.alike i) (here.named i) (all_of other).on)
     ∙ sym (conflict-part u p other)) H H' same)
   where
@@ -372,9 +400,9 @@ conflict-same u p H H' same =
     none (x ∷ xs) [] = refl
     none (x ∷ xs) (y ∷ ys) = refl
 
-    turned : (named : Bool) (o : Outline) (on on' : Option Bool) → (named ≡ true → on ≡ on') → conflict_with p o named on ≡ conflict_with p o named on'
-    turned true o on on' h = ap (conflict_with p o true) (h refl)
-    turned false o on on' h = none _ _
+    on_alike : (named : Bool) (o : Outline) (on on' : Option Bool) → (named ≡ true → on ≡ on') → conflict_with p o named on ≡ conflict_with p o named on'
+    on_alike true o on on' h = ap (conflict_with p o true) (h refl)
+    on_alike false o on on' h = none _ _
 
 -- whether she is among the authors whom an entry gives a paper
 author-plain : (u : Option ℕ) (p : ℕ) (e : Stamped) → list_any (is_number u) (author_told p e.stamp.maker e.entry)
@@ -420,6 +448,7 @@ reader-same u H H' same accepted = λ i. record {
   rank = role-same u H H' same i;
   author = λ p. author-same u p H H' same i;
   conflicted = λ p. author-same u p H H' same i || conflict-same u p H H' same i;
+  external = λ p. not (is_member (role-same u H H' same i)) && invite-same u p H H' same i;
   wrote = (reader u H').wrote;
   accepted = λ p. accepted p i;
 }

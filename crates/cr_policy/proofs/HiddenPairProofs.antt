@@ -7,6 +7,7 @@ use Rattle.std.proofs.Math.Bool.{and-false}
 use Rattle.std.proofs.lemmas.Bool.{true≢false}
 use Rattle.cr_base.specs.declared.command.Command.TheVariants.{SetPhase, Submit, Revise, Upload, Withdraw, Name, SetMode, SetConflict}
 use Rattle.cr_base.specs.declared.command.Command.TheVariants.{Bid, Assign, Unassign, Review, Comment, Tag, Decide, SetDeadline}
+use Rattle.cr_base.specs.declared.command.Command.TheVariants.{Dismiss, Invite, Uninvite}
 use Rattle.cr_base.specs.declared.entry.Entry.TheVariants as entry
 use Rattle.cr_base.specs.declared.entry.EntryKind.{EntryKind}
 use Rattle.cr_base.specs.declared.entry.EntryKind.TheVariants as kinds
@@ -95,6 +96,13 @@ assigns chair name kind = by chair (Assign (Some 1) (Some name) kind) tt
 abbrev unassigns : ℕ → List ℕ → Turn
 unassigns chair name = by chair (Unassign (Some 1) (Some name)) tt
 
+-- and so are an account invited, and her invitation taken back, to paper 2
+abbrev invites : ℕ → List ℕ → Turn
+invites chair name = by chair (Invite (Some 2) (Some name)) tt
+
+abbrev uninvites : ℕ → List ℕ → Turn
+uninvites chair name = by chair (Uninvite (Some 2) (Some name)) tt
+
 abbrev reviews : ℕ → (form : Form) → IsForm form → Turn
 reviews user form bounded = by user (Review (Some 1) form) bounded
 
@@ -147,6 +155,9 @@ module _ (d : Digests) (are : AreDigests d) where
   assigned-so : Legal (pairs.assigned d)
   assigned-so = goes_on (pairs.in_bids Blind d) (pairs.assigned d) (assigns alice (codes "dave") Primary ∷ []) refl (bids-so Blind)
 
+  invited-so : Legal (pairs.invited d)
+  invited-so = goes_on (pairs.in_bids Blind d) (pairs.invited d) (invites alice (codes "erin") ∷ []) refl (bids-so Blind)
+
   reviews-so : Legal (pairs.in_reviews d)
   reviews-so = goes_on (pairs.assigned d) (pairs.in_reviews d) (opens Reviewing alice ∷ []) refl assigned-so
 
@@ -160,14 +171,17 @@ module _ (d : Digests) (are : AreDigests d) where
       leads Anonymous = refl
       leads mode = refl
 
+  invited_to_talk-so : Legal (pairs.invited_to_talk d)
+  invited_to_talk-so = goes_on (pairs.invited d) (pairs.invited_to_talk d) talking refl invited-so
+
 -- ---- who registers, and what the chairs set
 
 pub digest-hidden : pairs.DigestHidden
 digest-hidden d other are sized differs =
-    pair (registered-legal d are) (registered-legal (record d { hal = other }) with_other) (refl, tt) (λ p. refl) (λ p hers. refl)
+    pair (registered-legal d are) (registered-legal (record d { ivy = other }) with_other) (refl, tt) (λ p. refl) (λ p hers. refl)
     (λ same. differs (ap (λ V. last_or [] (flat_map (λ (s : Sighting). listed s.digest) V)) same))
   where
-    with_other : AreDigests (record d { hal = other })
+    with_other : AreDigests (record d { ivy = other })
     with_other = record {
       alice = are.alice;
       bob = are.bob;
@@ -176,7 +190,8 @@ digest-hidden d other are sized differs =
       erin = are.erin;
       fay = are.fay;
       gus = are.gus;
-      hal = sized;
+      hal = are.hal;
+      ivy = sized;
     }
 
 -- an account named a member
@@ -185,6 +200,12 @@ names_erin chair = by chair (Name (Some (codes "erin")) Member) refl
 
 pub namer-hidden : pairs.NamerHidden
 namer-hidden d are = once (submission-so d are Blind) (names_erin alice) (names_erin fay) [] last_mine refl refl refl refl refl
+
+abbrev dismisses : ℕ → Turn
+dismisses chair = by chair (Dismiss (Some (codes "dave"))) tt
+
+pub dismisser-hidden : pairs.DismisserHidden
+dismisser-hidden d are = once (submission-so d are Blind) (dismisses alice) (dismisses fay) [] last_mine refl refl refl refl refl
 
 pub mode_setter-hidden : pairs.ModeSetterHidden
 mode_setter-hidden d are =
@@ -339,6 +360,48 @@ unassigned-hidden d are =
 pub unassigner-hidden : pairs.UnassignerHidden
 unassigner-hidden d are =
     once (assigned-so d are) (unassigns alice (codes "dave")) (unassigns fay (codes "dave")) [] (own kinds.Unassigned) refl refl refl refl refl
+
+-- ---- invitations
+
+pub invited-hidden : pairs.InvitedHidden
+invited-hidden d are =
+    once (bids-so d are Blind) (invites alice (codes "erin")) (invites alice (codes "bob")) [] (there kinds.Invited) refl refl refl refl refl
+
+pub inviter-hidden : pairs.InviterHidden
+inviter-hidden d are =
+    once (bids-so d are Blind) (invites alice (codes "erin")) (invites fay (codes "erin")) [] (own kinds.Invited) refl refl refl refl refl
+
+abbrev invited_and_back : List ℕ → List Turn
+invited_and_back name = invites alice name ∷ uninvites alice name ∷ []
+
+pub uninvited-hidden : pairs.UninvitedHidden
+uninvited-hidden d are =
+    several (bids-so d are Blind) (invited_and_back (codes "erin")) (invited_and_back (codes "bob"))
+    (there kinds.Uninvited) refl refl (refl, (refl, tt)) refl refl
+
+pub uninviter-hidden : pairs.UninviterHidden
+uninviter-hidden d are =
+    once (invited-so d are) (uninvites alice (codes "erin")) (uninvites fay (codes "erin")) [] (own kinds.Uninvited) refl refl refl refl refl
+
+-- and what is hidden from who is invited
+pub seat-hidden_from_external : pairs.SeatHiddenFromExternal
+seat-hidden_from_external d are =
+    once (invited-so d are) (by alice (Assign (Some 2) (Some (codes "dave")) Primary) tt) (by alice (Assign (Some 2) (Some (codes "hal")) Primary) tt) []
+    (there kinds.Assigned) refl refl refl refl refl
+
+pub bid-hidden_from_external : pairs.BidHiddenFromExternal
+bid-hidden_from_external d are =
+    once (invited-so d are) (by dave (Bid (Some 2) 25) (omega arith)) (by dave (Bid (Some 2) 40) (omega arith)) []
+    (list_any (λ (s : Sighting). is_number s.value 25)) refl refl refl refl refl
+
+pub tag-hidden_from_external : pairs.TagHiddenFromExternal
+tag-hidden_from_external d are =
+    once (invited-so d are) (by dave (Tag (Some 2) hot true) refl) (by dave (Tag (Some 2) hot false) refl) [] last_on refl refl refl refl refl
+
+pub comment-hidden_from_external : pairs.CommentHiddenFromExternal
+comment-hidden_from_external d are =
+    once (invited_to_talk-so d are) (by dave (Comment (Some 2) agreed) agreed-bounded) (by carol (Comment (Some 2) we_prove) prove-commented) []
+    (list_any (λ (s : Sighting). is_text agreed s.text)) refl refl refl refl refl
 
 -- ---- reviews
 

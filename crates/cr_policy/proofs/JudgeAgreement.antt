@@ -22,17 +22,17 @@ use Rattle.cr_base.specs.declared.words.Role.TheVariants.{Account, Member, Chair
 use Rattle.cr_base.specs.Calls.{stamp_of}
 use Rattle.cr_base.specs.Checks.{Check, ◌breaks◌, judged, declare_checks, own_checks, other_checks, off_checks, conflict_case, conflict_checks}
 use Rattle.cr_base.specs.Checks.{bid_checks, reviewer_checks, assign_checks, unassign_checks}
-use Rattle.cr_base.specs.Checks.{review_checks, comment_checks, tag_checks, decide_checks}
+use Rattle.cr_base.specs.Checks.{review_checks, comment_checks, tag_checks, decide_checks, invite_checks, uninvite_checks, is_of_paper}
 use Rattle.cr_base.specs.Lists.{at_some, is_number}
 use Rattle.cr_base.specs.History.{History, Upload}
-use Rattle.cr_base.specs.Page.{is_clear_member, is_clear_chair, shows_author, gets_conflicts, gets_withdrawn}
+use Rattle.cr_base.specs.Page.{is_admitted, is_clear_external, is_clear_member, is_clear_chair, reads_paper, shows_author, gets_conflicts, gets_withdrawn}
 use Rattle.cr_base.specs.Phases.{phase_rank, is_from, is_phase, papers_may_change, authors_have_declared, conflicts_are_final, committee_works, bids_are_taken, reviews_are_written, comments_are_written, decisions_are_made, members_read_comments}
 use Rattle.cr_base.specs.Tables.{tables_of}
 use Rattle.cr_base.specs.TagTexts.{is_for_chairs}
 use Rattle.cr_base.specs.Words.{is_anonymous, is_member, is_chair}
 use Rattle.cr_base.specs.Drawn.{Drawn, revision_drawn, upload_drawn, withdrawal_drawn, conflict_drawn}
-use Rattle.cr_base.specs.Drawn.{bid_drawn, assignment_drawn, unassignment_drawn, review_drawn, comment_drawn, tag_drawn, decision_drawn}
-use Rattle.cr_base.specs.Judging.{conflict_judged, assignment_judged, unassignment_judged, judge_by, judge_by_role}
+use Rattle.cr_base.specs.Drawn.{bid_drawn, assignment_drawn, unassignment_drawn, review_drawn, comment_drawn, tag_drawn, decision_drawn, invitation_drawn, uninvitation_drawn}
+use Rattle.cr_base.specs.Judging.{conflict_judged, assignment_judged, unassignment_judged, invitation_judged, uninvitation_judged, judge_by, judge_by_role}
 use Rattle.cr_base.specs.Sources.{Facts, Shown, user_among, role_among, has_paper, paper_named, standing_at, is_accepted_in, is_late}
 use Rattle.cr_base.specs.Sources.{facts_of_tables, shown_in_tables}
 use Rattle.cr_base.proofs.CheckLaws.{NoneBroken, judged-behind, asked-behind}
@@ -41,7 +41,7 @@ use Rattle.cr_history.specs.Laws.{AreTold, AreFormsTold}
 use Rattle.cr_policy.specs.View.{view}
 use Rattle.cr_policy.specs.ViewFacts.{shown_in_view}
 use Rattle.cr_policy.specs.Judge.{judge}
-use Rattle.cr_policy.proofs.FactAgreement.{facts_in_view-tables, authors-tables, withdrawn-tables, own_uploads-tables, seat-tables, labels-tables}
+use Rattle.cr_policy.proofs.FactAgreement.{facts_in_view-tables, authors-tables, withdrawn-tables, own_uploads-tables, seat-tables, labels-tables, invited-tables}
 use Rattle.cr_policy.proofs.PageTells.{also_accepted}
 use Rattle.cr_policy.proofs.PageAgreement.{conflicts-tables}
 use Rattle.cr_policy.proofs.ReviewAgreement.{written-tables}
@@ -49,9 +49,10 @@ use Rattle.cr_policy.proofs.TalkAgreement.{comment_count-tables}
 
 -- ---- judgement
 
--- the user named, of whom it is told whether she is an author of the paper, is in conflict with it, and reviews it
-abbrev named : Role → Bool → Bool → Bool → Bool → Target
-named role herself author clash reviews = record { role = role; herself = herself; author = author; conflicted = clash; reviewer = reviews }
+-- the user named, of whom it is told whether she is an author of the paper, is in conflict with it, reviews it, and is an external of it
+abbrev named : Role → Bool → Bool → Bool → Bool → Bool → Target
+named role herself author clash reviews outside =
+    record { role = role; herself = herself; author = author; conflicted = clash; reviewer = reviews; external = outside }
 
 module _ (by : Standing) (drawn : Drawn) where
   -- these lists of checks give the same answer
@@ -68,14 +69,25 @@ module _ (by : Standing) (drawn : Drawn) where
 
   -- the page of a paper tells her if it is withdrawn
   told-author : not by.author ≡ false → gets_withdrawn by ≡ true
-  told-author h = or_left by.author (is_member by.role && begun) (not-false by.author h)
+  told-author h =
+      or_left (by.author || (is_member by.role && begun)) (is_clear_external by && begun) (or_left by.author (is_member by.role && begun) (not-false by.author h))
 
   told-member : not (is_member by.role) ≡ false → begun ≡ true → gets_withdrawn by ≡ true
-  told-member h b = or_right by.author (is_member by.role && begun) (both (is_member by.role) begun (not-false (is_member by.role) h) b)
+  told-member h b =
+      or_left (by.author || (is_member by.role && begun)) (is_clear_external by && begun)
+      (or_right by.author (is_member by.role && begun) (both (is_member by.role) begun (not-false (is_member by.role) h) b))
     where
       both : (x y : Bool) → x ≡ true → y ≡ true → (x && y) ≡ true
       both true y hx hy = hy
       both false y hx hy = hx
+
+  -- and that of an external in no conflict with it, too
+  told-admitted : not (is_admitted by) ≡ false → by.conflicted ≡ false → begun ≡ true → gets_withdrawn by ≡ true
+  told-admitted h clear b = any by.author (is_member by.role) by.external by.conflicted begun (not-false (is_admitted by) h) clear b
+    where
+      any : (author member outside clash b : Bool) → (member || outside) ≡ true → clash ≡ false → b ≡ true
+          → (author || (member && b) || ((outside && not clash) && b)) ≡ true
+      any author member outside clash b h1 h2 h3 = grind arith
 
   told-chair : not (is_chair by.role) ≡ false → begun ≡ true → gets_withdrawn by ≡ true
   told-chair h b = told-member (serves by.role h) b
@@ -110,7 +122,7 @@ module _ (by : Standing) (drawn : Drawn) where
       asked-behind
       (not (is_chair by.role) breaks rules.NotChair ∷ by.conflicted breaks rules.Conflict ∷ [])
       v w rules.Withdrawn
-      (not (is_member user.role) breaks rules.NotAMember ∷ []) drawn
+      (not (is_of_paper user) breaks rules.NotAMember ∷ []) drawn
       (λ none. same (told-chair none.0 b))
 
   off-withdrawn : (v w : Bool) (user : Target) → (gets_withdrawn by ≡ true → v ≡ w) → Alike (off_checks by v user) (off_checks by w user)
@@ -119,7 +131,7 @@ module _ (by : Standing) (drawn : Drawn) where
       (not (is_chair by.role) breaks rules.NotChair ∷ by.conflicted breaks rules.Conflict
       ∷ not (committee_works by.phase) breaks rules.WrongPhase ∷ [])
       v w rules.Withdrawn
-      (not (is_member user.role) breaks rules.NotAMember ∷ user.author breaks rules.AuthorConflict ∷ []) drawn
+      (not (is_of_paper user) breaks rules.NotAMember ∷ user.author breaks rules.AuthorConflict ∷ []) drawn
       (λ none. same (told-chair none.0 (in_committee none.1.1.0)))
 
   case-withdrawn : (on bidding final late : Bool) (user : Target) (v w : Bool) → begun ≡ bidding → (gets_withdrawn by ≡ true → v ≡ w)
@@ -135,34 +147,62 @@ module _ (by : Standing) (drawn : Drawn) where
 
   -- ---- whether the user named is an author
 
-  shown : (author chair clash b member open_ : Bool) → chair ≡ true → clash ≡ false → b ≡ true
-      → (author || ((chair && not clash) && b) || ((member && not clash) && open_ && b) || false) ≡ true
-  shown author chair clash b member open_ h1 h2 h3 = grind arith
+  shown : (author chair clash b rest : Bool) → chair ≡ true → clash ≡ false → b ≡ true → (author || ((chair && not clash) && b) || rest || false) ≡ true
+  shown author chair clash b rest h1 h2 h3 = grind arith
 
   told-clear_chair : not (is_chair by.role) ≡ false → by.conflicted ≡ false → begun ≡ true → shows_author by false ≡ true
   told-clear_chair h clear b =
-      shown by.author (is_chair by.role) by.conflicted begun (is_member by.role) (not (is_anonymous by.mode)) (not-false (is_chair by.role) h) clear b
+      shown by.author (is_chair by.role) by.conflicted begun (reads_paper by && not (is_anonymous by.mode) && begun) (not-false (is_chair by.role) h) clear b
+
+  -- and who is invited to the paper
+  told-conflicts : not (is_chair by.role) ≡ false → by.conflicted ≡ false → begun ≡ true → gets_conflicts by ≡ true
+  told-conflicts h clear b = all (is_chair by.role) by.conflicted begun (not-false (is_chair by.role) h) clear b
+    where
+      all : (chair clash b : Bool) → chair ≡ true → clash ≡ false → b ≡ true → ((chair && not clash) && b) ≡ true
+      all chair clash b h1 h2 h3 = grind arith
 
   -- this is asked only behind those that have let through one whom the view shows who is
-  off-author : (withdrawn herself : Bool) (role : Role) (x y clash clash' reviews reviews' : Bool) → (shows_author by false ≡ true → x ≡ y)
-      → Alike (off_checks by withdrawn (named role herself x clash reviews)) (off_checks by withdrawn (named role herself y clash' reviews'))
-  off-author withdrawn herself role x y clash clash' reviews reviews' same =
-      asked-behind
+  off-author : (withdrawn herself : Bool) (role : Role) (x y clash clash' reviews reviews' outside outside' : Bool)
+      → (shows_author by false ≡ true → x ≡ y) → (gets_conflicts by ≡ true → outside ≡ outside')
+      → Alike (off_checks by withdrawn (named role herself x clash reviews outside)) (off_checks by withdrawn (named role herself y clash' reviews' outside'))
+  off-author withdrawn herself role x y clash clash' reviews reviews' outside outside' same invited =
+      judged-behind
       (not (is_chair by.role) breaks rules.NotChair ∷ by.conflicted breaks rules.Conflict
-      ∷ not (committee_works by.phase) breaks rules.WrongPhase ∷ withdrawn breaks rules.Withdrawn
-      ∷ not (is_member role) breaks rules.NotAMember ∷ [])
-      x y rules.AuthorConflict [] drawn
-      (λ none. same (told-clear_chair none.0 none.1.0 (in_committee none.1.1.0)))
+      ∷ not (committee_works by.phase) breaks rules.WrongPhase ∷ withdrawn breaks rules.Withdrawn ∷ [])
+      (behind x outside) (behind y outside') drawn drawn
+      (λ none.
+      let early = in_committee none.1.1.0 in
+      ap (λ (b : Bool). judged (behind b outside) drawn) (same (told-clear_chair none.0 none.1.0 early))
+      ∙ ap (λ (b : Bool). judged (behind y b) drawn) (invited (told-conflicts none.0 none.1.0 early)))
+    where
+      behind : Bool → Bool → List Check
+      behind author out = not (is_member role || out) breaks rules.NotAMember ∷ author breaks rules.AuthorConflict ∷ []
 
-  -- and it is all that a conflict's rules ask of her ties
-  case-author : (on bidding final late withdrawn herself : Bool) (role : Role) (x y clash clash' reviews reviews' : Bool) → (shows_author by false ≡ true → x ≡ y)
-      → Alike (conflict_case on bidding final by withdrawn (named role herself x clash reviews) late)
-      (conflict_case on bidding final by withdrawn (named role herself y clash' reviews') late)
-  case-author false bidding final late withdrawn herself role x y clash clash' reviews reviews' same =
-      off-author withdrawn herself role x y clash clash' reviews reviews' same
-  case-author true false final late withdrawn herself role x y clash clash' reviews reviews' same = refl
-  case-author true true true late withdrawn herself role x y clash clash' reviews reviews' same = refl
-  case-author true true false late withdrawn herself role x y clash clash' reviews reviews' same = refl
+  -- and so is whether she is an external of the paper
+  other-outside : (withdrawn herself : Bool) (role : Role) (x y clash clash' reviews reviews' outside outside' : Bool) → begun ≡ true
+      → (gets_conflicts by ≡ true → outside ≡ outside')
+      → Alike (other_checks by withdrawn (named role herself x clash reviews outside)) (other_checks by withdrawn (named role herself y clash' reviews' outside'))
+  other-outside withdrawn herself role x y clash clash' reviews reviews' outside outside' b invited =
+      judged-behind
+      (not (is_chair by.role) breaks rules.NotChair ∷ by.conflicted breaks rules.Conflict ∷ withdrawn breaks rules.Withdrawn ∷ [])
+      (behind outside) (behind outside') drawn drawn
+      (λ none. ap (λ (out : Bool). judged (behind out) drawn) (invited (told-conflicts none.0 none.1.0 b)))
+    where
+      behind : Bool → List Check
+      behind out = not (is_member role || out) breaks rules.NotAMember ∷ []
+
+  -- and that is all that a conflict's rules ask of her ties
+  case-author : (on bidding final late withdrawn herself : Bool) (role : Role) (x y clash clash' reviews reviews' outside outside' : Bool) → begun ≡ bidding
+      → (shows_author by false ≡ true → x ≡ y) → (gets_conflicts by ≡ true → outside ≡ outside')
+      → Alike (conflict_case on bidding final by withdrawn (named role herself x clash reviews outside) late)
+      (conflict_case on bidding final by withdrawn (named role herself y clash' reviews' outside') late)
+  case-author false bidding final late withdrawn herself role x y clash clash' reviews reviews' outside outside' b same invited =
+      off-author withdrawn herself role x y clash clash' reviews reviews' outside outside' same invited
+  case-author true false final late withdrawn herself role x y clash clash' reviews reviews' outside outside' b same invited = refl
+  case-author true true true late withdrawn herself role x y clash clash' reviews reviews' outside outside' b same invited = refl
+  case-author true true false late withdrawn true role x y clash clash' reviews reviews' outside outside' b same invited = refl
+  case-author true true false late withdrawn false role x y clash clash' reviews reviews' outside outside' b same invited =
+      other-outside withdrawn false role x y clash clash' reviews reviews' outside outside' b invited
 
 -- what two sources show of papers is the same as far as a caller is told it
 record Agree (facts : Facts) (shown tabled : Shown) : Type 0 where
@@ -173,6 +213,7 @@ record Agree (facts : Facts) (shown tabled : Shown) : Type 0 where
   ordinal : (p : ℕ) → gets_conflicts (facts.standing (Some p)) ≡ true → (v : Option ℕ) → shown.ordinal v p ≡ tabled.ordinal v p
   labels : (p : ℕ) → gets_conflicts (facts.standing (Some p)) ≡ true → shown.labels p ≡ tabled.labels p
   written : (p : ℕ) → gets_conflicts (facts.standing (Some p)) ≡ true → (o : ℕ) → shown.written p o ≡ tabled.written p o
+  invited : (p : ℕ) → gets_conflicts (facts.standing (Some p)) ≡ true → (v : Option ℕ) → shown.invited v p ≡ tabled.invited v p
   comments : (p : ℕ) → is_clear_member (facts.standing (Some p)) ≡ true → members_read_comments (facts.standing (Some p)).phase ≡ true
       → length (shown.comments p) ≡ length (tabled.comments p)
 
@@ -231,22 +272,26 @@ conflict-same facts shown tabled stamp (Some p) target on same = by (role_among 
     reviews : Shown → Bool
     reviews source = is_some (source.ordinal target p)
 
+    outside : Shown → Role → Bool
+    outside source role = not (is_member role) && source.invited target p
+
     judged_by : Shown → Option Role → Result Drawn Rule
     judged_by source role =
         judged
         (conflict_checks standing (paper_named facts source (Some p))
-        (option_map (λ (r : Role). named r herself (wrote source) (clash source) (reviews source)) role) on late)
+        (option_map (λ (r : Role). named r herself (wrote source) (clash source) (reviews source) (outside source r)) role) on late)
         drawn
 
     by : (role : Option Role) → judged_by shown role ≡ judged_by tabled role
     by None = refl
     by (Some role) =
         ap (λ (row : Result Drawn Rule). cond (not (has_paper facts (Some p))) (Err rules.NoPaper) row)
-        (case-withdrawn standing drawn on bidding final late (named role herself (wrote shown) (clash shown) (reviews shown)) (shown.withdrawn p)
+        (case-withdrawn standing drawn on bidding final late (named role herself (wrote shown) (clash shown) (reviews shown) (outside shown role)) (shown.withdrawn p)
         (tabled.withdrawn p) refl (same.withdrawn p)
         ∙ case-author standing drawn on bidding final late (tabled.withdrawn p) herself role (wrote shown) (wrote tabled) (clash shown) (clash tabled)
-        (reviews shown) (reviews tabled)
-        (λ told. ap (list_any (is_number target)) (same.authors p told)))
+        (reviews shown) (reviews tabled) (outside shown role) (outside tabled role) refl
+        (λ told. ap (list_any (is_number target)) (same.authors p told))
+        (λ told. ap (λ (b : Bool). not (is_member role) && b) (same.invited p told target)))
 
 -- ---- bids, reviews, comments, tags and decisions
 
@@ -285,10 +330,15 @@ module _ (facts : Facts) (shown tabled : Shown) (same : Agree facts shown tabled
       → judged (review_checks by_member (paper_named facts shown (Some p)) late) drawn
       ≡ judged (review_checks by_member (paper_named facts tabled (Some p)) late) drawn
   review-same late drawn =
-      withdrawn-same
-      (for_members (not by_member.reviewer breaks rules.NotReviewer
-      ∷ not (reviews_are_written by_member.phase) breaks rules.WrongPhase ∷ late breaks rules.Late ∷ [])) drawn
-      (λ none. (none.1.0, begun (is_phase by_member.phase Reviewing) (is_phase by_member.phase Discussion) refl refl none.1.1.1.1.0))
+      asked-behind
+      (not (has_paper facts (Some p)) breaks rules.NoPaper ∷ not (is_admitted by_member) breaks rules.NotMember
+      ∷ by_member.conflicted breaks rules.Conflict ∷ not by_member.reviewer breaks rules.NotReviewer
+      ∷ not (reviews_are_written by_member.phase) breaks rules.WrongPhase ∷ late breaks rules.Late ∷ [])
+      (shown.withdrawn p) (tabled.withdrawn p) rules.Withdrawn [] drawn
+      (λ none.
+      same.withdrawn p
+      (told-admitted by_member drawn none.1.0 none.1.1.0
+      (begun (is_phase by_member.phase Reviewing) (is_phase by_member.phase Discussion) refl refl none.1.1.1.1.0)))
     where
       begun : (r d : Bool) → is_phase by_member.phase Reviewing ≡ r → is_phase by_member.phase Discussion ≡ d → not (r || d) ≡ false
           → is_from Bidding by_member.phase ≡ true
@@ -345,14 +395,15 @@ module _ (facts : Facts) (shown tabled : Shown) (same : Agree facts shown tabled
 
 -- ---- assignments
 
--- what the rules on reviewers ask of the paper and of the user named, how many labels were given, which is drawn from, and whether a
--- form is under hers
+-- what the rules on reviewers and externals ask of the paper and of the user named, how many labels were given, which is drawn from,
+-- whether a form is under hers, and whether she is invited
 record Asked : Type 0 where
   withdrawn : Bool
   user : Target
   ordinal : Option ℕ
   labels : ℕ
   written : Bool
+  invited : Bool
 
 -- all of it is asked only behind the rules that let through a clear chair from the bidding on
 module _ (facts : Facts) (shown tabled : Shown) (same : Agree facts shown tabled) (stamp : Stamp) (p : ℕ) (target : Option ℕ) where
@@ -365,33 +416,32 @@ module _ (facts : Facts) (shown tabled : Shown) (same : Agree facts shown tabled
       let declared : Bool = list_any (is_number target) (source.conflicts p) in
       record {
         withdrawn = source.withdrawn p;
-        user = named role (is_number target stamp.maker) wrote (wrote || declared) (is_some (source.ordinal target p));
+        user = named role (is_number target stamp.maker) wrote (wrote || declared) (is_some (source.ordinal target p)) (not (is_member role) && source.invited target p);
         ordinal = source.ordinal target p;
         labels = source.labels p;
         written = at_some (source.written p) (source.ordinal target p);
+        invited = source.invited target p;
       }
 
   asked-same : (drawn : Drawn) (role : Role) → not (is_chair chair.role) ≡ false → chair.conflicted ≡ false → not (committee_works chair.phase) ≡ false
       → asked_of shown role ≡ asked_of tabled role
   asked-same drawn role h clear in_time =
       let begun : is_from Bidding chair.phase ≡ true = in_committee chair drawn in_time in
-      let told : gets_conflicts chair ≡ true =
-      all (is_chair chair.role) chair.conflicted (is_from Bidding chair.phase) (not-false (is_chair chair.role) h) clear begun in
+      let told : gets_conflicts chair ≡ true = told-conflicts chair drawn h clear begun in
       let withdrawn = same.withdrawn p (told-chair chair drawn h begun) in
       let wrote = ap (list_any (is_number target)) (same.authors p (told-clear_chair chair drawn h clear begun)) in
       let declared = ap (list_any (is_number target)) (same.conflicts p told) in
       let ordinal = same.ordinal p told target in
       let labels = same.labels p told in
+      let invited = same.invited p told target in
       λ i. record {
         withdrawn = withdrawn i;
-        user = named role (is_number target stamp.maker) (wrote i) (wrote i || declared i) (is_some (ordinal i));
+        user = named role (is_number target stamp.maker) (wrote i) (wrote i || declared i) (is_some (ordinal i)) (not (is_member role) && invited i);
         ordinal = ordinal i;
         labels = labels i;
         written = at_some (λ o. same.written p told o i) (ordinal i);
+        invited = invited i;
       }
-    where
-      all : (chair clash begun : Bool) → chair ≡ true → clash ≡ false → begun ≡ true → ((chair && not clash) && begun) ≡ true
-      all chair clash begun h1 h2 h3 = grind arith
 
   -- so are the checks on an assignment, and those on taking a reviewer off
   reviewer-same : (role : Role) (more : Asked → List Check) (drawn : Asked → Drawn)
@@ -423,7 +473,7 @@ module _ (facts : Facts) (shown tabled : Shown) (same : Agree facts shown tabled
       by None = refl
       by (Some role) =
           reviewer-same role
-          (λ asked. not (is_member asked.user.role) breaks rules.NotAMember ∷ asked.user.conflicted breaks rules.TargetConflict
+          (λ asked. not (is_of_paper asked.user) breaks rules.NotAMember ∷ asked.user.conflicted breaks rules.TargetConflict
           ∷ asked.user.reviewer breaks rules.AlreadyAssigned ∷ nat_le 26 asked.labels breaks rules.LabelsSpent ∷ [])
           (λ asked. assignment_drawn stamp p (unwrap_or target 0) kind (asked.labels + 1))
 
@@ -443,6 +493,39 @@ module _ (facts : Facts) (shown tabled : Shown) (same : Agree facts shown tabled
           reviewer-same role (λ asked. not asked.user.reviewer breaks rules.NotAssigned ∷ asked.written breaks rules.HasReview ∷ [])
           (λ asked. unassignment_drawn stamp p (unwrap_or target 0) (unwrap_or asked.ordinal 0))
 
+  -- those on an invitation, and on its end
+  invite-same : invitation_judged facts shown stamp (Some p) target ≡ invitation_judged facts tabled stamp (Some p) target
+  invite-same = by (role_among facts.accounts target)
+    where
+      judged_by : Shown → Option Role → Result Drawn Rule
+      judged_by source role =
+          judged
+          (invite_checks chair (paper_named facts source (Some p)) (option_map (λ (r : Role). (asked_of source r).user) role) (source.invited target p))
+          (invitation_drawn stamp p (unwrap_or target 0))
+
+      by : (role : Option Role) → judged_by shown role ≡ judged_by tabled role
+      by None = refl
+      by (Some role) =
+          reviewer-same role
+          (λ asked. is_member asked.user.role breaks rules.IsMember ∷ asked.user.conflicted breaks rules.TargetConflict
+          ∷ asked.invited breaks rules.AlreadyInvited ∷ [])
+          (λ asked. invitation_drawn stamp p (unwrap_or target 0))
+
+  uninvite-same : uninvitation_judged facts shown stamp (Some p) target ≡ uninvitation_judged facts tabled stamp (Some p) target
+  uninvite-same = by (role_among facts.accounts target)
+    where
+      judged_by : Shown → Option Role → Result Drawn Rule
+      judged_by source role =
+          judged
+          (uninvite_checks chair (paper_named facts source (Some p)) (option_map (λ (r : Role). (asked_of source r).user) role) (source.invited target p))
+          (uninvitation_drawn stamp p (unwrap_or target 0))
+
+      by : (role : Option Role) → judged_by shown role ≡ judged_by tabled role
+      by None = refl
+      by (Some role) =
+          reviewer-same role (λ asked. not asked.invited breaks rules.NotInvited ∷ asked.user.reviewer breaks rules.StillAssigned ∷ [])
+          (λ asked. uninvitation_drawn stamp p (unwrap_or target 0))
+
 -- so what is shown makes no other judgement than what the tables hold
 command-same : (facts : Facts) (shown tabled : Shown) (stamp : Stamp) (command : Command) → Agree facts shown tabled → judge_by facts shown stamp command
     ≡ judge_by facts tabled stamp command
@@ -458,6 +541,8 @@ command-same facts shown tabled stamp (commands.Bid (Some p) value) same =
     bid-same facts shown tabled same p (is_late facts stamp.at) (bid_drawn stamp p value)
 command-same facts shown tabled stamp (commands.Assign (Some p) name kind) same = assign-same facts shown tabled same stamp p (user_among facts.accounts name) kind
 command-same facts shown tabled stamp (commands.Unassign (Some p) name) same = unassign-same facts shown tabled same stamp p (user_among facts.accounts name)
+command-same facts shown tabled stamp (commands.Invite (Some p) name) same = invite-same facts shown tabled same stamp p (user_among facts.accounts name)
+command-same facts shown tabled stamp (commands.Uninvite (Some p) name) same = uninvite-same facts shown tabled same stamp p (user_among facts.accounts name)
 command-same facts shown tabled stamp (commands.Review (Some p) form) same =
     review-same facts shown tabled same p (is_late facts stamp.at) (review_drawn stamp p (unwrap_or (facts.own_ordinal p) 0) (length (facts.own_forms p) + 1) form)
 command-same facts shown tabled stamp (commands.Comment (Some p) text) same =
@@ -481,6 +566,7 @@ judge-tables H call kept told forms =
       conflicts = λ p may. conflicts-tables u H p kept.fits told (ap gets_conflicts (told.standing u (Some p)) ∙ may);
       ordinal = λ p may v. seat-tables u H told p may v;
       labels = λ p may. labels-tables u H told p may;
+      invited = λ p may v. invited-tables u H told p may v;
       written = λ p may o. written-tables u H told p (and_parts (is_clear_chair (standing_at (tables_of H) u (Some p))) _ may).0 o;
       comments = λ p clear discussed. comment_count-tables u H told p kept.bounded clear discussed;
     })

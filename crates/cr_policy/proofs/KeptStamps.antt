@@ -9,6 +9,7 @@ use Rattle.cr_base.specs.declared.bulk.BulkRow.{BulkRow}
 use Rattle.cr_base.specs.declared.command.Call.{Call}
 use Rattle.cr_base.specs.declared.command.Command.{Command}
 use Rattle.cr_base.specs.declared.command.Command.TheVariants.{Register, SetPhase, Submit, Revise, Upload, Withdraw, Name, SetMode, SetConflict, Bid, Assign, Unassign, Review, Comment, Tag, Decide, SetDeadline}
+use Rattle.cr_base.specs.declared.command.Command.TheVariants.{Dismiss, Invite, Uninvite}
 use Rattle.cr_base.specs.declared.entry.Entry.{Entry}
 use Rattle.cr_base.specs.declared.entry.Entry.TheVariants as entries
 use Rattle.cr_base.specs.declared.entry.Stamp.{Stamp}
@@ -17,12 +18,15 @@ use Rattle.cr_base.specs.declared.reply.Receipt.TheVariants as receipts
 use Rattle.cr_base.specs.declared.reply.Rule.{Rule}
 use Rattle.cr_base.specs.declared.reply.Rule.TheVariants as rules
 use Rattle.cr_base.specs.Bulk.{entries_of, row_command, row_judged, row_told_judged, turns_own_conflict, and_rows, and_behind, rows_judged, bulk_of_rows, bulk_behind, bulk_checks, bulk_by_role, tables_basis}
+use Rattle.cr_base.specs.Accounts.{chair_count}
 use Rattle.cr_base.specs.Calls.{BulkCall, stamp_by, stamp_of, call_of}
 use Rattle.cr_base.specs.Checks.{Check, judged, of_role, register_checks, phase_checks, deadline_checks, submit_checks, revise_checks, upload_checks}
 use Rattle.cr_base.specs.Checks.{name_checks, mode_checks, conflict_checks, bid_checks, assign_checks, unassign_checks}
 use Rattle.cr_base.specs.Checks.{review_checks, comment_checks, tag_checks, decide_checks}
+use Rattle.cr_base.specs.Checks.{dismiss_checks, invite_checks, uninvite_checks}
 use Rattle.cr_base.specs.Drawn.{Drawn, stamped, grouped, registration, registration_drawn, phase_drawn, submission, submission_drawn, revision_drawn, upload_drawn}
 use Rattle.cr_base.specs.Drawn.{withdrawal_drawn, naming_drawn, mode_drawn, conflict_drawn, bid_drawn, assignment_drawn, unassignment_drawn, review_drawn, comment_drawn, tag_drawn, decision_drawn, deadline_drawn}
+use Rattle.cr_base.specs.Drawn.{dismissal_drawn, invitation_drawn, uninvitation_drawn}
 use Rattle.cr_base.specs.History.{History, all_told}
 use Rattle.cr_base.specs.Judging.{judge_by, judge_by_role}
 use Rattle.cr_base.specs.Lists.{at_some, listed}
@@ -175,6 +179,22 @@ module _ (time : ℕ → ℕ) where
         judged-kept (tag_checks (facts.standing paper) (paper_named facts shown paper) (is_for_chairs tag)) (tag_drawn stamp (unwrap_or paper 0) tag on)
     judge_by-kept (Decide paper decision) =
         judged-kept (decide_checks (facts.standing paper) (paper_named facts shown paper)) (decision_drawn stamp (unwrap_or paper 0) decision)
+    judge_by-kept (Dismiss name) =
+        let target : Option ℕ = user_among facts.accounts name in
+        judged-kept (dismiss_checks (facts.standing None) (option_map of_role (role_among facts.accounts target)) (chair_count facts.accounts))
+        (dismissal_drawn stamp (unwrap_or target 0) (unwrap_or name []))
+    judge_by-kept (Invite paper name) =
+        let target : Option ℕ = user_among facts.accounts name in
+        judged-kept
+        (invite_checks (facts.standing paper) (paper_named facts shown paper) (target_named facts shown (Some stamp.maker) paper target)
+        (at_some (shown.invited target) paper))
+        (invitation_drawn stamp (unwrap_or paper 0) (unwrap_or target 0))
+    judge_by-kept (Uninvite paper name) =
+        let target : Option ℕ = user_among facts.accounts name in
+        judged-kept
+        (uninvite_checks (facts.standing paper) (paper_named facts shown paper) (target_named facts shown (Some stamp.maker) paper target)
+        (at_some (shown.invited target) paper))
+        (uninvitation_drawn stamp (unwrap_or paper 0) (unwrap_or target 0))
     judge_by-kept (SetDeadline phase until) =
         judged-kept (deadline_checks (facts.standing None) (facts.standing None).phase phase) (deadline_drawn stamp phase until)
 

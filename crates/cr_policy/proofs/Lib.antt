@@ -3,8 +3,10 @@ pub mod AddedLaws
 pub mod BidAgreement
 pub mod BoundsLeft
 pub mod BoundsParts
+pub mod BoundsPublic
 pub mod BoundsSeats
 pub mod BoundsTexts
+pub mod BoundsVisits
 pub mod BoundsWalk
 pub mod BoundsWritten
 pub mod BulkLaws
@@ -25,6 +27,7 @@ pub mod GoesOnLaws
 pub mod HiddenLaws
 pub mod HiddenPairLaws
 pub mod HiddenPairProofs
+pub mod InviteTells
 pub mod JudgeAgreement
 pub mod KeptStamps
 pub mod LegalLaws

@@ -1,9 +1,10 @@
 -- A command is accepted exactly where its sentence holds.
 use Rattle.std.proofs.Common.{ℕ, Bool, true, false, cond, ◌≡◌, ◌+◌, List, [], ◌∷◌, length, eqb, refl, sym, ap, ◌∙◌, ◌||◌, ◌&&◌, arith, Option, Some, None}
-use Rattle.std.specs.Prelude.{not, nat_le, nat_lt, is_ok, is_some, is_none, unwrap_or}
+use Rattle.std.specs.Prelude.{count_by, not, nat_le, nat_lt, is_ok, is_some, is_none, unwrap_or}
 use Rattle.std.specs.List.{list_any, list_all}
 use Rattle.std.specs.Option.{option_map}
-use Rattle.std.proofs.lemmas.Bool.{eqb-true}
+use Rattle.std.proofs.lemmas.Bool.{eqb-true, true≢false}
+use Rattle.std.proofs.lemmas.Bool.Decides.{nat_tests}
 use Rattle.cr_base.specs.declared.command.Command.{Command}
 use Rattle.cr_base.specs.declared.command.Command.TheVariants as commands
 use Rattle.cr_base.specs.declared.entry.Stamp.{Stamp}
@@ -19,17 +20,22 @@ use Rattle.cr_base.specs.declared.standing.Standing.{Standing}
 use Rattle.cr_base.specs.declared.words.Phase.{Phase}
 use Rattle.cr_base.specs.declared.words.Phase.TheVariants.{Setup, Submission, Bidding, Reviewing, Discussion}
 use Rattle.cr_base.specs.declared.words.Role.{Role}
-use Rattle.cr_base.specs.declared.words.Role.TheVariants.{Account}
+use Rattle.cr_base.specs.declared.words.Role.TheVariants.{Account, Member, Chair}
+use Rattle.cr_base.specs.declared.reply.AccountLine.{AccountLine}
+use Rattle.cr_base.specs.Accounts.{chair_count}
 use Rattle.cr_base.specs.Calls.{stamp_by, call_of}
 use Rattle.cr_base.specs.Checks.{Check, ◌breaks◌, judged, NamedPaper, phase_checks, deadline_checks, mode_checks, submit_checks, revise_checks, upload_checks}
 use Rattle.cr_base.specs.Checks.{of_role, register_checks, name_checks, own_checks, other_checks, conflict_case, conflict_checks, assign_checks, unassign_checks}
 use Rattle.cr_base.specs.Checks.{bid_checks, review_checks, comment_checks, tag_checks, decide_checks}
+use Rattle.cr_base.specs.Checks.{dismiss_checks, invite_checks, uninvite_checks}
 use Rattle.cr_base.specs.Drawn.{Drawn, naming_drawn, conflict_drawn, assignment_drawn, unassignment_drawn}
+use Rattle.cr_base.specs.Drawn.{dismissal_drawn, invitation_drawn, uninvitation_drawn}
 use Rattle.cr_base.specs.Judging.{name_judged, conflict_judged, assignment_judged, unassignment_judged}
+use Rattle.cr_base.specs.Judging.{dismissal_judged, invitation_judged, uninvitation_judged}
 use Rattle.cr_base.specs.Lists.{at_some, is_number}
 use Rattle.cr_base.specs.History.{History}
 use Rattle.cr_base.specs.HistoryFacts.{standing_of, phase_of, deadline_of, role_of, is_conflicted, is_withdrawn, is_author, is_reviewer, authors_of, papers_of, ordinal_of, seats_of}
-use Rattle.cr_base.specs.HistoryFacts.{accounts_of, number_of, is_written, own_comments_of, own_bytes_of, own_papers_of}
+use Rattle.cr_base.specs.HistoryFacts.{accounts_of, number_of, is_external, is_invited, is_written, own_comments_of, own_bytes_of, own_papers_of}
 use Rattle.cr_base.specs.Phases.{is_phase, is_from, is_next, mode_may_be_set, accepts_submissions, papers_may_change, authors_have_declared, conflicts_are_final, roles_are_final, committee_works, bids_are_taken, comments_are_written, decisions_are_made}
 use Rattle.cr_base.specs.Sources.{number_in, users_among, role_among, paper_named, is_late}
 use Rattle.cr_base.specs.Tables.{tables_of}
@@ -42,8 +48,10 @@ use Rattle.cr_policy.specs.Legal.{Legal}
 use Rattle.cr_policy.specs.View.{view}
 use Rattle.cr_policy.proofs.LegalLaws.{Legal-told}
 use Rattle.cr_policy.specs.MayDo.{may_register, may_name, may_set_mode, may_open, may_set_deadline, may_submit, may_change, may_upload, may_declare, may_take_back, may_bid, may_assign}
+use Rattle.cr_policy.specs.MayDo.{may_dismiss, may_invite, may_uninvite}
 use Rattle.cr_policy.specs.MayDo.{has_written, may_unassign, may_review, may_comment, may_tag, may_decide, may_do, is_accepted_from, PermissionsAsSaid}
 use Rattle.cr_policy.specs.Sentences.{now, comes_behind, in_time, lasts_or_comes, committee_at_work, is_over, is_members, is_chairs, is_above, is_paper, stands}
+use Rattle.cr_policy.specs.Sentences.{has_part, has_two_chairs}
 use Rattle.cr_policy.specs.Sentences.{administers, of_some, user_named, is_somebody, is_for_chairs_alone}
 use Rattle.cr_policy.proofs.SentenceLaws.{none_broken, judged-none_broken, phase-same, next-same, ahead-same, time-same, member-same, chair-same, in_committee-same, above-same, over-same, early-same, none-same, at-same, fewer, up_to}
 use Rattle.cr_policy.proofs.SentenceLaws.{shown_of, accepted-as, accepted-checks, number-same, by_name, all_somebody}
@@ -51,41 +59,60 @@ use Rattle.cr_policy.proofs.SentenceLaws.{shown_of, accepted-as, accepted-checks
 -- ---- conflicts
 
 -- an author's, before the bidding
-early-said : (t a late w m m' x : Bool) → m ≡ m'
-    → (not (not t) && (not (not a) && (not late && (not w && (not (not m) && true))))) ≡ ((t && not w) && m' && ((not late && a) || (false && x)))
-early-said t a late w m m' x hm = grind arith
+early-said : (t a late w m m' x y z : Bool) → m ≡ m'
+    → (not (not t) && (not (not a) && (not late && (not w && (not (not m) && true)))))
+    ≡ ((t && not w) && ((true && not late && a && m') || (false && ((x && m') || (y && z)))))
+early-said t a late w m m' x y z hm = grind arith
 
 -- never, behind the discussion
-final-said : (t w m x y : Bool) → (not (not t) && false) ≡ ((t && not w) && m && ((false && x) || (false && y)))
-final-said t w m x y = grind arith
+final-said : (t w late a m x y z : Bool) → (not (not t) && false) ≡ ((t && not w) && ((false && not late && a && m) || (false && ((x && m) || (y && z)))))
+final-said t w late a m x y z = grind arith
 
-own-said : (t w m m' x y : Bool) → m ≡ m' → (not (not t) && (not (not m) && (not w && true))) ≡ ((t && not w) && m' && ((false && x) || (true || y)))
-own-said t w m m' x y hm = grind arith
-
-other-said : (t w k k' c m m' x : Bool) → k ≡ k' → m ≡ m'
-    → (not (not t) && (not (not k) && (not c && (not w && (not (not m) && true))))) ≡ ((t && not w) && m' && ((false && x) || (false || (k' && not c))))
-other-said t w k k' c m m' x hk hm = grind arith
-
--- all of them: by whether it is the bidding or later, and whether it is later than the discussion
-declared-said : (b final t w late : Bool) (by : Standing) (user : Target) → (user.herself ≡ true → by.role ≡ user.role)
-    → (not (not t) && none_broken (conflict_case true b final by w user late))
-    ≡ ((t && not w) && is_members user.role
-    && ((not b && not late && by.author) || ((b && not final) && (user.herself || (is_chairs by.role && not by.conflicted)))))
-declared-said false final t w late by user same =
-    early-said t by.author late w (is_member user.role) (is_members user.role) (user.herself || (is_chairs by.role && not by.conflicted)) (member-same user.role)
-declared-said true true t w late by user same =
-    final-said t w (is_members user.role) (not late && by.author) (user.herself || (is_chairs by.role && not by.conflicted))
-declared-said true false t w late by user same = by_user user.herself same
+own-said : (t w late a m m' y z : Bool) → m ≡ m' → (y ≡ true → z ≡ true → m' ≡ true)
+    → (not (not t) && (not (not m) && (not w && true))) ≡ ((t && not w) && ((false && not late && a && m') || (true && ((true && m') || (y && z)))))
+own-said t w late a m m' y z hm hz = by m' y z (hm) hz
   where
+    by : (m' y z : Bool) → m ≡ m' → (y ≡ true → z ≡ true → m' ≡ true)
+        → (not (not t) && (not (not m) && (not w && true))) ≡ ((t && not w) && ((false && not late && a && m') || (true && ((true && m') || (y && z)))))
+    by true y z hm hz = grind arith
+    by false true true hm hz = absurd (true≢false (sym (hz refl refl)))
+    by false true false hm hz = grind arith
+    by false false z hm hz = grind arith
+
+other-said : (t w late a k k' c m m' p p' : Bool) → k ≡ k' → m ≡ m' → p ≡ p'
+    → (not (not t) && (not (not k) && (not c && (not w && (not (not p) && true)))))
+    ≡ ((t && not w) && ((false && not late && a && m') || (true && ((false && m') || ((k' && not c) && p')))))
+other-said t w late a k k' c m m' p p' hk hm hp = grind arith
+
+-- all of them: by whether it is the bidding or later, and whether it is later than the discussion; a chair is a member
+declared-said : (b final t w late : Bool) (by : Standing) (user : Target) → (user.herself ≡ true → by.role ≡ user.role)
+    → (part : Bool) → (is_member user.role || user.external) ≡ part
+    → (not (not t) && none_broken (conflict_case true b final by w user late))
+    ≡ ((t && not w)
+    && ((not b && not late && by.author && is_members user.role)
+    || ((b && not final) && ((user.herself && is_members user.role) || ((is_chairs by.role && not by.conflicted) && part)))))
+declared-said false final t w late by user same part is =
+    early-said t by.author late w (is_member user.role) (is_members user.role) user.herself (is_chairs by.role && not by.conflicted) part (member-same user.role)
+declared-said true true t w late by user same part is =
+    final-said t w late by.author (is_members user.role) user.herself (is_chairs by.role && not by.conflicted) part
+declared-said true false t w late by user same part is = by_user user.herself same
+  where
+    serves : (role : Role) (c : Bool) → (is_chairs role && not c) ≡ true → is_members role ≡ true
+    serves Account c h = absurd (true≢false (sym h))
+    serves Member c h = refl
+    serves Chair c h = refl
+
     by_user : (h : Bool) → (h ≡ true → by.role ≡ user.role)
         → (not (not t) && none_broken (cond h (own_checks by w) (other_checks by w user)))
-        ≡ ((t && not w) && is_members user.role && ((false && (not late && by.author)) || (h || (is_chairs by.role && not by.conflicted))))
+        ≡ ((t && not w)
+        && ((false && not late && by.author && is_members user.role)
+        || (true && ((h && is_members user.role) || ((is_chairs by.role && not by.conflicted) && part)))))
     by_user true same =
-        own-said t w (is_member by.role) (is_members user.role) (not late && by.author) (is_chairs by.role && not by.conflicted)
-        (member-same by.role ∙ ap is_members (same refl))
+        own-said t w late by.author (is_member by.role) (is_members user.role) (is_chairs by.role && not by.conflicted) part
+        (member-same by.role ∙ ap is_members (same refl)) (λ chair p. ap is_members (sym (same refl)) ∙ serves by.role by.conflicted chair)
     by_user false same =
-        other-said t w (is_chair by.role) (is_chairs by.role) by.conflicted (is_member user.role) (is_members user.role) (not late && by.author)
-        (chair-same by.role) (member-same user.role)
+        other-said t w late by.author (is_chair by.role) (is_chairs by.role) by.conflicted (is_member user.role) (is_members user.role)
+        (is_member user.role || user.external) part (chair-same by.role) (member-same user.role) is
 
 -- ---- tags for chairs
 
@@ -124,6 +151,10 @@ module _ (w : ℕ) (H : History) (legal : Legal H) (m : ℕ) (key : Option Retry
 
   time : not late ≡ in_time m H
   time = time-same (deadline_of (phase_of H) H) m
+
+  -- who is on the committee, or an external of the paper, has part in it
+  part-same : (p v : ℕ) → (is_member (role_of (Some v) H) || is_external (Some v) p H) ≡ has_part v p H
+  part-same p v = λ i. member-same (role_of (Some v) H) i || (not (member-same (role_of (Some v) H) i) && is_invited (Some v) p H)
 
   deadlines : (phase : Phase) (until : Option ℕ)
       → is_ok (judge (view u H) (call_of u m key (commands.SetDeadline phase until))) ≡ may_set_deadline w H phase
@@ -204,10 +235,10 @@ module _ (w : ℕ) (H : History) (legal : Legal H) (m : ℕ) (key : Option Retry
   reviewing None form = accepted-as u H legal m key (commands.Review None form)
   reviewing (Some p) form =
       accepted-checks u H legal m key (commands.Review (Some p) form) (review_checks (standing_of u (Some p) H) (paper_named (facts_of u H) (shown_of H) (Some p)) late) _ refl
-      ∙ said (is_paper p H) (is_member (role_of u H)) (is_conflicted u p H) (is_reviewer u p H) (is_phase (phase_of H) Reviewing)
+      ∙ said (is_paper p H) (is_member (role_of u H) || is_external u p H) (is_conflicted u p H) (is_reviewer u p H) (is_phase (phase_of H) Reviewing)
       (is_phase (phase_of H) Discussion) late (is_withdrawn p H)
-      (is_members (role_of u H)) (now Reviewing H) (now Discussion H) (in_time m H)
-      (member-same (role_of u H)) (phase-same Reviewing (phase_of H)) (phase-same Discussion (phase_of H)) time
+      (has_part w p H) (now Reviewing H) (now Discussion H) (in_time m H)
+      (part-same p w) (phase-same Reviewing (phase_of H)) (phase-same Discussion (phase_of H)) time
     where
       said : (t m c r x y l w m' x' y' l' : Bool) → m ≡ m' → x ≡ x' → y ≡ y' → not l ≡ l'
           → (not (not t) && (not (not m) && (not c && (not (not r) && (not (not (x || y)) && (not l && (not w && true)))))))
@@ -283,6 +314,32 @@ module _ (w : ℕ) (H : History) (legal : Legal H) (m : ℕ) (key : Option Retry
           (nat_le (role_number role) (role_number (role_of (Some v) H))) (is_above role (role_of (Some v) H))
           (chair-same (role_of u H)) (over-same (phase_of H)) (above-same role (role_of (Some v) H))
 
+  dismissals : (name : Option (List ℕ)) → is_ok (judge (view u H) (call_of u m key (commands.Dismiss name))) ≡ of_some (user_named name H) (may_dismiss w H)
+  dismissals name =
+      accepted-as u H legal m key (commands.Dismiss name)
+      ∙ by_name u H legal (λ (target : Option ℕ). is_ok (dismissal_judged (facts_of u H) stamp target (unwrap_or name []))) (may_dismiss w H) name refl each
+    where
+      said : (c c' o o' b b' k k' l l' : Bool) → c ≡ c' → o ≡ o' → b ≡ b' → k ≡ k' → not l ≡ l'
+          → (not (not c) && (not o && (not (not b) && (not (k && l) && true)))) ≡ (c' && not o' && b' && (not k' || l'))
+      said c c' o o' b b' k k' l l' hc ho hb hk hl = grind arith
+
+      chairs-same : chair_count (accounts_of H) ≡ count_by (λ (a : AccountLine). is_chairs a.role) (accounts_of H)
+      chairs-same = ap (λ (test : AccountLine → Bool). count_by test (accounts_of H)) (λ i a. chair-same a.role i)
+
+      more : (n : ℕ) → not (nat_le n 1) ≡ nat_le 2 n
+      more n = grind (arith, nat_tests)
+
+      each : (v : ℕ) → role_among (accounts_of H) (Some v) ≡ Some (role_of (Some v) H)
+          → is_ok (dismissal_judged (facts_of u H) stamp (Some v) (unwrap_or name [])) ≡ may_dismiss w H v
+      each v is =
+          ap (λ (o : Option Role). is_ok (judged (dismiss_checks (standing_of u None H) (option_map of_role o) (chair_count (accounts_of H))) (dismissal_drawn stamp v (unwrap_or name [])))) is
+          ∙ judged-none_broken (dismiss_checks (standing_of u None H) (Some (of_role (role_of (Some v) H))) (chair_count (accounts_of H))) (dismissal_drawn stamp v (unwrap_or name []))
+          ∙ said (is_chair (role_of u H)) (is_chairs (role_of u H)) (roles_are_final (phase_of H)) (is_over H)
+          (is_member (role_of (Some v) H)) (is_members (role_of (Some v) H)) (is_chair (role_of (Some v) H)) (is_chairs (role_of (Some v) H))
+          (nat_le (chair_count (accounts_of H)) 1) (has_two_chairs H)
+          (chair-same (role_of u H)) (over-same (phase_of H)) (member-same (role_of (Some v) H)) (chair-same (role_of (Some v) H))
+          (more (chair_count (accounts_of H)) ∙ ap (nat_le 2) chairs-same)
+
   -- ---- those that name a paper and a user
   -- the user named, as the rules ask of her at the paper
   abbrev user_at : ℕ → ℕ → Role → Target
@@ -294,6 +351,7 @@ module _ (w : ℕ) (H : History) (legal : Legal H) (m : ℕ) (key : Option Retry
         author = wrote;
         conflicted = wrote || list_any (is_number (Some v)) ((shown_of H).conflicts p);
         reviewer = is_some (ordinal_of (Some v) p H);
+        external = not (is_member role) && is_invited (Some v) p H;
       }
 
   abbrev by : ℕ → Standing
@@ -335,9 +393,10 @@ module _ (w : ℕ) (H : History) (legal : Legal H) (m : ℕ) (key : Option Retry
           ap (λ (o : Option Role). is_ok (judged (conflict_checks (by p) (named p) (option_map (user_at p v) o) true late) (conflict_drawn stamp p v true))) is
           ∙ judged-none_broken (conflict_checks (by p) (named p) (Some (user_at p v (role_of (Some v) H))) true late) (conflict_drawn stamp p v true)
           ∙ declared-said (authors_have_declared (phase_of H)) (conflicts_are_final (phase_of H)) (is_paper p H) (is_withdrawn p H) late (by p)
-          (user_at p v (role_of (Some v) H)) (same_user v)
-          ∙ (λ i. stands p H && is_members (role_of (Some v) H)
-          && ((early-same (phase_of H) i && time i && is_author (Some w) p H) || (in_committee-same (phase_of H) i && (eqb v w || administers w p H))))
+          (user_at p v (role_of (Some v) H)) (same_user v) (has_part v p H) (part-same p v)
+          ∙ (λ i. stands p H
+          && ((early-same (phase_of H) i && time i && is_author (Some w) p H && is_members (role_of (Some v) H))
+          || (in_committee-same (phase_of H) i && ((eqb v w && is_members (role_of (Some v) H)) || (administers w p H && has_part v p H)))))
 
   -- what a chair does while the committee works
   chair-said : (t k c n w k' n' rest : Bool) → k ≡ k' → n ≡ n'
@@ -368,9 +427,9 @@ module _ (w : ℕ) (H : History) (legal : Legal H) (m : ℕ) (key : Option Retry
       each v is =
           ap (λ (o : Option Role). is_ok (judged (conflict_checks (by p) (named p) (option_map (user_at p v) o) false late) (conflict_drawn stamp p v false))) is
           ∙ judged-none_broken (conflict_checks (by p) (named p) (Some (user_at p v (role_of (Some v) H))) false late) (conflict_drawn stamp p v false)
-          ∙ chair-checks p (not (not (is_member (role_of (Some v) H))) && (not (is_author (Some v) p H) && true))
-          ∙ said (stands p H && administers w p H && committee_at_work H) (is_member (role_of (Some v) H)) (is_members (role_of (Some v) H))
-          (is_author (Some v) p H) (member-same (role_of (Some v) H))
+          ∙ chair-checks p (not (not (is_member (role_of (Some v) H) || is_external (Some v) p H)) && (not (is_author (Some v) p H) && true))
+          ∙ said (stands p H && administers w p H && committee_at_work H) (is_member (role_of (Some v) H) || is_external (Some v) p H) (has_part v p H)
+          (is_author (Some v) p H) (part-same p v)
 
   assignments : (paper : Option ℕ) (name : Option (List ℕ)) (kind : Kind)
       → is_ok (judge (view (Some w) H) (call_of (Some w) m key (commands.Assign paper name kind))) ≡ of_some paper (λ p. of_some (user_named name H) (may_assign w H p))
@@ -389,12 +448,12 @@ module _ (w : ℕ) (H : History) (legal : Legal H) (m : ℕ) (key : Option Retry
       each v is =
           ap (λ (o : Option Role). is_ok (judged (assign_checks (by p) (named p) (option_map (user_at p v) o) (length (seats_of p H))) (assignment_drawn stamp p v kind (length (seats_of p H) + 1)))) is
           ∙ judged-none_broken (assign_checks (by p) (named p) (Some (user_at p v (role_of (Some v) H))) (length (seats_of p H))) (assignment_drawn stamp p v kind (length (seats_of p H) + 1))
-          ∙ chair-checks p (not (not (is_member (role_of (Some v) H))) && (not ((user_at p v Account).conflicted)
+          ∙ chair-checks p (not (not (is_member (role_of (Some v) H) || is_external (Some v) p H)) && (not ((user_at p v Account).conflicted)
           && (not (is_reviewer (Some v) p H) && (not (nat_le 26 (length (seats_of p H))) && true))))
-          ∙ said (stands p H && administers w p H && committee_at_work H) (is_member (role_of (Some v) H)) (is_members (role_of (Some v) H))
+          ∙ said (stands p H && administers w p H && committee_at_work H) (is_member (role_of (Some v) H) || is_external (Some v) p H) (has_part v p H)
           ((user_at p v Account).conflicted) (is_conflicted (Some v) p H) (is_reviewer (Some v) p H)
           (nat_le 26 (length (seats_of p H))) (nat_lt (length (seats_of p H)) 26)
-          (member-same (role_of (Some v) H)) (clash-same p v) (fewer 26 (length (seats_of p H)))
+          (part-same p v) (clash-same p v) (fewer 26 (length (seats_of p H)))
 
   unassignments : (paper : Option ℕ) (name : Option (List ℕ))
       → is_ok (judge (view (Some w) H) (call_of (Some w) m key (commands.Unassign paper name))) ≡ of_some paper (λ p. of_some (user_named name H) (may_unassign w H p))
@@ -417,6 +476,45 @@ module _ (w : ℕ) (H : History) (legal : Legal H) (m : ℕ) (key : Option Retry
           ∙ chair-checks p (not (not (is_reviewer (Some v) p H)) && (not (at_some (λ o. is_written p o H) (ordinal_of (Some v) p H)) && true))
           ∙ said (stands p H && administers w p H && committee_at_work H) (is_reviewer (Some v) p H)
           (at_some (λ o. is_written p o H) (ordinal_of (Some v) p H)) (has_written v p H) (at-same (λ o. is_written p o H) (ordinal_of (Some v) p H))
+
+  invitations : (paper : Option ℕ) (name : Option (List ℕ))
+      → is_ok (judge (view (Some w) H) (call_of (Some w) m key (commands.Invite paper name))) ≡ of_some paper (λ p. of_some (user_named name H) (may_invite w H p))
+  invitations None name = accepted-as (Some w) H legal m key (commands.Invite None name)
+  invitations (Some p) name =
+      accepted-as (Some w) H legal m key (commands.Invite (Some p) name)
+      ∙ by_name (Some w) H legal (λ (target : Option ℕ). is_ok (invitation_judged (facts_of (Some w) H) (shown_of H) stamp (Some p) target))
+      (may_invite w H p) name (nobody p [] (invitation_drawn stamp p 0)) each
+    where
+      said : (x m m' c c' i : Bool) → m ≡ m' → c ≡ c' → (x && (not m && (not c && (not i && true)))) ≡ (x && not m' && not c' && not i)
+      said x m m' c c' i hm hc = grind arith
+
+      each : (v : ℕ) → role_among (accounts_of H) (Some v) ≡ Some (role_of (Some v) H)
+          → is_ok (invitation_judged (facts_of (Some w) H) (shown_of H) stamp (Some p) (Some v)) ≡ may_invite w H p v
+      each v is =
+          ap (λ (o : Option Role). is_ok (judged (invite_checks (by p) (named p) (option_map (user_at p v) o) (is_invited (Some v) p H)) (invitation_drawn stamp p v))) is
+          ∙ judged-none_broken (invite_checks (by p) (named p) (Some (user_at p v (role_of (Some v) H))) (is_invited (Some v) p H)) (invitation_drawn stamp p v)
+          ∙ chair-checks p (not (is_member (role_of (Some v) H)) && (not ((user_at p v Account).conflicted) && (not (is_invited (Some v) p H) && true)))
+          ∙ said (stands p H && administers w p H && committee_at_work H) (is_member (role_of (Some v) H)) (is_members (role_of (Some v) H))
+          ((user_at p v Account).conflicted) (is_conflicted (Some v) p H) (is_invited (Some v) p H) (member-same (role_of (Some v) H)) (clash-same p v)
+
+  uninvitations : (paper : Option ℕ) (name : Option (List ℕ))
+      → is_ok (judge (view (Some w) H) (call_of (Some w) m key (commands.Uninvite paper name))) ≡ of_some paper (λ p. of_some (user_named name H) (may_uninvite w H p))
+  uninvitations None name = accepted-as (Some w) H legal m key (commands.Uninvite None name)
+  uninvitations (Some p) name =
+      accepted-as (Some w) H legal m key (commands.Uninvite (Some p) name)
+      ∙ by_name (Some w) H legal (λ (target : Option ℕ). is_ok (uninvitation_judged (facts_of (Some w) H) (shown_of H) stamp (Some p) target))
+      (may_uninvite w H p) name (nobody p [] (uninvitation_drawn stamp p 0)) each
+    where
+      said : (x i r : Bool) → (x && (not (not i) && (not r && true))) ≡ (x && i && not r)
+      said x i r = grind arith
+
+      each : (v : ℕ) → role_among (accounts_of H) (Some v) ≡ Some (role_of (Some v) H)
+          → is_ok (uninvitation_judged (facts_of (Some w) H) (shown_of H) stamp (Some p) (Some v)) ≡ may_uninvite w H p v
+      each v is =
+          ap (λ (o : Option Role). is_ok (judged (uninvite_checks (by p) (named p) (option_map (user_at p v) o) (is_invited (Some v) p H)) (uninvitation_drawn stamp p v))) is
+          ∙ judged-none_broken (uninvite_checks (by p) (named p) (Some (user_at p v (role_of (Some v) H))) (is_invited (Some v) p H)) (uninvitation_drawn stamp p v)
+          ∙ chair-checks p (not (not (is_invited (Some v) p H)) && (not (is_reviewer (Some v) p H) && true))
+          ∙ said (stands p H && administers w p H && committee_at_work H) (is_invited (Some v) p H) (is_reviewer (Some v) p H)
 
 -- ---- the law
 
@@ -444,6 +542,9 @@ permissions_as_said H call legal = by call.caller call.command
     by (Some w) (commands.Bid paper value) = bids w H legal call.at call.key paper value
     by (Some w) (commands.Assign paper name kind) = assignments w H legal call.at call.key paper name kind
     by (Some w) (commands.Unassign paper name) = unassignments w H legal call.at call.key paper name
+    by (Some w) (commands.Dismiss name) = dismissals w H legal call.at call.key name
+    by (Some w) (commands.Invite paper name) = invitations w H legal call.at call.key paper name
+    by (Some w) (commands.Uninvite paper name) = uninvitations w H legal call.at call.key paper name
     by (Some w) (commands.Review paper form) = reviewing w H legal call.at call.key paper form
     by (Some w) (commands.Comment paper text) = comments w H legal call.at call.key paper text
     by (Some w) (commands.Tag paper tag on) = tags w H legal call.at call.key paper tag on

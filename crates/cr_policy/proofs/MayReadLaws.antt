@@ -8,24 +8,25 @@ use Rattle.cr_base.specs.declared.command.Query.TheVariants as queries
 use Rattle.cr_base.specs.declared.report.Report.{Report}
 use Rattle.cr_base.specs.declared.report.Report.TheVariants as reports
 use Rattle.cr_base.specs.declared.words.Decision.{Decision}
-use Rattle.cr_base.specs.declared.words.Phase.TheVariants.{Reviewing, Closed}
+use Rattle.cr_base.specs.declared.words.Phase.{Phase}
+use Rattle.cr_base.specs.declared.words.Phase.TheVariants.{Setup, Submission, Bidding, Reviewing, Discussion, Notification, Closed}
 use Rattle.std.proofs.lemmas.Bool.Decides.{nat_tests}
 use Rattle.cr_base.specs.Answering.{upload_of, uploads_told, content_by, content_asked, plan_asked}
 use Rattle.cr_base.specs.Lists.{is_number}
 use Rattle.cr_base.specs.History.{History, Upload}
 use Rattle.cr_base.specs.HistoryFacts.{phase_of, role_of, is_conflicted, is_withdrawn, is_author, is_reviewer, authors_of, uploads_of}
-use Rattle.cr_base.specs.HistoryFacts.{is_accepted, is_conflict_on}
+use Rattle.cr_base.specs.HistoryFacts.{is_accepted, is_conflict_on, is_external, is_invited}
 use Rattle.cr_base.specs.Plans.{PlanPair, planned_papers, planned_members, best_plan, plan_reply}
 use Rattle.cr_base.specs.Sources.{Facts, Shown, facts_of_tables, shown_in_tables}
 use Rattle.cr_base.specs.Tables.{tables_of}
-use Rattle.cr_base.specs.Phases.{committee_works, members_see_papers, chairs_see_reviewers, reviewers_read_own, members_read_reviews, members_read_comments, members_read_decisions, authors_read_reviews, letters_are_sent, papers_may_be_accepted, papers_are_published}
+use Rattle.cr_base.specs.Phases.{committee_works, members_see_papers, chairs_see_reviewers, reviewers_read_own, externals_read_own, members_read_reviews, members_read_comments, members_read_decisions, authors_read_reviews, letters_are_sent, papers_may_be_accepted, papers_are_published}
 use Rattle.cr_base.specs.Words.{is_member, is_chair}
 use Rattle.cr_history.proofs.RuleLaws.{facts_of}
 use Rattle.cr_policy.specs.Legal.{Legal}
 use Rattle.cr_policy.specs.View.{view}
 use Rattle.cr_policy.specs.Judge.{answer, needs_login}
 use Rattle.cr_policy.specs.MayRead.{has_version, may_read_reviews, may_read_comments, may_report, may_plan, reads_content, is_told, is_answered_to, ReadingAsSaid}
-use Rattle.cr_policy.proofs.SentenceLaws.{none_broken, judged-both, phase-same, member-same, chair-same, in_committee-same, over-same, discussed-same, closed-same, begun-same, shown_of, facts-same}
+use Rattle.cr_policy.proofs.SentenceLaws.{none_broken, judged-both, phase-same, member-same, chair-same, in_committee-same, over-same, discussed-same, reviewed-same, closed-same, begun-same, shown_of, facts-same}
 use Rattle.cr_policy.proofs.SentenceLaws.{answered-as, answered-checks}
 use Rattle.cr_policy.proofs.LegalLaws.{Legal-answer, Legal-needs_login}
 use Rattle.cr_base.specs.Answering.{login_wanted}
@@ -35,8 +36,8 @@ use Rattle.cr_base.specs.Words.{is_accept}
 use Rattle.cr_base.specs.Lists.{last, last_from, listed, is_nothing}
 use Rattle.std.specs.Option.{option_map_or}
 use Rattle.cr_base.specs.declared.words.Decision.TheVariants.{Accept, Reject}
-use Rattle.cr_policy.specs.Sentences.{now, chairs, committee_at_work, before_bidding, is_over, from_discussion, is_members, is_chairs, on_committee, is_paper, accepts, is_in, is_public}
-use Rattle.cr_policy.specs.Sentences.{wrote, of_some}
+use Rattle.cr_policy.specs.Sentences.{now, chairs, committee_at_work, before_bidding, is_over, from_discussion, is_members, is_chairs, is_paper, accepts, is_in, is_public}
+use Rattle.cr_policy.specs.Sentences.{from_reviewing, has_part, wrote, of_some}
 
 -- ---- words
 
@@ -94,12 +95,19 @@ version-same false (Some version) us = by (last us)
 -- ---- what is read by whoever calls, where no login is asked for
 
 module _ (u : Option ℕ) (H : History) (legal : Legal H) where
-  -- a page: u's role, and whether she is an author
-  pages-read : (p : ℕ) → is_told (answer u (view u H) (queries.Page (Some p))) ≡ (is_paper p H && (is_members (role_of u H) || is_author u p H || is_in p H))
+  -- she is on the committee, or an external of the paper
+  abbrev has_part_in : ℕ → Bool
+  has_part_in p = is_members (role_of u H) || (not (is_members (role_of u H)) && is_invited u p H)
+
+  part-same : (p : ℕ) → (is_member (role_of u H) || is_external u p H) ≡ has_part_in p
+  part-same p = λ i. member-same (role_of u H) i || (not (member-same (role_of u H) i) && is_invited u p H)
+
+  -- a page: whether she has part in the paper, and whether she is an author
+  pages-read : (p : ℕ) → is_told (answer u (view u H) (queries.Page (Some p))) ≡ (is_paper p H && (has_part_in p || is_author u p H || is_in p H))
   pages-read p =
       answered-checks u H legal (queries.Page (Some p)) refl
-      ∙ said (is_paper p H) (is_member (role_of u H)) (is_members (role_of u H)) (is_author u p H) (is_accepted p H) (is_in p H)
-      (member-same (role_of u H)) (in-same p H)
+      ∙ said (is_paper p H) (is_member (role_of u H) || is_external u p H) (has_part_in p) (is_author u p H) (is_accepted p H) (is_in p H)
+      (part-same p) (in-same p H)
     where
       said : (t m m' a x x' : Bool) → m ≡ m' → x ≡ x' → (not (not t) && (not (not (m || a || x)) && true)) ≡ (t && (m' || a || x'))
       said t m m' a x x' hm hx = grind arith
@@ -115,13 +123,13 @@ module _ (u : Option ℕ) (H : History) (legal : Legal H) where
   some-content (Some x) = refl
 
   content-checked : (p : ℕ) (version : Option ℕ) → none_broken (content_asked (facts_of u H) (shown_of H) (Some p) version)
-      ≡ (is_paper p H && (is_public p H || (is_author u p H || ((is_members (role_of u H) && not (is_conflicted u p H)) && not (before_bidding H))))
+      ≡ (is_paper p H && (is_public p H || (is_author u p H || ((has_part_in p && not (is_conflicted u p H)) && not (before_bidding H))))
       && has_version (is_author u p H) version (uploads_of p H))
   content-checked p version =
       content-said (is_paper p H) (is_author u p H) (is_accepted p H) (is_in p H) (papers_are_published (phase_of H)) (now Closed H)
-      (is_member (role_of u H)) (is_members (role_of u H)) (is_conflicted u p H) (members_see_papers (phase_of H)) (not (before_bidding H))
+      (is_member (role_of u H) || is_external u p H) (has_part_in p) (is_conflicted u p H) (members_see_papers (phase_of H)) (not (before_bidding H))
       (is_some (content_by (facts_of u H) (shown_of H) (Some p) version)) (has_version (is_author u p H) version (uploads_of p H))
-      (in-same p H) (closed-same (phase_of H)) (member-same (role_of u H)) (begun-same (phase_of H))
+      (in-same p H) (closed-same (phase_of H)) (part-same p) (begun-same (phase_of H))
       (some-content (upload_of version (uploads_told (is_author u p H) (uploads_of p H))) ∙ version-same (is_author u p H) version (uploads_of p H))
 
   contents-read : (p : ℕ) → is_told (answer u (view u H) (queries.Content (Some p))) ≡ none_broken (content_asked (facts_of u H) (shown_of H) (Some p) None)
@@ -140,15 +148,27 @@ module _ (w : ℕ) (H : History) (legal : Legal H) where
   reviews-read None = answered-as u H legal (queries.Reviews None)
   reviews-read (Some p) =
       answered-checks u H legal (queries.Reviews (Some p)) refl
-      ∙ said (is_paper p H) (is_author u p H) (is_conflict_on u p H) (is_member (role_of u H)) (is_members (role_of u H)) (is_reviewer u p H)
+      ∙ said (is_paper p H) (is_author u p H) (is_conflict_on u p H) (is_member (role_of u H)) (is_members (role_of u H)) (is_invited u p H) (is_reviewer u p H)
       (authors_read_reviews (phase_of H)) (is_over H) (members_read_reviews (phase_of H)) (from_discussion H)
-      (reviewers_read_own (phase_of H)) (now Reviewing H)
+      (reviewers_read_own (phase_of H)) (now Reviewing H) (externals_read_own (phase_of H)) (from_reviewing H)
       (member-same (role_of u H)) (over-same (phase_of H)) (discussed-same (phase_of H)) (phase-same Reviewing (phase_of H))
+      (reviewed-same (phase_of H)) (own-then (phase_of H))
     where
-      said : (t a k m m' r o o' d d' g g' : Bool) → m ≡ m' → o ≡ o' → d ≡ d' → g ≡ g'
-          → (not (not t) && (not (a && not o) && (not (not (a || m)) && (not (not a && (a || k)) && (not (not (a || d || (r && g))) && true)))))
-          ≡ (t && ((a && o') || ((m' && not (a || k)) && (d' || (r && g')))))
-      said t a k m m' r o o' d d' g g' hm ho hd hg = grind arith
+      -- who reads her own forms in the reviewing does from then on
+      own-then : (phase : Phase) → (reviewers_read_own phase && not (externals_read_own phase)) ≡ false
+      own-then Setup = refl
+      own-then Submission = refl
+      own-then Bidding = refl
+      own-then Reviewing = refl
+      own-then Discussion = refl
+      own-then Notification = refl
+      own-then Closed = refl
+
+      said : (t a k m m' e r o o' d d' g g' s s' : Bool) → m ≡ m' → o ≡ o' → d ≡ d' → g ≡ g' → s ≡ s' → (g && not s) ≡ false
+          → (not (not t) && (not (a && not o) && (not (not (a || (m || (not m && e)))) && (not (not a && (a || k))
+          && (not (not (a || (m && d) || (r && (g || ((not m && e) && s))))) && true)))))
+          ≡ (t && ((a && o') || ((m' && not (a || k)) && (d' || (r && g'))) || ((not m' && e) && not (a || k) && r && s')))
+      said t a k m m' e r o o' d d' g g' s s' hm ho hd hg hs h = grind arith
 
   comments-read : (paper : Option ℕ) → is_told (answer u (view u H) (queries.Comments paper)) ≡ of_some paper (λ p. is_paper p H && may_read_comments w H p)
   comments-read None = answered-as u H legal (queries.Comments None)
@@ -258,9 +278,9 @@ module _ (H : History) (legal : Legal H) where
 
   page-to_all : (p : ℕ) → is_answered_to None H (queries.Page (Some p)) ≡ (is_paper p H && (is_public p H || false))
   page-to_all p =
-      sometimes (queries.Page (Some p)) (is_public p H) (is_paper p H && (is_members (role_of None H) || is_author None p H || is_in p H))
+      sometimes (queries.Page (Some p)) (is_public p H) (is_paper p H && (has_part_in None H legal p || is_author None p H || is_in p H))
       (for_nobody p) (pages-read None H legal p)
-      ∙ said (is_paper p H) (is_in p H) (now Closed H) (is_members (role_of None H)) (is_author None p H)
+      ∙ said (is_paper p H) (is_in p H) (now Closed H) (has_part_in None H legal p) (is_author None p H)
     where
       said : (t x l m a : Bool) → ((x && l) && (t && (m || a || x))) ≡ (t && ((x && l) || false))
       said t x l m a = grind arith
@@ -271,7 +291,7 @@ module _ (H : History) (legal : Legal H) where
   content-to_all query p version opened told =
       sometimes query (is_public p H) (none_broken (content_asked (facts_of None H) (shown_of H) (Some p) version)) opened told
       ∙ ap (λ (b : Bool). is_public p H && b) (content-checked None H legal p version)
-      ∙ said (is_paper p H) (is_public p H) (is_author None p H || ((is_members (role_of None H) && not (is_conflicted None p H)) && not (before_bidding H)))
+      ∙ said (is_paper p H) (is_public p H) (is_author None p H || ((has_part_in None H legal p && not (is_conflicted None p H)) && not (before_bidding H)))
       (has_version (is_author None p H) version (uploads_of p H)) (has_version false version (uploads_of p H))
       (ap (λ (a : Bool). has_version a version (uploads_of p H)) (no_author p))
     where
@@ -319,7 +339,7 @@ reading_as_said (Some w) H queries.Deadlines legal = answered-as (Some w) H lega
 reading_as_said (Some w) H queries.AcceptedPapers legal = answered-as (Some w) H legal queries.AcceptedPapers
 reading_as_said (Some w) H (queries.Page None) legal = answered-as (Some w) H legal (queries.Page None)
 reading_as_said (Some w) H (queries.Page (Some p)) legal =
-    pages-read (Some w) H legal p ∙ published-too (is_paper p H) (on_committee w H) (wrote w p H) (is_in p H) (now Closed H)
+    pages-read (Some w) H legal p ∙ published-too (is_paper p H) (has_part w p H) (wrote w p H) (is_in p H) (now Closed H)
 reading_as_said (Some w) H (queries.Content None) legal = answered-as (Some w) H legal (queries.Content None)
 reading_as_said (Some w) H (queries.Content (Some p)) legal = contents-read (Some w) H legal p ∙ content-checked (Some w) H legal p None
 reading_as_said (Some w) H (queries.Version None version) legal = answered-as (Some w) H legal (queries.Version None version)

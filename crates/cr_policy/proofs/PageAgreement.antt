@@ -24,7 +24,7 @@ use Rattle.cr_base.specs.Decisions.{is_published}
 use Rattle.cr_base.specs.History.{History, Upload, BidTold}
 use Rattle.cr_base.specs.HistoryFacts.{standing_of}
 use Rattle.cr_base.specs.Lists.{listed}
-use Rattle.cr_base.specs.Page.{PaperTexts, page_of, where_told, is_clear_member, is_clear_chair}
+use Rattle.cr_base.specs.Page.{PaperTexts, page_of, where_told, is_admitted, is_clear_external, is_clear_chair, reads_paper}
 use Rattle.cr_base.specs.Page.{gets_title, gets_abstract, shows_author, gets_conflict, gets_conflicts, gets_declared}
 use Rattle.cr_base.specs.Page.{gets_versions, gets_withdrawn, gets_bid, gets_bids, gets_label, gets_reviewers, gets_tags, gets_decision}
 use Rattle.cr_base.specs.Phases.{members_see_papers, committee_sees_authors, members_read_comments}
@@ -183,7 +183,7 @@ module _ (u : Option ℕ) (H : History) (kept : Invariants H) (told : AreTold H)
       (reply (content_by facts shown (Some p) version)) (reply (content_by facts tabled (Some p) version))
       (λ none. ap (λ (uploads : List Upload). answered (option_map (λ (upload : Upload). upload.content) (upload_of version uploads)))
       (uploads-tables u H told p
-      (reads by.author (is_published by.phase (facts.accepted p)) (is_member by.role) by.conflicted (members_see_papers by.phase)
+      (reads by.author (is_published by.phase (facts.accepted p)) (is_member by.role) by.external by.conflicted (members_see_papers by.phase)
       none.1.0 none.1.1.0 none.1.1.1.0)))
     where
       by : Standing
@@ -195,7 +195,7 @@ module _ (u : Option ℕ) (H : History) (kept : Invariants H) (told : AreTold H)
       before : List Check
       before =
           not (has_paper facts (Some p)) breaks rules.NoPaper
-          ∷ not (free || is_member by.role) breaks rules.NotMember
+          ∷ not (free || is_admitted by) breaks rules.NotMember
           ∷ (not free && by.conflicted) breaks rules.Conflict
           ∷ not (free || members_see_papers by.phase) breaks rules.WrongPhase
           ∷ []
@@ -209,9 +209,10 @@ module _ (u : Option ℕ) (H : History) (kept : Invariants H) (told : AreTold H)
       answered : Option (List ℕ) → Result Reply Rule
       answered content = judged (behind content) (reply content)
 
-      reads : (author out member clash begun : Bool) → not ((author || out) || member) ≡ false → (not (author || out) && clash) ≡ false
-          → not ((author || out) || begun) ≡ false → (author || ((member && not clash) && begun) || out) ≡ true
-      reads author out member clash begun h1 h2 h3 = grind arith
+      reads : (author out member outside clash begun : Bool) → not ((author || out) || (member || outside)) ≡ false
+          → (not (author || out) && clash) ≡ false → not ((author || out) || begun) ≡ false
+          → (author || (((member && not clash) || (outside && not clash)) && begun) || out) ≡ true
+      reads author out member outside clash begun h1 h2 h3 = grind arith
 
   -- ---- comments
 
@@ -243,16 +244,17 @@ module _ (u : Option ℕ) (H : History) (kept : Invariants H) (told : AreTold H)
   accepted_paper-same p is =
       let by : Standing = facts.standing (Some p) in
       let authors = authors-tables u H told p
-      (named by.author (is_clear_chair by && committee_sees_authors by.phase) (is_clear_member by && not (is_anonymous by.mode) && committee_sees_authors by.phase)
+      (named by.author (is_clear_chair by && committee_sees_authors by.phase) (reads_paper by && not (is_anonymous by.mode) && committee_sees_authors by.phase)
       (facts.accepted p) is) in
-      let title = title-tables u H told p (titled by.author (is_member by.role && members_see_papers by.phase) (facts.accepted p) is) in
+      let title = title-tables u H told p (titled by.author (is_member by.role && members_see_papers by.phase)
+      (is_clear_external by && members_see_papers by.phase) (facts.accepted p) is) in
       λ i. record { authors = names_in facts.accounts (authors i); paper = p; title = unwrap_or (title i) [] }
     where
       named : (a c m accepted : Bool) → accepted ≡ true → (a || c || m || accepted) ≡ true
       named a c m accepted h = grind arith
 
-      titled : (a m accepted : Bool) → accepted ≡ true → (a || m || accepted) ≡ true
-      titled a m accepted h = grind arith
+      titled : (a m e accepted : Bool) → accepted ≡ true → (a || m || e || accepted) ≡ true
+      titled a m e accepted h = grind arith
 
   accepted-tables : accepted_by facts shown ≡ accepted_by facts tabled
   accepted-tables =

@@ -11,7 +11,7 @@ use Rattle.cr_base.specs.History.{History, author_told, title_told, abstract_tol
 use Rattle.cr_base.specs.Answering.{uploads_told}
 use Rattle.cr_base.specs.HistoryFacts.{phase_of, standing_of, is_author, is_conflict_on, title_of, abstract_of, authors_of, uploads_of}
 use Rattle.cr_base.specs.HistoryFacts.{is_withdrawn, is_accepted}
-use Rattle.cr_base.specs.Page.{is_clear_member, is_clear_chair, gets_title, gets_abstract, shows_author, gets_conflicts, gets_versions, gets_withdrawn}
+use Rattle.cr_base.specs.Page.{is_clear_external, is_clear_chair, reads_paper, gets_title, gets_abstract, shows_author, gets_conflicts, gets_versions, gets_withdrawn}
 use Rattle.cr_base.specs.Phases.{members_see_papers, committee_sees_authors, chairs_see_conflicts}
 use Rattle.cr_base.specs.Words.{is_anonymous}
 use Rattle.cr_policy.specs.Part as part
@@ -31,6 +31,11 @@ text_shown a n m f out own last told = grind arith
 
 -- ---- titles
 
+-- members see it, and externals in no conflict with the paper
+title_shown : (a n m e f out own : Bool) → n ≡ true → (a || (m && f) || (e && f) || out) ≡ true
+    → (a || ((n && m && f) || ((n && e && f) || ((n && out) || (own || false))))) ≡ true
+title_shown a n m e f out own last told = grind arith
+
 pub title-seen : (u : Option ℕ) (p : ℕ) (H : History) → gets_title (standing_of u (Some p) H) (is_accepted p H) ≡ true
     → title_in_view p (view u H) ≡ title_of p H
 title-seen u p H told =
@@ -38,9 +43,10 @@ title-seen u p H told =
     (λ at e last.
     let none : Bool = none_in (title_told p) at.after in
     let begun : Bool = members_see_papers (phase_of H) in
+    let outside : Bool = is_clear_external (standing_to (reader u H) p) in
     let shown : (own : Bool)
-    → (is_author u p H || ((none && members (reader u H) && begun) || ((none && is_accepted p H) || (own || false)))) ≡ true =
-    λ own. text_shown (is_author u p H) none (members (reader u H)) begun (is_accepted p H) own last told in
+    → (is_author u p H || ((none && members (reader u H) && begun) || ((none && outside && begun) || ((none && is_accepted p H) || (own || false))))) ≡ true =
+    λ own. title_shown (is_author u p H) none (members (reader u H)) outside begun (is_accepted p H) own last told in
     title_value (reader u H) at p (record {
       submitted = λ stamp more title abstract. shown (user_named (reader u H) stamp.maker);
       revised = λ stamp more title abstract. shown (user_named (reader u H) stamp.maker);
@@ -72,7 +78,7 @@ pub abstract-seen : (u : Option ℕ) (p : ℕ) (H : History) → gets_abstract (
 abstract-seen u p H told =
     fold_last (reader u H) (abstract_seen p) (λ (e : Stamped). abstract_told p e.entry) (passes part.abstract (reader u H)) (abstract_tells (reader u H) p)
     (λ at e last.
-    let clear : Bool = is_clear_member (standing_to (reader u H) p) in
+    let clear : Bool = reads_paper (standing_to (reader u H) p) in
     let none : Bool = none_in (title_told p) at.after in
     let begun : Bool = members_see_papers (phase_of H) in
     let out : Bool = published (reader u H) p in
@@ -97,7 +103,7 @@ last_upload-seen : (u : Option ℕ) (p : ℕ) (H : History) → gets_versions (s
 last_upload-seen u p H told =
     fold_last (reader u H) (upload_seen p) (λ (e : Stamped). upload_told p e.entry) (passes part.content (reader u H)) (upload_tells (reader u H) p)
     (λ at e last.
-    let clear : Bool = is_clear_member (standing_to (reader u H) p) in
+    let clear : Bool = reads_paper (standing_to (reader u H) p) in
     upload_value (reader u H) at p (λ stamp more version content.
     text_shown (is_author u p H) (none_in (upload_told p) at.after) clear (members_see_papers (phase_of H)) (published (reader u H) p)
     (user_named (reader u H) stamp.maker) last told) e) [] H
@@ -113,14 +119,14 @@ uploads-seen u p H told = by (is_author u p H) refl
 
 -- ---- withdrawals
 
-withdrawal_shown : (a m f own : Bool) → (a || (m && f)) ≡ true → (a || ((m && f) || (own || false))) ≡ true
-withdrawal_shown a m f own told = grind arith
+withdrawal_shown : (a m e f own : Bool) → (a || (m && f) || (e && f)) ≡ true → (a || ((m && f) || ((e && f) || (own || false)))) ≡ true
+withdrawal_shown a m e f own told = grind arith
 
 pub withdrawn-seen : (u : Option ℕ) (p : ℕ) (H : History) → gets_withdrawn (standing_of u (Some p) H) ≡ true → is_withdrawn_in_view p (view u H) ≡ is_withdrawn p H
 withdrawn-seen u p H told =
     ap (last_or false) (fold_all (reader u H) (withdrawal_seen p) (λ (e : Stamped). withdrawal_told p e.entry) (is_seen (reader u H)) (withdrawal_tells (reader u H) p)
     (λ at e. withdrawal_value (reader u H) at p (λ stamp more.
-    withdrawal_shown (is_author u p H) (members (reader u H)) (members_see_papers (phase_of H)) (user_named (reader u H) stamp.maker) told) e) [] H)
+    withdrawal_shown (is_author u p H) (members (reader u H)) (is_clear_external (standing_to (reader u H) p)) (members_see_papers (phase_of H)) (user_named (reader u H) stamp.maker) told) e) [] H)
 
 -- ---- authors
 
@@ -142,7 +148,7 @@ authors-seen u p H told =
     chair = is_clear_chair (standing_to (reader u H) p)
 
     member : Bool
-    member = is_clear_member (standing_to (reader u H) p)
+    member = reads_paper (standing_to (reader u H) p)
 
     begun : Bool
     begun = committee_sees_authors (phase_of H)
@@ -154,7 +160,7 @@ authors-seen u p H told =
 -- whoever is shown a paper's authors, whatever becomes of it
 pub also_accepted : (by : Standing) (accepted : Bool) → shows_author by false ≡ true → shows_author by accepted ≡ true
 also_accepted by accepted told =
-    either by.author (is_clear_chair by && committee_sees_authors by.phase) (is_clear_member by && not (is_anonymous by.mode) && committee_sees_authors by.phase)
+    either by.author (is_clear_chair by && committee_sees_authors by.phase) (reads_paper by && not (is_anonymous by.mode) && committee_sees_authors by.phase)
     accepted told
   where
     either : (a c m accepted : Bool) → (a || c || m || false) ≡ true → (a || c || m || accepted) ≡ true

@@ -1,12 +1,11 @@
 -- Where the tables tell what a history tells, the plan told to one who may have it is by her view what it is by the tables.
-use Rattle.std.proofs.Common.{ℕ, Bool, true, false, ◌≡◌, ◌+◌, ◌==◌, List, [], ◌∷◌, length, ◌||◌, ◌&&◌, refl, ap, ◌∙◌, arith, Option, Some, None, Result}
+use Rattle.std.proofs.Common.{ℕ, Bool, true, false, ◌≡◌, ◌+◌, ◌==◌, List, [], ◌∷◌, length, ◌||◌, ◌&&◌, refl, ap, ◌∙◌, arith, Option, Some, None}
 use Rattle.std.specs.Prelude.{map, filter, find, not, nat_le, is_some}
-use Rattle.std.specs.List.{flat_map, list_any, AllByRecursion}
+use Rattle.std.specs.List.{flat_map, list_any}
 use Rattle.std.specs.Option.{option_map_or}
 use Rattle.std.proofs.lemmas.Bool.{and_parts, not-false}
 use Rattle.cr_base.specs.declared.reply.AccountLine.{AccountLine}
 use Rattle.cr_base.specs.declared.reply.Reply.{Reply}
-use Rattle.cr_base.specs.declared.reply.Rule.{Rule}
 use Rattle.cr_base.specs.declared.reply.Rule.TheVariants as rules
 use Rattle.cr_base.specs.declared.standing.Standing.{Standing}
 use Rattle.cr_base.specs.declared.words.Phase.TheVariants.{Bidding, Notification}
@@ -16,9 +15,9 @@ use Rattle.cr_base.specs.Answering.{plan_asked}
 use Rattle.cr_base.specs.Checks.{Check, ◌breaks◌, judged}
 use Rattle.cr_base.specs.History.{History, BidTold}
 use Rattle.cr_base.specs.Lists.{is_number}
-use Rattle.cr_base.specs.Page.{shows_author, gets_bids, gets_conflicts, is_clear_chair}
+use Rattle.cr_base.specs.Page.{gets_bids, gets_conflicts, is_clear_chair}
 use Rattle.cr_base.specs.Phases.{is_from, committee_works, members_see_papers}
-use Rattle.cr_base.specs.Plans.{PlanPair, has_labels_for, planned_papers, planned_members, pairs_of_paper, planned_pairs, choices, is_plan}
+use Rattle.cr_base.specs.Plans.{has_labels_for, planned_papers, planned_members, pairs_of_paper, planned_pairs, choices, is_plan}
 use Rattle.cr_base.specs.Plans.{first_greatest, best_plan, is_too_large, plan_reply}
 use Rattle.cr_base.specs.Reports.{open_papers}
 use Rattle.cr_base.specs.Sources.{Facts, Shown, facts_of_tables, shown_in_tables}

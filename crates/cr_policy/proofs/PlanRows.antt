@@ -22,6 +22,7 @@ use Rattle.cr_base.specs.Checks.{Check, assign_checks, judged}
 use Rattle.cr_base.specs.Drawn.{Drawn, assignment_drawn}
 use Rattle.cr_base.specs.History.{History, SeatTold}
 use Rattle.cr_base.specs.Judging.{assignment_judged}
+use Rattle.cr_base.specs.Invites.{is_invited_in}
 use Rattle.cr_base.specs.Lists.{given, is_number, last_or}
 use Rattle.cr_base.specs.Pairs.{users_tied_to}
 use Rattle.cr_base.specs.Papers.{is_withdrawn_at, paper_numbers}
@@ -29,7 +30,7 @@ use Rattle.cr_base.specs.Parse.{parse_name, parse_paper}
 use Rattle.cr_base.specs.Phases.{committee_works}
 use Rattle.cr_base.specs.Plans.{PlanPair, is_of_paper}
 use Rattle.cr_base.specs.Seats.{SeatsFit, SeatsInOrder, SeatsState, labels_in, ordinal_in, seats_after}
-use Rattle.cr_base.specs.Sources.{Facts, Shown, facts_of_tables, paper_named, role_among, shown_in_tables, target_named, user_among}
+use Rattle.cr_base.specs.Sources.{Facts, Shown, facts_of_tables, paper_named, role_among, shown_in_tables, user_among}
 use Rattle.cr_base.specs.Tables.{Tables, tables_from}
 use Rattle.cr_base.specs.Ties.{authors_in, is_conflicted_in}
 use Rattle.cr_base.specs.Words.{is_chair, is_member}
@@ -69,6 +70,7 @@ module _ (user at : ℕ) (key : Option RetryKey) (t : Tables) where
     papers = t.papers;
     ties = t.ties;
     seats = seats;
+    invites = t.invites;
     reviews = t.reviews;
     talk = t.talk;
     tags = t.tags;
@@ -103,6 +105,9 @@ module _ (user at : ℕ) (key : Option RetryKey) (t : Tables) where
     pub free : ordinal_in seats (Some e.member.user) e.paper ≡ None
     pub left : nat_le 26 (labels_in seats e.paper) ≡ false
 
+  abbrev outside : PlanPair → Role → Bool
+  outside e role = not (is_member role) && is_invited_in t.invites (Some e.member.user) e.paper
+
   abbrev target : SeatsState → PlanPair → Role → Target
   target seats e role = record {
     role = role;
@@ -111,6 +116,7 @@ module _ (user at : ℕ) (key : Option RetryKey) (t : Tables) where
     conflicted = list_any (is_number (Some e.member.user)) (authors_in t.ties e.paper)
         || list_any (is_number (Some e.member.user)) (users_tied_to e.paper t.ties.conflicts);
     reviewer = is_some (ordinal_in seats (Some e.member.user) e.paper);
+    external = outside e role;
   }
 
   module _ (chair : is_chair (role_in t.accounts (Some user)) ≡ true) (works : committee_works t.stage.phase ≡ true) where
@@ -119,7 +125,7 @@ module _ (user at : ℕ) (key : Option RetryKey) (t : Tables) where
         (labels_in seats e.paper))
     none-broken seats e takes =
         let s = takes.stays in
-        (ap not s.there, (refl, (ap not chair, (s.clear, (ap not works, (s.open_, (ap not s.serves, ((λ i. s.wrote i || s.declared i), (ap is_some takes.free, (takes.left, tt))))))))))
+        (ap not s.there, (refl, (ap not chair, (s.clear, (ap not works, (s.open_, ((λ i. not (s.serves i || outside e e.member.role)), ((λ i. s.wrote i || s.declared i), (ap is_some takes.free, (takes.left, tt))))))))))
 
     row-taken : (seats : SeatsState) (e : PlanPair) → Takes seats e
         → row_judged (facts seats) (shown seats) stamp (row_of_pair e) ≡ Ok (assignment_drawn stamp e.paper e.member.user Pc (labels_in seats e.paper + 1))

@@ -1,6 +1,6 @@
 -- PlansTaken: the rows of the best plan are accepted, one after another.
-use Rattle.std.proofs.Common.{ℕ, Bool, true, false, cond, eqb, ◌≡◌, ◌≤◌, ◌<◌, ◌+◌, ◌*◌, ◌&&◌, ◌||◌, suc, List, [], ◌∷◌, ◌++◌, length, map, count_by, refl, sym, ap, subst, ◌∙◌, arith, Option, Some, None, Result, Ok, Err}
-use Rattle.std.specs.Prelude.{decimal, filter, is_some, not, nat_le, nat_lt, IsOk}
+use Rattle.std.proofs.Common.{ℕ, Bool, true, false, cond, eqb, ◌≡◌, ◌≤◌, ◌+◌, ◌*◌, ◌&&◌, ◌||◌, suc, List, [], ◌∷◌, ◌++◌, length, map, count_by, refl, sym, ap, subst, ◌∙◌, arith, Option, Some, None, Result, Ok, Err}
+use Rattle.std.specs.Prelude.{filter, is_some, not, nat_le, nat_lt, IsOk}
 use Rattle.std.specs.List.{AllByRecursion, flat_map, list_all, list_any, slice_get}
 use Rattle.std.specs.Option.{option_map}
 use Rattle.std.proofs.lemmas.Bool.{and_parts, eq-eqb, eqb-true, not-false, or_right}
@@ -12,17 +12,15 @@ use Rattle.cr_base.specs.declared.reply.AccountLine.{AccountLine}
 use Rattle.cr_base.specs.declared.reply.Rule.{Rule}
 use Rattle.cr_base.specs.declared.retry.RetryKey.{RetryKey}
 use Rattle.cr_base.specs.declared.words.Phase.TheVariants.{Bidding, Notification}
-use Rattle.cr_base.specs.declared.words.Role.{Role}
 use Rattle.cr_base.specs.Accounts.{account_at, lines_from, lines_of, role_at, role_in}
 use Rattle.cr_base.specs.Answering.{plan_asked}
 use Rattle.cr_base.specs.declared.bulk.BulkRow.{BulkRow}
 use Rattle.cr_base.specs.Bulk.{bulk_behind, bulk_by_role, bulk_checks, bulk_of_rows, rows_judged, tables_basis}
 use Rattle.cr_base.specs.Calls.{bulk_by, stamp_by}
-use Rattle.cr_base.specs.Checks.{Check, judged}
+use Rattle.cr_base.specs.Checks.{judged}
 use Rattle.cr_base.specs.Drawn.{Drawn}
 use Rattle.cr_base.specs.History.{History}
 use Rattle.cr_base.specs.Lists.{IsRising, is_number, total}
-use Rattle.cr_base.specs.Moments.{IsMoment}
 use Rattle.cr_base.specs.Pairs.{users_tied_to}
 use Rattle.cr_base.specs.Papers.{is_withdrawn_at, paper_numbers}
 use Rattle.cr_base.specs.Phases.{committee_works, is_from}
@@ -41,19 +39,18 @@ use Rattle.cr_base.proofs.ListLaws.{role_among-lines_of}
 use Rattle.cr_base.proofs.PlanLaws.{papers-rise, users, users-rise}
 use Rattle.cr_base.proofs.SpelledNumbers.{paper-spelt}
 use Rattle.cr_base.proofs.TargetLaws.{paper_within}
-use Rattle.cr_history.specs.Invariants.{Invariants, IsRegistered}
+use Rattle.cr_history.specs.Invariants.{Invariants}
 use Rattle.cr_history.specs.Laws.{AreFormsTold, AreTold}
 use Rattle.cr_history.proofs.FormAgreement.{forms_tell}
 use Rattle.cr_history.proofs.SeatAgreement.{in_order-tables}
 use Rattle.cr_history.proofs.SizeAgreement.{sized-tables}
 use Rattle.cr_history.proofs.ListCuts.{AllByRecursion-append, AllByRecursion-both, AllByRecursion-filter, AllByRecursion-map}
-use Rattle.cr_policy.specs.Judge.{judge_bulk}
 use Rattle.cr_policy.specs.Legal.{Legal}
 use Rattle.cr_policy.specs.PlansTaken.{PlansTaken, row_of_pair}
 use Rattle.cr_policy.specs.View.{view}
 use Rattle.cr_policy.specs.ViewFacts.{facts_in_view, shown_in_view}
 use Rattle.cr_policy.proofs.AcceptedLaws.{Kept-told}
-use Rattle.cr_policy.proofs.AccountNames.{AreNamedOnce, AreNames, found_by_name, name_at, row_names}
+use Rattle.cr_policy.proofs.AccountNames.{found_by_name, name_at, row_names}
 use Rattle.cr_policy.proofs.FactAgreement.{facts_in_view-tables}
 use Rattle.cr_policy.proofs.LegalLaws.{Legal-fits, Legal-judge_bulk, legal_invariants}
 use Rattle.cr_policy.proofs.PageAgreement.{best-tables, papers-tables}

@@ -17,6 +17,7 @@ use Rattle.cr_base.specs.declared.reply.AccountLine.{AccountLine}
 use Rattle.cr_base.specs.declared.reply.Receipt.{Receipt}
 use Rattle.cr_base.specs.declared.reply.Receipt.TheVariants as receipts
 use Rattle.cr_base.specs.declared.words.Role.{Role}
+use Rattle.cr_base.specs.declared.words.Role.TheVariants.{Account}
 use Rattle.cr_base.specs.Calls.{BulkCall}
 use Rattle.cr_base.specs.Drawn.{Drawn, grouped, receipt_of}
 use Rattle.cr_base.specs.History.{History, Registration, all_told, registration_told}
@@ -37,13 +38,15 @@ use Rattle.cr_policy.proofs.LegalLaws.{Legal-told, legal_invariants, given-bound
 
 -- ---- names
 
--- whoever the entry gives a role has this name
+-- whoever the entry gives a role, or takes it from, has this name
 abbrev pub NamesAs : History → Entry → List ℕ → Type 0
 NamesAs H (entries.Named user role) name = name_in (accounts_of H) user ≡ Some name
+NamesAs H (entries.Dismissed user) name = name_in (accounts_of H) user ≡ Some name
 NamesAs H e name = name ≡ []
 
 pub names-told : (H : History) (e : Entry) (name : List ℕ) → NamesAs H e name → name_told_by (accounts_of H) e ≡ name
 names-told H (entries.Named user role) name is = ap (λ (o : Option (List ℕ)). unwrap_or o []) is
+names-told H (entries.Dismissed user) name is = ap (λ (o : Option (List ℕ)). unwrap_or o []) is
 names-told H e name is = sym is
 
 -- the name of a registration among others, whatever the roles
@@ -82,6 +85,7 @@ name-stays H group user name is =
 
 pub names-stay : (H group : History) (e : Entry) (name : List ℕ) → NamesAs H e name → NamesAs (H ++ group) e name
 names-stay H group (entries.Named user role) name is = name-stays H group user name is
+names-stay H group (entries.Dismissed user) name is = name-stays H group user name is
 names-stay H group e name is = is
 
 -- who is found by a name has it, on a legal history
@@ -123,10 +127,25 @@ module _ (u : ℕ) (H : History) (legal : Legal H) where
       let told : receipt ≡ receipts.Named name role = cc (same) in
       record { name = name; named = found-named H legal name user is; told = told }
 
+  dismissed-first : (name : List ℕ) (o : Option ℕ) → number_of name H ≡ o
+      → FirstOf H (listed (option_map (λ v. entries.Dismissed v) o)) (receipts.Named name Account ∷ [])
+  dismissed-first name None is = tt
+  dismissed-first name (Some user) is = λ receipt same.
+      let told : receipt ≡ receipts.Named name Account = cc (same) in
+      record { name = name; named = found-named H legal name user is; told = told }
+
   first-of : (command : Command) → FirstOf H (added (Some u) H command) (answered (Some u) H command)
   first-of (commands.Register name digest) = only H (entries.Registered (next_user H) name digest) refl
   first-of (commands.Name None role) = tt
   first-of (commands.Name (Some name) role) = named-first name role (number_of name H) refl
+  first-of (commands.Dismiss None) = tt
+  first-of (commands.Dismiss (Some name)) = dismissed-first name (number_of name H) refl
+  first-of (commands.Invite (Some p) name) =
+      of-user H (user_named name H) (λ v. entries.Invited p v) (receipts.Changed p) (λ v. refl) (λ v. refl)
+  first-of (commands.Invite None name) = tt
+  first-of (commands.Uninvite (Some p) name) =
+      of-user H (user_named name H) (λ v. entries.Uninvited p v) (receipts.Changed p) (λ v. refl) (λ v. refl)
+  first-of (commands.Uninvite None name) = tt
   first-of (commands.SetMode to) = only H (entries.ModeSet to) refl
   first-of (commands.SetPhase to) = only H (entries.PhaseSet to) refl
   first-of (commands.SetDeadline phase until) = only H (entries.DeadlineSet phase until) refl

@@ -1,5 +1,6 @@
 -- Without an entry that shows a user nothing she sees the same.
-use Rattle.std.proofs.Common.{◌≡◌, ℕ, Bool, true, false, List, [], ◌∷◌, ◌++◌, refl, sym, ap, subst, ◌∙◌, ◌||◌, Option, Some, append_assoc, append-nil}
+use Rattle.std.proofs.Common.{◌≡◌, ℕ, Bool, true, false, List, [], ◌∷◌, ◌++◌, refl, sym, ap, subst, ◌∙◌, ◌||◌, ◌&&◌, Option, Some, append_assoc, append-nil}
+use Rattle.std.specs.Prelude.{not}
 use Rattle.std.specs.List.{flat_map, list_any}
 use Rattle.std.proofs.lemmas.Bool.{or_parts, true≢false}
 use Rattle.std.proofs.lemmas.List.Concat.{flat_map-append}
@@ -11,15 +12,17 @@ use Rattle.cr_base.specs.declared.words.Phase.TheVariants.{Setup}
 use Rattle.cr_base.specs.declared.words.Mode.TheVariants.{Blind}
 use Rattle.cr_base.specs.declared.words.Role.TheVariants.{Account}
 use Rattle.cr_base.specs.Lists.{given, is_number, last_or}
-use Rattle.cr_base.specs.History.{History, phase_told, mode_told, role_told, author_told, conflict_told}
-use Rattle.cr_base.specs.HistoryFacts.{phase_of, mode_of, role_of, authors_of, is_author, is_conflict_on}
+use Rattle.cr_base.specs.History.{History, phase_told, mode_told, role_told, author_told, conflict_told, invite_told}
+use Rattle.cr_base.specs.HistoryFacts.{phase_of, mode_of, role_of, authors_of, is_author, is_conflict_on, is_invited}
+use Rattle.cr_base.specs.Words.{is_member}
 use Rattle.cr_policy.specs.Part.{own_parts}
 use Rattle.cr_policy.specs.Sighting.{Sighting}
 use Rattle.cr_policy.specs.Triggers.{Reader, reader, Around, position_of, rows, ◌see◌, user_named}
 use Rattle.cr_policy.specs.View.{rows_at, is_seen, joined, sight, sights, view}
-use Rattle.cr_policy.specs.ViewFacts.{phase_seen, mode_seen, role_seen, author_seen, conflict_seen}
+use Rattle.cr_policy.specs.ViewFacts.{phase_seen, mode_seen, role_seen, author_seen, conflict_seen, invite_seen}
 use Rattle.cr_policy.specs.HiddenPayload.{AcceptedAlike, Removal, LooksSame, unchanged, differing, left_out, reversed, through}
 use Rattle.cr_policy.proofs.HiddenLaws.{hidden_payload, where_wrote, MadeAlike, wrote-rows, seen_by}
+use Rattle.cr_policy.proofs.InviteTells.{invite_kept, invite_tells}
 use Rattle.cr_policy.proofs.RemovedRows.{moved-rows, moved-ahead, moved-behind}
 use Rattle.cr_policy.proofs.StandingLaws.{first_of}
 use Rattle.cr_policy.proofs.Tells.{phase_tells, mode_tells, role_tells, author_tells, author_value, conflict_tells, conflict_value}
@@ -93,6 +96,17 @@ module _ (u : Option ℕ) (before after : History) (gone : Stamped) where
         ∙ sym (conflict_tells (reader u with_it) u p there gone)
         ∙ ap (flat_map (conflict_seen u p)) nothing))
 
+    invite-without : (p : ℕ) → is_invited u p with_it ≡ is_invited u p without_it
+    invite-without p =
+        ap (last_or false)
+        (told-without (λ (e : Stamped). invite_told u p e.entry) before after gone
+        (sym (invite_kept (reader u with_it) there u p (record {
+          invited = λ stamp more user hers. first_of (is_number u user) _ hers;
+          uninvited = λ stamp more user hers. first_of (is_number u user) _ hers;
+        }) gone)
+        ∙ sym (invite_tells (reader u with_it) u p there gone)
+        ∙ ap (flat_map (invite_seen u p)) nothing))
+
     -- of a paper of hers all authors stay
     authors-without : (p : ℕ) → is_author u p with_it ≡ true → authors_of p with_it ≡ authors_of p without_it
     authors-without p h =
@@ -119,6 +133,7 @@ module _ (u : Option ℕ) (before after : History) (gone : Stamped) where
       rank = role-without i;
       author = λ p. author-without p i;
       conflicted = λ p. author-without p i || conflict-without p i;
+      external = λ p. not (is_member (role-without i)) && invite-without p i;
       wrote = (reader u without_it).wrote;
       accepted = λ p. accepted p i;
     }

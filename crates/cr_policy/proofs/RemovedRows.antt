@@ -13,7 +13,7 @@ use Rattle.cr_base.specs.declared.entry.Stamped.{Stamped}
 use Rattle.cr_base.specs.Lists.{given, is_nothing, until}
 use Rattle.cr_base.specs.Drawn.{stamped}
 use Rattle.cr_base.specs.History.{History, opens_discussion, title_told, upload_told, form_told, decision_told}
-use Rattle.cr_base.specs.Page.{is_clear_member, is_clear_chair}
+use Rattle.cr_base.specs.Page.{is_clear_chair, is_clear_external, reads_paper}
 use Rattle.cr_base.specs.Phases.{members_see_papers, authors_read_reviews, authors_read_decisions}
 use Rattle.cr_history.proofs.ListCuts.{until-append, until-before}
 use Rattle.cr_policy.specs.Part.{Part}
@@ -237,12 +237,13 @@ pub record Moved (apart : Bool) (with without gone : Position) : Type 0 where
 -- none of these rows applies to an entry that gives a paper texts and shows nothing; it is the last of its series, or it isn't
 record SilentTexts (r : Reader) (last : Bool) (p : ℕ) : Type 0 where
   title : (last && members r && members_see_papers r.now) ≡ false
-  abstract : (last && is_clear_member (standing_to r p) && members_see_papers r.now) ≡ false
+  external : (last && is_clear_external (standing_to r p) && members_see_papers r.now) ≡ false
+  abstract : (last && reads_paper (standing_to r p) && members_see_papers r.now) ≡ false
   accepted : (last && r.accepted p) ≡ false
   published : (last && published r p) ≡ false
 
 record SilentUpload (r : Reader) (last : Bool) (p : ℕ) : Type 0 where
-  content : (last && is_clear_member (standing_to r p) && members_see_papers r.now) ≡ false
+  content : (last && reads_paper (standing_to r p) && members_see_papers r.now) ≡ false
   published : (last && published r p) ≡ false
 
 record SilentForm (r : Reader) (place : Position) (p : ℕ) : Type 0 where
@@ -261,7 +262,7 @@ module _ (r : Reader) (at : Around) (stamp : Stamp) (more : Bool) where
   silent-texts p (Revised paper title abstract) unseen told =
       let none = none-applies (rows_at r at (stamped stamp more (Revised paper title abstract))) unseen in
       subst (λ q. SilentTexts r (none_alike (Revised paper title abstract) at.after) q) (eqb-true paper p (on_paper (eqb paper p) title told))
-      (record { title = none.1.0; abstract = none.1.1.0; accepted = none.1.1.1.0; published = none.1.1.1.1.0 })
+      (record { title = none.1.0; external = none.1.1.0; abstract = none.1.1.1.0; accepted = none.1.1.1.1.0; published = none.1.1.1.1.1.0 })
   silent-texts p e unseen told = absurd (true≢false told)
 
   silent-upload : (p : ℕ) (e : Entry) → is_seen r at (stamped stamp more e) ≡ false → is_nothing (upload_told p e ++ []) ≡ false
@@ -299,8 +300,10 @@ module _ (r : Reader) (at : Around) (gone : Stamped) (unseen : is_seen r at gone
   -- the rows that ask whether texts are the paper's last apply alike with the entry and without it
   record MovedTexts (p : ℕ) : Type 0 where
     title : (with.last && members r && members_see_papers r.now) ≡ (without.last && members r && members_see_papers r.now)
-    abstract : (with.last && is_clear_member (standing_to r p) && members_see_papers r.now)
-        ≡ (without.last && is_clear_member (standing_to r p) && members_see_papers r.now)
+    external : (with.last && is_clear_external (standing_to r p) && members_see_papers r.now)
+        ≡ (without.last && is_clear_external (standing_to r p) && members_see_papers r.now)
+    abstract : (with.last && reads_paper (standing_to r p) && members_see_papers r.now)
+        ≡ (without.last && reads_paper (standing_to r p) && members_see_papers r.now)
     accepted : (with.last && r.accepted p) ≡ (without.last && r.accepted p)
     published : (with.last && published r p) ≡ (without.last && published r p)
 
@@ -310,7 +313,8 @@ module _ (r : Reader) (at : Around) (gone : Stamped) (unseen : is_seen r at gone
       let silent = silent-texts r at gone.stamp gone.more p gone.entry unseen in
       record {
         title = stands-row_both apart with.last without.last place.last (members r) bidding moved.last (λ no. (silent no).title);
-        abstract = stands-row_both apart with.last without.last place.last (is_clear_member (standing_to r p)) bidding moved.last (λ no. (silent no).abstract);
+        external = stands-row_both apart with.last without.last place.last (is_clear_external (standing_to r p)) bidding moved.last (λ no. (silent no).external);
+        abstract = stands-row_both apart with.last without.last place.last (reads_paper (standing_to r p)) bidding moved.last (λ no. (silent no).abstract);
         accepted = stands-row apart with.last without.last place.last (r.accepted p) moved.last (λ no. (silent no).accepted);
         published = stands-row apart with.last without.last place.last (published r p) moved.last (λ no. (silent no).published);
       }
@@ -319,17 +323,17 @@ module _ (r : Reader) (at : Around) (gone : Stamped) (unseen : is_seen r at gone
   pub moved-rows : (by : ℕ) (e : Entry) → Moved (none_alike e (gone ∷ [])) with without place → rows r with by e ≡ rows r without by e
   moved-rows by (Submitted paper title abstract) moved =
       let texts = moved-texts paper moved in
-      alike-rows _ _ refl (refl, (refl, (texts.title, (texts.abstract, (refl, (refl, (refl, (texts.accepted, (texts.published, tt)))))))))
+      alike-rows _ _ refl (refl, (refl, (texts.title, (texts.external, (texts.abstract, (refl, (refl, (refl, (texts.accepted, (texts.published, tt))))))))))
   moved-rows by (Revised paper title abstract) moved =
       let texts = moved-texts paper moved in
-      alike-rows _ _ refl (refl, (texts.title, (texts.abstract, (texts.accepted, (texts.published, tt)))))
+      alike-rows _ _ refl (refl, (texts.title, (texts.external, (texts.abstract, (texts.accepted, (texts.published, tt))))))
   moved-rows by (Uploaded paper version content) moved =
       let apart : Bool = none_in (upload_told paper) (gone ∷ []) in
       let silent = silent-upload r at gone.stamp gone.more paper gone.entry unseen in
       alike-rows _ _ refl (
         refl,
         (
-          stands-row_both apart with.last without.last place.last (is_clear_member (standing_to r paper)) bidding moved.last (λ no. (silent no).content),
+          stands-row_both apart with.last without.last place.last (reads_paper (standing_to r paper)) bidding moved.last (λ no. (silent no).content),
           (stands-row apart with.last without.last place.last (published r paper) moved.last (λ no. (silent no).published), tt),
         ),
       )

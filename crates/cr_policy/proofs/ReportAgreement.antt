@@ -21,7 +21,7 @@ use Rattle.cr_base.specs.Checks.{judged}
 use Rattle.cr_base.specs.History.{History, SeatTold, FormTold}
 use Rattle.cr_base.specs.Labels.{by_labels, most_labels}
 use Rattle.cr_base.specs.Lists.{listed, last, is_number, total}
-use Rattle.cr_base.specs.Page.{is_clear_member, is_clear_chair, shows_reviewer, where_told}
+use Rattle.cr_base.specs.Page.{is_clear_member, is_clear_chair, is_clear_external, shows_reviewer, where_told}
 use Rattle.cr_base.specs.Phases.{phase_rank, is_from, members_see_papers, chairs_see_reviewers, letters_are_sent}
 use Rattle.cr_base.specs.Reports.{report_checks, report_told, is_clear_of, clear_papers, open_papers, title_by, space, line_end, in_four, to_left}
 use Rattle.cr_base.specs.Reports.{paper_mark, papers_end, papers_told, last_scores, scores_line, scores_told}
@@ -121,18 +121,18 @@ module _ (u : Option ℕ) (H : History) (told : AreTold H) (forms : AreFormsTold
 
   module _ (serves : is_member here.role ≡ true) (begun : members_see_papers here.phase ≡ true) where
     withdrawn-same : (p : ℕ) → shown.withdrawn p ≡ tabled.withdrawn p
-    withdrawn-same p = withdrawn-tables u H told p (gets (to p).author (is_member here.role) (members_see_papers here.phase) serves begun)
+    withdrawn-same p = withdrawn-tables u H told p (gets (to p).author (is_member here.role) (members_see_papers here.phase) (is_clear_external (to p)) serves begun)
       where
-        gets : (a m b : Bool) → m ≡ true → b ≡ true → (a || (m && b)) ≡ true
-        gets a m b hm hb = grind arith
+        gets : (a m b e : Bool) → m ≡ true → b ≡ true → (a || (m && b) || (e && b)) ≡ true
+        gets a m b e hm hb = grind arith
 
     title-same : (p : ℕ) → title_by shown p ≡ title_by tabled p
     title-same p =
         ap (λ (title : Option (List ℕ)). unwrap_or title [])
-        (title-tables u H told p (gets (to p).author (is_member here.role) (members_see_papers here.phase) (facts.accepted p) serves begun))
+        (title-tables u H told p (gets (to p).author (is_member here.role) (members_see_papers here.phase) (is_clear_external (to p)) (facts.accepted p) serves begun))
       where
-        gets : (a m b accepted : Bool) → m ≡ true → b ≡ true → (a || (m && b) || accepted) ≡ true
-        gets a m b accepted hm hb = grind arith
+        gets : (a m b e accepted : Bool) → m ≡ true → b ≡ true → (a || (m && b) || (e && b) || accepted) ≡ true
+        gets a m b e accepted hm hb = grind arith
 
     pub open-same : open_papers facts shown ≡ open_papers facts tabled
     open-same = λ i. filter (λ (p : ℕ). not (withdrawn-same p i)) (clear_papers facts)
@@ -266,10 +266,11 @@ module _ (u : Option ℕ) (H : History) (told : AreTold H) (forms : AreFormsTold
     letter_title : title_by shown p ≡ title_by tabled p
     letter_title =
         ap (λ (title : Option (List ℕ)). unwrap_or title [])
-        (title-tables u H told p (gets (to p).author (is_member here.role && members_see_papers here.phase) (facts.accepted p) author))
+        (title-tables u H told p
+        (gets (to p).author (is_member here.role && members_see_papers here.phase) (is_clear_external (to p) && members_see_papers here.phase) (facts.accepted p) author))
       where
-        gets : (a m accepted : Bool) → a ≡ true → (a || m || accepted) ≡ true
-        gets a m accepted ha = grind arith
+        gets : (a m e accepted : Bool) → a ≡ true → (a || m || e || accepted) ≡ true
+        gets a m e accepted ha = grind arith
 
     letter_decision : decision_by facts shown p ≡ decision_by facts tabled p
     letter_decision =

@@ -7,7 +7,7 @@ use Rattle.std.proofs.lemmas.Bool.{true≢false}
 use Rattle.std.proofs.lemmas.List.{length-map}
 use Rattle.cr_base.specs.declared.entry.Entry.{Entry}
 use Rattle.cr_base.specs.declared.entry.Entry.TheVariants.{Registered, Named, PhaseSet, ModeSet, Uploaded}
-use Rattle.cr_base.specs.declared.entry.Entry.TheVariants.{Bid, Assigned, Reviewed, Commented, DeadlineSet}
+use Rattle.cr_base.specs.declared.entry.Entry.TheVariants.{Bid, Assigned, Reviewed, Commented, DeadlineSet, Dismissed}
 use Rattle.cr_base.specs.declared.entry.Stamp.{Stamp}
 use Rattle.cr_base.specs.declared.entry.Stamped.{Stamped}
 use Rattle.cr_base.specs.declared.reply.AccountLine.{AccountLine}
@@ -117,6 +117,8 @@ module _ (u : Option ℕ) (H : History) (at : Around) (stamp : Stamp) (more : Bo
   receipt-own accounts (DeadlineSet phase until) mine =
       ap (λ (b : Bool). receipts.Deadline (unwrap_or (where_shown b (Some phase)) Setup) (unwrap_or (shown (DeadlineSet phase until)).until None)) (own-part (DeadlineSet phase until) part.phase refl mine)
       ∙ ap (λ (b : Bool). receipts.Deadline phase (unwrap_or (where_shown b (Some until)) None)) (own-part (DeadlineSet phase until) part.until refl mine)
+  receipt-own accounts (Dismissed user) mine =
+      ap (λ (b : Bool). receipts.Named (name_shown accounts (where_shown b (Some user))) Account) (own-part (Dismissed user) part.user refl mine)
   receipt-own accounts e mine = refl
 
   -- the line that its sighting tells, where it shows the number, is the entry's, where that is hers and has it

@@ -1,7 +1,8 @@
 -- Where the tables tell what a history tells, what a reader is told of a paper's reviewers and reviews is what the tables have.
-use Rattle.std.proofs.Common.{ℕ, Bool, true, false, cond, ◌≡◌, List, [], refl, ap, subst, ◌∙◌, ◌||◌, ◌&&◌, arith, Option, Some, Ok, Result}
+use Rattle.std.proofs.Common.{ℕ, Bool, true, false, cond, ◌≡◌, List, [], refl, ap, subst, ◌∙◌, ◌&&◌, arith, Option, Some, Ok, Result}
 use Rattle.std.specs.Prelude.{map, not, unwrap_or}
 use Rattle.std.specs.Option.{option_map, option_and_then}
+use Rattle.std.proofs.lemmas.Bool.{and_parts}
 use Rattle.cr_base.specs.declared.page.Reviewer.{Reviewer}
 use Rattle.cr_base.specs.declared.reply.AccountLine.{AccountLine}
 use Rattle.cr_base.specs.declared.reply.Reply.{Reply}
@@ -11,7 +12,7 @@ use Rattle.cr_base.specs.declared.review.ReviewLine.{ReviewLine}
 use Rattle.cr_base.specs.declared.standing.Standing.{Standing}
 use Rattle.cr_base.specs.Answering.{reviewer_told, review_told, reviews_by}
 use Rattle.cr_base.specs.Labels.{by_labels, most_labels}
-use Rattle.cr_base.specs.Checks.{judged, of_there, reviews_checks}
+use Rattle.cr_base.specs.Checks.{judged, of_there, reviews_checks, reads_all_forms}
 use Rattle.cr_base.specs.History.{History, SeatTold, FormTold}
 use Rattle.cr_base.specs.HistoryFacts.{assigned_under, reviewers_of, last_form_of, forms_discussed_of}
 use Rattle.cr_base.specs.Lists.{listed}
@@ -146,17 +147,21 @@ module _ (u : Option ℕ) (H : History) (told : AreTold H) (p : ℕ) where
       ap (λ (tell : FormTold → ReviewLine). map tell forms)
       (review_told-same by accounts (shows_reviewer by) (shown.assigned p o) (tabled.assigned p o) o (λ names. assigned-tables names o))
 
+  clear_of : (k c : Bool) → k ≡ true → c ≡ false → (k && not c) ≡ true
+  clear_of k c hk hc = grind arith
+
   -- the reviews by any user's view are those by the tables, where she may ask for them
-  reviews-same : AreFormsTold H → (author discussed : Bool) → by.author ≡ author → members_read_reviews by.phase ≡ discussed
-      → (author ≡ true → authors_read_reviews by.phase ≡ true) → (author ≡ false → is_clear_member by ≡ true)
+  reviews-same : AreFormsTold H → (author discussed : Bool) → by.author ≡ author → reads_all_forms by ≡ discussed
+      → (author ≡ true → authors_read_reviews by.phase ≡ true) → (author ≡ false → by.conflicted ≡ false)
       → reviews_with shown author discussed ≡ reviews_with tabled author discussed
   reviews-same forms true discussed ha hd notified clear =
       each-label _ _ (λ o.
       last_form-tables facts.accounts (shows_reviewer by) (shown.assigned p o) o ha (notified refl)
       ∙ forms-same facts.accounts o (listed (tabled.last_form p o)))
   reviews-same forms false true ha hd notified clear =
+      let all = and_parts (is_member by.role) (members_read_reviews by.phase) hd in
       each-label _ _ (λ o.
-      discussed-tables facts.accounts (shows_reviewer by) (shown.assigned p o) o forms (clear refl) hd
+      discussed-tables facts.accounts (shows_reviewer by) (shown.assigned p o) o forms (clear_of (is_member by.role) by.conflicted all.0 (clear refl)) all.1
       ∙ forms-same facts.accounts o (tabled.forms_discussed p o))
   reviews-same forms false false ha hd notified clear = refl
 
@@ -168,9 +173,9 @@ module _ (u : Option ℕ) (H : History) (told : AreTold H) (p : ℕ) where
       judged-behind (reviews_checks by (of_there (has_paper facts (Some p)))) [] []
       (replies.Reviews (reviews_by facts shown p)) (replies.Reviews (reviews_by facts tabled p))
       (λ none. ap (λ (lines : List ReviewLine). answered lines)
-      (reviews-same forms by.author (members_read_reviews by.phase) refl refl
+      (reviews-same forms by.author (reads_all_forms by) refl refl
       (λ author. notified by.author (authors_read_reviews by.phase) author none.1.0)
-      (λ other. clear by.author (is_member by.role) by.conflicted other none.1.1.0 none.1.1.1.0)))
+      (λ other. clear by.author by.conflicted other none.1.1.1.0)))
     where
       answered : List ReviewLine → Result Reply Rule
       answered lines = Ok (replies.Reviews lines)
@@ -178,5 +183,5 @@ module _ (u : Option ℕ) (H : History) (told : AreTold H) (p : ℕ) where
       notified : (a f : Bool) → a ≡ true → (a && not f) ≡ false → f ≡ true
       notified a f ha h = grind arith
 
-      clear : (a k c : Bool) → a ≡ false → not (a || k) ≡ false → (not a && c) ≡ false → (k && not c) ≡ true
-      clear a k c ha hk hc = grind arith
+      clear : (a c : Bool) → a ≡ false → (not a && c) ≡ false → c ≡ false
+      clear a c ha hc = grind arith

@@ -17,7 +17,7 @@ use Rattle.cr_base.specs.Answering.{reviewer_told}
 use Rattle.cr_base.specs.Lists.{last}
 use Rattle.cr_base.specs.Drawn.{stamped}
 use Rattle.cr_base.specs.History.{History, SeatTold, bid_told, assigned_told, unassigned_told}
-use Rattle.cr_base.specs.HistoryFacts.{phase_of, standing_of, is_conflict_on, bid_of, ordinal_of, seats_of, seats_left, reviewers_of, assigned_under}
+use Rattle.cr_base.specs.HistoryFacts.{phase_of, standing_of, is_conflict_on, is_invited, bid_of, ordinal_of, seats_of, seats_left, reviewers_of, assigned_under}
 use Rattle.cr_base.specs.Page.{is_clear_member, is_clear_chair, gets_bids, gets_conflicts, gets_reviewers, shows_reviewer, where_told}
 use Rattle.cr_base.specs.Phases.{chairs_see_conflicts, chairs_see_reviewers, members_see_reviewers, authors_see_reviewers}
 use Rattle.cr_base.specs.Sources.{name_in}
@@ -26,11 +26,11 @@ use Rattle.cr_policy.specs.Part as part
 use Rattle.cr_policy.specs.Sighting.{Sighting, where_shown}
 use Rattle.cr_policy.specs.Triggers.{reader, Around, user_named, standing_to, unless_anonymous}
 use Rattle.cr_policy.specs.View.{view}
-use Rattle.cr_policy.specs.ViewFacts.{bid_seen, assigned_seen, unassigned_seen, bid_in_view, ordinal_in_view, seats_in_view, reviewers_in_view}
+use Rattle.cr_policy.specs.ViewFacts.{bid_seen, assigned_seen, unassigned_seen, bid_in_view, ordinal_in_view, is_invited_in_view, seats_in_view, reviewers_in_view}
 use Rattle.cr_policy.proofs.Walk.{map-flat_map, sights-all, fold_all}
 use Rattle.cr_policy.proofs.Tells.{passes, passes_both}
 use Rattle.cr_policy.proofs.SeatTells.{bid_tells, bid_value, unassigned_tells, unassigned_value, ShowsAssigned, assigned_tells}
-use Rattle.cr_policy.proofs.StandingLaws.{first_of, seat-seen_where}
+use Rattle.cr_policy.proofs.StandingLaws.{first_of, invited-seen_where, seat-seen_where}
 
 -- ---- bids
 
@@ -51,6 +51,21 @@ pub seat-seen_by_chair : (u v : Option ℕ) (p : ℕ) (H : History) → gets_con
 seat-seen_by_chair u v p H told = seat-seen_where u v p H (λ at. record {
   assigned = λ stamp more user kind ordinal hers. both_true (clear (user_named (reader u H) user) _) (clear (user_named (reader u H) user) _);
   unassigned = λ stamp more user ordinal hers. both_true (clear (user_named (reader u H) user) _) (clear (user_named (reader u H) user) _);
+})
+  where
+    chair : Bool
+    chair = is_clear_chair (standing_to (reader u H) p)
+
+    clear : (named rest : Bool) → (named || (chair || rest)) ≡ true
+    clear named rest = or_right named (chair || rest) (or_left chair rest (and_parts chair (chairs_see_conflicts (phase_of H)) told).0)
+
+-- ---- invitations
+
+-- and each by which anybody is invited to it, or is no longer
+pub invited-seen_by_chair : (u v : Option ℕ) (p : ℕ) (H : History) → gets_conflicts (standing_of u (Some p) H) ≡ true → is_invited_in_view v p (view u H) ≡ is_invited v p H
+invited-seen_by_chair u v p H told = invited-seen_where u v p H (λ at. record {
+  invited = λ stamp more user hers. clear (user_named (reader u H) user) _;
+  uninvited = λ stamp more user hers. clear (user_named (reader u H) user) _;
 })
   where
     chair : Bool

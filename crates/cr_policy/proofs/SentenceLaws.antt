@@ -27,7 +27,7 @@ use Rattle.cr_base.specs.Judging.{judge_by}
 use Rattle.cr_base.specs.Lists.{at_some}
 use Rattle.cr_base.specs.History.{History, Registration, all_told, registration_told}
 use Rattle.cr_base.specs.HistoryFacts.{role_of, is_withdrawn, authors_of, uploads_of, ordinal_of, seats_of}
-use Rattle.cr_base.specs.HistoryFacts.{accounts_of, number_of, is_written}
+use Rattle.cr_base.specs.HistoryFacts.{accounts_of, number_of, is_invited, is_written}
 use Rattle.cr_base.specs.Phases.{is_phase, is_from, is_next, committee_works}
 use Rattle.cr_base.specs.Sources.{Shown, number_in, user_among, users_among, role_among, facts_of_tables, shown_in_tables}
 use Rattle.cr_base.specs.Tables.{tables_of}
@@ -159,6 +159,15 @@ discussed-same Discussion = refl
 discussed-same Notification = refl
 discussed-same Closed = refl
 
+pub reviewed-same : (a : Phase) → is_from Reviewing a ≡ (is_it Reviewing a || is_it Discussion a || (is_it Notification a || is_it Closed a))
+reviewed-same Setup = refl
+reviewed-same Submission = refl
+reviewed-same Bidding = refl
+reviewed-same Reviewing = refl
+reviewed-same Discussion = refl
+reviewed-same Notification = refl
+reviewed-same Closed = refl
+
 pub closed-same : (a : Phase) → is_from Closed a ≡ is_it Closed a
 closed-same Setup = refl
 closed-same Submission = refl
@@ -255,6 +264,7 @@ shown_of H = record (shown_in_tables (tables_of H)) {
   ordinal = λ v p. ordinal_of v p H;
   labels = λ p. length (seats_of p H);
   written = λ p o. is_written p o H;
+  invited = λ v p. is_invited v p H;
 }
 
 module _ (u : Option ℕ) (H : History) (legal : Legal H) where
@@ -288,6 +298,7 @@ module _ (u : Option ℕ) (H : History) (legal : Legal H) where
     ordinal = λ v p. told.ordinal v p i;
     labels = λ p. told.labels p i;
     written = λ p o. is_written-tables p o H i;
+    invited = λ v p. told.invited v p i;
   }
 
   -- judgement by the view is that by the facts of the history, at whatever moment the command comes, and whatever its key

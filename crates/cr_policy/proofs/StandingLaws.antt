@@ -1,6 +1,6 @@
 -- What a view says of the conference, of its papers and of its reader is what the history says.
-use Rattle.std.proofs.Common.{◌≡◌, ℕ, Bool, true, false, List, [], refl, ap, ◌∙◌, ◌||◌, Option, Some, None, length}
-use Rattle.std.specs.Prelude.{map, is_some}
+use Rattle.std.proofs.Common.{◌≡◌, ℕ, Bool, true, false, List, [], refl, ap, ◌∙◌, ◌||◌, ◌&&◌, Option, Some, None, length}
+use Rattle.std.specs.Prelude.{map, is_some, not}
 use Rattle.std.specs.Cmp.Derive.{both_true}
 use Rattle.std.specs.List.{list_any}
 use Rattle.cr_base.specs.declared.entry.Entry.TheVariants.{Conflict}
@@ -15,9 +15,11 @@ use Rattle.cr_base.specs.declared.reply.AccountLine.{AccountLine}
 use Rattle.cr_base.specs.Lists.{last, last_or, total, is_number, at_some}
 use Rattle.cr_base.specs.Drawn.{stamped}
 use Rattle.cr_base.specs.History.{History, Registration, all_told, phase_told, mode_told, deadline_told, paper_told, own_paper_told, own_bytes_told, own_comment_told, author_told}
+use Rattle.cr_base.specs.History.{invite_told}
 use Rattle.cr_base.specs.History.{conflict_told, registration_told, role_told, number_told, bid_told, ordinal_told}
 use Rattle.cr_base.specs.HistoryFacts.{phase_of, mode_of, deadline_of, role_of, papers_of, own_papers_of, own_bytes_of, own_comments_of, accounts_of, number_of, authors_of}
-use Rattle.cr_base.specs.HistoryFacts.{is_author, is_conflict_on, is_conflicted, bid_of, ordinal_of, is_reviewer}
+use Rattle.cr_base.specs.HistoryFacts.{is_author, is_conflict_on, is_conflicted, is_invited, is_external, bid_of, ordinal_of, is_reviewer}
+use Rattle.cr_base.specs.Words.{is_member}
 use Rattle.cr_policy.specs.Part as part
 use Rattle.cr_policy.specs.Triggers.{reader, Around}
 use Rattle.cr_policy.specs.View.{view}
@@ -25,10 +27,11 @@ use Rattle.cr_policy.specs.ViewFacts.{phase_seen, mode_seen, deadline_seen, pape
 use Rattle.cr_policy.specs.ViewFacts.{registration_seen, role_seen, number_seen, own_bid_seen, ordinal_seen, own_bid_in_view, ordinal_in_view}
 use Rattle.cr_policy.specs.ViewFacts.{phase_in_view, mode_in_view, deadline_in_view, role_in_view, papers_in_view, own_papers_in_view, own_bytes_in_view, own_comments_in_view}
 use Rattle.cr_policy.specs.ViewFacts.{accounts_in_view, number_in_view, authors_in_view, is_author_in_view, is_conflict_on_in_view}
-use Rattle.cr_policy.specs.ViewFacts.{is_conflicted_in_view}
+use Rattle.cr_policy.specs.ViewFacts.{is_conflicted_in_view, invite_seen, is_invited_in_view, is_external_in_view}
 use Rattle.cr_policy.specs.Laws.{StandingFromView, PublicFactsFromView}
 use Rattle.cr_policy.proofs.DecisionTells.{accepted-seen}
 use Rattle.cr_policy.proofs.Walk.{sights-all, sights-kept, fold_all, list_any-kept}
+use Rattle.cr_policy.proofs.InviteTells.{ShowsInvite, invite_kept, invite_tells}
 use Rattle.cr_policy.proofs.SeatTells.{ShowsSeat, own_bid_tells, seat_tells, seat_value}
 use Rattle.cr_policy.proofs.Tells.{passes, passes_both, names_author, phase_tells, mode_tells, deadline_tells, paper_tells, own_paper_tells, own_bytes_tells, own_comment_tells}
 use Rattle.cr_policy.proofs.Tells.{author_tells, author_value, conflict_tells, conflict_value, registration_tells, role_tells, number_tells}
@@ -134,6 +137,25 @@ conflicted-seen u p H =
     ap (λ b. b || is_conflict_on_in_view u p (view u H)) (author-seen u p H)
     ∙ ap (λ b. is_author u p H || b) (declared-seen u p H)
 
+-- a user's invitations to a paper are told the reader, where she is shown each entry on them
+pub invited-seen_where : (u v : Option ℕ) (p : ℕ) (H : History) → ((at : Around) → ShowsInvite (reader u H) at v p) → is_invited_in_view v p (view u H) ≡ is_invited v p H
+invited-seen_where u v p H shown =
+    ap (last_or false)
+    (fold_all (reader u H) (invite_seen v p) (λ (e : Stamped). invite_told v p e.entry) (passes part.user (reader u H)) (invite_tells (reader u H) v p)
+    (λ at e. invite_kept (reader u H) at v p (shown at) e) [] H)
+
+-- each entry on her own is shown a user
+invited-seen : (u : Option ℕ) (p : ℕ) (H : History) → is_invited_in_view u p (view u H) ≡ is_invited u p H
+invited-seen u p H = invited-seen_where u u p H (λ at. record {
+  invited = λ stamp more user hers. first_of (is_number u user) _ hers;
+  uninvited = λ stamp more user hers. first_of (is_number u user) _ hers;
+})
+
+external-seen : (u : Option ℕ) (p : ℕ) (H : History) → is_external_in_view u p (view u H) ≡ is_external u p H
+external-seen u p H =
+    ap (λ (role : Role). not (is_member role) && is_invited_in_view u p (view u H)) (role-seen u u H)
+    ∙ ap (λ b. not (is_member (role_of u H)) && b) (invited-seen u p H)
+
 -- what is said of any paper is said of the one that is named, if one is
 at_some-seen : (paper : Option ℕ) (says told : ℕ → Bool) → ((p : ℕ) → says p ≡ told p) → at_some says paper ≡ at_some told paper
 at_some-seen paper says told same = ap (λ (says : ℕ → Bool). at_some says paper) (λ i p. same p i)
@@ -148,6 +170,7 @@ standing_from_view u paper H = λ i. record {
   author = at_some-seen paper (λ p. is_author_in_view u p (view u H)) (λ p. is_author u p H) (λ p. author-seen u p H) i;
   conflicted = at_some-seen paper (λ p. is_conflicted_in_view u p (view u H)) (λ p. is_conflicted u p H) (λ p. conflicted-seen u p H) i;
   reviewer = at_some-seen paper (λ p. is_some (ordinal_in_view u p (view u H))) (λ p. is_reviewer u p H) (λ p. ap is_some (seat-seen u p H)) i;
+  external = at_some-seen paper (λ p. is_external_in_view u p (view u H)) (λ p. is_external u p H) (λ p. external-seen u p H) i;
 }
 
 pub public_from_view : (u : Option ℕ) (H : History) → PublicFactsFromView u H

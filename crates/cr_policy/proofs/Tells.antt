@@ -6,13 +6,14 @@ use Rattle.std.specs.Str.{bytes_eq}
 use Rattle.std.proofs.lemmas.Bool.{eqb-true, or_parts, and_parts, or_left, or_right, true≢false}
 use Rattle.std.proofs.lemmas.List.Folds.{list_any-append}
 use Rattle.cr_base.specs.declared.entry.Entry.{Entry}
-use Rattle.cr_base.specs.declared.entry.Entry.TheVariants.{Registered, Named, PhaseSet, ModeSet, Submitted}
+use Rattle.cr_base.specs.declared.entry.Entry.TheVariants.{Registered, Named, Dismissed, PhaseSet, ModeSet, Submitted}
 use Rattle.cr_base.specs.declared.entry.Entry.TheVariants.{Coauthor, Revised, Uploaded, Withdrawn, Conflict, Commented, DeadlineSet}
 use Rattle.cr_base.specs.declared.entry.Stamp.{Stamp}
 use Rattle.cr_base.specs.declared.entry.Stamped.{Stamped}
 use Rattle.cr_base.specs.Lists.{given, listed, is_number}
 use Rattle.cr_base.specs.Drawn.{stamped}
 use Rattle.cr_base.specs.declared.words.Phase.{Phase}
+use Rattle.cr_base.specs.declared.words.Role.TheVariants.{Account}
 use Rattle.cr_base.specs.History.{phase_told, mode_told, deadline_given, deadline_told, paper_told, own_paper_told, own_bytes_told, own_comment_told, author_told, conflict_told}
 use Rattle.cr_base.specs.History.{title_told, abstract_told, upload_told, withdrawal_told, registration_told, role_told, number_told}
 use Rattle.cr_policy.specs.Part as part
@@ -172,6 +173,7 @@ module _ (r : Reader) (at : Around) (stamp : Stamp) (more : Bool) where
 
   role_at : (u : Option ℕ) (e : Entry) → flat_map (role_seen u) (sight r at (stamped stamp more e)) ≡ role_told u e
   role_at u (Named user role) = append-nil (given (is_number u user) role)
+  role_at u (Dismissed user) = append-nil (given (is_number u user) Account)
   role_at u e = silent (role_seen u) e refl
 
   number_at : (name : List ℕ) (e : Entry) → flat_map (number_seen name) (sight r at (stamped stamp more e)) ≡ number_told name e

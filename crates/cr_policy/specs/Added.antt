@@ -12,11 +12,12 @@ use Rattle.cr_base.specs.declared.entry.Entry.TheVariants.{Registered, Named, Ph
 use Rattle.cr_base.specs.declared.entry.Entry.TheVariants.{Coauthor, Revised, Uploaded, Withdrawn, Conflict}
 use Rattle.cr_base.specs.declared.entry.Entry.TheVariants.{Bid, Assigned, Unassigned, Reviewed, Commented, Tagged}
 use Rattle.cr_base.specs.declared.entry.Entry.TheVariants.{Decided, DeadlineSet}
+use Rattle.cr_base.specs.declared.entry.Entry.TheVariants.{Dismissed, Invited, Uninvited}
 use Rattle.cr_base.specs.declared.entry.Stamp.{Stamp}
 use Rattle.cr_base.specs.declared.entry.Stamped.{Stamped}
 use Rattle.cr_base.specs.declared.reply.Receipt.{Receipt}
 use Rattle.cr_base.specs.declared.reply.Receipt.TheVariants as receipts
-use Rattle.cr_base.specs.declared.words.Role.TheVariants.{Chair}
+use Rattle.cr_base.specs.declared.words.Role.TheVariants.{Account, Chair}
 use Rattle.cr_base.specs.Calls.{stamp_of}
 use Rattle.cr_base.specs.Drawn.{Drawn}
 use Rattle.cr_base.specs.History.{History}
@@ -82,6 +83,7 @@ abbrev pub added : Option ℕ → History → Command → List Entry
 added caller H (commands.Register name digest) =
     Registered (next_user H) name digest ∷ given (is_nothing (accounts_of H)) (Named 1 Chair)
 added (Some u) H (commands.Name name role) = for_user name H (λ v. Named v role)
+added (Some u) H (commands.Dismiss name) = for_user name H (λ v. Dismissed v)
 added (Some u) H (commands.SetMode to) = ModeSet to ∷ []
 added (Some u) H (commands.SetPhase to) = PhaseSet to ∷ []
 added (Some u) H (commands.SetDeadline phase until) = DeadlineSet phase until ∷ []
@@ -94,6 +96,8 @@ added (Some u) H (commands.SetConflict (Some p) name on) = for_user name H (λ v
 added (Some u) H (commands.Bid (Some p) value) = Bid p value ∷ []
 added (Some u) H (commands.Assign (Some p) name kind) = for_user name H (λ v. Assigned p v kind (next_label p H))
 added (Some u) H (commands.Unassign (Some p) name) = for_seated name p H (λ v o. Unassigned p v o)
+added (Some u) H (commands.Invite (Some p) name) = for_user name H (λ v. Invited p v)
+added (Some u) H (commands.Uninvite (Some p) name) = for_user name H (λ v. Uninvited p v)
 added (Some u) H (commands.Review (Some p) form) = for_label u p H (λ o. Reviewed p o (next_form p o H) form)
 added (Some u) H (commands.Comment (Some p) text) = Commented p (next_comment p H) (ordinal_of (Some u) p H) text ∷ []
 added (Some u) H (commands.Tag (Some p) tag on) = Tagged p tag on ∷ []
@@ -116,6 +120,7 @@ stamp_added H call = record (stamp_of call) { maker = made_by call.caller H call
 abbrev pub answered : Option ℕ → History → Command → List Receipt
 answered caller H (commands.Register name digest) = receipts.User (next_user H) ∷ []
 answered caller H (commands.Name (Some name) role) = receipts.Named name role ∷ []
+answered caller H (commands.Dismiss (Some name)) = receipts.Named name Account ∷ []
 answered caller H (commands.SetMode to) = receipts.Mode to ∷ []
 answered caller H (commands.SetPhase to) = receipts.Phase to ∷ []
 answered caller H (commands.SetDeadline phase until) = receipts.Deadline phase until ∷ []
@@ -127,6 +132,8 @@ answered caller H (commands.SetConflict (Some p) name on) = receipts.Changed p �
 answered caller H (commands.Bid (Some p) value) = receipts.Bid value ∷ []
 answered caller H (commands.Assign (Some p) name kind) = receipts.Label (next_label p H) ∷ []
 answered caller H (commands.Unassign (Some p) name) = receipts.Changed p ∷ []
+answered caller H (commands.Invite (Some p) name) = receipts.Changed p ∷ []
+answered caller H (commands.Uninvite (Some p) name) = receipts.Changed p ∷ []
 answered (Some u) H (commands.Review (Some p) form) =
     listed (option_map (λ o. receipts.Version (next_form p o H)) (ordinal_of (Some u) p H))
 answered caller H (commands.Comment (Some p) text) = receipts.Comment (next_comment p H) ∷ []

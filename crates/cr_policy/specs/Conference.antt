@@ -1,4 +1,4 @@
--- A small conference, from its first registration to its close: eight users, three papers, and every kind of entry. In
+-- A small conference, from its first registration to its close: nine users, three papers, and every kind of entry. In
 -- its twin alice assigns another member to paper 1. What the committee says that no author reads is whatever it is,
 -- and its chairs may decide otherwise than they do.
 use Rattle.std.specs.Prelude.{ℕ, ◌≡◌, ◌+◌, true, false, List, [], ◌∷◌, ◌++◌, length}
@@ -8,6 +8,7 @@ use Rattle.cr_base.specs.declared.entry.Entry.TheVariants.{Registered, Named, Ph
 use Rattle.cr_base.specs.declared.entry.Entry.TheVariants.{Coauthor, Revised, Uploaded, Withdrawn, Conflict}
 use Rattle.cr_base.specs.declared.entry.Entry.TheVariants.{Bid, Assigned, Unassigned, Reviewed}
 use Rattle.cr_base.specs.declared.entry.Entry.TheVariants.{Commented, Tagged, Decided, DeadlineSet}
+use Rattle.cr_base.specs.declared.entry.Entry.TheVariants.{Dismissed, Invited, Uninvited}
 use Rattle.cr_base.specs.declared.entry.Stamped.{Stamped}
 use Rattle.cr_base.specs.declared.form.Form.{Form}
 use Rattle.cr_base.specs.declared.words.Decision.{Decision}
@@ -58,8 +59,12 @@ gus = 7
 abbrev pub hal : ℕ
 hal = 8
 
+-- a member who is dismissed, and is then an external of paper 2, which she reviews
+abbrev pub ivy : ℕ
+ivy = 9
+
 abbrev pub cast : List ℕ
-cast = alice ∷ bob ∷ carol ∷ dave ∷ erin ∷ fay ∷ gus ∷ hal ∷ []
+cast = alice ∷ bob ∷ carol ∷ dave ∷ erin ∷ fay ∷ gus ∷ hal ∷ ivy ∷ []
 
 -- the digests of their secrets, whatever these are
 pub record Digests : Type 0 where
@@ -71,6 +76,7 @@ pub record Digests : Type 0 where
   pub fay : List ℕ
   pub gus : List ℕ
   pub hal : List ℕ
+  pub ivy : List ℕ
 
 pub record AreDigests (d : Digests) : Type 0 where
   pub alice : length d.alice ≡ 32
@@ -81,6 +87,7 @@ pub record AreDigests (d : Digests) : Type 0 where
   pub fay : length d.fay ≡ 32
   pub gus : length d.gus ≡ 32
   pub hal : length d.hal ≡ 32
+  pub ivy : length d.ivy ≡ 32
 
 -- ---- texts
 
@@ -142,7 +149,7 @@ own_tag a = codes "~x" ++ a.tag
 abbrev pub chairs_tag : List ℕ
 chairs_tag = codes "~~x"
 
--- three forms of the member who reviews paper 1, and one of alice's
+-- three forms of the member who reviews paper 1, one of alice's, and one of ivy's of paper 2
 abbrev pub first_form : Form
 first_form = record { score = 2; confidence = 3; to_authors = codes "Weak."; to_pc = codes "New to me." }
 
@@ -154,6 +161,9 @@ last_form a = record { score = 5; confidence = 4; to_authors = codes "Good."; to
 
 abbrev pub alices_form : Form
 alices_form = record { score = 4; confidence = 2; to_authors = codes "Thin."; to_pc = codes "Take it." }
+
+abbrev pub ivys_form : Form
+ivys_form = record { score = 1; confidence = 5; to_authors = codes "Old."; to_pc = codes "No." }
 
 -- the second comment
 abbrev pub agreed : List ℕ
@@ -188,9 +198,11 @@ registered d =
     ∷ fay adds Registered fay (codes "fay") d.fay
     ∷ gus adds Registered gus (codes "gus") d.gus
     ∷ hal adds Registered hal (codes "hal") d.hal
+    ∷ ivy adds Registered ivy (codes "ivy") d.ivy
     ∷ []
 
--- alice names the others of the committee, sets the mode, opens submission and sets its deadline
+-- alice names the others of the committee, and ivy, whom she dismisses, sets the mode, opens submission and sets its
+-- deadline
 abbrev pub opened : Digests → Mode → History
 opened d mode =
     registered d
@@ -198,6 +210,8 @@ opened d mode =
     ∷ alice adds Named dave Member
     ∷ alice adds Named fay Chair
     ∷ alice adds Named hal Member
+    ∷ alice adds Named ivy Member
+    ∷ alice adds Dismissed ivy
     ∷ alice adds ModeSet mode
     ∷ alice adds PhaseSet Submission
     ∷ alice adds DeadlineSet Submission (Some next_morning)
@@ -262,17 +276,22 @@ having_tags d mode a =
     ∷ fay adds Tagged 2 chairs_tag true
     ∷ []
 
--- alice assigns a member to paper 1, dave or in the twin hal, and herself, and fay to paper 2
+-- alice assigns a member to paper 1, dave or in the twin hal, and herself, and fay to paper 2; she invites ivy to
+-- paper 1, and takes that back, and to paper 2, to which she assigns her
 abbrev pub in_bidding : Digests → Mode → Asides → ℕ → History
 in_bidding d mode a reviewer =
     having_tags d mode a
     ++ alice adds Assigned 1 reviewer Primary 1
     ∷ alice adds Assigned 1 alice Secondary 2
     ∷ alice adds Assigned 2 fay Pc 1
+    ∷ alice adds Invited 1 ivy
+    ∷ alice adds Uninvited 1 ivy
+    ∷ alice adds Invited 2 ivy
+    ∷ alice adds Assigned 2 ivy Secondary 2
     ∷ []
 
 -- she opens the reviewing, takes the member off paper 1 and assigns the same one again, under the next label; the
--- member writes two forms, and alice one between them
+-- member writes two forms, and alice one between them; and ivy writes one of paper 2
 abbrev pub in_reviewing : Digests → Mode → Asides → ℕ → History
 in_reviewing d mode a reviewer =
     in_bidding d mode a reviewer
@@ -282,6 +301,7 @@ in_reviewing d mode a reviewer =
     ∷ reviewer adds Reviewed 1 3 1 first_form
     ∷ alice adds Reviewed 1 2 1 alices_form
     ∷ reviewer adds Reviewed 1 3 2 second_form
+    ∷ ivy adds Reviewed 2 2 1 ivys_form
     ∷ []
 
 -- of dave and hal the one who doesn't review paper 1

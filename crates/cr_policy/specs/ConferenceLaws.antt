@@ -9,11 +9,11 @@ use Rattle.cr_base.specs.declared.words.Kind.TheVariants.{Primary, Secondary, Pc
 use Rattle.cr_base.specs.declared.words.Mode.{Mode}
 use Rattle.cr_base.specs.declared.words.Role.{Role}
 use Rattle.cr_base.specs.declared.words.Role.TheVariants.{Account, Member, Chair}
-use Rattle.cr_base.specs.HistoryFacts.{role_of, papers_of, authors_of, is_conflicted}
+use Rattle.cr_base.specs.HistoryFacts.{role_of, papers_of, authors_of, is_conflicted, is_external}
 use Rattle.cr_base.specs.HistoryFacts.{is_withdrawn, reviewers_of, decision_of, is_accepted}
 use Rattle.cr_base.specs.History.{History, SeatTold}
 use Rattle.cr_base.specs.Words.{is_overt}
-use Rattle.cr_policy.specs.Conference.{alice, bob, carol, dave, erin, fay, gus, hal}
+use Rattle.cr_policy.specs.Conference.{alice, bob, carol, dave, erin, fay, gus, hal, ivy}
 use Rattle.cr_policy.specs.Conference.{cast, Digests, AreDigests, Asides, AreAsides}
 use Rattle.cr_policy.specs.Conference.{before_bidding, in_bidding, in_reviewing}
 use Rattle.cr_policy.specs.Conference.{Verdicts, verdicts, reversed, in_discussion}
@@ -30,13 +30,14 @@ use Rattle.cr_policy.specs.View.{View, view}
 abbrev pub accepted_of : History → List ℕ
 accepted_of H = filter (λ paper. is_accepted paper H) (papers_of H)
 
--- who of the eight is what: their roles, and of each paper its authors, those who are in conflict with it, its
--- reviewers and the last decision on it; and which papers are withdrawn, and which accepted
+-- who of the nine is what: their roles, and of each paper its authors, those who are in conflict with it, its
+-- reviewers, its externals and the last decision on it; and which papers are withdrawn, and which accepted
 pub record Casting : Type 0 where
   pub roles : List Role
   pub authors : List (List ℕ)
   pub conflicted : List (List ℕ)
   pub reviewers : List (List SeatTold)
+  pub externals : List (List ℕ)
   pub withdrawn : List ℕ
   pub decisions : List (Option Decision)
   pub accepted : List ℕ
@@ -47,6 +48,7 @@ casting_of H = record {
   authors = map (λ paper. authors_of paper H) (papers_of H);
   conflicted = map (λ paper. filter (λ user. is_conflicted (Some user) paper H) cast) (papers_of H);
   reviewers = map (λ paper. reviewers_of paper H) (papers_of H);
+  externals = map (λ paper. filter (λ user. is_external (Some user) paper H) cast) (papers_of H);
   withdrawn = filter (λ paper. is_withdrawn paper H) (papers_of H);
   decisions = map (λ paper. decision_of paper H) (papers_of H);
   accepted = accepted_of H;
@@ -55,12 +57,13 @@ casting_of H = record {
 -- alice, carol, dave, fay and hal are the committee, and of it carol and fay are in conflict with
 -- paper 1 and nobody with the others;
 -- bob and gus wrote paper 1, and gus alone papers 2 and 3, of which the last is withdrawn; no decision is made yet
-abbrev pub reviewed_by : List (List SeatTold) → Casting
-reviewed_by reviewers = record {
-  roles = Chair ∷ Account ∷ Member ∷ Member ∷ Account ∷ Chair ∷ Account ∷ Member ∷ [];
+abbrev pub reviewed_by : List (List SeatTold) → List (List ℕ) → Casting
+reviewed_by reviewers externals = record {
+  roles = Chair ∷ Account ∷ Member ∷ Member ∷ Account ∷ Chair ∷ Account ∷ Member ∷ Account ∷ [];
   authors = (bob ∷ gus ∷ []) ∷ (gus ∷ []) ∷ (gus ∷ []) ∷ [];
   conflicted = (bob ∷ carol ∷ fay ∷ gus ∷ []) ∷ (gus ∷ []) ∷ (gus ∷ []) ∷ [];
   reviewers = reviewers;
+  externals = externals;
   withdrawn = 3 ∷ [];
   decisions = None ∷ None ∷ None ∷ [];
   accepted = [];
@@ -74,18 +77,20 @@ pub record IsConference (H : History) (casting : Casting) : Type 0 where
 abbrev pub reviewing : ℕ → Kind → ℕ → SeatTold
 reviewing ordinal kind user = record { ordinal = ordinal; kind = Some kind; user = Some user }
 
--- who reviews before the bidding; in it, where this member is assigned to paper 1; and once
--- the same one is assigned again
+-- who reviews before the bidding; in it, where this member is assigned to paper 1, and ivy, an external of paper 2,
+-- reviews that; and once the same one is assigned again
 abbrev pub by_none : Casting
-by_none = reviewed_by ([] ∷ [] ∷ [] ∷ [])
+by_none = reviewed_by ([] ∷ [] ∷ [] ∷ []) ([] ∷ [] ∷ [] ∷ [])
+
+abbrev pub with_ivy : List SeatTold → Casting
+with_ivy first =
+    reviewed_by (first ∷ (reviewing 1 Pc fay ∷ reviewing 2 Secondary ivy ∷ []) ∷ [] ∷ []) ([] ∷ (ivy ∷ []) ∷ [] ∷ [])
 
 abbrev pub by_first : ℕ → Casting
-by_first member =
-    reviewed_by ((reviewing 1 Primary member ∷ reviewing 2 Secondary alice ∷ []) ∷ (reviewing 1 Pc fay ∷ []) ∷ [] ∷ [])
+by_first member = with_ivy (reviewing 1 Primary member ∷ reviewing 2 Secondary alice ∷ [])
 
 abbrev pub by_last : ℕ → Casting
-by_last member =
-    reviewed_by ((reviewing 2 Secondary alice ∷ reviewing 3 Pc member ∷ []) ∷ (reviewing 1 Pc fay ∷ []) ∷ [] ∷ [])
+by_last member = with_ivy (reviewing 2 Secondary alice ∷ reviewing 3 Pc member ∷ [])
 
 -- and once the chairs have decided, where these papers are accepted
 abbrev pub decided_by : ℕ → List ℕ → Casting
@@ -122,6 +127,7 @@ abbrev pub views_of : History → Views
 views_of H = record {
   nobody = view None H;
   account = view (Some erin) H;
+  external = view (Some ivy) H;
   author = view (Some bob) H;
   coauthor = view (Some gus) H;
   member = view (Some hal) H;

@@ -6,18 +6,19 @@ use Rattle.cr_base.specs.declared.words.Kind.TheVariants.{Primary, Secondary, Pc
 use Rattle.cr_base.specs.declared.words.Mode.{Mode}
 use Rattle.cr_base.specs.declared.words.Mode.TheVariants.{Overt}
 use Rattle.cr_base.specs.declared.words.Phase.TheVariants.{Bidding, Reviewing, Discussion, Notification, Closed}
-use Rattle.cr_policy.specs.Conference.{alice, dave, erin, fay, gus, hal, Digests, Asides}
+use Rattle.cr_policy.specs.Conference.{alice, dave, erin, fay, gus, hal, ivy, Digests, Asides}
 use Rattle.cr_policy.specs.Conference.{types, we_type, only_version, first_form, second_form}
-use Rattle.cr_policy.specs.Conference.{last_form, alices_form, agreed}
+use Rattle.cr_policy.specs.Conference.{last_form, alices_form, ivys_form, agreed}
 use Rattle.cr_policy.specs.ConferenceViews.{both_texts_by, upload, assignment, unassignment}
-use Rattle.cr_policy.specs.ConferenceViews.{to_members, to_authors, form, form_to_authors}
+use Rattle.cr_policy.specs.ConferenceViews.{to_members, to_authors, form, as_done, form_to_authors}
 use Rattle.cr_policy.specs.ConferenceViews.{comment_by, comment_to_members, own_comment}
 use Rattle.cr_policy.specs.ConferenceViews.{decided, as_outcome, as_accepted, acceptance, mine}
 use Rattle.cr_policy.specs.ConferenceViews.{bare_paper, phase_set, Views, opened_to, opening_to_nobody}
 use Rattle.cr_policy.specs.ConferenceViews.{opening_to, bob_with, bob_before, gus_before}
 use Rattle.cr_policy.specs.ConferenceViews.{bare_head, head_by_authors, head_to_members}
 use Rattle.cr_policy.specs.ConferenceViews.{title_alone, last_texts, hal_to_bidding, dave_to_tags}
-use Rattle.cr_policy.specs.ConferenceViews.{carol_to_bidding, fay_to_bidding, alice_in_reviewing, views_in_reviewing}
+use Rattle.cr_policy.specs.ConferenceViews.{carol_to_bidding, fay_to_bidding, ivy_to_reviewing, alice_to_forms}
+use Rattle.cr_policy.specs.ConferenceViews.{views_in_reviewing}
 use Rattle.cr_policy.specs.View.{View}
 
 -- ---- in the discussion
@@ -31,11 +32,13 @@ hal_to_comments d mode a head =
     ++ to_members mode (assignment 1 dave Primary 1)
     ∷ to_members mode (assignment 1 alice Secondary 2)
     ∷ to_members mode (assignment 2 fay Pc 1)
+    ∷ to_members mode (assignment 2 ivy Secondary 2)
     ∷ phase_set Reviewing
     ∷ to_members mode (unassignment 1 dave 1)
     ∷ to_members mode (assignment 1 dave Pc 3)
     ∷ form 1 2 1 alices_form
     ∷ form 1 3 2 second_form
+    ∷ form 2 2 1 ivys_form
     ∷ phase_set Discussion
     ∷ form 1 3 3 (last_form a)
     ∷ comment_to_members mode dave 3 1 1 a.comment
@@ -49,12 +52,14 @@ dave_to_comments d mode a head =
     ++ assignment 1 dave Primary 1
     ∷ to_members mode (assignment 1 alice Secondary 2)
     ∷ to_members mode (assignment 2 fay Pc 1)
+    ∷ to_members mode (assignment 2 ivy Secondary 2)
     ∷ phase_set Reviewing
     ∷ unassignment 1 dave 1
     ∷ assignment 1 dave Pc 3
     ∷ mine (form 1 3 1 first_form)
     ∷ form 1 2 1 alices_form
     ∷ mine (form 1 3 2 second_form)
+    ∷ form 2 2 1 ivys_form
     ∷ phase_set Discussion
     ∷ mine (form 1 3 3 (last_form a))
     ∷ own_comment mode dave 3 1 1 a.comment
@@ -70,7 +75,9 @@ abbrev pub carol_to_decisions : Digests → Mode → View → View → View
 carol_to_decisions d mode head texts =
     carol_to_bidding d mode head texts
     ++ to_members mode (assignment 2 fay Pc 1)
+    ∷ to_members mode (assignment 2 ivy Secondary 2)
     ∷ phase_set Reviewing
+    ∷ form 2 2 1 ivys_form
     ∷ phase_set Discussion
     ∷ decided 2 Reject
     ∷ []
@@ -79,8 +86,9 @@ carol_to_decisions d mode head texts =
 -- comment, and who wrote it; and every decision
 abbrev pub alice_to_comments : Digests → Mode → Asides → View
 alice_to_comments d mode a =
-    alice_in_reviewing d mode
+    alice_to_forms d mode
     ++ form 1 3 2 second_form
+    ∷ as_done (form 2 2 1 ivys_form)
     ∷ mine (phase_set Discussion)
     ∷ form 1 3 3 (last_form a)
     ∷ comment_by dave 1 1 a.comment
@@ -91,10 +99,15 @@ abbrev pub alice_in_discussion : Digests → Mode → Asides → View
 alice_in_discussion d mode a =
     alice_to_comments d mode a ++ decided 2 Reject ∷ mine (decided 1 Reject) ∷ mine (decided 1 Accept) ∷ []
 
--- a chair in conflict with paper 1: the decision on paper 2, which is her own
+-- a chair in conflict with paper 1: the form of paper 2, and the decision on it, which is her own
 abbrev pub fay_to_decisions : Digests → Mode → View → View → View
 fay_to_decisions d mode head texts =
-    fay_to_bidding d mode head texts ++ phase_set Reviewing ∷ phase_set Discussion ∷ mine (decided 2 Reject) ∷ []
+    fay_to_bidding d mode head texts
+    ++ phase_set Reviewing
+    ∷ as_done (form 2 2 1 ivys_form)
+    ∷ phase_set Discussion
+    ∷ mine (decided 2 Reject)
+    ∷ []
 
 -- of paper 1 the committee is shown what it was in the bidding. All others, authors among them: the phase
 abbrev pub views_in_discussion : Digests → Mode → Asides → Views
@@ -110,22 +123,24 @@ views_in_discussion d mode a = record (opened_to Discussion (views_in_reviewing 
 
 -- an author of paper 1, from the reviewing on: of each label the last form, but not its number and what is
 -- for the committee; in the open mode who was assigned and unassigned, and under which labels, but not as
--- what; and what became of her papers
-abbrev pub results : Mode → Asides → View → View
-results Overt a outcomes =
+-- what; and what became of her papers. The view is a function of what is shown of forms of paper 2
+abbrev pub results : Mode → Asides → View → View → View
+results Overt a forms outcomes =
     phase_set Reviewing
     ∷ to_authors (unassignment 1 dave 1)
     ∷ to_authors (assignment 1 dave Pc 3)
     ∷ form_to_authors 1 2 alices_form
-    ∷ phase_set Discussion
+    ∷ forms
+    ++ phase_set Discussion
     ∷ form_to_authors 1 3 (last_form a)
     ∷ outcomes
     ++ phase_set Notification
     ∷ []
-results mode a outcomes =
+results mode a forms outcomes =
     phase_set Reviewing
     ∷ form_to_authors 1 2 alices_form
-    ∷ phase_set Discussion
+    ∷ forms
+    ++ phase_set Discussion
     ∷ form_to_authors 1 3 (last_form a)
     ∷ outcomes
     ++ phase_set Notification
@@ -146,8 +161,11 @@ bob_told Overt a before outcomes =
     ++ phase_set Bidding
     ∷ to_authors (assignment 1 dave Primary 1)
     ∷ to_authors (assignment 1 alice Secondary 2)
-    ∷ results Overt a outcomes
-bob_told mode a before outcomes = before ++ phase_set Bidding ∷ results mode a outcomes
+    ∷ results Overt a [] outcomes
+bob_told mode a before outcomes = before ++ phase_set Bidding ∷ results mode a [] outcomes
+
+abbrev pub form_of_2 : View
+form_of_2 = form_to_authors 2 2 ivys_form ∷ []
 
 abbrev pub gus_told : Mode → Asides → View → View → View
 gus_told Overt a before outcomes =
@@ -156,8 +174,9 @@ gus_told Overt a before outcomes =
     ∷ to_authors (assignment 1 dave Primary 1)
     ∷ to_authors (assignment 1 alice Secondary 2)
     ∷ to_authors (assignment 2 fay Pc 1)
-    ∷ results Overt a outcomes
-gus_told mode a before outcomes = before ++ phase_set Bidding ∷ results mode a outcomes
+    ∷ to_authors (assignment 2 ivy Secondary 2)
+    ∷ results Overt a form_of_2 outcomes
+gus_told mode a before outcomes = before ++ phase_set Bidding ∷ results mode a form_of_2 outcomes
 
 -- everyone else: these lines of papers 1 and 2, and which of them is accepted; who wrote none, and is on no
 -- committee, of paper 3 that it is there
@@ -195,10 +214,16 @@ alice_at_notification d mode a =
 abbrev pub told_in_conflict : View
 told_in_conflict = acceptance 1 ∷ phase_set Notification ∷ []
 
+-- and so an external of paper 2 of paper 1, and who wrote that
+abbrev pub ivy_to_notification : Digests → Mode → View → View
+ivy_to_notification d mode texts =
+    ivy_to_reviewing d mode head_by_authors texts ++ phase_set Discussion ∷ told_in_conflict
+
 abbrev pub views_at_notification : Digests → Mode → Asides → Views
 views_at_notification d mode a = record {
   nobody = opening_to_nobody mode ++ programme_of_1 title_alone;
   account = opening_to erin d mode ++ programme_of_1 title_alone;
+  external = ivy_to_notification d mode title_alone;
   author = bob_told mode a (bob_before d mode) outcome_of_1;
   coauthor = gus_told mode a (gus_before d mode) outcomes_of_both;
   member = hal_to_comments d mode a head_by_authors ++ all_told;
@@ -218,6 +243,7 @@ views_at_close d mode a =
     opened_to Closed (record seen {
       nobody = opening_to_nobody mode ++ programme_of_1 last_texts;
       account = opening_to erin d mode ++ programme_of_1 last_texts;
+      external = ivy_to_notification d mode last_texts;
       conflicted_member = carol_to_decisions d mode head_by_authors last_texts ++ told_in_conflict;
       conflicted_chair = fay_to_decisions d mode head_by_authors last_texts ++ told_in_conflict;
     })

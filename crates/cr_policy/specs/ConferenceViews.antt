@@ -12,11 +12,11 @@ use Rattle.cr_base.specs.declared.words.Phase.{Phase}
 use Rattle.cr_base.specs.declared.words.Phase.TheVariants.{Submission, Bidding, Reviewing}
 use Rattle.cr_base.specs.declared.words.Role.{Role}
 use Rattle.cr_base.specs.declared.words.Role.TheVariants.{Member, Chair}
-use Rattle.cr_policy.specs.Conference.{alice, bob, carol, dave, erin, fay, gus, hal, next_morning}
+use Rattle.cr_policy.specs.Conference.{alice, bob, carol, dave, erin, fay, gus, hal, ivy, next_morning}
 use Rattle.cr_policy.specs.Conference.{Digests, proofs, we_prove, types, we_type}
 use Rattle.cr_policy.specs.Conference.{drafts, we_draft, fewer_proofs, we_prove_less, more_proofs, we_prove_more}
 use Rattle.cr_policy.specs.Conference.{first_version, second_version, only_version, Asides, hot, own_tag, chairs_tag}
-use Rattle.cr_policy.specs.Conference.{first_form, second_form, alices_form}
+use Rattle.cr_policy.specs.Conference.{first_form, second_form, alices_form, ivys_form}
 use Rattle.cr_policy.specs.Sighting.{Sighting, blank}
 use Rattle.cr_policy.specs.View.{View}
 use Rattle.cr_policy.specs.Witness.{morning, some_key}
@@ -34,6 +34,10 @@ own_account user name digest =
 
 abbrev pub role_given : ℕ → Role → Sighting
 role_given user role = record (blank kinds.Named) { user = Some user; role = Some role }
+
+-- that she is dismissed
+abbrev pub dismissal : ℕ → Sighting
+dismissal user = record (blank kinds.Dismissed) { user = Some user }
 
 abbrev pub mode_set : Mode → Sighting
 mode_set mode = record (blank kinds.ModeSet) { mode = Some mode }
@@ -104,7 +108,14 @@ abbrev pub unassignment : ℕ → ℕ → ℕ → Sighting
 unassignment paper user ordinal =
     record (blank kinds.Unassigned) { paper = Some paper; user = Some user; ordinal = Some ordinal }
 
--- of a submission, or of either of these, what members are shown who don't oversee the paper: not who it
+-- that somebody is invited to the paper from outside the committee; and that she no longer is
+abbrev pub invitation : ℕ → ℕ → Sighting
+invitation paper user = record (blank kinds.Invited) { paper = Some paper; user = Some user }
+
+abbrev pub uninvitation : ℕ → ℕ → Sighting
+uninvitation paper user = record (blank kinds.Uninvited) { paper = Some paper; user = Some user }
+
+-- of a submission, or of an assignment or its end, what members are shown who don't oversee the paper: not who it
 -- is where the mode is anonymous
 abbrev pub to_members : Mode → Sighting → Sighting
 to_members Anonymous line = record line { by = None; user = None }
@@ -191,6 +202,7 @@ mine_by_number line = record (mine line) { key = Some (Some some_key) }
 pub record Views : Type 0 where
   pub nobody : View
   pub account : View
+  pub external : View
   pub author : View
   pub coauthor : View
   pub member : View
@@ -204,6 +216,7 @@ abbrev pub opened_to : Phase → Views → Views
 opened_to phase seen = record {
   nobody = seen.nobody ++ phase_set phase ∷ [];
   account = seen.account ++ phase_set phase ∷ [];
+  external = seen.external ++ phase_set phase ∷ [];
   author = seen.author ++ phase_set phase ∷ [];
   coauthor = seen.coauthor ++ phase_set phase ∷ [];
   member = seen.member ++ phase_set phase ∷ [];
@@ -227,10 +240,13 @@ opening_to_nobody mode =
     ∷ account fay (codes "fay")
     ∷ account gus (codes "gus")
     ∷ account hal (codes "hal")
+    ∷ account ivy (codes "ivy")
     ∷ role_given carol Member
     ∷ role_given dave Member
     ∷ role_given fay Chair
     ∷ role_given hal Member
+    ∷ role_given ivy Member
+    ∷ dismissal ivy
     ∷ mode_set mode
     ∷ phase_set Submission
     ∷ deadline_set Submission next_morning
@@ -255,10 +271,13 @@ opening_to reader d mode =
     ∷ account_to reader fay (codes "fay") d.fay
     ∷ account_to reader gus (codes "gus") d.gus
     ∷ account_to reader hal (codes "hal") d.hal
+    ∷ account_to reader ivy (codes "ivy") d.ivy
     ∷ of_alice_to reader (role_given carol Member)
     ∷ of_alice_to reader (role_given dave Member)
     ∷ of_alice_to reader (role_given fay Chair)
     ∷ of_alice_to reader (role_given hal Member)
+    ∷ of_alice_to reader (role_given ivy Member)
+    ∷ of_alice_to reader (dismissal ivy)
     ∷ of_alice_to reader (mode_set mode)
     ∷ of_alice_to reader (phase_set Submission)
     ∷ of_alice_to reader (deadline_set Submission next_morning)
@@ -316,6 +335,7 @@ abbrev pub views_before : Digests → Mode → Views
 views_before d mode = record {
   nobody = opening_to_nobody mode ++ bare_papers;
   account = opening_to erin d mode ++ bare_papers;
+  external = opening_to ivy d mode ++ bare_papers;
   author = bob_before d mode;
   coauthor = gus_before d mode;
   member = opening_to hal d mode ++ bare_papers;
@@ -359,6 +379,23 @@ papers_told mode head texts =
     ++ withdrawal 3
     ∷ []
 
+-- an external of paper 2: of this the texts, the content, and unless the mode is anonymous who wrote it; and of the
+-- invitations and the assignments her own
+abbrev pub ivy_to_bidding : Digests → Mode → View → View → View
+ivy_to_bidding d mode head texts =
+    opening_to ivy d mode
+    ++ head
+    ++ to_members mode (both_texts_by gus 2 types we_type)
+    ∷ bare_paper 3
+    ∷ upload 2 1 only_version
+    ∷ texts
+    ++ phase_set Bidding
+    ∷ invitation 1 ivy
+    ∷ uninvitation 1 ivy
+    ∷ invitation 2 ivy
+    ∷ assignment 2 ivy Secondary 2
+    ∷ []
+
 -- a member in no conflict: all of that, and of the tags those for all. Here and below the view is a function of what
 -- is shown of paper 1, which is more where it is accepted
 abbrev pub hal_to_bidding : Digests → Mode → View → View
@@ -400,7 +437,7 @@ carol_to_bidding d mode head texts =
     ∷ []
 
 -- a chair in no conflict: what a member sees, whatever the mode; every conflict, but not who declared it; every bid,
--- and whose it is; the tags for all and those for chairs; and every assignment
+-- and whose it is; the tags for all and those for chairs; and every assignment and invitation
 abbrev pub alice_in_bidding : Digests → Mode → View
 alice_in_bidding d mode =
     opening_to alice d mode
@@ -423,6 +460,10 @@ alice_in_bidding d mode =
     ∷ mine (assignment 1 dave Primary 1)
     ∷ mine (assignment 1 alice Secondary 2)
     ∷ mine (assignment 2 fay Pc 1)
+    ∷ mine (invitation 1 ivy)
+    ∷ mine (uninvitation 1 ivy)
+    ∷ mine (invitation 2 ivy)
+    ∷ mine (assignment 2 ivy Secondary 2)
     ∷ []
 
 -- a chair in conflict with paper 1: of its conflicts her own, and no tag; of the other papers what any chair sees
@@ -439,6 +480,8 @@ fay_to_bidding d mode head texts =
     ∷ bid_by carol 2 17
     ∷ mine (tagging 2 chairs_tag true)
     ∷ assignment 2 fay Pc 1
+    ∷ invitation 2 ivy
+    ∷ assignment 2 ivy Secondary 2
     ∷ []
 
 -- of paper 1 members in no conflict are shown the last texts, and who wrote it unless the mode is anonymous; those
@@ -446,6 +489,7 @@ fay_to_bidding d mode head texts =
 -- declares, bids, tags and assigns
 abbrev pub views_in_bidding : Digests → Mode → Asides → Views
 views_in_bidding d mode a = record (opened_to Bidding (views_before d mode)) {
+  external = ivy_to_bidding d mode bare_head [];
   member = hal_to_bidding d mode (head_to_members mode);
   reviewer = dave_in_bidding d mode a;
   conflicted_member = carol_to_bidding d mode bare_head title_alone;
@@ -466,10 +510,15 @@ dave_in_reviewing d mode a =
     ∷ mine (form 1 3 2 second_form)
     ∷ []
 
--- a chair in no conflict, who reviews it too: every assignment, her own form whole, and
+-- an external of paper 2, who reviews it: her own form whole
+abbrev pub ivy_to_reviewing : Digests → Mode → View → View → View
+ivy_to_reviewing d mode head texts =
+    ivy_to_bidding d mode head texts ++ phase_set Reviewing ∷ mine (form 2 2 1 ivys_form) ∷ []
+
+-- a chair in no conflict, who reviews paper 1 too: every assignment, her own form whole, and
 -- under which labels there is one
-abbrev pub alice_in_reviewing : Digests → Mode → View
-alice_in_reviewing d mode =
+abbrev pub alice_to_forms : Digests → Mode → View
+alice_to_forms d mode =
     alice_in_bidding d mode
     ++ mine (phase_set Reviewing)
     ∷ mine (unassignment 1 dave 1)
@@ -478,9 +527,18 @@ alice_in_reviewing d mode =
     ∷ mine (as_done (form 1 2 1 alices_form))
     ∷ []
 
+abbrev pub alice_in_reviewing : Digests → Mode → View
+alice_in_reviewing d mode = alice_to_forms d mode ++ form_done 2 2 ∷ []
+
+-- and so a chair in conflict with paper 1 of the others
+abbrev pub fay_in_reviewing : Digests → Mode → View
+fay_in_reviewing d mode = fay_to_bidding d mode bare_head title_alone ++ phase_set Reviewing ∷ form_done 2 2 ∷ []
+
 -- all others: the phase
 abbrev pub views_in_reviewing : Digests → Mode → Asides → Views
 views_in_reviewing d mode a = record (opened_to Reviewing (views_in_bidding d mode a)) {
+  external = ivy_to_reviewing d mode bare_head [];
   reviewer = dave_in_reviewing d mode a;
   chair = alice_in_reviewing d mode;
+  conflicted_chair = fay_in_reviewing d mode;
 }

@@ -9,7 +9,7 @@ use Rattle.cr_base.specs.declared.command.Command.{Command}
 use Rattle.cr_base.specs.declared.command.Command.TheVariants as commands
 use Rattle.cr_base.specs.declared.command.Query.{Query}
 use Rattle.cr_base.specs.declared.command.Query.TheVariants as queries
-use Rattle.cr_base.specs.declared.entry.Entry.TheVariants.{Named, Conflict, DeadlineSet}
+use Rattle.cr_base.specs.declared.entry.Entry.TheVariants.{Named, Conflict, DeadlineSet, Dismissed, Invited}
 use Rattle.cr_base.specs.declared.reply.Reply.TheVariants as replies
 use Rattle.cr_base.specs.declared.reply.Rule.{Rule}
 use Rattle.cr_base.specs.declared.reply.Rule.TheVariants as rules
@@ -60,6 +60,14 @@ gus_a_chair d a = bidding d a ++ alice adds Named gus Chair ∷ []
 abbrev pub dave_in_conflict : Digests → Asides → History
 dave_in_conflict d a = bidding d a ++ dave adds Conflict 1 dave true ∷ []
 
+-- in another erin, who is invited to paper 1, is declared in conflict with it
+abbrev pub erin_in_conflict : Digests → Asides → History
+erin_in_conflict d a = bidding d a ++ alice adds Invited 1 erin ∷ alice adds Conflict 1 erin true ∷ []
+
+-- in another carol, who is in conflict with paper 1 without being its author, is dismissed
+abbrev pub carol_dismissed : Digests → Asides → History
+carol_dismissed d a = bidding d a ++ alice adds Dismissed carol ∷ []
+
 -- and in others the current phase has a deadline, which is past by noon
 abbrev pub noon : ℕ
 noon = morning + 10800
@@ -85,6 +93,8 @@ pub record AreStagesLegal (d : Digests) (a : Asides) : Type 0 where
   pub notification : Legal (notification d a)
   pub gus_a_chair : Legal (gus_a_chair d a)
   pub dave_in_conflict : Legal (dave_in_conflict d a)
+  pub erin_in_conflict : Legal (erin_in_conflict d a)
+  pub carol_dismissed : Legal (carol_dismissed d a)
   pub submission_due : Legal (submission_due d a)
   pub bidding_due : Legal (bidding_due d a)
   pub discussion_due : Legal (discussion_due d a)
@@ -118,6 +128,11 @@ pub record OfTheConference (d : Digests) (a : Asides) : Type 0 where
   pub name_by_account : Refused erin (notification d a) (commands.Name (named (codes "bob")) Member) rules.NotChair
   pub name_out_of_phase :
       Refused alice (notification d a) (commands.Name (named (codes "carol")) Member) rules.WrongPhase
+  -- dismissing: no_user, not_chair, wrong_phase, not_a_member; whoever is the last chair is a member
+  pub dismiss_nobody : Refused erin (submission d a) (commands.Dismiss zoe) rules.NoUser
+  pub dismiss_by_member : Refused carol (notification d a) (commands.Dismiss (named (codes "dave"))) rules.NotChair
+  pub dismiss_out_of_phase :
+      Refused alice (notification d a) (commands.Dismiss (named (codes "bob"))) rules.WrongPhase
   -- the mode, the phase and deadlines: not_chair, wrong_phase
   pub mode_by_account : Refused erin (submission d a) (commands.SetMode Overt) rules.NotChair
   pub phase_by_account : Refused erin (submission d a) (commands.SetPhase Closed) rules.NotChair
@@ -231,6 +246,37 @@ pub record OfReviewers (d : Digests) (a : Asides) : Type 0 where
   pub unassign_withdrawn :
       Refused alice (bidding d a) (commands.Unassign (Some 3) (named (codes "hal"))) rules.Withdrawn
 
+-- ---- who is invited
+
+pub record OfExternals (d : Digests) (a : Asides) : Type 0 where
+  -- inviting: no_paper, no_user, not_chair, conflict, wrong_phase, withdrawn, is_member, target_conflict,
+  -- already_invited
+  pub invite_none : Refused erin (bidding d a) (commands.Invite (Some 9) zoe) rules.NoPaper
+  pub invite_nobody : Refused erin (bidding d a) (commands.Invite (Some 1) zoe) rules.NoUser
+  pub invite_by_member : Refused carol (bidding d a) (commands.Invite (Some 1) (named (codes "erin"))) rules.NotChair
+  pub invite_in_conflict :
+      Refused fay (submission d a) (commands.Invite (Some 1) (named (codes "erin"))) rules.Conflict
+  pub invite_early :
+      Refused alice (submission d a) (commands.Invite (Some 3) (named (codes "erin"))) rules.WrongPhase
+  pub invite_withdrawn : Refused alice (bidding d a) (commands.Invite (Some 3) (named (codes "hal"))) rules.Withdrawn
+  pub invite_member :
+      Refused alice (dave_in_conflict d a) (commands.Invite (Some 1) (named (codes "dave"))) rules.IsMember
+  pub invite_in_conflict_again :
+      Refused alice (erin_in_conflict d a) (commands.Invite (Some 1) (named (codes "erin"))) rules.TargetConflict
+  -- taking back: no_paper, no_user, not_chair, conflict, wrong_phase, withdrawn, not_invited, still_assigned
+  pub uninvite_none : Refused erin (bidding d a) (commands.Uninvite (Some 9) zoe) rules.NoPaper
+  pub uninvite_nobody : Refused erin (bidding d a) (commands.Uninvite (Some 1) zoe) rules.NoUser
+  pub uninvite_by_member :
+      Refused carol (bidding d a) (commands.Uninvite (Some 1) (named (codes "erin"))) rules.NotChair
+  pub uninvite_in_conflict :
+      Refused fay (submission d a) (commands.Uninvite (Some 1) (named (codes "erin"))) rules.Conflict
+  pub uninvite_early :
+      Refused alice (submission d a) (commands.Uninvite (Some 3) (named (codes "erin"))) rules.WrongPhase
+  pub uninvite_withdrawn :
+      Refused alice (bidding d a) (commands.Uninvite (Some 3) (named (codes "erin"))) rules.Withdrawn
+  pub uninvite_reviewer :
+      Refused alice (bidding d a) (commands.Uninvite (Some 1) (named (codes "dave"))) rules.NotInvited
+
 -- ---- reviews, comments, tags and decisions
 
 pub record OfTheDiscussion (d : Digests) (a : Asides) : Type 0 where
@@ -265,14 +311,16 @@ pub record OfTheDiscussion (d : Digests) (a : Asides) : Type 0 where
 pub record OfQueries (d : Digests) (a : Asides) : Type 0 where
   -- a page: no_paper, not_member
   pub page_none : Unanswered erin (bidding d a) (queries.Page (Some 9)) rules.NoPaper
-  -- a content: no_paper, not_member, wrong_phase; and of members no_paper, conflict, wrong_phase, no_content
+  -- a content, of those who are no authors: no_paper, not_member, conflict, wrong_phase, no_content
   pub content_none : Unanswered erin (bidding d a) (queries.Content (Some 9)) rules.NoPaper
   pub content_to_account : Unanswered erin (submission d a) (queries.Content (Some 1)) rules.NotMember
+  pub content_to_dismissed : Unanswered carol (carol_dismissed d a) (queries.Content (Some 1)) rules.NotMember
   pub content_in_conflict : Unanswered carol (submission d a) (queries.Content (Some 1)) rules.Conflict
   pub content_early : Unanswered dave (submission d a) (queries.Content (Some 3)) rules.WrongPhase
-  -- reviews, of those who are no authors: no_paper, not_member, wrong_phase; and of members conflict, wrong_phase
+  -- reviews, of those who are no authors: no_paper, not_member, conflict, wrong_phase
   pub reviews_none : Unanswered erin (bidding d a) (queries.Reviews (Some 9)) rules.NoPaper
   pub reviews_to_account : Unanswered erin (bidding d a) (queries.Reviews (Some 1)) rules.NotMember
+  pub reviews_to_dismissed : Unanswered carol (carol_dismissed d a) (queries.Reviews (Some 1)) rules.NotMember
   pub reviews_in_conflict : Unanswered carol (bidding d a) (queries.Reviews (Some 1)) rules.Conflict
   -- comments: no_paper, not_member, conflict, wrong_phase
   pub comments_none : Unanswered erin (bidding d a) (queries.Comments (Some 9)) rules.NoPaper
@@ -324,6 +372,7 @@ pub record IsFirstTold (d : Digests) (a : Asides) : Type 0 where
   pub papers : OfPapers d a
   pub conflicts : OfConflicts d a
   pub reviewers : OfReviewers d a
+  pub externals : OfExternals d a
   pub discussion : OfTheDiscussion d a
   pub queries : OfQueries d a
   pub bulks : OfBulks d a

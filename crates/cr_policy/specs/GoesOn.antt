@@ -1,4 +1,4 @@
--- No conference gets stuck: from its first account on it has a chair, and before its end she can open its next
+-- No conference gets stuck: from its first account on it has a chair, and before its end each can open its next
 -- phase.
 use Rattle.std.specs.Prelude.{ℕ, Option, Some, is_ok, IsTrue, IsFalse}
 use Rattle.cr_base.specs.declared.command.Command.TheVariants.{SetPhase}
@@ -21,11 +21,12 @@ pub record CanGoOn (H : History) (u : ℕ) : Type 0 where
   pub accepted : (at : ℕ) (key : Option RetryKey)
       → IsTrue (is_ok (judge (view (Some u) H) (call_of (Some u) at key (SetPhase next))))
 
--- the first user has registered and is a chair; and before the end she can go on
+-- somebody who has registered is a chair; and before the end each chair can go on
 pub record HasChair (H : History) : Type 0 where
-  pub registered : IsRegistered H 1
-  pub chair : IsTrue (chairs 1 H)
-  pub goes_on : IsFalse (now Closed H) → CanGoOn H 1
+  pub user : ℕ
+  pub registered : IsRegistered H user
+  pub chair : IsTrue (chairs user H)
+  pub goes_on : IsFalse (now Closed H) → (u : ℕ) → IsTrue (chairs u H) → CanGoOn H u
 
 -- GoesOn: so it is of each legal history in which anybody has registered
 abbrev pub GoesOn : Type 0

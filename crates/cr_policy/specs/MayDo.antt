@@ -11,13 +11,13 @@ use Rattle.cr_base.specs.declared.words.Phase.TheVariants.{Setup, Submission, Bi
 use Rattle.cr_base.specs.declared.words.Role.{Role}
 use Rattle.cr_base.specs.History.{History}
 use Rattle.cr_base.specs.HistoryFacts.{phase_of, role_of, accounts_of, papers_of, number_of, ordinal_of, seats_of}
-use Rattle.cr_base.specs.HistoryFacts.{is_written, own_papers_of, own_bytes_of, own_comments_of}
+use Rattle.cr_base.specs.HistoryFacts.{is_invited, is_written, own_papers_of, own_bytes_of, own_comments_of}
 use Rattle.cr_base.specs.Logins.{command_wants_login}
 use Rattle.cr_policy.specs.Judge.{judge}
 use Rattle.cr_policy.specs.Legal.{Legal}
 use Rattle.cr_policy.specs.Sentences.{now, comes_behind, before_bidding, committee_at_work, is_over, is_above}
 use Rattle.cr_policy.specs.Sentences.{in_time, lasts_or_comes}
-use Rattle.cr_policy.specs.Sentences.{on_committee, chairs, stands}
+use Rattle.cr_policy.specs.Sentences.{on_committee, chairs, has_two_chairs, stands, in_conflict, has_part, may_have_it}
 use Rattle.cr_policy.specs.Sentences.{wrote, is_eligible, administers, reviews, of_some, user_named, is_somebody}
 use Rattle.cr_policy.specs.Sentences.{is_for_chairs_alone}
 use Rattle.cr_policy.specs.View.{view}
@@ -31,6 +31,10 @@ may_register H name = is_none (number_of name H) && nat_lt (length (accounts_of 
 -- a chair gives a user a role above the one that she has, until the discussion is over
 abbrev pub may_name : ℕ → History → Role → ℕ → Bool
 may_name u H role v = chairs u H && not (is_over H) && is_above role (role_of (Some v) H)
+
+-- a chair dismisses a member until the discussion is over, and a chair while there are two at least
+abbrev pub may_dismiss : ℕ → History → ℕ → Bool
+may_dismiss u H v = chairs u H && not (is_over H) && on_committee v H && (not (chairs v H) || has_two_chairs H)
 
 -- a chair sets the mode, in setup
 abbrev pub may_set_mode : ℕ → History → Bool
@@ -67,16 +71,17 @@ may_upload u at H bytes p = may_change u at H p && nat_le (own_bytes_of (Some u)
 
 -- a paper that isn't withdrawn and a member are declared in conflict: before the bidding by an author of the paper,
 -- until the deadline of the submission; while the committee works by the member herself, and by a chair who is in no
--- conflict with the paper, at any time
+-- conflict with the paper, at any time; she declares an external of the paper so too
 abbrev pub may_declare : ℕ → ℕ → History → ℕ → ℕ → Bool
 may_declare u at H p v =
-    stands p H && on_committee v H
-    && ((before_bidding H && in_time at H && wrote u p H) || (committee_at_work H && (v == u || administers u p H)))
+    stands p H
+    && ((before_bidding H && in_time at H && wrote u p H && on_committee v H)
+    || (committee_at_work H && ((v == u && on_committee v H) || (administers u p H && has_part v p H))))
 
--- while the committee works, a chair in no conflict with a paper that isn't withdrawn takes back that a member is,
--- who is no author of it
+-- while the committee works, a chair in no conflict with a paper that isn't withdrawn takes back that a member or an
+-- external of the paper is, who is no author of it
 abbrev pub may_take_back : ℕ → History → ℕ → ℕ → Bool
-may_take_back u H p v = stands p H && administers u p H && committee_at_work H && on_committee v H && not (wrote v p H)
+may_take_back u H p v = stands p H && administers u p H && committee_at_work H && has_part v p H && not (wrote v p H)
 
 -- ---- bids, and who reviews
 
@@ -84,11 +89,11 @@ may_take_back u H p v = stands p H && administers u p H && committee_at_work H &
 abbrev pub may_bid : ℕ → ℕ → History → ℕ → Bool
 may_bid u at H p = stands p H && is_eligible u p H && now Bidding H && in_time at H
 
--- while the committee works, a chair in no conflict with a paper that isn't withdrawn assigns it to a member in none
--- who doesn't review it, while fewer than 26 of its labels are given
+-- while the committee works, a chair in no conflict with a paper that isn't withdrawn assigns it to a member or an
+-- external of it in none who doesn't review it, while fewer than 26 of its labels are given
 abbrev pub may_assign : ℕ → History → ℕ → ℕ → Bool
 may_assign u H p v =
-    stands p H && administers u p H && committee_at_work H && is_eligible v p H && not (reviews v p H)
+    stands p H && administers u p H && committee_at_work H && may_have_it v p H && not (reviews v p H)
     && nat_lt (length (seats_of p H)) 26
 
 -- there is a form under the label under which she reviews the paper
@@ -100,13 +105,25 @@ abbrev pub may_unassign : ℕ → History → ℕ → ℕ → Bool
 may_unassign u H p v =
     stands p H && administers u p H && committee_at_work H && reviews v p H && not (has_written v p H)
 
+-- while the committee works, a chair in no conflict with a paper that isn't withdrawn invites somebody to it who isn't
+-- on the committee, is in no conflict with it, and isn't invited to it
+abbrev pub may_invite : ℕ → History → ℕ → ℕ → Bool
+may_invite u H p v =
+    stands p H && administers u p H && committee_at_work H && not (on_committee v H) && not (in_conflict v p H)
+    && not (is_invited (Some v) p H)
+
+-- and takes an invitation back, where who has it doesn't review the paper
+abbrev pub may_uninvite : ℕ → History → ℕ → ℕ → Bool
+may_uninvite u H p v =
+    stands p H && administers u p H && committee_at_work H && is_invited (Some v) p H && not (reviews v p H)
+
 -- ---- reviews, comments, tags and decisions
 
--- a member in no conflict with a paper that isn't withdrawn, who reviews it, writes a form, in the reviewing and in
--- the discussion, in each until its deadline
+-- a member or an external in no conflict with a paper that isn't withdrawn, who reviews it, writes a form, in the
+-- reviewing and in the discussion, in each until its deadline
 abbrev pub may_review : ℕ → ℕ → History → ℕ → Bool
 may_review u at H p =
-    stands p H && is_eligible u p H && reviews u p H && (now Reviewing H || now Discussion H) && in_time at H
+    stands p H && may_have_it u p H && reviews u p H && (now Reviewing H || now Discussion H) && in_time at H
 
 -- a member in no conflict with a paper that isn't withdrawn comments on it, in the discussion until its deadline,
 -- while she has written fewer than 1,000 comments
@@ -148,6 +165,11 @@ may_do caller at H (commands.Assign paper name kind) =
     of_some caller (λ u. of_some paper (λ p. of_some (user_named name H) (may_assign u H p)))
 may_do caller at H (commands.Unassign paper name) =
     of_some caller (λ u. of_some paper (λ p. of_some (user_named name H) (may_unassign u H p)))
+may_do caller at H (commands.Dismiss name) = of_some caller (λ u. of_some (user_named name H) (may_dismiss u H))
+may_do caller at H (commands.Invite paper name) =
+    of_some caller (λ u. of_some paper (λ p. of_some (user_named name H) (may_invite u H p)))
+may_do caller at H (commands.Uninvite paper name) =
+    of_some caller (λ u. of_some paper (λ p. of_some (user_named name H) (may_uninvite u H p)))
 may_do caller at H (commands.Review paper form) = of_some caller (λ u. of_some paper (may_review u at H))
 may_do caller at H (commands.Comment paper text) = of_some caller (λ u. of_some paper (may_comment u at H))
 may_do caller at H (commands.Tag paper tag on) = of_some caller (λ u. of_some paper (may_tag u H tag))

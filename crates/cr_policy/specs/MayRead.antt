@@ -19,19 +19,21 @@ use Rattle.cr_base.specs.Sources.{Facts, Shown, facts_of_tables, shown_in_tables
 use Rattle.cr_base.specs.Tables.{tables_of}
 use Rattle.cr_policy.specs.Judge.{answer, needs_login}
 use Rattle.cr_policy.specs.Legal.{Legal}
-use Rattle.cr_policy.specs.Sentences.{now, before_bidding, is_over, from_discussion, committee_at_work, on_committee, chairs}
+use Rattle.cr_policy.specs.Sentences.{now, before_bidding, is_over, from_reviewing, from_discussion, committee_at_work}
+use Rattle.cr_policy.specs.Sentences.{on_committee, chairs, has_part, may_have_it, is_external_of, in_conflict}
 use Rattle.cr_policy.specs.Sentences.{is_paper, is_in, is_public, wrote, is_eligible, reviews, of_some}
 use Rattle.cr_policy.specs.View.{view}
 
 -- ---- a paper
 
--- members, its authors, and every user once it is accepted, get a paper's page
+-- members, its externals and its authors, and every user once it is accepted, get a paper's page
 abbrev pub may_see_page : ℕ → History → ℕ → Bool
-may_see_page u H p = on_committee u H || wrote u p H || is_in p H
+may_see_page u H p = has_part u p H || wrote u p H || is_in p H
 
--- a paper's authors read its content; others do where they are members in no conflict with it, from the bidding on
+-- a paper's authors read its content; others do where they are members or externals of it in no conflict with it, from
+-- the bidding on
 abbrev pub may_read_content : ℕ → History → ℕ → Bool
-may_read_content u H p = wrote u p H || (is_eligible u p H && not (before_bidding H))
+may_read_content u H p = wrote u p H || (may_have_it u p H && not (before_bidding H))
 
 -- the version that is asked for is there, as far as it may be read: to authors any that was uploaded, to others the
 -- last one alone; the last one where none is named
@@ -41,10 +43,13 @@ has_version true (Some version) uploads = list_any (λ (u : Upload). u.version =
 has_version false (Some version) uploads = option_map_or (λ (u : Upload). u.version == version) (last uploads) false
 
 -- a paper's authors read its reviews from the notification on; members in no conflict with it from the discussion
--- on, and in the reviewing where they review it, of their own
+-- on, and in the reviewing where they review it, of their own; externals in none who review it, of their own, from the
+-- reviewing on
 abbrev pub may_read_reviews : ℕ → History → ℕ → Bool
 may_read_reviews u H p =
-    (wrote u p H && is_over H) || (is_eligible u p H && (from_discussion H || (reviews u p H && now Reviewing H)))
+    (wrote u p H && is_over H)
+    || (is_eligible u p H && (from_discussion H || (reviews u p H && now Reviewing H)))
+    || (is_external_of u p H && not (in_conflict u p H) && reviews u p H && from_reviewing H)
 
 -- members in no conflict with a paper read the comments on it, from the discussion on
 abbrev pub may_read_comments : ℕ → History → ℕ → Bool

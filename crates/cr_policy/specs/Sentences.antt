@@ -2,7 +2,9 @@
 -- request. No list of checks is read here, nor what these lists read of phases, of roles, and of when a paper is
 -- accepted.
 use Rattle.std.specs.Prelude.{ℕ, Bool, true, false, not, ◌&&◌, ◌||◌, ◌==◌, nat_le, List, [], ◌∷◌, Option, Some, None}
+use Rattle.std.specs.Prelude.{count_by}
 use Rattle.std.specs.List.{list_any}
+use Rattle.cr_base.specs.declared.reply.AccountLine.{AccountLine}
 use Rattle.cr_base.specs.declared.words.Decision.{Decision}
 use Rattle.cr_base.specs.declared.words.Decision.TheVariants.{Accept, Reject}
 use Rattle.cr_base.specs.declared.words.Phase.{Phase}
@@ -13,7 +15,7 @@ use Rattle.cr_base.specs.declared.words.Role.TheVariants.{Account, Member, Chair
 use Rattle.cr_base.specs.History.{History}
 use Rattle.cr_base.specs.HistoryFacts.{phase_of, deadline_of, role_of, papers_of, number_of}
 use Rattle.cr_base.specs.HistoryFacts.{is_author, is_conflict_on}
-use Rattle.cr_base.specs.HistoryFacts.{is_reviewer, is_withdrawn, decision_of}
+use Rattle.cr_base.specs.HistoryFacts.{is_reviewer, is_invited, is_withdrawn, decision_of, accounts_of}
 
 -- ---- phases
 
@@ -53,6 +55,10 @@ committee_at_work H = now Bidding H || now Reviewing H || now Discussion H
 -- the notification went out, so the committee's work is over
 abbrev pub is_over : History → Bool
 is_over H = now Notification H || now Closed H
+
+-- the committee reviews or discusses, or has done so
+abbrev pub from_reviewing : History → Bool
+from_reviewing H = now Reviewing H || now Discussion H || is_over H
 
 -- the committee discusses, or has done so
 abbrev pub from_discussion : History → Bool
@@ -109,6 +115,10 @@ on_committee u H = is_members (role_of (Some u) H)
 abbrev pub chairs : ℕ → History → Bool
 chairs u H = is_chairs (role_of (Some u) H)
 
+-- there are two chairs at least
+abbrev pub has_two_chairs : History → Bool
+has_two_chairs H = nat_le 2 (count_by (λ (a : AccountLine). is_chairs a.role) (accounts_of H))
+
 -- ---- papers
 
 -- such a paper was submitted
@@ -148,6 +158,18 @@ is_eligible u p H = on_committee u H && not (in_conflict u p H)
 -- a chair in none administers it
 abbrev pub administers : ℕ → ℕ → History → Bool
 administers u p H = chairs u H && not (in_conflict u p H)
+
+-- who isn't on the committee and is invited to the paper is an external of it
+abbrev pub is_external_of : ℕ → ℕ → History → Bool
+is_external_of u p H = not (on_committee u H) && is_invited (Some u) p H
+
+-- she may have part in judging the paper: she is on the committee, or an external of the paper
+abbrev pub has_part : ℕ → ℕ → History → Bool
+has_part u p H = on_committee u H || is_external_of u p H
+
+-- and is in no conflict with it
+abbrev pub may_have_it : ℕ → ℕ → History → Bool
+may_have_it u p H = has_part u p H && not (in_conflict u p H)
 
 abbrev pub reviews : ℕ → ℕ → History → Bool
 reviews u p H = is_reviewer (Some u) p H

@@ -13,6 +13,7 @@ use Rattle.cr_base.specs.declared.entry.Entry.TheVariants.{Registered, Named, Ph
 use Rattle.cr_base.specs.declared.entry.Entry.TheVariants.{Coauthor, Revised, Uploaded, Withdrawn, Conflict}
 use Rattle.cr_base.specs.declared.entry.Entry.TheVariants.{Bid, Assigned, Unassigned, Reviewed}
 use Rattle.cr_base.specs.declared.entry.Entry.TheVariants.{Commented, Tagged, Decided, DeadlineSet}
+use Rattle.cr_base.specs.declared.entry.Entry.TheVariants.{Dismissed, Invited, Uninvited}
 use Rattle.cr_base.specs.declared.entry.EntryKind.{EntryKind}
 use Rattle.cr_base.specs.declared.entry.Stamped.{Stamped}
 use Rattle.cr_base.specs.declared.entry.Stamp.{Stamp}
@@ -29,7 +30,7 @@ use Rattle.cr_base.specs.declared.words.Role.TheVariants.{Account, Member, Chair
 use Rattle.cr_base.specs.Lists.{given, is_number, until}
 use Rattle.cr_base.specs.History.{History}
 use Rattle.cr_base.specs.HistoryFacts.{phase_of, mode_of, role_of, is_author}
-use Rattle.cr_base.specs.HistoryFacts.{is_conflict_on, is_withdrawn, decision_of}
+use Rattle.cr_base.specs.HistoryFacts.{is_conflict_on, is_invited, is_withdrawn, decision_of}
 use Rattle.cr_base.specs.Rows.{kind_of}
 
 -- ---- who reads
@@ -66,7 +67,7 @@ is_past_submission Bidding = true
 is_past_submission Reviewing = true
 is_past_submission phase = is_past_reviewing phase
 
--- authors are hidden from members
+-- authors are hidden from members and externals
 abbrev pub hides_authors : Mode → Bool
 hides_authors Overt = false
 hides_authors Blind = false
@@ -94,6 +95,18 @@ serves u H = is_on_committee (role_of u H) && is_past_submission (phase_of H)
 -- she serves, and is in no conflict with the paper
 abbrev pub is_eligible : Option ℕ → ℕ → History → Bool
 is_eligible u p H = serves u H && not (has_conflict u p H)
+
+-- she isn't on the committee, and is invited to the paper: she is an external of it
+abbrev pub visits : Option ℕ → ℕ → History → Bool
+visits u p H = not (is_on_committee (role_of u H)) && is_invited u p H
+
+-- and is in no conflict with it, and it is bidding or later
+abbrev pub reads_visiting : Option ℕ → ℕ → History → Bool
+reads_visiting u p H = visits u p H && not (has_conflict u p H) && is_past_submission (phase_of H)
+
+-- the paper is before her, to review or to discuss: she is eligible for it, or reads it as an external
+abbrev pub has_before_her : Option ℕ → ℕ → History → Bool
+has_before_her u p H = is_eligible u p H || reads_visiting u p H
 
 -- she is eligible for the paper, and is a chair
 abbrev pub oversees : Option ℕ → ℕ → History → Bool
@@ -230,21 +243,23 @@ is_announced H later paper = not (is_decided_again paper later) && is_in_program
 abbrev pub owns : Option ℕ → History → ℕ → ℕ → Bool
 owns u H maker paper = is_number u maker || is_author u paper H
 
--- she is told all of an assignment in every phase: she is assigned, made the entry, or administers the paper
+-- she is told all of an assignment, and of an invitation, in every phase: she is assigned or invited, made the entry,
+-- or administers the paper
 abbrev pub is_party : Option ℕ → History → ℕ → ℕ → ℕ → Bool
 is_party u H maker paper user = is_number u user || is_number u maker || administers u paper H
 
--- accounts, roles, phases, modes, deadlines and submissions, all of them. Of a paper's other entries her own and, as
--- an author, all but conflicts that no author made; co-authors where she oversees the paper, where she is eligible
--- for it unless authors are hidden, and where it is in the programme; a revision that none has replaced where she
--- serves, or the paper is in the programme; an upload that none has superseded where she is eligible for the paper,
--- or it appears; a withdrawal where she serves; of conflicts the ones that name her, and all where she oversees the
--- paper; of bids her own, and all where she oversees the paper; of assignments those that she is a party to, all
--- where she discusses the paper, and those to her own paper where she is named its reviewers; of forms her own, the
--- first of each label where she administers the paper, those that are discussed where she discusses it, and of her
--- own paper the last of each label where she is notified; of comments her own, and all where she discusses the paper;
--- of tags those that she set, and those that she reads; and of decisions those that she reads, the last one by which
--- she learns what became of her paper, and the last one of a paper in the programme
+-- accounts, roles, dismissals, phases, modes, deadlines and submissions, all of them. Of a paper's other entries her
+-- own and, as an author, all but conflicts that no author made, and invitations; co-authors where she oversees the
+-- paper, where it is before her unless authors are hidden, and where it is in the programme; a revision that none has
+-- replaced where she serves, reads the paper as an external, or it is in the programme; an upload that none has
+-- superseded where the paper is before her, or it appears; a withdrawal where she serves, or reads the paper as an
+-- external; of conflicts the ones that name her, and all where she oversees the paper; of bids her own, and all where
+-- she oversees the paper; of invitations those that she is a party to; of assignments these, all where she discusses
+-- the paper, and those to her own paper where she is named its reviewers; of forms her own, the first of each label
+-- where she administers the paper, those that are discussed where she discusses it, and of her own paper the last of
+-- each label where she is notified; of comments her own, and all where she discusses the paper; of tags those that
+-- she set, and those that she reads; and of decisions those that she reads, the last one by which she learns what
+-- became of her paper, and the last one of a paper in the programme
 abbrev pub is_told : Option ℕ → History → History → History → ℕ → Entry → Bool
 is_told u H before later maker (Registered user name digest) = true
 is_told u H before later maker (Named user role) = true
@@ -254,13 +269,14 @@ is_told u H before later maker (Submitted paper title abstract) = true
 is_told u H before later maker (Coauthor paper user) =
     owns u H maker paper
     || oversees u paper H
-    || (is_eligible u paper H && not (hides_authors (mode_of H)))
+    || (has_before_her u paper H && not (hides_authors (mode_of H)))
     || is_in_programme paper H
 is_told u H before later maker (Revised paper title abstract) =
-    owns u H maker paper || (not (is_replaced paper later) && (serves u H || is_in_programme paper H))
+    owns u H maker paper
+    || (not (is_replaced paper later) && (serves u H || reads_visiting u paper H || is_in_programme paper H))
 is_told u H before later maker (Uploaded paper version content) =
-    owns u H maker paper || (not (is_superseded paper later) && (is_eligible u paper H || appears paper H))
-is_told u H before later maker (Withdrawn paper) = owns u H maker paper || serves u H
+    owns u H maker paper || (not (is_superseded paper later) && (has_before_her u paper H || appears paper H))
+is_told u H before later maker (Withdrawn paper) = owns u H maker paper || serves u H || reads_visiting u paper H
 is_told u H before later maker (Conflict paper user on) =
     is_number u user
     || is_number u maker
@@ -280,6 +296,9 @@ is_told u H before later maker (Tagged paper tag on) = is_number u maker || read
 is_told u H before later maker (Decided paper decision) =
     reads_decision u H maker paper || learns_outcome u H later paper || is_announced H later paper
 is_told u H before later maker (DeadlineSet phase until) = true
+is_told u H before later maker (Dismissed user) = true
+is_told u H before later maker (Invited paper user) = is_party u H maker paper user
+is_told u H before later maker (Uninvited paper user) = is_party u H maker paper user
 
 -- ---- the parts of an entry that she is told of
 
@@ -322,6 +341,8 @@ paper_for u H before later stamp (Reviewed paper ordinal version form) = Some pa
 paper_for u H before later stamp (Commented paper n ordinal text) = Some paper
 paper_for u H before later stamp (Tagged paper tag on) = Some paper
 paper_for u H before later stamp (Decided paper decision) = Some paper
+paper_for u H before later stamp (Invited paper user) = Some paper
+paper_for u H before later stamp (Uninvited paper user) = Some paper
 paper_for u H before later stamp _ = None
 
 -- who reviews a paper: to the parties of the assignment, to authors who are named the reviewers, and to those who
@@ -331,11 +352,14 @@ reviewer_for u H maker paper user =
     where_known (is_party u H maker paper user || (discusses u paper H && not (hides_reviewers (mode_of H)))
     || is_answered u paper H) user
 
--- the user registered, named to a role, named as a co-author or in a conflict: always; and
--- one who is assigned or unassigned
+-- the user registered, named to a role, dismissed, named as a co-author or in a conflict, invited or no longer: always;
+-- and one who is assigned or unassigned
 abbrev pub user_for : PartFor (Option ℕ)
 user_for u H before later stamp (Registered user name digest) = Some user
 user_for u H before later stamp (Named user role) = Some user
+user_for u H before later stamp (Dismissed user) = Some user
+user_for u H before later stamp (Invited paper user) = Some user
+user_for u H before later stamp (Uninvited paper user) = Some user
 user_for u H before later stamp (Coauthor paper user) = Some user
 user_for u H before later stamp (Conflict paper user on) = Some user
 user_for u H before later stamp (Assigned paper user review_kind ordinal) = reviewer_for u H stamp.maker paper user
@@ -373,7 +397,7 @@ abbrev pub mode_for : PartFor (Option Mode)
 mode_for u H before later stamp (ModeSet mode) = Some mode
 mode_for u H before later stamp _ = None
 
--- who submitted a paper: to its authors, to those who oversee it, to those who are eligible for it unless authors are
+-- who submitted a paper: to its authors, to those who oversee it, to those whom it is before unless authors are
 -- hidden, and to everyone where it is in the programme;
 -- who made a bid: to those who oversee the paper; who made a comment: to those who discuss the
 -- paper and are told who comments;
@@ -381,40 +405,40 @@ mode_for u H before later stamp _ = None
 abbrev pub maker_for : PartFor (Option ℕ)
 maker_for u H before later stamp (Submitted paper title abstract) =
     where_known (is_author u paper H || oversees u paper H
-    || (is_eligible u paper H && not (hides_authors (mode_of H))) || is_in_programme paper H) stamp.maker
+    || (has_before_her u paper H && not (hides_authors (mode_of H))) || is_in_programme paper H) stamp.maker
 maker_for u H before later stamp (Bid paper value) = where_known (oversees u paper H) stamp.maker
 maker_for u H before later stamp (Commented paper n ordinal text) =
     where_known (discusses u paper H && knows_writers u H) stamp.maker
 maker_for u H before later stamp _ = None
 
--- a title: to the paper's authors and to whoever made the entry, and the last one to those who serve, and to everyone
--- where the paper is in the programme
+-- a title: to the paper's authors and to whoever made the entry, and the last one to those who serve or read the paper
+-- as externals, and to everyone where it is in the programme
 abbrev pub title_for : PartFor (Option (List ℕ))
 title_for u H before later stamp (Submitted paper title abstract) =
     where_known (is_author u paper H
-    || (not (is_replaced paper later) && (serves u H || is_in_programme paper H))) title
+    || (not (is_replaced paper later) && (serves u H || reads_visiting u paper H || is_in_programme paper H))) title
 title_for u H before later stamp (Revised paper title abstract) =
     where_known (owns u H stamp.maker paper
-    || (not (is_replaced paper later) && (serves u H || is_in_programme paper H))) title
+    || (not (is_replaced paper later) && (serves u H || reads_visiting u paper H || is_in_programme paper H))) title
 title_for u H before later stamp _ = None
 
--- an abstract: to the paper's authors and to whoever made the entry, and the last one to those who are eligible for
--- the paper, and to everyone where it appears
+-- an abstract: to the paper's authors and to whoever made the entry, and the last one to those whom the paper is
+-- before, and to everyone where it appears
 abbrev pub abstract_for : PartFor (Option (List ℕ))
 abstract_for u H before later stamp (Submitted paper title abstract) =
     where_known (is_author u paper H
-    || (not (is_replaced paper later) && (is_eligible u paper H || appears paper H))) abstract
+    || (not (is_replaced paper later) && (has_before_her u paper H || appears paper H))) abstract
 abstract_for u H before later stamp (Revised paper title abstract) =
     where_known (owns u H stamp.maker paper
-    || (not (is_replaced paper later) && (is_eligible u paper H || appears paper H))) abstract
+    || (not (is_replaced paper later) && (has_before_her u paper H || appears paper H))) abstract
 abstract_for u H before later stamp _ = None
 
 -- a version's number, and its content: to the paper's authors and to whoever made the entry, and the last one to those
--- who are eligible for the paper, and to everyone where it appears
+-- whom the paper is before, and to everyone where it appears
 abbrev pub version_for : PartFor (Option ℕ)
 version_for u H before later stamp (Uploaded paper version content) =
     where_known (owns u H stamp.maker paper
-    || (not (is_superseded paper later) && (is_eligible u paper H || appears paper H))) version
+    || (not (is_superseded paper later) && (has_before_her u paper H || appears paper H))) version
 version_for u H before later stamp (Reviewed paper ordinal version form) =
     where_known (reads_form u H before later stamp.maker paper ordinal) version
 version_for u H before later stamp _ = None
@@ -422,7 +446,7 @@ version_for u H before later stamp _ = None
 abbrev pub content_for : PartFor (Option (List ℕ))
 content_for u H before later stamp (Uploaded paper version content) =
     where_known (owns u H stamp.maker paper
-    || (not (is_superseded paper later) && (is_eligible u paper H || appears paper H))) content
+    || (not (is_superseded paper later) && (has_before_her u paper H || appears paper H))) content
 content_for u H before later stamp _ = None
 
 -- whether a conflict, or a tag, is on: always

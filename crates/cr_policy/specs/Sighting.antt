@@ -7,6 +7,7 @@ use Rattle.cr_base.specs.declared.entry.Entry.TheVariants.{Registered, Named, Ph
 use Rattle.cr_base.specs.declared.entry.Entry.TheVariants.{Coauthor, Revised, Uploaded, Withdrawn, Conflict}
 use Rattle.cr_base.specs.declared.entry.Entry.TheVariants.{Bid, Assigned, Unassigned, Reviewed}
 use Rattle.cr_base.specs.declared.entry.Entry.TheVariants.{Commented, Tagged, Decided, DeadlineSet}
+use Rattle.cr_base.specs.declared.entry.Entry.TheVariants.{Dismissed, Invited, Uninvited}
 use Rattle.cr_base.specs.declared.entry.Stamp.{Stamp}
 use Rattle.cr_base.specs.declared.entry.Stamped.{Stamped}
 use Rattle.cr_base.specs.declared.retry.RetryKey.{RetryKey}
@@ -162,6 +163,9 @@ entire stamp (Decided paper decision) =
     }
 entire stamp (DeadlineSet phase until) =
     record (under stamp kinds.DeadlineSet) { phase = Some phase; until = Some until }
+entire stamp (Dismissed user) = record (under stamp kinds.Dismissed) { user = Some user }
+entire stamp (Invited paper user) = record (under stamp kinds.Invited) { paper = Some paper; user = Some user }
+entire stamp (Uninvited paper user) = record (under stamp kinds.Uninvited) { paper = Some paper; user = Some user }
 
 -- ---- the parts that are shown
 

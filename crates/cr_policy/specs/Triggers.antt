@@ -7,6 +7,7 @@ use Rattle.cr_base.specs.declared.entry.Entry.TheVariants.{Registered, Named, Ph
 use Rattle.cr_base.specs.declared.entry.Entry.TheVariants.{Coauthor, Revised, Uploaded, Withdrawn, Conflict}
 use Rattle.cr_base.specs.declared.entry.Entry.TheVariants.{Bid, Assigned, Unassigned, Reviewed}
 use Rattle.cr_base.specs.declared.entry.Entry.TheVariants.{Commented, Tagged, Decided, DeadlineSet}
+use Rattle.cr_base.specs.declared.entry.Entry.TheVariants.{Dismissed, Invited, Uninvited}
 use Rattle.cr_base.specs.declared.words.Phase.{Phase}
 use Rattle.cr_base.specs.declared.standing.Standing.{Standing}
 use Rattle.cr_base.specs.declared.words.Mode.{Mode}
@@ -15,8 +16,9 @@ use Rattle.cr_base.specs.Decisions.{is_published}
 use Rattle.cr_base.specs.Lists.{is_nothing, is_number, until}
 use Rattle.cr_base.specs.History.{History, all_told, opens_discussion, title_told}
 use Rattle.cr_base.specs.History.{upload_told, form_told, decision_told}
-use Rattle.cr_base.specs.HistoryFacts.{phase_of, mode_of, role_of, is_author, is_conflicted, is_accepted}
-use Rattle.cr_base.specs.Page.{is_clear_member, is_clear_chair}
+use Rattle.cr_base.specs.HistoryFacts.{phase_of, mode_of, role_of, is_author, is_conflicted, is_external}
+use Rattle.cr_base.specs.HistoryFacts.{is_accepted}
+use Rattle.cr_base.specs.Page.{is_clear_member, is_clear_chair, is_clear_external, reads_paper}
 use Rattle.cr_base.specs.Phases.{members_see_papers, committee_sees_authors, chairs_see_conflicts, chairs_see_bids}
 use Rattle.cr_base.specs.Phases.{committee_sees_tags, members_see_reviewers, members_read_reviews}
 use Rattle.cr_base.specs.Phases.{members_read_comments, members_read_decisions, authors_read_reviews}
@@ -27,7 +29,8 @@ use Rattle.cr_policy.specs.Part as part
 use Rattle.cr_policy.specs.Part.{Part, these, whole, whole_and}
 
 -- what the table asks at the end of the history: who reads, the phase, the mode, the reader's role, her ties to each
--- paper, which user is an author of which paper, and which papers are accepted
+-- paper (whether she is an author, in conflict, an external), which user is an author of which paper, and which
+-- papers are accepted
 pub record Reader : Type 0 where
   pub number : Option ℕ
   pub now : Phase
@@ -35,6 +38,7 @@ pub record Reader : Type 0 where
   pub rank : Role
   pub author : ℕ → Bool
   pub conflicted : ℕ → Bool
+  pub external : ℕ → Bool
   pub wrote : ℕ → ℕ → Bool
   pub accepted : ℕ → Bool
 
@@ -47,6 +51,7 @@ reader u H = record {
   rank = role_of u H;
   author = λ p. is_author u p H;
   conflicted = λ p. is_conflicted u p H;
+  external = λ p. is_external u p H;
   wrote = λ v p. is_author (Some v) p H;
   accepted = λ p. is_accepted p H;
 }
@@ -60,6 +65,7 @@ standing_to r p = record {
   author = r.author p;
   conflicted = r.conflicted p;
   reviewer = false;
+  external = r.external p;
 }
 
 -- what stands around an entry: the history before it, and what follows it
@@ -84,7 +90,7 @@ authors r p = r.author p
 abbrev pub members : Reader → Bool
 members r = is_member r.rank
 
--- the mode shows members who wrote
+-- the mode shows members and externals who wrote
 abbrev pub unless_anonymous : Reader → Bool
 unless_anonymous r = not (is_anonymous r.mode)
 
@@ -119,6 +125,9 @@ none_alike (Commented paper n ordinal text) H = true
 none_alike (Tagged paper tag on) H = true
 none_alike (Decided paper decision) H = none_in (decision_told paper) H
 none_alike (DeadlineSet phase until) H = true
+none_alike (Dismissed user) H = true
+none_alike (Invited paper user) H = true
+none_alike (Uninvited paper user) H = true
 
 -- What a row may ask of where an entry stands: whether it is the first of its series; the last; the last of those
 -- before the discussion was opened; and whether it was made when the discussion was opened already. To an entry of
@@ -165,6 +174,13 @@ seat_rows r paper user =
     ∷ (authors r paper && in_open_mode r && authors_see_reviewers r.now) see these (part.user ∷ part.ordinal ∷ [])
     ∷ []
 
+-- the rows for a user who is invited to the paper from outside the committee, or is no longer
+abbrev pub invite_rows : Reader → ℕ → ℕ → List TriggerRow
+invite_rows r paper user =
+    user_named r user see whole
+    ∷ is_clear_chair (standing_to r paper) see whole
+    ∷ []
+
 -- the reader is a member in no conflict with the paper, and reads its reviews
 abbrev pub reads_reviews : Reader → ℕ → Bool
 reads_reviews r paper = is_clear_member (standing_to r paper) && members_read_reviews r.now
@@ -203,9 +219,10 @@ rows r at by (Submitted paper title abstract) =
     everyone see paper_alone
     ∷ authors r paper see whole_and (part.by ∷ [])
     ∷ (at.last && members r && members_see_papers r.now) see these (part.title ∷ [])
-    ∷ (at.last && is_clear_member (standing_to r paper) && members_see_papers r.now) see these (part.abstract ∷ [])
+    ∷ (at.last && is_clear_external (standing_to r paper) && members_see_papers r.now) see these (part.title ∷ [])
+    ∷ (at.last && reads_paper (standing_to r paper) && members_see_papers r.now) see these (part.abstract ∷ [])
     ∷ (is_clear_chair (standing_to r paper) && committee_sees_authors r.now) see these (part.by ∷ [])
-    ∷ (is_clear_member (standing_to r paper) && unless_anonymous r && committee_sees_authors r.now)
+    ∷ (reads_paper (standing_to r paper) && unless_anonymous r && committee_sees_authors r.now)
     see these (part.by ∷ [])
     ∷ r.accepted paper see these (part.by ∷ [])
     ∷ (at.last && r.accepted paper) see these (part.title ∷ [])
@@ -214,25 +231,27 @@ rows r at by (Submitted paper title abstract) =
 rows r at by (Coauthor paper user) =
     authors r paper see whole
     ∷ (is_clear_chair (standing_to r paper) && committee_sees_authors r.now) see these (part.user ∷ [])
-    ∷ (is_clear_member (standing_to r paper) && unless_anonymous r && committee_sees_authors r.now)
+    ∷ (reads_paper (standing_to r paper) && unless_anonymous r && committee_sees_authors r.now)
     see these (part.user ∷ [])
     ∷ r.accepted paper see these (part.user ∷ [])
     ∷ []
 rows r at by (Revised paper title abstract) =
     authors r paper see whole
     ∷ (at.last && members r && members_see_papers r.now) see these (part.title ∷ [])
-    ∷ (at.last && is_clear_member (standing_to r paper) && members_see_papers r.now) see these (part.abstract ∷ [])
+    ∷ (at.last && is_clear_external (standing_to r paper) && members_see_papers r.now) see these (part.title ∷ [])
+    ∷ (at.last && reads_paper (standing_to r paper) && members_see_papers r.now) see these (part.abstract ∷ [])
     ∷ (at.last && r.accepted paper) see these (part.title ∷ [])
     ∷ (at.last && published r paper) see these (part.abstract ∷ [])
     ∷ []
 rows r at by (Uploaded paper version content) =
     authors r paper see whole
-    ∷ (at.last && is_clear_member (standing_to r paper) && members_see_papers r.now) see whole
+    ∷ (at.last && reads_paper (standing_to r paper) && members_see_papers r.now) see whole
     ∷ (at.last && published r paper) see whole
     ∷ []
 rows r at by (Withdrawn paper) =
     authors r paper see paper_alone
     ∷ (members r && members_see_papers r.now) see paper_alone
+    ∷ (is_clear_external (standing_to r paper) && members_see_papers r.now) see paper_alone
     ∷ []
 rows r at by (Conflict paper user on) =
     user_named r user see whole
@@ -267,6 +286,11 @@ rows r at by (Decided paper decision) =
 rows r at by (DeadlineSet phase until) =
     everyone see whole
     ∷ []
+rows r at by (Dismissed user) =
+    everyone see whole
+    ∷ []
+rows r at by (Invited paper user) = invite_rows r paper user
+rows r at by (Uninvited paper user) = invite_rows r paper user
 
 -- whether a row applies
 abbrev pub applies_any : List TriggerRow → Bool

@@ -6,6 +6,7 @@ use Rattle.std.specs.Prelude.{map, Option, Some, None, All, IsTrue, IsFalse, if�
 use Rattle.std.specs.List.{flat_map, list_any}
 use Rattle.cr_base.specs.declared.entry.Entry.{Entry}
 use Rattle.cr_base.specs.declared.entry.Entry.TheVariants.{Coauthor, Conflict, Assigned, Unassigned, Reviewed}
+use Rattle.cr_base.specs.declared.entry.Entry.TheVariants.{Invited, Uninvited}
 use Rattle.cr_base.specs.declared.entry.EntryKind.{EntryKind}
 use Rattle.cr_base.specs.declared.entry.EntryKind.TheVariants as kinds
 use Rattle.cr_base.specs.declared.entry.Stamped.{Stamped}
@@ -18,6 +19,7 @@ use Rattle.cr_policy.specs.ViewFacts.{only, is_user, is_kind}
 use Rattle.cr_policy.specs.ShownTo.{PartFor, each_told, chairs_committee, is_past_reviewing}
 use Rattle.cr_policy.specs.ShownTo.{is_past_discussion, hides_reviewers, names_reviewers}
 use Rattle.cr_policy.specs.ShownTo.{serves, is_eligible, oversees, administers, discusses, is_in_programme, appears}
+use Rattle.cr_policy.specs.ShownTo.{is_on_committee, hides_authors, visits, reads_visiting}
 use Rattle.cr_policy.specs.ShownTo.{is_chairs, is_setters, kind_for, mark_for, moment_for, key_for, paper_for}
 use Rattle.cr_policy.specs.ShownTo.{user_for, name_for}
 use Rattle.cr_policy.specs.ShownTo.{digest_for, role_for, phase_for, until_for, mode_for, maker_for}
@@ -267,10 +269,10 @@ OneDecision =
     (u : Option ℕ) (p : ℕ) (H : History) → IsFalse (discusses u p H)
     → length (flat_map (part_shown (λ (s : Sighting). s.decision) p) (view u H)) ≤ 1
 
--- ---- who neither wrote a paper nor is eligible for it
+-- ---- who neither wrote a paper, nor is eligible for it, nor reads it as an external
 
--- what lets one know more of a paper who neither wrote it nor is eligible for it: whether she serves, whether she
--- administers the paper, whether it is in the programme, and whether it appears
+-- what lets one know more of a paper who neither wrote it, nor is eligible for it, nor reads it as an external:
+-- whether she serves, whether she administers the paper, whether it is in the programme, and whether it appears
 pub record Outsider : Type 0 where
   pub serving : Bool
   pub administering : Bool
@@ -288,15 +290,17 @@ as_hers kind s =
     }
 
 -- all that a sighting on a paper has for her: the number; the title where she serves, and that it is withdrawn; the
--- whole of a conflict or an assignment that names her; the whole of what she made; where she administers the paper
--- before the bidding the whole of each assignment, and under which labels there is a form; of a paper in the programme
--- that it is accepted, its authors and its title; and of one that appears its abstract and its content
+-- whole of a conflict, an assignment or an invitation that names her; the whole of what she made; where she administers
+-- the paper before the bidding the whole of each assignment and invitation, and under which labels there is a form;
+-- of a paper in the programme that it is accepted, its authors and its title; and of one that appears its abstract
+-- and its content
 abbrev pub IsLeft : Option ℕ → Outsider → EntryKind → Sighting → Type 0
 IsLeft u is kinds.Registered s = ⊥
 IsLeft u is kinds.Named s = ⊥
 IsLeft u is kinds.PhaseSet s = ⊥
 IsLeft u is kinds.ModeSet s = ⊥
 IsLeft u is kinds.DeadlineSet s = ⊥
+IsLeft u is kinds.Dismissed s = ⊥
 IsLeft u is kinds.Submitted s =
     s ≡ record (blank kinds.Submitted) {
       paper = s.paper;
@@ -331,6 +335,12 @@ IsLeft u is kinds.Assigned s =
 IsLeft u is kinds.Unassigned s =
     IsTrue (s.mine || is_user u s.user || is.administering)
     × (s ≡ record (as_hers kinds.Unassigned s) { user = s.user; ordinal = s.ordinal })
+IsLeft u is kinds.Invited s =
+    IsTrue (s.mine || is_user u s.user || is.administering)
+    × (s ≡ record (as_hers kinds.Invited s) { user = s.user })
+IsLeft u is kinds.Uninvited s =
+    IsTrue (s.mine || is_user u s.user || is.administering)
+    × (s ≡ record (as_hers kinds.Uninvited s) { user = s.user })
 IsLeft u is kinds.Reviewed s =
     IsTrue (s.mine || is.administering)
     × (s ≡ record (as_hers kinds.Reviewed s) {
@@ -362,20 +372,65 @@ outsider u p H = record {
   appearing = appears p H;
 }
 
--- so of any other than an author: one in conflict, one who isn't on the committee, and all before the bidding
+-- so of any other than an author: one in conflict, one who isn't on the committee and no external, and all before the
+-- bidding
 abbrev pub OutsidersShown : Type 0
 OutsidersShown =
-    (u : Option ℕ) (p : ℕ) (H : History) → IsFalse (is_author u p H || is_eligible u p H)
+    (u : Option ℕ) (p : ℕ) (H : History) → IsFalse (is_author u p H || is_eligible u p H || reads_visiting u p H)
     → All (λ (s : Sighting). IsTrue (is_number s.paper p) → IsLeft u (outsider u p H) s.kind s) (view u H)
+
+-- ---- externals
+
+-- what lets an external know more of a paper that she reads: whether the mode names its authors, and whether it is in
+-- the programme
+pub record Visit : Type 0 where
+  pub naming : Bool
+  pub announced : Bool
+
+-- all that a sighting on it has for her, which neither is her own nor names her: the last title and abstract, the
+-- content, that it is withdrawn, its authors where they are named, and of a paper in the programme that it is accepted;
+-- never another's bid, comment, tag or form, nor who else reviews it
+abbrev pub IsVisitors : Visit → EntryKind → Sighting → Type 0
+IsVisitors is kinds.Submitted s =
+    s ≡ record (blank kinds.Submitted) {
+      paper = s.paper;
+      by = if is.naming || is.announced then s.by else None;
+      title = s.title;
+      abstract = s.abstract;
+    }
+IsVisitors is kinds.Coauthor s =
+    IsTrue (is.naming || is.announced) × (s ≡ record (blank kinds.Coauthor) { paper = s.paper; user = s.user })
+IsVisitors is kinds.Revised s =
+    s ≡ record (blank kinds.Revised) { paper = s.paper; title = s.title; abstract = s.abstract }
+IsVisitors is kinds.Uploaded s =
+    s ≡ record (blank kinds.Uploaded) { paper = s.paper; version = s.version; content = s.content }
+IsVisitors is kinds.Withdrawn s = s ≡ record (blank kinds.Withdrawn) { paper = s.paper }
+IsVisitors is kinds.Decided s =
+    IsTrue is.announced × (s ≡ record (blank kinds.Decided) { paper = s.paper; accepted = Some true })
+IsVisitors is _ s = ⊥
+
+abbrev pub visit : ℕ → History → Visit
+visit p H = record { naming = not (hides_authors (mode_of H)); announced = is_in_programme p H }
+
+-- ExternalsShown: of a paper that she reads as an external she is shown that, beside her own entries and those that
+-- name her
+abbrev pub ExternalsShown : Type 0
+ExternalsShown =
+    (u : Option ℕ) (p : ℕ) (H : History) → IsTrue (reads_visiting u p H)
+    → All
+    (λ (s : Sighting). IsTrue (is_number s.paper p) → IsFalse (s.mine || is_user u s.user)
+    → IsVisitors (visit p H) s.kind s)
+    (view u H)
 
 -- ---- strangers, and nobody
 
--- all that is public of an entry: accounts with their names and roles, phases, modes, deadlines, and the papers'
--- numbers; of a paper in the programme that it is accepted, its authors and its last title; and of one that
+-- all that is public of an entry: accounts with their names and roles, dismissals, phases, modes, deadlines, and the
+-- papers' numbers; of a paper in the programme that it is accepted, its authors and its last title; and of one that
 -- appears its last abstract and content
 abbrev pub IsPublic : Bool → Bool → EntryKind → Sighting → Type 0
 IsPublic announced appearing kinds.Registered s = s ≡ record (blank kinds.Registered) { user = s.user; name = s.name }
 IsPublic announced appearing kinds.Named s = s ≡ record (blank kinds.Named) { user = s.user; role = s.role }
+IsPublic announced appearing kinds.Dismissed s = s ≡ record (blank kinds.Dismissed) { user = s.user }
 IsPublic announced appearing kinds.PhaseSet s = s ≡ record (blank kinds.PhaseSet) { phase = s.phase }
 IsPublic announced appearing kinds.ModeSet s = s ≡ record (blank kinds.ModeSet) { mode = s.mode }
 IsPublic announced appearing kinds.DeadlineSet s =
@@ -404,6 +459,8 @@ IsPublic announced appearing kinds.Conflict s = ⊥
 IsPublic announced appearing kinds.Bid s = ⊥
 IsPublic announced appearing kinds.Assigned s = ⊥
 IsPublic announced appearing kinds.Unassigned s = ⊥
+IsPublic announced appearing kinds.Invited s = ⊥
+IsPublic announced appearing kinds.Uninvited s = ⊥
 IsPublic announced appearing kinds.Reviewed s = ⊥
 IsPublic announced appearing kinds.Commented s = ⊥
 IsPublic announced appearing kinds.Tagged s = ⊥
@@ -420,22 +477,36 @@ names_her u (Coauthor paper user) = is_number u user
 names_her u (Conflict paper user on) = is_number u user
 names_her u (Assigned paper user review_kind ordinal) = is_number u user
 names_her u (Unassigned paper user ordinal) = is_number u user
+names_her u (Invited paper user) = is_number u user
+names_her u (Uninvited paper user) = is_number u user
 names_her u _ = false
 
--- the entry is one of those that chairs are told of in every phase: it assigns a reviewer, unassigns one, or is a form
+-- the entry is one of those that chairs are told of in every phase: it assigns a reviewer, unassigns one, invites
+-- somebody to a paper, takes that back, or is a form
 abbrev pub is_reviewing : Entry → Bool
 is_reviewing (Assigned paper user review_kind ordinal) = true
 is_reviewing (Unassigned paper user ordinal) = true
+is_reviewing (Invited paper user) = true
+is_reviewing (Uninvited paper user) = true
 is_reviewing (Reviewed paper ordinal version form) = true
 is_reviewing _ = false
 
 -- she wrote nothing, doesn't serve, no entry on a paper names her, and she is no chair where
--- somebody was assigned or has reviewed
+-- somebody was assigned or invited, or has reviewed
 pub record IsStranger (u : Option ℕ) (H : History) : Type 0 where
   pub author : (p : ℕ) → IsFalse (is_author u p H)
   pub serving : IsFalse (serves u H)
   pub named : IsFalse (list_any (λ (e : Stamped). names_her u e.entry) H)
   pub leading : IsFalse (chairs_committee (role_of u H) && list_any (λ (e : Stamped). is_reviewing e.entry) H)
+
+-- AccountsShown: who isn't on the committee is shown of a paper of which she is no author and no external what is
+-- public, beside her own entries and those that name her: to all other papers an external is a stranger
+abbrev pub AccountsShown : Type 0
+AccountsShown =
+    (u : Option ℕ) (p : ℕ) (H : History) → IsFalse (is_on_committee (role_of u H) || is_author u p H || visits u p H)
+    → All
+    (λ (s : Sighting). IsTrue (is_number s.paper p) → IsFalse (s.mine || is_user u s.user) → IsPublicIn H s)
+    (view u H)
 
 -- strangers are shown what is public, and their own entries
 abbrev pub StrangersShown : Type 0

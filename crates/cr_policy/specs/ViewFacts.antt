@@ -24,6 +24,7 @@ use Rattle.cr_base.specs.HistoryFacts.{seats_left, assigned_under, tags_left}
 use Rattle.cr_base.specs.Sources.{Facts, Shown}
 use Rattle.cr_base.specs.TagTexts.{is_private}
 use Rattle.cr_base.specs.Tags.{tags_for}
+use Rattle.cr_base.specs.Words.{is_member}
 use Rattle.cr_policy.specs.Sighting.{Sighting}
 use Rattle.cr_policy.specs.View.{View}
 
@@ -105,6 +106,19 @@ tag_shown u mine (Some tag) (Some on) =
     else record { tag = record { tag = tag; owner = None }; on = on } ∷ []
 tag_shown u mine _ _ = []
 
+-- the role that is shown, of the kinds of entry that give a user hers: the one to which she is named, and an account's
+-- where she is dismissed
+abbrev pub role_by_kind : EntryKind → Option Role → List Role
+role_by_kind kinds.Named role = listed role
+role_by_kind kinds.Dismissed role = Account ∷ []
+role_by_kind _ role = []
+
+-- the kinds of entry that invite a user to a paper, and take that back
+abbrev pub invite_by_kind : EntryKind → List Bool
+invite_by_kind kinds.Invited = true ∷ []
+invite_by_kind kinds.Uninvited = false ∷ []
+invite_by_kind _ = []
+
 -- ---- what one sighting tells: each tells the facts of its kind of entry, and nothing of others
 
 -- the entry is of this kind
@@ -161,6 +175,10 @@ own_bid_seen p s = only (is_number s.paper p && s.mine) (of_kind kinds.Bid s (li
 -- the ordinal under which the user reviews the paper from here on, none where she no longer does
 abbrev pub ordinal_seen : Option ℕ → ℕ → Sighting → List (Option ℕ)
 ordinal_seen u p s = only (is_number s.paper p && is_user u s.user) (ordinal_by_kind s.kind s.ordinal)
+
+-- whether the user may review the paper from here on as one from outside the committee
+abbrev pub invite_seen : Option ℕ → ℕ → Sighting → List Bool
+invite_seen u p s = only (is_number s.paper p && is_user u s.user) (invite_by_kind s.kind)
 
 -- the reviewer whom it gives the paper, and the ordinal of the one whom it takes
 abbrev pub assigned_seen : ℕ → Sighting → List SeatTold
@@ -235,9 +253,9 @@ withdrawal_seen p s = only (is_number s.paper p) (of_kind kinds.Withdrawn s (tru
 abbrev pub registration_seen : Sighting → List Registration
 registration_seen s = of_kind kinds.Registered s (registration_shown s.user s.name)
 
--- the role to which it names the user
+-- the role to which it names the user, or an account's where it dismisses her
 abbrev pub role_seen : Option ℕ → Sighting → List Role
-role_seen u s = only (is_user u s.user) (of_kind kinds.Named s (listed s.role))
+role_seen u s = only (is_user u s.user) (role_by_kind s.kind s.role)
 
 -- the user whom it registers under this name
 abbrev pub number_seen : List ℕ → Sighting → List ℕ
@@ -257,7 +275,7 @@ mode_in_view V = last_or Blind (flat_map mode_seen V)
 abbrev pub deadline_in_view : Phase → View → Option ℕ
 deadline_in_view phase V = last_or None (flat_map (deadline_seen phase) V)
 
--- the last role that the user was named to, else account
+-- the last role that the user was named to, where she wasn't dismissed since; else account
 abbrev pub role_in_view : Option ℕ → View → Role
 role_in_view u V = last_or Account (flat_map (role_seen u) V)
 
@@ -301,6 +319,13 @@ declared_in_view u p V =
 abbrev pub ordinal_in_view : Option ℕ → ℕ → View → Option ℕ
 ordinal_in_view u p V = last_or None (flat_map (ordinal_seen u p) V)
 
+-- the last invitation shown of the user to the paper wasn't taken back since; and she is no member, and so invited
+abbrev pub is_invited_in_view : Option ℕ → ℕ → View → Bool
+is_invited_in_view u p V = last_or false (flat_map (invite_seen u p) V)
+
+abbrev pub is_external_in_view : Option ℕ → ℕ → View → Bool
+is_external_in_view u p V = not (is_member (role_in_view u V)) && is_invited_in_view u p V
+
 -- StandingOf: what a view says of how its reader stands to the conference, and to a paper, if one is named
 abbrev pub standing_in_view : Option ℕ → Option ℕ → View → Standing
 standing_in_view u paper V = record {
@@ -310,6 +335,7 @@ standing_in_view u paper V = record {
   author = at_some (λ p. is_author_in_view u p V) paper;
   conflicted = at_some (λ p. is_conflicted_in_view u p V) paper;
   reviewer = at_some (λ p. is_some (ordinal_in_view u p V)) paper;
+  external = at_some (λ p. is_external_in_view u p V) paper;
 }
 
 -- ---- bids and assignments
@@ -337,8 +363,8 @@ reviewers_in_view p V = seats_left (flat_map (unassigned_seen p) V) (seats_in_vi
 -- ---- reviews, comments and tags
 
 -- FormsOf: of each label's forms that are shown the last, which the paper's authors read; the last before the
--- discussion and all later ones, which the committee discusses; the reader's own, which she reads while reviews are
--- written; and whether there is one
+-- discussion and all later ones, which the committee discusses; the reader's own, which a reviewer reads while reviews
+-- are written, and one from outside the committee from then on; and whether there is one
 abbrev pub forms_in_view : ℕ → ℕ → View → List FormTold
 forms_in_view p o V = flat_map (form_seen p o) V
 
@@ -438,6 +464,7 @@ shown_in_view u V = record {
   ordinal = λ v p. ordinal_in_view v p V;
   labels = λ p. length (seats_in_view p V);
   assigned = λ p o. assigned_under o (seats_in_view p V);
+  invited = λ v p. is_invited_in_view v p V;
   last_form = λ p o. last_form_in_view p o V;
   forms_discussed = λ p o. forms_discussed_in_view p o V;
   written = λ p o. is_written_in_view p o V;

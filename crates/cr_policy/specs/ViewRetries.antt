@@ -34,7 +34,7 @@ name_shown accounts None = []
 name_shown accounts (Some user) = unwrap_or (name_in accounts user) []
 
 -- what a command is answered by what its first entry shows its maker, by the kind; `name` is that of the user who is
--- given a role
+-- given a role, or dismissed
 abbrev pub receipt_shown : EntryKind → List ℕ → Sighting → Receipt
 receipt_shown kinds.Registered name s = receipts.User (unwrap_or s.user 0)
 receipt_shown kinds.Named name s = receipts.Named name (unwrap_or s.role Account)
@@ -54,6 +54,9 @@ receipt_shown kinds.Commented name s = receipts.Comment (unwrap_or s.n 0)
 receipt_shown kinds.Tagged name s = receipts.Changed (unwrap_or s.paper 0)
 receipt_shown kinds.Decided name s = receipts.Changed (unwrap_or s.paper 0)
 receipt_shown kinds.DeadlineSet name s = receipts.Deadline (unwrap_or s.phase Setup) (unwrap_or s.until None)
+receipt_shown kinds.Dismissed name s = receipts.Named name Account
+receipt_shown kinds.Invited name s = receipts.Changed (unwrap_or s.paper 0)
+receipt_shown kinds.Uninvited name s = receipts.Changed (unwrap_or s.paper 0)
 
 -- what these sightings of one command's entries tell
 abbrev pub kept_shown : List AccountLine → View → Option KeptCall

@@ -18,6 +18,9 @@ ghost use Rattle.cr_policy.specs.Migration.{Migrates};
 ghost use Rattle.cr_policy.specs.HiddenPairs.{CommentRemovable, VersionRemovable};
 ghost use Rattle.cr_policy.specs.HiddenPairs.{DigestHidden, NamerHidden, ModeSetterHidden};
 ghost use Rattle.cr_policy.specs.HiddenPairs.{PhaseSetterHidden, DeadlineSetterHidden, MomentHidden, KeyHidden};
+ghost use Rattle.cr_policy.specs.HiddenPairs.{DismisserHidden, InvitedHidden, InviterHidden, UninvitedHidden};
+ghost use Rattle.cr_policy.specs.HiddenPairs.{UninviterHidden, SeatHiddenFromExternal, BidHiddenFromExternal};
+ghost use Rattle.cr_policy.specs.HiddenPairs.{TagHiddenFromExternal, CommentHiddenFromExternal};
 ghost use Rattle.cr_policy.specs.HiddenPairs.{TitleHidden, AbstractHidden};
 ghost use Rattle.cr_policy.specs.HiddenPairs.{SubmitterHidden, CoauthorHidden, RevisionHidden};
 ghost use Rattle.cr_policy.specs.HiddenPairs.{ReviserHidden, ContentHidden, UploaderHidden};
@@ -55,15 +58,16 @@ ghost use Rattle.cr_policy.specs.ViewBounds.{DecisionsEarly, DecisionsUntold};
 ghost use Rattle.cr_policy.specs.ViewBounds.{CommentsFromAuthors, WritersUnnamed, PrivateTagsAreOwn, ChairsTags};
 ghost use Rattle.cr_policy.specs.ViewBounds.{BidsAreOwn, ReviewersFromAuthors, ReviewersEarly, ReviewersUnnamed};
 ghost use Rattle.cr_policy.specs.ViewBounds.{OneTitle, OneAbstract, OneContent, OneDecision};
-ghost use Rattle.cr_policy.specs.ViewBounds.{OutsidersShown, StrangersShown, NobodyShown};
+ghost use Rattle.cr_policy.specs.ViewBounds.{OutsidersShown, ExternalsShown, AccountsShown, StrangersShown};
+ghost use Rattle.cr_policy.specs.ViewBounds.{NobodyShown};
 
 /// How a user stands can be read off what she sees: phase, mode, role and her ties to any paper, of
 /// every history and for every user, nobody among them. An author sees all authors of her paper, and
 /// whoever is none is told so by what she sees; each entry on a conflict of hers is shown her, and each by
-/// which she is assigned or unassigned, so she is told whether she is in conflict and whether she
-/// reviews. What is public can be read off any view, the deadlines, the accounts, their names and roles, the papers,
-/// and which of them are accepted; and so can how many of the papers are the reader's own, how many
-/// bytes she has uploaded, and how many comments she has written.
+/// which she is assigned or unassigned, invited or no longer, so she is told whether she is in conflict, whether
+/// she reviews, and whether she is an external. What is public can be read off any view, the deadlines, the accounts,
+/// their names and roles, the papers, and which of them are accepted; and so can how many of the papers are the
+/// reader's own, how many bytes she has uploaded, and how many comments she has written.
 pub fn law_standing()
     ensures standing { StandingFromView }
     ensures public { (u : Option ℕ) (H : History) → PublicFactsFromView u H }
@@ -116,8 +120,8 @@ pub fn law_first_told()
     ensures { FirstTold }
 {}
 
-/// No conference gets stuck: in each legal history in which anybody has registered, the first user has, and she is a
-/// chair; and before the close there is a next phase, and her request for it is accepted.
+/// No conference gets stuck: in each legal history in which anybody has registered, somebody who has is a chair; and
+/// before the close there is a next phase, and each chair's request for it is accepted.
 pub fn law_goes_on()
     ensures { GoesOn }
 {}
@@ -163,12 +167,13 @@ pub fn law_witness()
     ensures bulk { OneBulk }
 {}
 
-/// What each kind of reader sees of a small conference, entry by entry and all of it: nobody, an account, an author, a
-/// co-author, a member in no conflict, one who reviews, a chair who does, and a member and a chair in conflict, of
-/// three papers with every kind of entry, in each mode, before the bidding, in it, in the reviewing, in the
-/// discussion, at the notification and at the close. A paper is rejected first and accepted then, one is rejected, and
-/// one is withdrawn; and where the two are decided the other way round, it is told what is seen at the close by who
-/// isn't on the committee. One submission has a number, which its maker alone is shown.
+/// What each kind of reader sees of a small conference, entry by entry and all of it: nobody, an account, an external
+/// who reviews and was a member once, an author, a co-author, a member in no conflict, one who reviews, a chair who
+/// does, and a member and a chair in conflict, of three papers with every kind of entry, in each mode, before the
+/// bidding, in it, in the reviewing, in the discussion, at the notification and at the close. A paper is rejected
+/// first and accepted then, one is rejected, and one is withdrawn; and where the two are decided the other way round,
+/// it is told what is seen at the close by who isn't on the committee. One submission has a number, which its maker
+/// alone is shown.
 ///
 /// It has a twin, in which another member reviews a paper and writes its forms in the first one's place: what the
 /// paper's authors see of the two is the same, up to the discussion, and later but in the open mode; and so is what a
@@ -203,8 +208,11 @@ pub fn law_views()
 /// for whoever sets them, and tags for chairs for such chairs; no decision before the notification for all but those
 /// who discuss the paper, and for all but them and its authors never more than that it is accepted; of a paper's
 /// titles, abstracts and contents the last one, for all but its authors, and of decisions for all but those who
-/// discuss it; little of a paper for outsiders, who neither wrote it nor are eligible for it, so in conflict, or on no
-/// committee, or before the bidding; for strangers what is public and their own entries; and for nobody what is
+/// discuss it; little of a paper for outsiders, who neither wrote it nor are eligible for it nor read it as externals,
+/// so in conflict, or on no committee, or before the bidding; of a paper for its externals its last texts, content and,
+/// unless the mode is anonymous, authors, and never another's bid, comment, tag or form, nor who else reviews it; of
+/// all other papers for whoever is on no committee what is public, beside her own entries and those that name her; for
+/// strangers what is public and their own entries; and for nobody what is
 /// public, an accepted paper's title and authors among it, and once the conference is closed its abstract and its
 /// content.
 pub fn law_bounds()
@@ -257,6 +265,8 @@ pub fn law_bounds()
     ensures one_content { OneContent }
     ensures one_decision { OneDecision }
     ensures outsiders { OutsidersShown }
+    ensures externals { ExternalsShown }
+    ensures accounts { AccountsShown }
     ensures strangers { StrangersShown }
     ensures nobody { NobodyShown }
 {}
@@ -303,10 +313,11 @@ pub fn law_migrated()
 /// of which number; a paper's title and abstract, and in the anonymous mode its authors; a revision's texts and an
 /// upload's content, where others follow, and who made them; who withdrew; whom an author declares in conflict,
 /// whether a chair turns that off, and which author declared; a bid and whose it is; whether a private tag is on and
-/// whose it is; who is assigned, as what and by whom, and who is unassigned and by whom; a form before it is read,
-/// what it tells the committee alone, and in the anonymous mode who wrote it; a comment and who wrote it; and a
-/// decision and who made it. The last two clauses are of [`law_removed`]: a comment, and the last version of a
-/// content, whose place another takes.
+/// whose it is; who is assigned, as what and by whom, and who is unassigned and by whom; who dismissed a member; who is
+/// invited and by whom, whose invitation is taken back and by whom, and to who is invited who else reviews, a bid,
+/// whether a tag is on, and a comment and who wrote it; a form before it is read, what it tells the committee alone, and
+/// in the anonymous mode who wrote it; a comment and who wrote it; and a decision and who made it. The last two clauses
+/// are of [`law_removed`]: a comment, and the last version of a content, whose place another takes.
 pub fn law_hidden_pairs()
     ensures digests { DigestHidden }
     ensures namers { NamerHidden }
@@ -334,6 +345,15 @@ pub fn law_hidden_pairs()
     ensures assigned { AssignedHidden }
     ensures seats { SeatHidden }
     ensures assigners { AssignerHidden }
+    ensures dismissers { DismisserHidden }
+    ensures invited { InvitedHidden }
+    ensures inviters { InviterHidden }
+    ensures uninvited { UninvitedHidden }
+    ensures uninviters { UninviterHidden }
+    ensures seats_from_externals { SeatHiddenFromExternal }
+    ensures bids_from_externals { BidHiddenFromExternal }
+    ensures tags_from_externals { TagHiddenFromExternal }
+    ensures comments_from_externals { CommentHiddenFromExternal }
     ensures unassigned { UnassignedHidden }
     ensures unassigners { UnassignerHidden }
     ensures forms { FormHidden }

@@ -12,6 +12,7 @@ me_members me =
     ++ member_of (codes "bytes") (Some (decimal me.bytes))
     ++ member_of (codes "comments") (Some (decimal me.comments))
     ++ member_of (codes "conflicts") (Some (numbers_text me.conflicts))
+    ++ member_of (codes "invited") (Some (numbers_text me.invited))
     ++ member_of (codes "name") (Some (quoted me.name))
     ++ member_of (codes "papers") (Some (numbers_text me.papers))
     ++ member_of (codes "role") (Some (quoted (role_name me.role)))

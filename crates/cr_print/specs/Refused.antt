@@ -9,7 +9,9 @@ use Rattle.cr_base.specs.declared.reply.Rule.TheVariants.{NotAMember, Conflict, 
 use Rattle.cr_base.specs.declared.reply.Rule.TheVariants.{NoContent, AuthorConflict, TargetConflict}
 use Rattle.cr_base.specs.declared.reply.Rule.TheVariants.{AlreadyAssigned, LabelsSpent, NotAssigned}
 use Rattle.cr_base.specs.declared.reply.Rule.TheVariants.{HasReview, NotReviewer, QuotaComments}
-use Rattle.cr_base.specs.declared.reply.Rule.TheVariants.{BadAction, BadTag, BulkSelf, Late, NumberUsed, PlanTooLarge, NoPlan}
+use Rattle.cr_base.specs.declared.reply.Rule.TheVariants.{BadAction, BadTag, BulkSelf, Late, NumberUsed}
+use Rattle.cr_base.specs.declared.reply.Rule.TheVariants.{PlanTooLarge, NoPlan, LastChair, IsMember}
+use Rattle.cr_base.specs.declared.reply.Rule.TheVariants.{AlreadyInvited, NotInvited, StillAssigned}
 use Rattle.cr_http.specs.declared.refusal.Refusal.{Refusal}
 use Rattle.cr_http.specs.declared.refusal.Refusal.TheVariants.{HeadTooLarge, BadHttp, NoHost}
 use Rattle.cr_http.specs.declared.refusal.Refusal.TheVariants.{LengthRequired, BadLength, TooLarge}
@@ -63,6 +65,11 @@ rule_name Late = codes "late"
 rule_name NumberUsed = codes "number_used"
 rule_name PlanTooLarge = codes "plan_too_large"
 rule_name NoPlan = codes "no_plan"
+rule_name LastChair = codes "last_chair"
+rule_name IsMember = codes "is_member"
+rule_name AlreadyInvited = codes "already_invited"
+rule_name NotInvited = codes "not_invited"
+rule_name StillAssigned = codes "still_assigned"
 
 unfoldable pub refused_name : Refused → List ℕ
 refused_name (Closing refusal) = closing_name refusal
@@ -117,6 +124,11 @@ rule_status Late = statuses.Conflict
 rule_status NumberUsed = statuses.Conflict
 rule_status PlanTooLarge = statuses.Conflict
 rule_status NoPlan = statuses.Conflict
+rule_status LastChair = statuses.Conflict
+rule_status IsMember = statuses.Conflict
+rule_status AlreadyInvited = statuses.Conflict
+rule_status NotInvited = statuses.Conflict
+rule_status StillAssigned = statuses.Conflict
 
 unfoldable pub refused_status : Refused → Status
 refused_status (Closing refusal) = closing_status refusal

@@ -15,6 +15,7 @@ pub(crate) fn append_me(into: &mut Vec<u8>, me: &Me) -> Result<(), AllocError>
     object.number(into, "bytes", me.bytes)?;
     object.number(into, "comments", me.comments)?;
     object.list(into, "conflicts", me.conflicts.as_slice())?;
+    object.list(into, "invited", me.invited.as_slice())?;
     object.string(into, "name", me.name.as_slice())?;
     object.list(into, "papers", me.papers.as_slice())?;
     object.string(into, "role", me.role.name().as_bytes())?;

@@ -91,6 +91,11 @@ fn rule_name(rule: Rule) -> &'static str
         Rule::NumberUsed => "number_used",
         Rule::PlanTooLarge => "plan_too_large",
         Rule::NoPlan => "no_plan",
+        Rule::LastChair => "last_chair",
+        Rule::IsMember => "is_member",
+        Rule::AlreadyInvited => "already_invited",
+        Rule::NotInvited => "not_invited",
+        Rule::StillAssigned => "still_assigned",
     }
 }
 
@@ -160,6 +165,11 @@ fn rule_status(rule: Rule) -> Status
         | Rule::NumberUsed
         | Rule::PlanTooLarge
         | Rule::NoPlan => Status::Conflict,
+        Rule::LastChair
+        | Rule::IsMember
+        | Rule::AlreadyInvited
+        | Rule::NotInvited
+        | Rule::StillAssigned => Status::Conflict,
     }
 }
 

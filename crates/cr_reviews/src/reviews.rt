@@ -137,8 +137,9 @@ impl Reviews {
     /// Whether it is withdrawn stands in none of the forms. `late` is what `Stage::is_late` says at the request's
     /// moment. One read by number, and a walk over the paper's forms; takes no memory.
     ///
-    /// In this order: `NoPaper`, `NotMember`, `Conflict`, `NotReviewer` where she doesn't review the paper,
-    /// `WrongPhase` where it is neither the reviewing nor the discussion, `Late` where it is too late, `Withdrawn`.
+    /// In this order: `NoPaper`, `NotMember` where she is no external of the paper either, `Conflict`, `NotReviewer`
+    /// where she doesn't review the paper, `WrongPhase` where it is neither the reviewing nor the discussion, `Late`
+    /// where it is too late, `Withdrawn`.
     pub fn judge_review(
         &self,
         by: &Standing,
@@ -154,9 +155,11 @@ impl Reviews {
         let Some(paper) = paper else {
             return Err(Rule::NoPaper);
         };
-        match by.check_eligible() {
-            Ok(()) => {}
-            Err(rule) => return Err(rule),
+        if !by.is_admitted() {
+            return Err(Rule::NotMember);
+        }
+        if by.conflicted {
+            return Err(Rule::Conflict);
         }
         if !by.reviewer {
             return Err(Rule::NotReviewer);

@@ -2,9 +2,10 @@
 use Rattle.std.specs.Prelude.{ℕ, List, [], ◌∷◌, codes}
 use Rattle.cr_routes.specs.declared.resource.Resource.{Resource}
 use Rattle.cr_routes.specs.declared.resource.Resource.TheVariants.{Register, Accepted, Accounts, Deadlines}
-use Rattle.cr_routes.specs.declared.resource.Resource.TheVariants.{Members, Mode, Phase, Me, Search}
+use Rattle.cr_routes.specs.declared.resource.Resource.TheVariants.{Members, Member, Mode, Phase, Me, Search}
 use Rattle.cr_routes.specs.declared.resource.Resource.TheVariants.{Papers, Paper, Content, Version}
-use Rattle.cr_routes.specs.declared.resource.Resource.TheVariants.{Conflicts, Bid, Reviewers, Reviewer}
+use Rattle.cr_routes.specs.declared.resource.Resource.TheVariants.{Conflicts, Bid, Externals, External}
+use Rattle.cr_routes.specs.declared.resource.Resource.TheVariants.{Reviewers, Reviewer}
 use Rattle.cr_routes.specs.declared.resource.Resource.TheVariants.{Review, Reviews, Comments, Tag, Decision, Bulk}
 use Rattle.cr_routes.specs.declared.resource.Resource.TheVariants.{PapersReport, ScoresReport}
 use Rattle.cr_routes.specs.declared.resource.Resource.TheVariants.{LoadReport, DecisionsReport, Letter, Plan}
@@ -17,6 +18,7 @@ paths =
     (codes "/accounts", Accounts) ∷
     (codes "/assign", Bulk) ∷
     (codes "/deadlines", Deadlines) ∷
+    (codes "/members/{u}", Member) ∷
     (codes "/members", Members) ∷
     (codes "/me", Me) ∷
     (codes "/mode", Mode) ∷
@@ -26,6 +28,8 @@ paths =
     (codes "/papers/{p}/content/{v}", Version) ∷
     (codes "/papers/{p}/content", Content) ∷
     (codes "/papers/{p}/decision", Decision) ∷
+    (codes "/papers/{p}/externals/{u}", External) ∷
+    (codes "/papers/{p}/externals", Externals) ∷
     (codes "/papers/{p}/reviewers/{u}", Reviewer) ∷
     (codes "/papers/{p}/reviewers", Reviewers) ∷
     (codes "/papers/{p}/reviews", Reviews) ∷

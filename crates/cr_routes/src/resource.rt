@@ -17,6 +17,8 @@ pub enum Resource {
     Deadlines,
     /// `/members`
     Members,
+    /// `/members/{u}`: one part of any bytes, at least one, follows `/members/`.
+    Member,
     /// `/mode`
     Mode,
     /// `/phase`
@@ -37,6 +39,10 @@ pub enum Resource {
     Reviewers,
     /// `/papers/{p}/reviewers/{u}`: one such part stands between the slashes, and one at the end.
     Reviewer,
+    /// `/papers/{p}/externals`: one such part stands between the slashes.
+    Externals,
+    /// `/papers/{p}/externals/{u}`: one such part stands between the slashes, and one at the end.
+    External,
     /// `/papers/{p}/review`: one such part stands between the slashes.
     Review,
     /// `/papers/{p}/reviews`: one such part stands between the slashes.
@@ -105,6 +111,7 @@ impl Resource {
             (Resource::Register, Method::Post) => Some(Ask::Register),
             (Resource::Deadlines, Method::Post) => Some(Ask::SetDeadline),
             (Resource::Members, Method::Post) => Some(Ask::Name),
+            (Resource::Member, Method::Delete) => Some(Ask::Dismiss),
             (Resource::Mode, Method::Post) => Some(Ask::SetMode),
             (Resource::Phase, Method::Post) => Some(Ask::SetPhase),
             (Resource::Papers, Method::Post) => Some(Ask::Submit),
@@ -115,6 +122,8 @@ impl Resource {
             (Resource::Bid, Method::Put) => Some(Ask::Bid),
             (Resource::Reviewers, Method::Post) => Some(Ask::Assign),
             (Resource::Reviewer, Method::Delete) => Some(Ask::Unassign),
+            (Resource::Externals, Method::Post) => Some(Ask::Invite),
+            (Resource::External, Method::Delete) => Some(Ask::Uninvite),
             (Resource::Review, Method::Put) => Some(Ask::Review),
             (Resource::Comments, Method::Post) => Some(Ask::Comment),
             (Resource::Tag, Method::Put) => Some(Ask::Tag),
@@ -133,9 +142,10 @@ impl Resource {
     {
         match self {
             Resource::Register | Resource::Members | Resource::Mode | Resource::Papers => "POST",
-            Resource::Conflicts | Resource::Reviewers | Resource::Bulk => "POST",
+            Resource::Conflicts | Resource::Reviewers | Resource::Externals => "POST",
+            Resource::Bulk => "POST",
             Resource::Bid | Resource::Review | Resource::Decision => "PUT",
-            Resource::Reviewer => "DELETE",
+            Resource::Reviewer | Resource::External | Resource::Member => "DELETE",
             Resource::Tag => "DELETE, PUT",
             Resource::Accepted | Resource::Accounts | Resource::Me => "GET, HEAD",
             Resource::Version | Resource::Reviews | Resource::Search => "GET, HEAD",

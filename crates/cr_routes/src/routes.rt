@@ -9,11 +9,12 @@ use matchit::{InsertError, Router};
 use std::alloc::{AllocError, Global};
 
 /// As `paths` lists them.
-static PATHS: [(&str, Resource); 29] = [
+static PATHS: [(&str, Resource); 32] = [
     ("/accepted", Resource::Accepted),
     ("/accounts", Resource::Accounts),
     ("/assign", Resource::Bulk),
     ("/deadlines", Resource::Deadlines),
+    ("/members/{u}", Resource::Member),
     ("/members", Resource::Members),
     ("/me", Resource::Me),
     ("/mode", Resource::Mode),
@@ -23,6 +24,8 @@ static PATHS: [(&str, Resource); 29] = [
     ("/papers/{p}/content/{v}", Resource::Version),
     ("/papers/{p}/content", Resource::Content),
     ("/papers/{p}/decision", Resource::Decision),
+    ("/papers/{p}/externals/{u}", Resource::External),
+    ("/papers/{p}/externals", Resource::Externals),
     ("/papers/{p}/reviewers/{u}", Resource::Reviewer),
     ("/papers/{p}/reviewers", Resource::Reviewers),
     ("/papers/{p}/reviews", Resource::Reviews),

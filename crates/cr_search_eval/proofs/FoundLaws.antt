@@ -48,6 +48,18 @@ module _ (t : Tables) (user p : ℕ) (asked : Asked) (is : asked ≡ asked_of t 
       told ∙ sym (ap (λ (b : Bool). cond b (told_at t asked).page.title None) holds)
       ∙ ap (λ (a : Asked). title_found (told_at t a) search) is
 
+  pub title-untold : None ≡ (told_at t asked).page.title → None ≡ title_found (told_to t user p) search
+  title-untold none =
+      by (told_at t asked).page.title (search_holds (term_holds (told_at t asked)) search) none
+      ∙ ap (λ (a : Asked). title_found (told_to_at a) search) is
+    where
+      told_to_at : Asked → PaperTold
+      told_to_at a = told_at t a
+
+      by : (title : Option (List ℕ)) (holds : Bool) → None ≡ title → None ≡ cond holds title None
+      by title true none = none
+      by title false none = refl
+
   pub title-unfound : search_holds (term_holds (told_at t asked)) search ≡ false → None ≡ title_found (told_to t user p) search
   title-unfound fails =
       sym (ap (λ (b : Bool). cond b (told_at t asked).page.title None) fails)

@@ -7,7 +7,7 @@ use Rattle.cr_base.specs.declared.entry.Entry.{Entry}
 use Rattle.cr_base.specs.declared.entry.Stamped.{Stamped}
 use Rattle.cr_base.specs.declared.standing.Standing.{Standing}
 use Rattle.cr_base.specs.Lists.{given}
-use Rattle.cr_base.specs.Page.{is_clear_chair, is_clear_member, shows_author}
+use Rattle.cr_base.specs.Page.{is_clear_chair, reads_paper, shows_author}
 use Rattle.cr_base.specs.Phases.{committee_sees_authors}
 use Rattle.cr_base.specs.Words.{is_anonymous}
 use Rattle.cr_policy.specs.Sighting.{where_shown}
@@ -40,10 +40,10 @@ last-row false = refl
 pub author-shown : (by : Standing) (accepted : Bool)
     → shows_author by accepted
     ≡ (by.author || ((is_clear_chair by && committee_sees_authors by.phase)
-    || ((is_clear_member by && not (is_anonymous by.mode) && committee_sees_authors by.phase) || accepted)))
+    || ((reads_paper by && not (is_anonymous by.mode) && committee_sees_authors by.phase) || accepted)))
 author-shown by accepted =
     behind by.author (is_clear_chair by && committee_sees_authors by.phase)
-    (is_clear_member by && not (is_anonymous by.mode) && committee_sees_authors by.phase) accepted
+    (reads_paper by && not (is_anonymous by.mode) && committee_sees_authors by.phase) accepted
   where
     behind : (a b c d : Bool) → (((a || b) || c) || d) ≡ (a || (b || (c || d)))
     behind true b c d = refl

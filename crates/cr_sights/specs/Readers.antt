@@ -1,7 +1,7 @@
 -- What the trigger table asks of a reader, by the tables.
 use Rattle.std.specs.Prelude.{ℕ, Option, Some}
 use Rattle.cr_base.specs.Accounts.{role_in}
-use Rattle.cr_base.specs.Sources.{is_accepted_in}
+use Rattle.cr_base.specs.Sources.{is_accepted_in, is_external_in}
 use Rattle.cr_base.specs.Tables.{Tables}
 use Rattle.cr_base.specs.Ties.{is_author_in, is_conflicted_in}
 use Rattle.cr_policy.specs.Triggers.{Reader}
@@ -15,6 +15,7 @@ reader_in t u = record {
   rank = role_in t.accounts u;
   author = λ p. is_author_in t.ties u p;
   conflicted = λ p. is_conflicted_in t.ties u p;
+  external = λ p. is_external_in t u p;
   wrote = λ v p. is_author_in t.ties (Some v) p;
   accepted = λ p. is_accepted_in t p;
 }

@@ -6,9 +6,10 @@ ghost use Rattle.cr_policy.specs.View.{sight as sight_at};
 ghost use Rattle.cr_sights.specs.Readers.{reader_in};
 
 use crate::decisions::decision;
+use crate::invites::{invitation, uninvitation};
 use crate::papers::{coauthor, revision, submission, upload, withdrawal};
 use crate::position::Position;
-use crate::public::{deadline_set, mode_set, naming, phase_set, registration};
+use crate::public::{deadline_set, dismissal, mode_set, naming, phase_set, registration};
 use crate::reviews::review;
 use crate::seats::{assignment, unassignment};
 use crate::sighting::Sighting;
@@ -48,5 +49,8 @@ pub fn sight<'a>(
         Entry::Tagged { .. } => tagging(live, reader, stamped),
         Entry::Decided { .. } => decision(live, reader, stamped, position.last),
         Entry::DeadlineSet { .. } => deadline_set(reader, stamped),
+        Entry::Dismissed { .. } => dismissal(reader, stamped),
+        Entry::Invited { .. } => invitation(live, reader, stamped),
+        Entry::Uninvited { .. } => uninvitation(live, reader, stamped),
     }
 }

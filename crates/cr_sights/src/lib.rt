@@ -6,6 +6,7 @@
 
 mod by_kind;
 mod decisions;
+mod invites;
 mod line;
 mod members;
 mod papers;

@@ -2,7 +2,7 @@
 ghost use Rattle.std.specs.Prelude.{◌≡◌, ◌||◌, ◌&&◌, ◌∷◌, [], Bool, not, Some};
 ghost use Rattle.cr_base.specs.Decisions.{is_published};
 ghost use Rattle.cr_base.specs.Lists.{listed};
-ghost use Rattle.cr_base.specs.Page.{is_clear_member, is_clear_chair};
+ghost use Rattle.cr_base.specs.Page.{is_clear_chair, is_clear_external, reads_paper};
 ghost use Rattle.cr_base.specs.Phases.{members_see_papers, committee_sees_authors};
 ghost use Rattle.cr_base.specs.Words.{is_member};
 ghost use Rattle.cr_base.specs.declared.entry.EntryKind.TheVariants as kinds;
@@ -21,10 +21,12 @@ use cr_view::Live;
 fn shows_title(by: &Standing, mine: bool, is_last: bool, accepted: bool) -> bool
     ensures { result ≡ (by.now.author
         || ((is_last && is_member by.now.role && members_see_papers by.now.phase)
-        || ((is_last && accepted) || mine))) }
+        || ((is_last && is_clear_external by.now && members_see_papers by.now.phase)
+        || ((is_last && accepted) || mine)))) }
 {
     by.author
         || is_last && by.role.is_member() && by.phase.members_see_papers()
+        || is_last && by.is_clear_external() && by.phase.members_see_papers()
         || is_last && accepted
         || mine
 }
@@ -32,22 +34,20 @@ fn shows_title(by: &Standing, mine: bool, is_last: bool, accepted: bool) -> bool
 /// Whether she is shown the abstract of a submission or a revision.
 fn shows_abstract(by: &Standing, mine: bool, is_last: bool, accepted: bool) -> bool
     ensures { result ≡ (by.now.author
-        || ((is_last && is_clear_member by.now && members_see_papers by.now.phase)
+        || ((is_last && reads_paper by.now && members_see_papers by.now.phase)
         || ((is_last && is_published by.now.phase accepted) || mine))) }
 {
     let published = is_last && by.phase.publishes(accepted);
-    by.author
-        || is_last && by.is_clear_member() && by.phase.members_see_papers()
-        || published
-        || mine
+    by.author || is_last && by.reads_paper() && by.phase.members_see_papers() || published || mine
 }
 
 /// Whether she is told that a user is an author of a paper: its authors are, who made the entry, clear chairs from
-/// the bidding, and clear members too where the mode isn't anonymous; and everyone, where the paper is accepted.
+/// the bidding, and clear members and externals too where the mode isn't anonymous; and everyone, where the paper is
+/// accepted.
 fn tells_coauthor(live: &Live, reader: UserNo, maker: UserNo, paper: PaperNo) -> bool
     ensures { let r = reader_in live.now.tables (Some reader) in
         result ≡ (authors r paper || ((is_clear_chair (standing_to r paper) && committee_sees_authors r.now)
-        || ((is_clear_member (standing_to r paper) && unless_anonymous r && committee_sees_authors r.now)
+        || ((reads_paper (standing_to r paper) && unless_anonymous r && committee_sees_authors r.now)
         || (r.accepted paper || user_named r maker)))) }
 {
     let by = live.standing(&Some(reader), &Some(paper));
@@ -55,40 +55,46 @@ fn tells_coauthor(live: &Live, reader: UserNo, maker: UserNo, paper: PaperNo) ->
 }
 
 /// Whether she is told of a revision of a paper: its authors are, who made it, and of the last that gives the paper
-/// texts members from the bidding, and everyone, where the paper is accepted.
+/// texts members and clear externals from the bidding, and everyone, where the paper is accepted.
 fn tells_revision(live: &Live, reader: UserNo, maker: UserNo, is_last: bool, paper: PaperNo) -> bool
     ensures { let r = reader_in live.now.tables (Some reader) in
         result ≡ (authors r paper || ((is_last && members r && members_see_papers r.now)
-        || ((is_last && is_clear_member (standing_to r paper) && members_see_papers r.now)
-        || ((is_last && r.accepted paper) || ((is_last && published r paper) || user_named r maker))))) }
+        || ((is_last && is_clear_external (standing_to r paper) && members_see_papers r.now)
+        || ((is_last && reads_paper (standing_to r paper) && members_see_papers r.now)
+        || ((is_last && r.accepted paper) || ((is_last && published r paper) || user_named r maker)))))) }
 {
     let by = live.standing(&Some(reader), &Some(paper));
     shows_title(&by, maker == reader, is_last, live.is_accepted(paper))
 }
 
-/// Whether she is told of an upload to a paper: its authors are, who made it, and of the last one clear members from
-/// the bidding, and everyone, where the paper is published.
+/// Whether she is told of an upload to a paper: its authors are, who made it, and of the last one clear members and
+/// externals from the bidding, and everyone, where the paper is published.
 fn tells_upload(live: &Live, reader: UserNo, maker: UserNo, is_last: bool, paper: PaperNo) -> bool
     ensures { let r = reader_in live.now.tables (Some reader) in
         result
-        ≡ (authors r paper || ((is_last && is_clear_member (standing_to r paper) && members_see_papers r.now)
+        ≡ (authors r paper || ((is_last && reads_paper (standing_to r paper) && members_see_papers r.now)
         || ((is_last && published r paper) || user_named r maker))) }
 {
     let by = live.standing(&Some(reader), &Some(paper));
     let published = is_last && by.phase.publishes(live.is_accepted(paper));
     by.author
-        || is_last && by.is_clear_member() && by.phase.members_see_papers()
+        || is_last && by.reads_paper() && by.phase.members_see_papers()
         || published
         || maker == reader
 }
 
-/// Whether she is told that a paper is withdrawn: its authors are, who made the entry, and members from the bidding.
+/// Whether she is told that a paper is withdrawn: its authors are, who made the entry, and from the bidding members and
+/// clear externals.
 fn tells_withdrawal(live: &Live, reader: UserNo, maker: UserNo, paper: PaperNo) -> bool
     ensures { let r = reader_in live.now.tables (Some reader) in
-        result ≡ (authors r paper || ((members r && members_see_papers r.now) || user_named r maker)) }
+        result ≡ (authors r paper || ((members r && members_see_papers r.now)
+        || ((is_clear_external (standing_to r paper) && members_see_papers r.now) || user_named r maker))) }
 {
     let by = live.standing(&Some(reader), &Some(paper));
-    by.author || by.role.is_member() && by.phase.members_see_papers() || maker == reader
+    by.author
+        || by.role.is_member() && by.phase.members_see_papers()
+        || by.is_clear_external() && by.phase.members_see_papers()
+        || maker == reader
 }
 
 /// What a submission shows her: its paper, and who made it, its title and its abstract where she may

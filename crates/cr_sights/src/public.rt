@@ -41,6 +41,19 @@ pub(crate) fn naming<'a>(reader: UserNo, stamped: &'a Stamped) -> Option<Sightin
     Some(sighting)
 }
 
+/// What the end of a role shows her: all of it.
+pub(crate) fn dismissal<'a>(reader: UserNo, stamped: &'a Stamped) -> Option<Sighting<'a>>
+    requires { kind_of stamped.now.entry ≡ kinds.Dismissed }
+    ensures { (t : Tables) (at : Around) → listed result ≡ sight_at (reader_in t (Some reader)) at stamped.now }
+{
+    let Entry::Dismissed { user } = &stamped.entry else {
+        return None;
+    };
+    let mut sighting = of_stamp(EntryKind::Dismissed, reader, &stamped.stamp);
+    sighting.user = Some(*user);
+    Some(sighting)
+}
+
 /// What another phase shows her: all of it.
 pub(crate) fn phase_set<'a>(reader: UserNo, stamped: &'a Stamped) -> Option<Sighting<'a>>
     requires { kind_of stamped.now.entry ≡ kinds.PhaseSet }

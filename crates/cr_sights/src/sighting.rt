@@ -20,7 +20,8 @@ pub struct Sighting<'a> {
     pub mine: bool,
     /// The paper of an entry that has one.
     pub paper: Option<PaperNo>,
-    /// The user who was registered, named, told as a co-author, declared in conflict, assigned or unassigned.
+    /// The user who was registered, named, dismissed, told as a co-author, declared in conflict, assigned or
+    /// unassigned, invited or no longer.
     pub user: Option<UserNo>,
     /// The name that was registered.
     pub name: Option<&'a Short>,

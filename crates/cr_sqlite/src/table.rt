@@ -35,11 +35,11 @@ macro_rules! page {
 /// A table of rows, by the kinds of entry that it has.
 #[derive(Clone, Copy, PartialEq, Eq)]
 pub(crate) enum Table {
-    /// Kinds 1 to 4, and 18.
+    /// Kinds 1 to 4, 18 and 19.
     People,
     /// Kinds 5 to 9, contents among them.
     Papers,
-    /// Kinds 10 to 13.
+    /// Kinds 10 to 13, 20 and 21.
     Ties,
     /// Kinds 14 to 17.
     Talk,
@@ -49,9 +49,9 @@ impl Table {
     /// The table of a kind; none where no table is for it.
     pub fn of_kind(kind: u64) -> Option<Table> {
         match kind {
-            1..=4 | 18 => Some(Table::People),
+            1..=4 | 18..=19 => Some(Table::People),
             5..=9 => Some(Table::Papers),
-            10..=13 => Some(Table::Ties),
+            10..=13 | 20..=21 => Some(Table::Ties),
             14..=17 => Some(Table::Talk),
             _ => None,
         }

@@ -9,6 +9,7 @@ pub mod ToldPartsBids
 pub mod ToldPartsConflicts
 pub mod ToldPartsContents
 pub mod ToldPartsForms
+pub mod ToldPartsInvites
 pub mod ToldPartsPublic
 pub mod ToldPartsSeats
 pub mod ToldPartsTags

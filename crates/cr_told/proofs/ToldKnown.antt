@@ -1,20 +1,16 @@
 -- A part of an entry, as a user is shown it, is told or left out: so it is of each sighting of its kind.
-use Rattle.std.proofs.Common.{◌≡◌, ℕ, Bool, true, false, [], ◌∷◌, ◌++◌, ◌||◌, ◌&&◌, ◌∙◌, refl, sym, Option, Some, append_assoc}
-use Rattle.std.specs.Prelude.{IsTrue, is_some, not}
+use Rattle.std.proofs.Common.{◌≡◌, ℕ, Bool, true, false, [], ◌∷◌, ◌++◌, ◌||◌, refl, sym, Option}
+use Rattle.std.specs.Prelude.{IsTrue, is_some}
 use Rattle.std.specs.List.{AllByRecursion}
 use Rattle.std.proofs.lemmas.Bool.{true≢false}
 use Rattle.std.proofs.lemmas.List.Elements.{recursion_from_All}
 use Rattle.cr_base.specs.declared.entry.Entry.{Entry}
-use Rattle.cr_base.specs.declared.entry.Entry.TheVariants.{Tagged}
 use Rattle.cr_base.specs.declared.entry.EntryKind.{EntryKind}
 use Rattle.cr_base.specs.declared.entry.Stamp.{Stamp}
 use Rattle.cr_base.specs.declared.entry.Stamped.{Stamped}
 use Rattle.cr_base.specs.Drawn.{stamped}
 use Rattle.cr_base.specs.History.{History}
-use Rattle.cr_base.specs.HistoryFacts.{role_of}
-use Rattle.cr_base.specs.TagTexts.{is_for_chairs}
-use Rattle.cr_base.specs.Words.{is_chair}
-use Rattle.cr_history.specs.Invariants.{Invariants, IsInOrder, InTurn, IsByRight, IsHeld}
+use Rattle.cr_history.specs.Invariants.{Invariants, IsHeld}
 use Rattle.cr_policy.specs.Legal.{Legal}
 use Rattle.cr_policy.specs.Part.{Part}
 use Rattle.cr_policy.specs.ShownTo.{is_told, where_known}
@@ -26,57 +22,30 @@ use Rattle.cr_policy.proofs.LegalLaws.{legal_invariants}
 use Rattle.cr_told.specs.ToldParts.{has, is_told as is_part_told, is_left_untold}
 use Rattle.cr_told.proofs.ToldEach.{at-sighting}
 use Rattle.cr_told.proofs.ToldMakers.{IsByAuthor, by-authors}
-use Rattle.cr_told.proofs.ToldPlaces.{IsSettled, settled, chair-rises}
+use Rattle.cr_told.proofs.ToldPlaces.{IsSettled, settled}
 use Rattle.cr_told.proofs.ToldSettled.{IsThere, all-there}
-
--- who set a tag for chairs is one still
-abbrev pub IsChairsTag : History → ℕ → Entry → Type 0
-IsChairsTag H maker (Tagged paper tag on) = (not (is_for_chairs tag) || is_chair (role_of (Some maker) H)) ≡ true
-IsChairsTag H maker e = Unit {0}
-
-module _ (H : History) where
-  chairs-one : (before : History) (maker : ℕ) (e : Entry) (after : History) → before ++ after ≡ H → InTurn IsInOrder before after → IsByRight before maker e
-      → IsChairsTag H maker e
-  chairs-one before maker (Tagged paper tag on) after whole order right =
-      by (is_for_chairs tag) (is_chair (role_of (Some maker) before)) refl right.1
-    where
-      by : (tagged chair : Bool) → is_chair (role_of (Some maker) before) ≡ chair → (tagged && not chair) ≡ false
-          → (not tagged || is_chair (role_of (Some maker) H)) ≡ true
-      by false chair e h = refl
-      by true true e h = chair-rises (Some maker) before after H whole order e
-      by true false e h = absurd (true≢false h)
-  chairs-one before maker e after whole order right = tt
-
-  pub chairs-all : (before after : History) → before ++ after ≡ H → InTurn IsInOrder before after
-      → AllByRecursion (λ (e : Stamped). IsChairsTag H e.stamp.maker e.entry) after
-  chairs-all before [] whole order = tt
-  chairs-all before (e ∷ after) whole order = (
-    chairs-one before e.stamp.maker e.entry (e ∷ after) whole order order.0.right,
-    chairs-all (before ++ e ∷ []) after (append_assoc before (e ∷ []) after ∙ whole) order.1,
-  )
 
 -- what is so of each entry at the end
 pub record IsKnown (H : History) (maker : ℕ) (e : Entry) : Type 0 where
   pub there : IsThere H maker e
   pub author : IsByAuthor H maker e
   pub settled : IsSettled H maker e
-  pub chairs : IsChairsTag H maker e
   pub held : IsHeld H maker e
 
 pub all-known : (H : History) → Legal H → AllByRecursion (λ (e : Stamped). IsKnown H e.stamp.maker e.entry) H
 all-known H legal = by H (all-there H kept.in_order) (by-authors H kept.in_order) (settled H kept)
-    (chairs-all H [] H refl kept.in_order) (recursion_from_All (λ (e : Stamped). IsHeld H e.stamp.maker e.entry) H kept.stay)
+    (recursion_from_All (λ (e : Stamped). IsHeld H e.stamp.maker e.entry) H kept.stay)
   where
     kept : Invariants H
     kept = legal_invariants H legal
 
     by : (G : History) → AllByRecursion (λ (e : Stamped). IsThere H e.stamp.maker e.entry) G → AllByRecursion (λ (e : Stamped). IsByAuthor H e.stamp.maker e.entry) G
-        → AllByRecursion (λ (e : Stamped). IsSettled H e.stamp.maker e.entry) G → AllByRecursion (λ (e : Stamped). IsChairsTag H e.stamp.maker e.entry) G
+        → AllByRecursion (λ (e : Stamped). IsSettled H e.stamp.maker e.entry) G
         → AllByRecursion (λ (e : Stamped). IsHeld H e.stamp.maker e.entry) G → AllByRecursion (λ (e : Stamped). IsKnown H e.stamp.maker e.entry) G
-    by [] there author settled chairs held = tt
-    by (e ∷ G) there author settled chairs held = (
-      record { there = there.0; author = author.0; settled = settled.0; chairs = chairs.0; held = held.0 },
-      by G there.1 author.1 settled.1 chairs.1 held.1,
+    by [] there author settled held = tt
+    by (e ∷ G) there author settled held = (
+      record { there = there.0; author = author.0; settled = settled.0; held = held.0 },
+      by G there.1 author.1 settled.1 held.1,
     )
 
 -- the moment is shown of one's own entry alone, and so is the key

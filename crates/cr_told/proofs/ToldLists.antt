@@ -9,7 +9,7 @@ use Rattle.cr_base.specs.declared.entry.Stamp.{Stamp}
 use Rattle.cr_base.specs.declared.comment.CommentLine.{CommentLine}
 use Rattle.cr_base.specs.declared.command.Query.TheVariants as queries
 use Rattle.cr_base.specs.declared.entry.Entry.{Entry}
-use Rattle.cr_base.specs.declared.entry.Entry.TheVariants.{Named, Uploaded, Assigned, Unassigned, Reviewed, Commented}
+use Rattle.cr_base.specs.declared.entry.Entry.TheVariants.{Uploaded, Assigned, Unassigned, Reviewed, Commented}
 use Rattle.cr_base.specs.declared.entry.EntryKind.TheVariants as kinds
 use Rattle.cr_base.specs.declared.page.Bidder.{Bidder}
 use Rattle.cr_base.specs.declared.page.Reviewer.{Reviewer}
@@ -25,9 +25,9 @@ use Rattle.cr_base.specs.Answering.{bidder_told, reviewer_told, comment_line, co
 use Rattle.cr_base.specs.Checks.{judged, ◌breaks◌, reads_freely}
 use Rattle.cr_base.specs.Decisions.{is_published}
 use Rattle.cr_base.specs.History.{History, Upload, BidTold, SeatTold, CommentTold}
-use Rattle.cr_base.specs.HistoryFacts.{standing_of, phase_of, mode_of, role_of, is_author, is_conflicted, is_accepted}
+use Rattle.cr_base.specs.HistoryFacts.{standing_of, phase_of, mode_of, role_of, is_author, is_conflicted, is_external, is_accepted}
 use Rattle.cr_base.specs.Lists.{listed, last, last_or, total, is_number}
-use Rattle.cr_base.specs.Page.{where_told, is_clear_member, is_clear_chair, shows_reviewer, shows_writer, gets_bids, gets_reviewers, gets_tags}
+use Rattle.cr_base.specs.Page.{is_admitted, where_told, is_clear_member, is_clear_chair, shows_reviewer, shows_writer, gets_bids, gets_reviewers, gets_tags}
 use Rattle.cr_base.specs.Phases.{is_from, members_see_papers, members_read_comments}
 use Rattle.cr_base.specs.Sources.{has_paper, name_in}
 use Rattle.cr_base.specs.Words.{is_member, is_chair, is_anonymous}
@@ -35,11 +35,11 @@ use Rattle.cr_base.proofs.LastLaws.{last_from-map}
 use Rattle.cr_history.specs.Invariants.{IsSubmitted, IsInOrder, InTurn}
 use Rattle.cr_policy.specs.Judge.{answer}
 use Rattle.cr_policy.specs.ShownTo.{is_on_committee, chairs_committee, is_past_submission, is_past_reviewing, is_past_discussion, hides_reviewers, names_reviewers, knows_writers}
-use Rattle.cr_policy.specs.ShownTo.{is_eligible, oversees, administers, discusses, is_answered, appears, where_known}
+use Rattle.cr_policy.specs.ShownTo.{is_eligible, has_before_her, oversees, administers, discusses, is_answered, appears, where_known}
 use Rattle.cr_policy.specs.Sighting.{Sighting}
 use Rattle.cr_policy.specs.View.{View, view}
-use Rattle.cr_policy.specs.ViewFacts.{only, is_user, is_kind, label_shown, upload_shown, accounts_in_view, papers_in_view, tags_in_view, standing_in_view, facts_in_view, shown_in_view}
-use Rattle.cr_policy.specs.ViewFacts.{assigned_seen, unassigned_seen, done_seen, comment_seen, own_comment_seen, own_bytes_seen, role_seen, upload_seen, bids_in_view, seats_in_view}
+use Rattle.cr_policy.specs.ViewFacts.{only, is_kind, role_in_view, label_shown, upload_shown, accounts_in_view, papers_in_view, tags_in_view, standing_in_view, facts_in_view, shown_in_view}
+use Rattle.cr_policy.specs.ViewFacts.{assigned_seen, unassigned_seen, done_seen, comment_seen, own_comment_seen, own_bytes_seen, upload_seen, bids_in_view, seats_in_view}
 use Rattle.cr_policy.specs.ViewFacts.{bid_in_view, reviewers_in_view, is_written_in_view, comments_in_view, uploads_in_view}
 use Rattle.cr_policy.proofs.BoundsParts.{phase-words, mode-words}
 use Rattle.cr_policy.proofs.BoundsWalk.{shown_to}
@@ -51,7 +51,9 @@ use Rattle.cr_told.specs.ToldPages.{page_told, shown_by, names_shown, is_clear}
 use Rattle.cr_told.specs.ToldLists.{name_shown, bids_listed, is_shown_done, knows_reviewers, reviewer_shown, is_left, reviewers_listed, SeatsTold, PageListsTold}
 use Rattle.cr_told.specs.ToldLists.{content_answered, contents_of, first_of, ContentTold, ContentsTold, comments_answered, comment_shown_by, comments_listed, CommentsTold}
 use Rattle.cr_told.specs.ToldLists.{AcceptedTold, own_shown, MeTold}
-use Rattle.cr_told.proofs.ToldWords.{member-committee, chair-leads}
+use Rattle.cr_told.specs.ToldPublic.{role_shown}
+use Rattle.cr_told.proofs.ToldPublic.{roles}
+use Rattle.cr_told.proofs.ToldWords.{member-committee, chair-leads, visits-same}
 use Rattle.cr_told.proofs.ToldPages.{told-key, overseen, handled, every-upload, public}
 use Rattle.cr_told.proofs.ToldShown as reads
 use Rattle.cr_told.proofs.ToldShown.{readings}
@@ -105,14 +107,9 @@ module _ (v : ℕ) (H : History) where
           into (eqb v stamp.maker) (listed (shown_to own H before later stamp (Uploaded paper version content)).content)
       one before later stamp e = refl
 
-  own-role : flat_map (role_seen own) (view own H) ≡ flat_map (λ (s : Sighting). only (is_user own s.user) (listed s.role)) (view own H)
-  own-role = readings own 0 H (role_seen own) (λ (s : Sighting). only (is_user own s.user) (listed s.role)) one
-    where
-      one : (before later : History) (stamp : Stamp) (e : Entry)
-          → role_seen own (shown_to own H before later stamp e)
-          ≡ (let s : Sighting = shown_to own H before later stamp e in only (is_user own s.user) (listed s.role))
-      one before later stamp (Named user role) = refl
-      one before later stamp e = refl
+  -- whether she is on the committee, by the rules' word and by the bounds'
+  own-member : is_member (role_in_view own (view own H)) ≡ is_on_committee (role_shown own (view own H))
+  own-member = ap is_member (roles own H own) ∙ member-committee (role_shown own (view own H))
 
 pub me_told : MeTold
 me_told v H = λ i. Some (record {
@@ -123,9 +120,10 @@ me_told v H = λ i. Some (record {
       filter
       (λ (p : ℕ). else-so (list_any (is_number own') (reads.writers own' p H i)) (reads.in_conflict own' p H own' i) i)
       (papers_in_view (view own' H));
+  invited = filter (λ (p : ℕ). not (own-member v H i) && reads.invites own' p H own' i) (papers_in_view (view own' H));
   name = unwrap_or (name_shown own' (view own' H)) [];
   papers = filter (λ (p : ℕ). list_any (is_number own') (reads.writers own' p H i)) (papers_in_view (view own' H));
-  role = last_or Account (own-role v H i);
+  role = roles own' H own' i;
   user = v;
 })
   where
@@ -221,18 +219,18 @@ module _ (u : Option ℕ) (p : ℕ) (H : History) (there : IsSubmitted H p) (ord
   clear : is_clear_member stands ≡ is_clear u p H
   clear = ap (λ b. b && not (is_conflicted u p H)) committee
 
-  reviewed-to : ((is_member (role_of u H) || is_author u p H || is_accepted p H) && gets_reviewers stands)
+  reviewed-to : ((is_admitted stands || is_author u p H || is_accepted p H) && gets_reviewers stands)
       ≡ (oversees u p H || discusses u p H || is_answered u p H)
   reviewed-to =
-      ap (λ b. (is_member (role_of u H) || is_author u p H || is_accepted p H) && (b || ((is_clear_member stands) && is_from Discussion (phase_of H)))) knows
-      ∙ to (is_member (role_of u H)) _ (is_past_submission (phase_of H)) (is_from Discussion (phase_of H)) _ (chairs_committee (role_of u H)) (hides_reviewers (mode_of H))
+      ap (λ b. (is_admitted stands || is_author u p H || is_accepted p H) && (b || ((is_clear_member stands) && is_from Discussion (phase_of H)))) knows
+      ∙ to (is_member (role_of u H)) _ (is_external u p H) (is_past_submission (phase_of H)) (is_from Discussion (phase_of H)) _ (chairs_committee (role_of u H)) (hides_reviewers (mode_of H))
       (is_author u p H) (is_conflicted u p H) (is_accepted p H) (names_reviewers (mode_of H)) (is_past_discussion (phase_of H))
       committee (phase-words (phase_of H)).discussion (phase-words (phase_of H)).discussion_later
     where
-      to : (m m' b d d' k h a c x o n : Bool) → m ≡ m' → d ≡ d' → (b && d') ≡ d'
-          → ((m || a || x) && (((((m' && b) && not c) && k) || ((((m' && b) && not c) && d') && not h) || (a && o && n)) || ((m && not c) && d)))
+      to : (m m' e b d d' k h a c x o n : Bool) → m ≡ m' → d ≡ d' → (b && d') ≡ d'
+          → (((m || e) || a || x) && (((((m' && b) && not c) && k) || ((((m' && b) && not c) && d') && not h) || (a && o && n)) || ((m && not c) && d)))
           ≡ ((((m' && b) && not c) && k) || (((m' && b) && not c) && d') || (a && o && n))
-      to m m' b d d' k h a c x o n hm hd hbd = grind (arith, hm, hd, hbd)
+      to m m' e b d d' k h a c x o n hm hd hbd = grind (arith, hm, hd, hbd)
 
   gone : flat_map (unassigned_seen p) V ≡ shown_by kinds.Unassigned p (λ (s : Sighting). s.ordinal) V
   gone = readings u p H (unassigned_seen p) (λ (s : Sighting). only (is_kind kinds.Unassigned s && is_number s.paper p) (listed s.ordinal)) one
@@ -428,36 +426,36 @@ module _ (u : Option ℕ) (p : ℕ) (H : History) (there : IsSubmitted H p) (ord
   content-gate true true false true None h = refl
   content-gate true true false true (Some content) h = refl
 
-  reads-it : ((((is_author u p H || is_published (phase_of H) (is_accepted p H)) || is_member (role_of u H))
+  reads-it : ((((is_author u p H || is_published (phase_of H) (is_accepted p H)) || is_admitted stands)
       && not (not (is_author u p H || is_published (phase_of H) (is_accepted p H)) && is_conflicted u p H))
       && ((is_author u p H || is_published (phase_of H) (is_accepted p H)) || members_see_papers (phase_of H)))
-      ≡ (is_author u p H || (is_eligible u p H || appears p H))
+      ≡ (is_author u p H || (has_before_her u p H || appears p H))
   reads-it =
-      to (is_member (role_of u H)) _ (is_from Bidding (phase_of H)) _ (is_author u p H) (is_conflicted u p H) (is_published (phase_of H) (is_accepted p H)) _
-      committee (phase-words (phase_of H)).bidding (public u p H there order)
+      to (is_member (role_of u H)) _ (is_external u p H) _ (is_from Bidding (phase_of H)) _ (is_author u p H) (is_conflicted u p H) (is_published (phase_of H) (is_accepted p H)) _
+      committee (visits-same u p H) (phase-words (phase_of H)).bidding (public u p H there order)
     where
-      to : (m m' b b' a c o o' : Bool) → m ≡ m' → b ≡ b' → o ≡ o'
-          → ((((a || o) || m) && not (not (a || o) && c)) && ((a || o) || b)) ≡ (a || (((m' && b') && not c) || o'))
-      to m m' b b' a c o o' hm hb ho = grind (arith, hm, hb, ho)
+      to : (m m' e e' b b' a c o o' : Bool) → m ≡ m' → e ≡ e' → b ≡ b' → o ≡ o'
+          → ((((a || o) || (m || e)) && not (not (a || o) && c)) && ((a || o) || b)) ≡ (a || ((((m' && b') && not c) || ((e' && not c) && b')) || o'))
+      to m m' e e' b b' a c o o' hm he hb ho = grind (arith, hm, he, hb, ho)
 
   content-told : (version : Option ℕ) (shown : Option (List ℕ))
       → option_map (λ (upload : Upload). upload.content) (upload_of version (uploads_in_view p V)) ≡ shown
-      → ((is_author u p H || (is_eligible u p H || appears p H)) ≡ false → shown ≡ None)
+      → ((is_author u p H || (has_before_her u p H || appears p H)) ≡ false → shown ≡ None)
       → content_answered (reply_or_rule (judged (content_asked (facts_in_view u V) (shown_in_view u V) (Some p) version)
       (replies.Content (unwrap_or (content_by (facts_in_view u V) (shown_in_view u V) (Some p) version) []))))
       ≡ shown
   content-told version shown is none =
       (λ i. content_answered (reply_or_rule
       (judged (not (has_paper (facts_in_view u V) (Some p)) breaks rules.NoPaper
-      ∷ not (reads_freely (standing_from_view u (Some p) H i) (accepted-seen u p H i) || is_member (standing_from_view u (Some p) H i).role) breaks rules.NotMember
+      ∷ not (reads_freely (standing_from_view u (Some p) H i) (accepted-seen u p H i) || is_admitted (standing_from_view u (Some p) H i)) breaks rules.NotMember
       ∷ (not (reads_freely (standing_from_view u (Some p) H i) (accepted-seen u p H i)) && (standing_from_view u (Some p) H i).conflicted) breaks rules.Conflict
       ∷ not (reads_freely (standing_from_view u (Some p) H i) (accepted-seen u p H i) || members_see_papers (standing_from_view u (Some p) H i).phase) breaks rules.WrongPhase
       ∷ not (is_some (found i)) breaks rules.NoContent ∷ [])
       (replies.Content (unwrap_or (found i) [])))))
-      ∙ content-gate (has_paper (facts_in_view u V) (Some p)) (reads_freely stands (is_accepted p H) || is_member (role_of u H))
+      ∙ content-gate (has_paper (facts_in_view u V) (Some p)) (reads_freely stands (is_accepted p H) || is_admitted stands)
       (not (reads_freely stands (is_accepted p H)) && is_conflicted u p H) (reads_freely stands (is_accepted p H) || members_see_papers (phase_of H)) shown is-there
       ∙ ap (λ b. where_told b shown) reads-it
-      ∙ free (is_author u p H || (is_eligible u p H || appears p H)) shown none
+      ∙ free (is_author u p H || (has_before_her u p H || appears p H)) shown none
     where
       found : content_by (facts_in_view u V) (shown_in_view u V) (Some p) version ≡ shown
       found = ap (λ (uploads : List Upload). option_map (λ (upload : Upload). upload.content) (upload_of version uploads)) (every-upload u p H there order) ∙ is
@@ -514,8 +512,8 @@ module _ (u : Option ℕ) (p : ℕ) (H : History) (there : IsSubmitted H p) (ord
       one before later stamp (Uploaded paper version content) = both (eqb paper p) _ version content
       one before later stamp e = refl
 
-  hidden-uploads : (is_author u p H || (is_eligible u p H || appears p H)) ≡ false → uploads_in_view p V ≡ []
-  hidden-uploads h = uploads-none u p H order (or_parts (is_author u p H) (is_eligible u p H || appears p H) h).0 (or_parts (is_author u p H) (is_eligible u p H || appears p H) h).1
+  hidden-uploads : (is_author u p H || (has_before_her u p H || appears p H)) ≡ false → uploads_in_view p V ≡ []
+  hidden-uploads h = uploads-none u p H order (or_parts (is_author u p H) (has_before_her u p H || appears p H) h).0 (or_parts (is_author u p H) (has_before_her u p H || appears p H) h).1
 
   pub contents-told : ContentTold u p H
   contents-told = record {

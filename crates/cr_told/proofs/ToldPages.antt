@@ -22,9 +22,9 @@ use Rattle.cr_base.specs.Checks.{judged, ◌breaks◌}
 use Rattle.cr_base.specs.Decisions.{is_published}
 use Rattle.cr_base.specs.Drawn.{stamped}
 use Rattle.cr_base.specs.History.{History, Upload, all_told, paper_told, author_told, abstract_told}
-use Rattle.cr_base.specs.HistoryFacts.{standing_of, phase_of, mode_of, role_of, is_author, is_conflicted, is_accepted, is_reviewer, ordinal_of, papers_of, declared_by_authors, decision_of, is_withdrawn}
+use Rattle.cr_base.specs.HistoryFacts.{standing_of, phase_of, mode_of, role_of, is_author, is_conflicted, is_external, is_accepted, is_reviewer, ordinal_of, papers_of, declared_by_authors, decision_of, is_withdrawn}
 use Rattle.cr_base.specs.Lists.{given, is_nothing, last, last_from, listed, is_number}
-use Rattle.cr_base.specs.Page.{where_told, gets_title, gets_abstract, shows_author, gets_conflict, gets_conflicts, gets_declared, gets_versions, gets_withdrawn}
+use Rattle.cr_base.specs.Page.{is_admitted, where_told, gets_title, gets_abstract, shows_author, gets_conflict, gets_conflicts, gets_declared, gets_versions, gets_withdrawn}
 use Rattle.cr_base.specs.Page.{gets_bid, gets_label, gets_decision}
 use Rattle.cr_base.specs.Phases.{is_from}
 use Rattle.cr_base.specs.Sources.{has_paper}
@@ -32,6 +32,7 @@ use Rattle.cr_base.specs.Words.{is_member, is_chair, is_anonymous}
 use Rattle.cr_history.specs.Invariants.{IsSubmitted, IsInOrder, InTurn}
 use Rattle.cr_policy.specs.Legal.{Legal}
 use Rattle.cr_policy.specs.ShownTo.{is_on_committee, is_past_submission, hides_authors}
+use Rattle.cr_policy.specs.ShownTo.{has_conflict, visits, reads_visiting, has_before_her}
 use Rattle.cr_policy.specs.ShownTo.{is_told, serves, is_eligible, oversees, discusses, is_notified, is_in_programme, appears, where_known}
 use Rattle.cr_policy.specs.Sighting.{Sighting}
 use Rattle.cr_policy.specs.View.{View, view}
@@ -49,7 +50,7 @@ use Rattle.cr_policy.proofs.StandingLaws.{papers-seen, standing_from_view, seat-
 use Rattle.cr_policy.proofs.Walk.{is_nothing-append, map-flat_map}
 use Rattle.cr_told.specs.ToldPages.{PagesTold, PageTold, page_told, key_in, page_answered, shown_on, shown_by, is_shown, writers_shown, is_shown_in_conflict, label_shown_of}
 use Rattle.cr_told.specs.ToldPages.{own_bids_shown, is_shown_accepted, names_shown, users_shown, is_clear, some_names}
-use Rattle.cr_told.proofs.ToldWords.{member-committee, chair-leads, chair-committee, accept-takes}
+use Rattle.cr_told.proofs.ToldWords.{member-committee, chair-leads, chair-committee, accept-takes, visits-same}
 use Rattle.cr_told.proofs.ToldMakers.{IsByAuthor, by-authors, not-own}
 use Rattle.cr_told.proofs.ToldShown as reads
 use Rattle.cr_told.proofs.ToldShown.{flat_map-same}
@@ -93,7 +94,7 @@ module _ (u : Option ℕ) (p : ℕ) (H : History) (there : IsSubmitted H p) (ord
 
   -- to whom the page is answered
   abbrev pub may : Standing → Bool → Bool
-  may by accepted = is_member by.role || by.author || accepted
+  may by accepted = is_admitted by || by.author || accepted
 
   abbrev pub page : Page
   page = page_by (facts_in_view u V) (shown_in_view u V) u p
@@ -120,97 +121,120 @@ module _ (u : Option ℕ) (p : ℕ) (H : History) (there : IsSubmitted H p) (ord
   programme =
       (λ i. accept-takes (decision_of p H) i && not (is_withdrawn p H) && (phase-words (phase_of H)).notification i)
 
-  everyone : (may stands accepted && true) ≡ (is_on_committee (role_of u H) || author || is_shown_accepted p V)
-  everyone = to (is_member (role_of u H)) _ author accepted _ (member-committee (role_of u H)) (sym (accepted-seen u p H) ∙ reads.accepted u p H)
-    where
-      to : (m m' a o o' : Bool) → m ≡ m' → o ≡ o' → ((m || a || o) && true) ≡ (m' || a || o')
-      to m m' a o o' hm ho = grind (arith, hm, ho)
+  -- she is an external of it
+  abbrev external : Bool
+  external = is_external u p H
 
-  titled : (may stands accepted && gets_title stands accepted) ≡ (author || (serves u H || accepted))
-  titled = to (is_member (role_of u H)) _ (is_from Bidding (phase_of H)) _ author accepted (member-committee (role_of u H)) (phase-words (phase_of H)).bidding
-    where
-      to : (m m' b b' a o : Bool) → m ≡ m' → b ≡ b' → ((m || a || o) && (a || (m && b) || o)) ≡ (a || ((m' && b') || o))
-      to m m' b b' a o hm hb = grind (arith, hm, hb)
+  abbrev visiting : external ≡ visits u p H
+  visiting = visits-same u p H
 
-  abstracted : (may stands accepted && gets_abstract stands accepted) ≡ (author || (is_eligible u p H || is_published (phase_of H) accepted))
+  everyone : (may stands accepted && true) ≡ (is_on_committee (role_of u H) || visits u p H || author || is_shown_accepted p V)
+  everyone = to (is_member (role_of u H)) _ external _ author accepted _ (member-committee (role_of u H)) visiting (sym (accepted-seen u p H) ∙ reads.accepted u p H)
+    where
+      to : (m m' e e' a o o' : Bool) → m ≡ m' → e ≡ e' → o ≡ o' → (((m || e) || a || o) && true) ≡ (m' || e' || a || o')
+      to m m' e e' a o o' hm he ho = grind (arith, hm, he, ho)
+
+  titled : (may stands accepted && gets_title stands accepted) ≡ (author || (serves u H || reads_visiting u p H || accepted))
+  titled =
+      to (is_member (role_of u H)) _ external _ (is_from Bidding (phase_of H)) _ author (is_conflicted u p H) accepted
+      (member-committee (role_of u H)) visiting (phase-words (phase_of H)).bidding
+    where
+      to : (m m' e e' b b' a c o : Bool) → m ≡ m' → e ≡ e' → b ≡ b'
+          → (((m || e) || a || o) && (a || (m && b) || ((e && not c) && b) || o)) ≡ (a || ((m' && b') || ((e' && not c) && b') || o))
+      to m m' e e' b b' a c o hm he hb = grind (arith, hm, he, hb)
+
+  abstracted : (may stands accepted && gets_abstract stands accepted) ≡ (author || (has_before_her u p H || is_published (phase_of H) accepted))
   abstracted =
-      to (is_member (role_of u H)) _ (is_from Bidding (phase_of H)) _ author (is_conflicted u p H) accepted (is_from Closed (phase_of H))
-      (member-committee (role_of u H)) (phase-words (phase_of H)).bidding
+      to (is_member (role_of u H)) _ external _ (is_from Bidding (phase_of H)) _ author (is_conflicted u p H) accepted (is_from Closed (phase_of H))
+      (member-committee (role_of u H)) visiting (phase-words (phase_of H)).bidding
     where
-      to : (m m' b b' a c o e : Bool) → m ≡ m' → b ≡ b'
-          → ((m || a || o) && (a || ((m && not c) && b) || (o && e))) ≡ (a || (((m' && b') && not c) || (o && e)))
-      to m m' b b' a c o e hm hb = grind (arith, hm, hb)
+      to : (m m' e e' b b' a c o x : Bool) → m ≡ m' → e ≡ e' → b ≡ b'
+          → (((m || e) || a || o) && (a || (((m && not c) || (e && not c)) && b) || (o && x)))
+          ≡ (a || ((((m' && b') && not c) || ((e' && not c) && b')) || (o && x)))
+      to m m' e e' b b' a c o x hm he hb = grind (arith, hm, he, hb)
 
   authored : (may stands accepted && shows_author stands accepted)
-      ≡ (author || oversees u p H || (is_eligible u p H && not (hides_authors (mode_of H))) || accepted)
+      ≡ (author || oversees u p H || (has_before_her u p H && not (hides_authors (mode_of H))) || accepted)
   authored =
-      to (is_member (role_of u H)) _ (is_chair (role_of u H)) _ (is_from Bidding (phase_of H)) _ (is_anonymous (mode_of H)) _ author (is_conflicted u p H) accepted
-      (member-committee (role_of u H)) (chair-leads (role_of u H)) (chair-committee (role_of u H)) (phase-words (phase_of H)).bidding (mode-words (mode_of H)).authors
+      to (is_member (role_of u H)) _ external _ (is_chair (role_of u H)) _ (is_from Bidding (phase_of H)) _ (is_anonymous (mode_of H)) _ author (is_conflicted u p H)
+      accepted (member-committee (role_of u H)) visiting (chair-leads (role_of u H)) (chair-committee (role_of u H)) (phase-words (phase_of H)).bidding
+      (mode-words (mode_of H)).authors
     where
-      to : (m m' k k' b b' h h' a c o : Bool) → m ≡ m' → k ≡ k' → (m' && k) ≡ k → b ≡ b' → h ≡ h'
-          → ((m || a || o) && (a || ((k && not c) && b) || ((m && not c) && not h && b) || o))
-          ≡ (a || (((m' && b') && not c) && k') || (((m' && b') && not c) && not h') || o)
-      to m m' k k' b b' h h' a c o hm hk hmk hb hh = grind (arith, hm, hk, hmk, hb, hh)
+      to : (m m' e e' k k' b b' h h' a c o : Bool) → m ≡ m' → e ≡ e' → k ≡ k' → (m' && k) ≡ k → b ≡ b' → h ≡ h'
+          → (((m || e) || a || o) && (a || ((k && not c) && b) || (((m && not c) || (e && not c)) && not h && b) || o))
+          ≡ (a || (((m' && b') && not c) && k') || ((((m' && b') && not c) || ((e' && not c) && b')) && not h') || o)
+      to m m' e e' k k' b b' h h' a c o hm he hk hmk hb hh = grind (arith, hm, he, hk, hmk, hb, hh)
 
-  withdrawn_to : (may stands accepted && gets_withdrawn stands) ≡ (author || serves u H)
-  withdrawn_to = to (is_member (role_of u H)) _ (is_from Bidding (phase_of H)) _ author accepted (member-committee (role_of u H)) (phase-words (phase_of H)).bidding
+  withdrawn_to : (may stands accepted && gets_withdrawn stands) ≡ (author || serves u H || reads_visiting u p H)
+  withdrawn_to =
+      to (is_member (role_of u H)) _ external _ (is_from Bidding (phase_of H)) _ author (is_conflicted u p H) accepted
+      (member-committee (role_of u H)) visiting (phase-words (phase_of H)).bidding
     where
-      to : (m m' b b' a o : Bool) → m ≡ m' → b ≡ b' → ((m || a || o) && (a || (m && b))) ≡ (a || (m' && b'))
-      to m m' b b' a o hm hb = grind (arith, hm, hb)
+      to : (m m' e e' b b' a c o : Bool) → m ≡ m' → e ≡ e' → b ≡ b'
+          → (((m || e) || a || o) && (a || (m && b) || ((e && not c) && b))) ≡ (a || (m' && b') || ((e' && not c) && b'))
+      to m m' e e' b b' a c o hm he hb = grind (arith, hm, he, hb)
 
   decided_to : (may stands accepted && gets_decision stands accepted) ≡ (discusses u p H || is_notified u p H || is_shown_accepted p V)
   decided_to =
-      to (is_member (role_of u H)) _ (is_past_submission (phase_of H)) (is_from Discussion (phase_of H)) _ (is_from Notification (phase_of H)) _ author (is_conflicted u p H) accepted _
-      (member-committee (role_of u H)) (phase-words (phase_of H)).discussion (phase-words (phase_of H)).notification (phase-words (phase_of H)).discussion_later
+      to (is_member (role_of u H)) _ external (is_past_submission (phase_of H)) (is_from Discussion (phase_of H)) _ (is_from Notification (phase_of H)) _ author
+      (is_conflicted u p H) accepted _ (member-committee (role_of u H)) (phase-words (phase_of H)).discussion (phase-words (phase_of H)).notification (phase-words (phase_of H)).discussion_later
       (sym (accepted-seen u p H) ∙ reads.accepted u p H)
     where
-      to : (m m' s d d' n n' a c o o' : Bool) → m ≡ m' → d ≡ d' → n ≡ n' → (s && d') ≡ d' → o ≡ o'
-          → ((m || a || o) && (((m && not c) && d) || (a && n) || o)) ≡ ((((m' && s) && not c) && d') || (a && n') || o')
-      to m m' s d d' n n' a c o o' hm hd hn hs ho = grind (arith, hm, hd, hn, hs, ho)
+      to : (m m' e s d d' n n' a c o o' : Bool) → m ≡ m' → d ≡ d' → n ≡ n' → (s && d') ≡ d' → o ≡ o'
+          → (((m || e) || a || o) && (((m && not c) && d) || (a && n) || o)) ≡ ((((m' && s) && not c) && d') || (a && n') || o')
+      to m m' e s d d' n n' a c o o' hm hd hn hs ho = grind (arith, hm, hd, hn, hs, ho)
 
-  conflict_to : (may stands accepted && gets_conflict stands) ≡ (is_on_committee (role_of u H) || author)
-  conflict_to = to (is_member (role_of u H)) _ author accepted (member-committee (role_of u H))
+  conflict_to : (may stands accepted && gets_conflict stands) ≡ (is_on_committee (role_of u H) || visits u p H || author)
+  conflict_to = to (is_member (role_of u H)) _ external _ author accepted (member-committee (role_of u H)) visiting
     where
-      to : (m m' a o : Bool) → m ≡ m' → ((m || a || o) && (m || a)) ≡ (m' || a)
-      to m m' a o hm = grind (arith, hm)
+      to : (m m' e e' a o : Bool) → m ≡ m' → e ≡ e' → (((m || e) || a || o) && ((m || e) || a)) ≡ (m' || e' || a)
+      to m m' e e' a o hm he = grind (arith, hm, he)
 
   pub overseen : (may stands accepted && gets_conflicts stands) ≡ oversees u p H
   overseen =
-      to (is_member (role_of u H)) _ (is_chair (role_of u H)) _ (is_from Bidding (phase_of H)) _ author (is_conflicted u p H) accepted
+      to (is_member (role_of u H)) _ external (is_chair (role_of u H)) _ (is_from Bidding (phase_of H)) _ author (is_conflicted u p H) accepted
       (member-committee (role_of u H)) (chair-leads (role_of u H)) (chair-committee (role_of u H)) (phase-words (phase_of H)).bidding
     where
-      to : (m m' k k' b b' a c o : Bool) → m ≡ m' → k ≡ k' → (m' && k) ≡ k → b ≡ b'
-          → ((m || a || o) && ((k && not c) && b)) ≡ (((m' && b') && not c) && k')
-      to m m' k k' b b' a c o hm hk hmk hb = grind (arith, hm, hk, hmk, hb)
+      to : (m m' e k k' b b' a c o : Bool) → m ≡ m' → k ≡ k' → (m' && k) ≡ k → b ≡ b'
+          → (((m || e) || a || o) && ((k && not c) && b)) ≡ (((m' && b') && not c) && k')
+      to m m' e k k' b b' a c o hm hk hmk hb = grind (arith, hm, hk, hmk, hb)
 
   declared_to : (may stands accepted && gets_declared stands) ≡ author
-  declared_to = to (is_member (role_of u H)) author accepted
+  declared_to = to (is_member (role_of u H) || external) author accepted
     where
       to : (m a o : Bool) → ((m || a || o) && a) ≡ a
       to m a o = grind arith
 
   pub handled : (may stands accepted && gets_bid stands) ≡ is_eligible u p H
   handled =
-      to (is_member (role_of u H)) _ (is_from Bidding (phase_of H)) _ author (is_conflicted u p H) accepted (member-committee (role_of u H)) (phase-words (phase_of H)).bidding
+      to (is_member (role_of u H)) _ external (is_from Bidding (phase_of H)) _ author (is_conflicted u p H) accepted (member-committee (role_of u H))
+      (phase-words (phase_of H)).bidding
     where
-      to : (m m' b b' a c o : Bool) → m ≡ m' → b ≡ b' → ((m || a || o) && ((m && not c) && b)) ≡ ((m' && b') && not c)
-      to m m' b b' a c o hm hb = grind (arith, hm, hb)
+      to : (m m' e b b' a c o : Bool) → m ≡ m' → b ≡ b' → (((m || e) || a || o) && ((m && not c) && b)) ≡ ((m' && b') && not c)
+      to m m' e b b' a c o hm hb = grind (arith, hm, hb)
 
-  labelled : (may stands accepted && gets_label stands) ≡ (is_clear u p H && is_reviewer u p H)
-  labelled = to (is_member (role_of u H)) _ author (is_conflicted u p H) (is_reviewer u p H) accepted (member-committee (role_of u H))
+  -- who has a label, where she reviews it: members and externals in no conflict with it
+  abbrev pub has_label : Bool
+  has_label = is_clear u p H || (visits u p H && not (has_conflict u p H))
+
+  labelled : (may stands accepted && gets_label stands) ≡ (has_label && is_reviewer u p H)
+  labelled = to (is_member (role_of u H)) _ external _ author (is_conflicted u p H) (is_reviewer u p H) accepted (member-committee (role_of u H)) visiting
     where
-      to : (m m' a c r o : Bool) → m ≡ m' → ((m || a || o) && ((m && not c) && r)) ≡ ((m' && not c) && r)
-      to m m' a c r o hm = grind (arith, hm)
+      to : (m m' e e' a c r o : Bool) → m ≡ m' → e ≡ e'
+          → (((m || e) || a || o) && (((m && not c) || (e && not c)) && r)) ≡ (((m' && not c) || (e' && not c)) && r)
+      to m m' e e' a c r o hm he = grind (arith, hm, he)
 
   -- ---- keys that say what is so of any
 
-  paper-told : page_told (λ page. Some page.paper) u p H ≡ where_known (is_on_committee (role_of u H) || author || is_shown_accepted p V) p
+  paper-told : page_told (λ page. Some page.paper) u p H
+      ≡ where_known (is_on_committee (role_of u H) || visits u p H || author || is_shown_accepted p V) p
   paper-told = told-key (λ page. Some page.paper) (λ by accepted. true) _ (Some p) refl everyone
 
-  withdrawn-told : page_told (λ page. page.withdrawn) u p H ≡ where_known (author || serves u H) (is_shown kinds.Withdrawn p V)
+  withdrawn-told : page_told (λ page. page.withdrawn) u p H ≡ where_known (author || serves u H || reads_visiting u p H) (is_shown kinds.Withdrawn p V)
   withdrawn-told =
-      told-key (λ page. page.withdrawn) (λ by accepted. gets_withdrawn by) (author || serves u H) (Some (is_withdrawn_in_view p V)) refl withdrawn_to
-      ∙ ap (where_known (author || serves u H)) (reads.withdrawn u p H)
+      told-key (λ page. page.withdrawn) (λ by accepted. gets_withdrawn by) (author || serves u H || reads_visiting u p H) (Some (is_withdrawn_in_view p V)) refl
+      withdrawn_to
+      ∙ ap (where_known (author || serves u H || reads_visiting u p H)) (reads.withdrawn u p H)
 
   decision-told : page_told (λ page. page.decision) u p H
       ≡ where_known (discusses u p H || is_notified u p H || is_shown_accepted p V)
@@ -222,10 +246,10 @@ module _ (u : Option ℕ) (p : ℕ) (H : History) (there : IsSubmitted H p) (ord
       (if reads.accepted u p H i then Some Accept else last (reads.decisions u p H i)))
 
   conflict-told : page_told (λ page. page.conflict) u p H
-      ≡ where_known (is_on_committee (role_of u H) || author) (list_any (is_number u) (writers_shown p V) || is_shown_in_conflict u p V)
+      ≡ where_known (is_on_committee (role_of u H) || visits u p H || author) (list_any (is_number u) (writers_shown p V) || is_shown_in_conflict u p V)
   conflict-told =
       told-key (λ page. page.conflict) (λ by accepted. gets_conflict by) _ (Some (standing_in_view u (Some p) V).conflicted) refl conflict_to
-      ∙ (λ i. where_known (is_on_committee (role_of u H) || author)
+      ∙ (λ i. where_known (is_on_committee (role_of u H) || visits u p H || author)
       (list_any (is_number u) (reads.writers u p H i) || reads.in_conflict u p H u i))
 
   conflicts-told : page_told (λ page. page.conflicts) u p H
@@ -240,11 +264,11 @@ module _ (u : Option ℕ) (p : ℕ) (H : History) (there : IsSubmitted H p) (ord
       told-key (λ page. page.bid) (λ by accepted. gets_bid by) (is_eligible u p H) (Some (unwrap_or (own_bid_in_view p V) 20)) refl handled
       ∙ (λ i. where_known (is_eligible u p H) (unwrap_or (last (reads.own_bids u p H i)) 20))
 
-  label-told : page_told (λ page. page.label) u p H ≡ (if is_clear u p H then label_shown_of u p V else None)
+  label-told : page_told (λ page. page.label) u p H ≡ (if has_label then label_shown_of u p V else None)
   label-told =
-      told-key (λ page. page.label) (λ by accepted. gets_label by) (is_clear u p H && is_reviewer u p H) (ordinal_in_view u p V) refl labelled
-      ∙ where-any (is_clear u p H) (ordinal_of u p H) (ordinal_in_view u p V) (seat-seen u p H)
-      ∙ ap (λ (label : Option ℕ). if is_clear u p H then label else None) (reads.labels u p H u)
+      told-key (λ page. page.label) (λ by accepted. gets_label by) (has_label && is_reviewer u p H) (ordinal_in_view u p V) refl labelled
+      ∙ where-any has_label (ordinal_of u p H) (ordinal_in_view u p V) (seat-seen u p H)
+      ∙ ap (λ (label : Option ℕ). if has_label then label else None) (reads.labels u p H u)
     where
       where-any : (c : Bool) (seat label : Option ℕ) → label ≡ seat → where_told (c && is_some seat) label ≡ (if c then label else None)
       where-any false seat label is = refl
@@ -279,26 +303,26 @@ module _ (u : Option ℕ) (p : ℕ) (H : History) (there : IsSubmitted H p) (ord
 
   title-told : page_told (λ page. page.title) u p H ≡ last (shown_on p (λ (s : Sighting). s.title) V)
   title-told =
-      told-key (λ page. page.title) gets_title (author || (serves u H || accepted)) (title_in_view p V) refl titled
-      ∙ told-free (author || (serves u H || accepted)) (title_in_view p V) none
+      told-key (λ page. page.title) gets_title (author || (serves u H || reads_visiting u p H || accepted)) (title_in_view p V) refl titled
+      ∙ told-free (author || (serves u H || reads_visiting u p H || accepted)) (title_in_view p V) none
       ∙ ap last (reads.titles u p H)
     where
-      none : (author || (serves u H || accepted)) ≡ false → title_in_view p V ≡ None
+      none : (author || (serves u H || reads_visiting u p H || accepted)) ≡ false → title_in_view p V ≡ None
       none h =
-          let parts = or_parts author (serves u H || accepted) h in
-          ap last (reads.titles u p H ∙ titles-none u p H order parts.0 (ap (λ b. serves u H || b) (sym programme) ∙ parts.1))
+          let parts = or_parts author (serves u H || reads_visiting u p H || accepted) h in
+          ap last (reads.titles u p H ∙ titles-none u p H order parts.0 (ap (λ b. serves u H || reads_visiting u p H || b) (sym programme) ∙ parts.1))
 
   -- who is told of the abstract
   abbrev pub reads_it : Bool
-  reads_it = author || (is_eligible u p H || is_published (phase_of H) accepted)
+  reads_it = author || (has_before_her u p H || is_published (phase_of H) accepted)
 
   pub public : is_published (phase_of H) accepted ≡ appears p H
   public = λ i. programme i && (phase-words (phase_of H)).closed i
 
   no-abstract : reads_it ≡ false → abstract_in_view p V ≡ None
   no-abstract h =
-      let parts = or_parts author (is_eligible u p H || is_published (phase_of H) accepted) h in
-      ap last (reads.abstracts u p H ∙ abstracts-none u p H order parts.0 (ap (λ b. is_eligible u p H || b) (sym public) ∙ parts.1))
+      let parts = or_parts author (has_before_her u p H || is_published (phase_of H) accepted) h in
+      ap last (reads.abstracts u p H ∙ abstracts-none u p H order parts.0 (ap (λ b. has_before_her u p H || b) (sym public) ∙ parts.1))
 
   abstract-told : page_told (λ page. page.abstract_) u p H ≡ last (shown_on p (λ (s : Sighting). s.abstract) V)
   abstract-told =
@@ -324,13 +348,13 @@ module _ (u : Option ℕ) (p : ℕ) (H : History) (there : IsSubmitted H p) (ord
       ∙ named said (writers_shown p V)
       (λ is. ap is_nothing (sym (reads.writers u p H) ∙ authors-seen u p H (and_parts (may stands accepted) (shows_author stands accepted) (authored ∙ is)).1)
       ∙ submitted (λ (e : Stamped). author_told p e.stamp.maker e.entry) (λ stamp more title abstract. ap (λ b. is_nothing (given b stamp.maker)) (eq-eqb p p refl)))
-      (λ isnt. writers-none u p H order (stranger isnt) (ap (λ b. author || oversees u p H || (is_eligible u p H && not (hides_authors (mode_of H))) || b) (sym programme) ∙ isnt))
+      (λ isnt. writers-none u p H order (stranger isnt) (ap (λ b. author || oversees u p H || (has_before_her u p H && not (hides_authors (mode_of H))) || b) (sym programme) ∙ isnt))
     where
       said : Bool
-      said = author || oversees u p H || (is_eligible u p H && not (hides_authors (mode_of H))) || accepted
+      said = author || oversees u p H || (has_before_her u p H && not (hides_authors (mode_of H))) || accepted
 
       stranger : said ≡ false → author ≡ false
-      stranger = by author (oversees u p H) (is_eligible u p H && not (hides_authors (mode_of H))) accepted
+      stranger = by author (oversees u p H) (has_before_her u p H && not (hides_authors (mode_of H))) accepted
         where
           by : (a o h x : Bool) → (a || o || h || x) ≡ false → a ≡ false
           by true o h x is = is

@@ -10,7 +10,8 @@ use Rattle.cr_told.proofs.ToldPartsBids.{bid-all}
 use Rattle.cr_told.proofs.ToldPartsConflicts.{conflict-all}
 use Rattle.cr_told.proofs.ToldPartsContents.{uploaded-all}
 use Rattle.cr_told.proofs.ToldPartsForms.{reviewed-all}
-use Rattle.cr_told.proofs.ToldPartsPublic.{registered-all, named-all, phase-set-all, mode-set-all, deadline-set-all, submitted-all, coauthor-all, revised-all, withdrawn-all}
+use Rattle.cr_told.proofs.ToldPartsInvites.{invited-all, uninvited-all}
+use Rattle.cr_told.proofs.ToldPartsPublic.{registered-all, named-all, dismissed-all, phase-set-all, mode-set-all, deadline-set-all, submitted-all, coauthor-all, revised-all, withdrawn-all}
 use Rattle.cr_told.proofs.ToldPartsSeats.{assigned-all, unassigned-all}
 use Rattle.cr_told.proofs.ToldPartsTags.{tagged-all}
 use Rattle.cr_told.proofs.ToldPartsTalk.{commented-all, decided-all}
@@ -34,6 +35,9 @@ all-kinds kinds.Commented = commented-all
 all-kinds kinds.Tagged = tagged-all
 all-kinds kinds.Decided = decided-all
 all-kinds kinds.DeadlineSet = deadline-set-all
+all-kinds kinds.Dismissed = dismissed-all
+all-kinds kinds.Invited = invited-all
+all-kinds kinds.Uninvited = uninvited-all
 
 pub parts_told : PartsTold
 parts_told u H before s after what legal is shown =

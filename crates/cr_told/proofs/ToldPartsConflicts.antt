@@ -1,6 +1,6 @@
 -- Of conflicts each part that is shown is told or left out.
 use Rattle.std.proofs.Common.{◌≡◌, ℕ, Bool, true, false, List, [], ◌∷◌, ◌++◌, refl, sym, ap, subst, ◌∙◌, ◌||◌, ◌&&◌, Option, Some, eqb, arith}
-use Rattle.std.specs.Prelude.{not, map, filter, ◌==◌, IsTrue, unwrap_or}
+use Rattle.std.specs.Prelude.{not, map, filter, ◌==◌, IsTrue, unwrap_or, if◌then◌else◌}
 use Rattle.std.specs.Option.{option_map}
 use Rattle.std.specs.List.{flat_map, list_any}
 use Rattle.std.proofs.lemmas.Bool.{true≢false, eq-eqb, and_parts}
@@ -19,11 +19,10 @@ use Rattle.cr_history.specs.Invariants.{IsRegistered, IsSubmitted}
 use Rattle.cr_policy.specs.Legal.{Legal}
 use Rattle.cr_policy.specs.Part as part
 use Rattle.cr_policy.specs.Part.{Part}
-use Rattle.cr_policy.specs.ShownTo.{is_told, chairs_committee, is_past_submission, is_eligible, oversees, serves, where_known}
+use Rattle.cr_policy.specs.ShownTo.{is_told, is_on_committee, chairs_committee, is_past_submission, oversees, where_known}
 use Rattle.cr_policy.specs.Sighting.{Sighting}
 use Rattle.cr_policy.specs.View.{View, view}
 use Rattle.cr_policy.specs.ViewFacts.{only, is_user, accounts_in_view, papers_in_view}
-use Rattle.cr_policy.proofs.BoundsParts.{phase-words}
 use Rattle.cr_policy.proofs.BoundsWalk.{shown_to}
 use Rattle.cr_policy.proofs.StandingLaws.{papers-seen, standing_from_view}
 use Rattle.cr_told.specs.ToldPages.{page_told, is_shown_in_conflict, writers_shown, names_shown, users_shown}
@@ -31,12 +30,11 @@ use Rattle.cr_told.specs.ToldParts.{has, lists, conflicts_given, is_name_of, is_
 use Rattle.cr_told.proofs.ToldEach.{last-here, listed-here}
 use Rattle.cr_told.proofs.ToldKnown.{AllOf, Each, all-of, known-own}
 use Rattle.cr_told.proofs.ToldLists.{me_told}
-use Rattle.cr_told.proofs.ToldNames.{swap, named, account-listed}
+use Rattle.cr_told.proofs.ToldNames.{named, account-listed, swap}
 use Rattle.cr_told.proofs.ToldPages.{pages_told}
 use Rattle.cr_told.proofs.ToldPartsSeats.{any-filtered}
-use Rattle.cr_told.proofs.ToldPlaces.{own-so, number-is}
+use Rattle.cr_told.proofs.ToldPlaces.{number-is}
 use Rattle.cr_told.proofs.ToldShown as reads
-use Rattle.cr_told.proofs.ToldWords.{chair-leads}
 
 any-made-of : {A : Type 0} (f : A → ℕ) (test : ℕ → Bool) (xs : List A) → list_any test (map f xs) ≡ list_any (λ x. test (f x)) xs
 any-made-of f test [] = refl
@@ -57,12 +55,6 @@ module _ (u : Option ℕ) (H : History) (legal : Legal H) (before after : View) 
   abbrev V : View
   V = view u H
 
-  abbrev lead : Bool
-  lead = chairs_committee (role_of u H)
-
-  abbrev begun : Bool
-  begun = is_past_submission (phase_of H)
-
   -- of the users who pass, this one is one
   user-listed : (v : ℕ) → IsRegistered H v → (test : ℕ → Bool) → test v ≡ true → list_any (eqb v) (users_shown test V) ≡ true
   user-listed v registered test passes =
@@ -71,7 +63,6 @@ module _ (u : Option ℕ) (H : History) (legal : Legal H) (before after : View) 
       ∙ account-listed u H v registered (λ a. eqb a.user v) true (λ r same. same) refl)
 
   module _ (earlier later : History) (stamp : Stamp) (more : Bool) (paper user : ℕ) (on : Bool) (there : IsSubmitted H paper) (registered : IsRegistered H user)
-      (own : (not (is_number u stamp.maker) || ((is_number u user || is_author u paper H) || (lead && begun))) ≡ true)
       (whole : earlier ++ stamped stamp more (Conflict paper user on) ∷ later ≡ H)
       (told : is_told u H earlier later stamp.maker (Conflict paper user on) ≡ true)
       (is : view u H ≡ before ++ shown_to u H earlier later stamp (Conflict paper user on) ∷ after)
@@ -98,20 +89,26 @@ module _ (u : Option ℕ) (H : History) (legal : Legal H) (before after : View) 
           ∙ named u H user registered (users_shown (λ v. is_shown_in_conflict (Some v) paper V) V)
           (user-listed user registered (λ v. is_shown_in_conflict (Some v) paper V) conflicted)
 
-      declared : is_author u paper H ≡ true → is_author (Some stamp.maker) paper H ≡ true
-          → lists (page_told (λ page. page.declared) u paper H) (is_name_of (Some user) u H) ≡ true
-      declared author wrote =
+      -- an author's page has whoever an author declared, and this one, where its maker is an author
+      abbrev named-by-one : Bool
+      named-by-one = list_any (λ w. w == user) (declared_by_authors paper H)
+
+      listed-there : is_author (Some stamp.maker) paper H ≡ true → named-by-one ≡ true
+      listed-there wrote =
+          ap (λ (G : History). list_any (λ w. w == user) (flat_map declares G)) (sym whole)
+          ∙ listed-here (λ w. w == user) declares earlier later (stamped stamp more (Conflict paper user on))
+          ((λ i. list_any (λ w. w == user) (given (eq-eqb paper paper refl i && wrote i) user)) ∙ ap (λ b. b || false) (eq-eqb user user refl))
+        where
+          declares : Stamped → List ℕ
+          declares e = declared_told (is_author (Some e.stamp.maker) paper H) paper e.entry
+
+      declared : is_author u paper H ≡ true → named-by-one ≡ true → lists (page_told (λ page. page.declared) u paper H) (is_name_of (Some user) u H) ≡ true
+      declared author named-there =
           ap (λ names. lists names (is_name_of (Some user) u H))
           ((pages_told u paper H legal there).declared
           ∙ ap (λ b. where_known b (names_shown (users_shown (λ v. list_any (λ w. w == v) (declared_by_authors paper H)) V) V)) author)
           ∙ named u H user registered (users_shown (λ v. list_any (λ w. w == v) (declared_by_authors paper H)) V)
-          (user-listed user registered (λ v. list_any (λ w. w == v) (declared_by_authors paper H))
-          (ap (λ (G : History). list_any (λ w. w == user) (flat_map declares G)) (sym whole)
-          ∙ listed-here (λ w. w == user) declares earlier later (stamped stamp more (Conflict paper user on))
-          ((λ i. list_any (λ w. w == user) (given (eq-eqb paper paper refl i && wrote i) user)) ∙ ap (λ b. b || false) (eq-eqb user user refl))))
-        where
-          declares : Stamped → List ℕ
-          declares e = declared_told (is_author (Some e.stamp.maker) paper H) paper e.entry
+          (user-listed user registered (λ v. list_any (λ w. w == v) (declared_by_authors paper H)) named-there)
 
       hers : is_number u user ≡ true → is_author u paper H ≡ false → is_shown_in_conflict (Some user) paper V ≡ true → lists (conflicts_given u H) (eqb paper) ≡ true
       hers mine stranger conflicted =
@@ -136,10 +133,17 @@ module _ (u : Option ℕ) (H : History) (legal : Legal H) (before after : View) 
       abbrev none : Bool
       none = is_nothing (flat_map turns after)
 
+      -- what an answer tells
+      abbrev shown-in : Bool
+      shown-in =
+          on && (((n && lists (conflicts_given u H) (eqb paper)) || lists (page_told (λ page. page.conflicts) u paper H) (is_name_of (Some user) u H))
+          || lists (page_told (λ page. page.declared) u paper H) (is_name_of (Some user) u H))
+
       conflict : IsTrue (is_part_told u H s kinds.Conflict part.user || is_left_untold u H s after kinds.Conflict part.user)
       conflict =
-          final n m a w lead begun (is_eligible u paper H) (lists (conflicts_given u H) (eqb paper)) (lists (page_told (λ page. page.conflicts) u paper H) (is_name_of (Some user) u H))
-          (lists (page_told (λ page. page.declared) u paper H) (is_name_of (Some user) u H)) on none told own
+          (λ i. shown-in || (not on || (if a then n && not (list_any (λ v. swap v user i) (declared_by_authors paper H)) else not none || ((m && not n) && not (oversees u paper H)))))
+          ∙ final a n m w (oversees u paper H) (lists (conflicts_given u H) (eqb paper)) (lists (page_told (λ page. page.conflicts) u paper H) (is_name_of (Some user) u H))
+          (lists (page_told (λ page. page.declared) u paper H) (is_name_of (Some user) u H)) on none named-by-one told
           (implies (on && none && n && not a) (lists (conflicts_given u H) (eqb paper))
           (λ h. let first = and_parts (on && none && n) (not a) h in
           let second = and_parts (on && none) n first.0 in
@@ -149,10 +153,21 @@ module _ (u : Option ℕ) (H : History) (legal : Legal H) (before after : View) 
           (λ h. let first = and_parts (on && none) (oversees u paper H) h in
           let second = and_parts on none first.0 in
           overseen first.1 (in-conflict second.0 second.1)))
-          (implies (a && w) (lists (page_told (λ page. page.declared) u paper H) (is_name_of (Some user) u H))
-          (λ h. declared (and_parts a w h).0 (and_parts a w h).1))
-          (clear (serves u H) a (is_conflict_on u paper H))
+          (implies (a && named-by-one) (lists (page_told (λ page. page.declared) u paper H) (is_name_of (Some user) u H))
+          (λ h. declared (and_parts a named-by-one h).0 (and_parts a named-by-one h).1))
+          (implies w named-by-one listed-there)
+          (implies (m && a) w
+          (λ h. ap (λ v. is_author v paper H) (sym (number-is u stamp.maker (and_parts m a h).0)) ∙ (and_parts m a h).1))
+          (apart (is_on_committee (role_of u H) && is_past_submission (phase_of H)) a (is_conflict_on u paper H) (chairs_committee (role_of u H)))
         where
+          -- no author oversees her paper
+          apart : (s a c l : Bool) → not (a && ((s && not (a || c)) && l)) ≡ true
+          apart s true c l = by s l
+            where
+              by : (s l : Bool) → not ((s && false) && l) ≡ true
+              by s l = grind (arith)
+          apart s false c l = refl
+
           implies : (x y : Bool) → (x ≡ true → y ≡ true) → (not x || y) ≡ true
           implies true y h = h refl
           implies false y h = refl
@@ -161,13 +176,12 @@ module _ (u : Option ℕ) (H : History) (legal : Legal H) (before after : View) 
           is-false true h = absurd (true≢false (sym h))
           is-false false h = refl
 
-          clear : (s a c : Bool) → (not (s && not (a || c)) || not a) ≡ true
-          clear s a c = grind arith
-
-          final : (n m a w l s h me page said on none : Bool) → (((n || m) || (a && w)) || (h && l)) ≡ true → (not m || ((n || a) || (l && s))) ≡ true
-              → (not (((on && none) && n) && not a) || me) ≡ true → (not ((on && none) && (h && l)) || page) ≡ true → (not (a && w) || said) ≡ true → (not h || not a) ≡ true
-              → ((on && (((n && me) || page) || said)) || (((not on || not none) || (n && a)) || (m && not h))) ≡ true
-          final n m a w l s h me page said on none told own hm hp hs hc = grind (arith, told, own, hm, hp, hs, hc)
+          final : (a n m w o me page said on none by-one : Bool) → (((n || m) || (a && w)) || o) ≡ true
+              → (not (((on && none) && n) && not a) || me) ≡ true → (not ((on && none) && o) || page) ≡ true → (not (a && by-one) || said) ≡ true
+              → (not w || by-one) ≡ true → (not (m && a) || w) ≡ true → not (a && o) ≡ true
+              → ((on && (((n && me) || page) || said)) || (not on || (if a then n && not by-one else not none || ((m && not n) && not o)))) ≡ true
+          final true n m w o me page said on none by-one told hm hp hs hw hmine ho = grind (arith, told, hm, hp, hs, hw, hmine, ho)
+          final false n m w o me page said on none by-one told hm hp hs hw hmine ho = grind (arith, told, hm, hp, hs, hw, hmine, ho)
 
       conflict-all' : (what : Part) → IsTrue (has what s) → IsTrue (is_part_told u H s kinds.Conflict what || is_left_untold u H s after kinds.Conflict what)
       conflict-all' part.user shown = conflict
@@ -181,8 +195,5 @@ conflict-all = all-of kinds.Conflict each
   where
     each : Each kinds.Conflict
     each u H legal before after what earlier later stamp more (Conflict paper user on) whole known told is kind shown =
-        conflict-all' u H legal before after earlier later stamp more paper user on known.there.0 known.there.1
-        (own-so (λ v. (is_number v user || is_author v paper H) || (chairs_committee (role_of v H) && is_past_submission (phase_of H))) u stamp.maker
-        ((λ i. (swap user stamp.maker i || is_author (Some stamp.maker) paper H) || (sym (chair-leads (role_of (Some stamp.maker) H)) i && sym (phase-words (phase_of H)).bidding i))
-        ∙ known.settled.1)) whole told is what shown
+        conflict-all' u H legal before after earlier later stamp more paper user on known.there.0 known.there.1 whole told is what shown
     each u H legal before after what earlier later stamp more e whole known told is kind shown = absurd (true≢false (sym kind))

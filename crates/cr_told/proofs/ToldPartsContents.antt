@@ -20,7 +20,7 @@ use Rattle.cr_policy.specs.Judge.{answer}
 use Rattle.cr_policy.specs.Legal.{Legal}
 use Rattle.cr_policy.specs.Part as part
 use Rattle.cr_policy.specs.Part.{Part}
-use Rattle.cr_policy.specs.ShownTo.{where_known, is_eligible, appears, owns, is_superseded, is_told, each_told}
+use Rattle.cr_policy.specs.ShownTo.{where_known, has_before_her, appears, owns, is_superseded, is_told, each_told}
 use Rattle.cr_policy.specs.Sighting.{Sighting}
 use Rattle.cr_policy.specs.View.{View, view}
 use Rattle.cr_policy.specs.ViewFacts.{only, is_kind}
@@ -46,7 +46,7 @@ module _ (u : Option ℕ) (p : ℕ) (H : History) where
   next-number : (before : History) (stamp : Stamp) (more : Bool) (e : Entry) (later : History) (k : ℕ) → HasNextNumber before e → k ≤ length (uploads_of p before)
       → content_at k (shown_to u H before later stamp e) ≡ []
   next-number before stamp more (Uploaded paper version content) later k next few =
-      by (eqb paper p) refl (eqb version k) refl (owns u H stamp.maker paper || (not (is_superseded paper later) && (is_eligible u paper H || appears paper H)))
+      by (eqb paper p) refl (eqb version k) refl (owns u H stamp.maker paper || (not (is_superseded paper later) && (has_before_her u paper H || appears paper H)))
     where
       by : (same : Bool) → eqb paper p ≡ same → (this : Bool) → eqb version k ≡ this → (shown : Bool)
           → only (same && is_number (where_known shown version) k) (listed (where_known shown content)) ≡ []
@@ -83,7 +83,7 @@ module _ (u : Option ℕ) (p : ℕ) (H : History) where
   number-told : (before : History) (stamp : Stamp) (more : Bool) (e : Entry) (later : History) (k : ℕ) → HasNextNumber before e
       → is_nothing (content_at k (shown_to u H before later stamp e)) ≡ false → k ≤ length (uploads_of p (before ++ stamped stamp more e ∷ []))
   number-told before stamp more (Uploaded paper version content) later k next some =
-      by (eqb paper p) refl (eqb version k) refl (owns u H stamp.maker paper || (not (is_superseded paper later) && (is_eligible u paper H || appears paper H))) some
+      by (eqb paper p) refl (eqb version k) refl (owns u H stamp.maker paper || (not (is_superseded paper later) && (has_before_her u paper H || appears paper H))) some
     where
       grown : uploads_of p (before ++ stamped stamp more (Uploaded paper version content) ∷ [])
           ≡ uploads_of p before ++ (given (eqb paper p) (record { version = version; content = content }) ++ [])
@@ -181,13 +181,13 @@ module _ (u : Option ℕ) (H : History) (legal : Legal H) (before after : View) 
 
       -- who is told of an upload is shown all of it
       abbrev sees : Bool
-      sees = owns u H stamp.maker paper || (not (is_superseded paper later) && (is_eligible u paper H || appears paper H))
+      sees = owns u H stamp.maker paper || (not (is_superseded paper later) && (has_before_her u paper H || appears paper H))
 
       -- and reads the paper
       reads : reads_it u paper H there (legal_invariants H legal).in_order ≡ true
       reads =
-          ap (λ b. is_author u paper H || (is_eligible u paper H || b)) (public u paper H there (legal_invariants H legal).in_order)
-          ∙ by (is_number u stamp.maker) (is_author u paper H) (not (is_superseded paper later)) (is_eligible u paper H || appears paper H) told
+          ap (λ b. is_author u paper H || (has_before_her u paper H || b)) (public u paper H there (legal_invariants H legal).in_order)
+          ∙ by (is_number u stamp.maker) (is_author u paper H) (not (is_superseded paper later)) (has_before_her u paper H || appears paper H) told
           (own-so (λ v. is_author v paper H) u stamp.maker wrote)
         where
           by : (m a x r : Bool) → ((m || a) || (x && r)) ≡ true → (not m || a) ≡ true → (a || r) ≡ true

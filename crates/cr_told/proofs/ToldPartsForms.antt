@@ -39,7 +39,7 @@ use Rattle.cr_base.specs.Drawn.{stamped}
 use Rattle.cr_base.specs.Labels.{by_labels, most_labels}
 use Rattle.cr_base.specs.Lists.{is_nothing, is_number, last, listed, until, since}
 use Rattle.cr_base.specs.History.{History}
-use Rattle.cr_base.specs.HistoryFacts.{phase_of, is_author, is_conflict_on, is_reviewer, ordinal_of, assigned_under}
+use Rattle.cr_base.specs.HistoryFacts.{phase_of, is_author, is_conflict_on, is_invited, is_reviewer, ordinal_of, assigned_under}
 use Rattle.cr_base.specs.Phases.{is_from}
 use Rattle.cr_base.specs.declared.words.Phase.TheVariants.{Reviewing}
 use Rattle.cr_history.specs.Invariants.{IsSubmitted}
@@ -47,7 +47,7 @@ use Rattle.cr_policy.specs.Legal.{Legal}
 use Rattle.cr_policy.specs.Part as part
 use Rattle.cr_policy.specs.Part.{Part}
 use Rattle.cr_policy.proofs.BoundsWalk.{shown_to}
-use Rattle.cr_policy.specs.ShownTo.{is_told, where_known, is_eligible, serves, discusses, is_notified, is_past_reviewing, reads_review, reads_form, learns_form, is_discussed, is_reviewed, is_past_discussion}
+use Rattle.cr_policy.specs.ShownTo.{is_told, where_known, is_eligible, serves, visits, has_before_her, discusses, is_notified, is_past_reviewing, reads_review, reads_form, learns_form, is_discussed, is_reviewed, is_past_discussion}
 use Rattle.cr_policy.specs.Sighting.{Sighting}
 use Rattle.cr_policy.specs.View.{View, view}
 use Rattle.cr_policy.specs.ViewFacts.{only, is_kind, discussion_seen, seats_in_view}
@@ -58,7 +58,7 @@ use Rattle.cr_policy.proofs.Walk.{is_nothing-append}
 use Rattle.cr_told.specs.ToldPages.{label_shown_of}
 use Rattle.cr_told.specs.ToldLists.{name_shown, knows_reviewers}
 use Rattle.cr_told.specs.ToldParts.{has, agree, lists, has_line, is_followed, scores_at, is_told as is_part_told, is_left_untold}
-use Rattle.cr_told.specs.ToldReviews.{review_shown, forms_listed, own_forms_listed, reviews_listed, reviews_now, is_reviewing_now}
+use Rattle.cr_told.specs.ToldReviews.{review_shown, forms_listed, own_forms_listed, reviews_listed, reviews_now, reviews_visiting, is_reviewing_now}
 use Rattle.cr_told.proofs.ToldEach.{last-there, last-here, listed-here, known}
 use Rattle.cr_told.proofs.ToldNames.{same-bytes}
 use Rattle.cr_told.proofs.ToldPlaces.{reviewing-on, known-some, own-so, number-is}
@@ -249,13 +249,13 @@ module _ (u : Option ℕ) (H : History) (legal : Legal H) (before after : View) 
             passes : (named : Bool) → test (line named true) ≡ true
             passes named = λ i. eq-eqb o o refl i && pass named i
 
-            answered : (is_notified u paper H || discusses u paper H || reviews_now u paper H) ≡ true → has_line u H s T ≡ list_any test (reviews_listed u paper H)
+            answered : (is_notified u paper H || discusses u paper H || reviews_now u paper H || reviews_visiting u paper H) ≡ true → has_line u H s T ≡ list_any test (reviews_listed u paper H)
             answered h = ap (λ lines. lists lines test) (reviews_told u paper H legal there ∙ ap (λ b. where_known b (reviews_listed u paper H)) h)
 
             abbrev Goal : Type 0
-            Goal = IsTrue (has_line u H s T || (is_followed u H s after || (is_number u stamp.maker && not (is_eligible u paper H))))
+            Goal = IsTrue (has_line u H s T || (is_followed u H s after || (is_number u stamp.maker && not (has_before_her u paper H))))
 
-            behind : is_number u stamp.maker ≡ true → is_eligible u paper H ≡ false → Goal
+            behind : is_number u stamp.maker ≡ true → has_before_her u paper H ≡ false → Goal
             behind m h = or_right (has_line u H s T) _ (or_right (is_followed u H s after) _ (λ i. m i && not (h i)))
 
             -- of the label the last that is shown among these
@@ -272,10 +272,10 @@ module _ (u : Option ℕ) (H : History) (legal : Legal H) (before after : View) 
                 by : (b : Bool) → is_nothing (scores_at paper o after) ≡ b → Goal
                 by true none =
                     or_left (has_line u H s T) _
-                    (answered (first (is_notified u paper H) (discusses u paper H) (reviews_now u paper H) notified)
+                    (answered (first (is_notified u paper H) (discusses u paper H) (reviews_now u paper H) (reviews_visiting u paper H) notified)
                     ∙ ap (λ b. list_any test
                     (if b then by_labels (λ (k : ℕ). listed (last (forms_listed (knows_reviewers u paper H) false paper V k V))) most_labels
-                    else (if is_past_reviewing (phase_of H)
+                    else (if is_on_committee (role_of u H) && is_past_reviewing (phase_of H)
                     then by_labels
                     (λ (k : ℕ).
                     listed (last (forms_listed (knows_reviewers u paper H) true paper V k (until discussion_seen V)))
@@ -285,22 +285,22 @@ module _ (u : Option ℕ) (H : History) (legal : Legal H) (before after : View) 
                     (ap (λ (W : View). list_any test (listed (last (forms_listed (knows_reviewers u paper H) false paper V o W)))) is
                     ∙ last-line (knows_reviewers u paper H) false before after (λ i. eq-eqb o o refl i && pass-author a m (knows_reviewers u paper H) i) none))
                   where
-                    first : (a b c : Bool) → a ≡ true → (a || b || c) ≡ true
-                    first a b c h = grind (arith, h)
+                    first : (a b c d : Bool) → a ≡ true → (a || b || c || d) ≡ true
+                    first a b c d h = grind (arith, h)
                 by false some =
                     or_right (has_line u H s T) _
                     (or_left (is_followed u H s after) _ ((λ i. not (is_nothing (scores_at paper o (if a i then after else until discussion_seen after)))) ∙ ap not some))
 
-            of-members : is_author u paper H ≡ false → is_past_reviewing (phase_of H) ≡ true → discusses u paper H ≡ true → Goal
+            of-members : is_author u paper H ≡ false → (is_on_committee (role_of u H) && is_past_reviewing (phase_of H)) ≡ true → discusses u paper H ≡ true → Goal
             of-members a past d = by (list_any discussion_seen before) refl (is_nothing (scores_at paper o (until discussion_seen after))) refl
               where
-                second : (a b c : Bool) → b ≡ true → (a || b || c) ≡ true
-                second a b c h = grind (arith, h)
+                second : (a b c d : Bool) → b ≡ true → (a || b || c || d) ≡ true
+                second a b c d h = grind (arith, h)
 
                 lined : list_any test (listed (last (forms_listed (knows_reviewers u paper H) true paper V o (until discussion_seen V)))
                     ++ forms_listed (knows_reviewers u paper H) true paper V o (since discussion_seen V)) ≡ true → has_line u H s T ≡ true
                 lined h =
-                    answered (second (is_notified u paper H) (discusses u paper H) (reviews_now u paper H) d)
+                    answered (second (is_notified u paper H) (discusses u paper H) (reviews_now u paper H) (reviews_visiting u paper H) d)
                     ∙ (λ i. list_any test
                     (if a i then by_labels (λ (k : ℕ). listed (last (forms_listed (knows_reviewers u paper H) false paper V k V))) most_labels
                     else (if past i
@@ -338,13 +338,12 @@ module _ (u : Option ℕ) (H : History) (legal : Legal H) (before after : View) 
                     or_right (has_line u H s T) _
                     (or_left (is_followed u H s after) _ ((λ i. not (is_nothing (scores_at paper o (if a i then after else until discussion_seen after)))) ∙ ap not f))
 
-            -- her own, before the discussion
-            of-herself : is_author u paper H ≡ false → is_past_reviewing (phase_of H) ≡ false → is_eligible u paper H ≡ true → is_number u stamp.maker ≡ true → Goal
-            of-herself a past h m =
+            -- her own: of a member before the discussion, and of an external
+            of-herself : is_author u paper H ≡ false → (is_on_committee (role_of u H) && is_past_reviewing (phase_of H)) ≡ false
+                → (is_notified u paper H || discusses u paper H || reviews_now u paper H || reviews_visiting u paper H) ≡ true → is_number u stamp.maker ≡ true → Goal
+            of-herself a past due m =
                 or_left (has_line u H s T) _
-                (answered
-                (third (is_notified u paper H) (discusses u paper H) (is_eligible u paper H) (is_reviewer u paper H) (is_reviewing_now (phase_of H)) (is_number u stamp.maker)
-                (is_past_reviewing (phase_of H)) h reviews m (reviewing-on (phase_of H) begun) past)
+                (answered due
                 ∙ (λ i. list_any test
                 (if a i then by_labels (λ (k : ℕ). listed (last (forms_listed (knows_reviewers u paper H) false paper V k V))) most_labels
                 else (if past i
@@ -358,43 +357,68 @@ module _ (u : Option ℕ) (H : History) (legal : Legal H) (before after : View) 
                 ∙ listed-here test (λ (t : Sighting). only (is_kind kinds.Reviewed t && (is_number t.paper paper && t.mine)) (review_shown false true paper V o t)) before after s
                 ((λ i. list_any test (only (eq-eqb paper paper refl i && m i) (review-line false true i))) ∙ ap (λ b. b || false) (passes false)))
               where
-                third : (x y h r w m p : Bool) → h ≡ true → (not m || r) ≡ true → m ≡ true → (p || w) ≡ true → p ≡ false → (x || y || (h && r && w)) ≡ true
-                third x y h r w m p hh hr hm hw hp = grind (arith, hh, hr, hm, hw, hp)
-
                 label-is : label_shown_of u paper V ≡ Some o
                 label-is = sym (reads.labels u paper H u) ∙ seat-seen u paper H ∙ ap (λ w. ordinal_of w paper H) (number-is u stamp.maker m) ∙ held
 
             form-told : Goal
-            form-told =
-                by (is_author u paper H) refl (is_past_reviewing (phase_of H)) refl (is_eligible u paper H) refl (is_number u stamp.maker) refl
+            form-told = by (is_author u paper H) refl (discusses u paper H) refl (has_before_her u paper H) refl (is_number u stamp.maker) refl
               where
-                hidden : (s c : Bool) → (s && not (true || c)) ≡ false
-                hidden s c = grind arith
+                outside : is_author u paper H ≡ true → has_before_her u paper H ≡ false
+                outside a =
+                    (λ i. (serves u H && not (a i || is_conflict_on u paper H))
+                    || (visits u paper H && not (a i || is_conflict_on u paper H) && is_past_submission (phase_of H)))
+                    ∙ none (serves u H) (visits u paper H) (is_conflict_on u paper H) (is_past_submission (phase_of H))
+                  where
+                    none : (s v c p : Bool) → ((s && not (true || c)) || ((v && not (true || c)) && p)) ≡ false
+                    none s v c p = grind arith
 
-                notified : (m h p x n y : Bool) → ((m || ((h && p) && x)) || (n && y)) ≡ true → m ≡ false → h ≡ false → n ≡ true
-                notified m h p x n y r hm hh = grind (arith, r, hm, hh)
+                silent : is_author u paper H ≡ true → discusses u paper H ≡ false
+                silent a =
+                    (λ i. (serves u H && not (a i || is_conflict_on u paper H)) && is_past_reviewing (phase_of H))
+                    ∙ none (serves u H) (is_conflict_on u paper H) (is_past_reviewing (phase_of H))
+                  where
+                    none : (s c p : Bool) → ((s && not (true || c)) && p) ≡ false
+                    none s c p = grind arith
 
-                mine : (m h p x a n y : Bool) → ((m || ((h && p) && x)) || ((a && n) && y)) ≡ true → a ≡ false → (h && p) ≡ false → m ≡ true
-                mine m h p x a n y r ha hh = grind (arith, r, ha, hh)
+                notified : (m d x n y : Bool) → ((m || (d && x)) || (n && y)) ≡ true → m ≡ false → d ≡ false → n ≡ true
+                notified m d x n y r hm hd = grind (arith, r, hm, hd)
 
-                by : (a : Bool) → is_author u paper H ≡ a → (past : Bool) → is_past_reviewing (phase_of H) ≡ past → (h : Bool) → is_eligible u paper H ≡ h → (m : Bool)
+                mine : (m d x a n y : Bool) → ((m || (d && x)) || ((a && n) && y)) ≡ true → a ≡ false → d ≡ false → m ≡ true
+                mine m d x a n y r ha hd = grind (arith, r, ha, hd)
+
+                made : is_author u paper H ≡ false → discusses u paper H ≡ false → is_number u stamp.maker ≡ true
+                made a d =
+                    mine (is_number u stamp.maker) (discusses u paper H) (is_discussed paper o earlier later) (is_author u paper H) (is_past_discussion (phase_of H))
+                    (not (is_reviewed paper o later)) read a d
+
+                over : (o s c p : Bool) → (((o && s) && not c) && p) ≡ true → (o && p) ≡ true
+                over o s c p d = grind (arith, d)
+
+                alone : (o i s c p : Bool) → (((o && s) && not c) || (((not o && i) && not c) && s)) ≡ true → (((o && s) && not c) && p) ≡ false → (o && p) ≡ false
+                alone o i s c p h d = grind (arith, h, d)
+
+                answered-to : (x y o v s c p r w m : Bool) → (((o && s) && not c) || ((v && not c) && s)) ≡ true → (((o && s) && not c) && p) ≡ false
+                    → (not m || r) ≡ true → m ≡ true → (p || w) ≡ true
+                    → (((x || y) || ((((o && s) && not c) && r) && w)) || ((((v && not c) && s) && r) && (w || p))) ≡ true
+                answered-to x y o v s c p r w m h d hr hm hw = grind (arith, h, d, hr, hm, hw)
+
+                by : (a : Bool) → is_author u paper H ≡ a → (d : Bool) → discusses u paper H ≡ d → (h : Bool) → has_before_her u paper H ≡ h → (m : Bool)
                     → is_number u stamp.maker ≡ m → Goal
-                by true a past p true h m e =
-                    absurd (true≢false (sym h ∙ (λ i. serves u H && not (a i || is_conflict_on u paper H)) ∙ hidden (serves u H) (is_conflict_on u paper H)))
-                by true a past p false h true e = behind e h
-                by true a past p false h false e =
-                    of-authors a e
-                    (notified (is_number u stamp.maker) (is_eligible u paper H) (is_past_reviewing (phase_of H)) (is_discussed paper o earlier later) (is_notified u paper H)
-                    (not (is_reviewed paper o later)) read e h)
-                by false a true p true h m e = of-members a p (λ i. h i && p i)
-                by false a past p false h m e =
-                    behind
-                    (mine (is_number u stamp.maker) (is_eligible u paper H) (is_past_reviewing (phase_of H)) (is_discussed paper o earlier later) (is_author u paper H)
-                    (is_past_discussion (phase_of H)) (not (is_reviewed paper o later)) read a (λ i. h i && is_past_reviewing (phase_of H))) h
-                by false a false p true h m e =
-                    of-herself a p h
-                    (mine (is_number u stamp.maker) (is_eligible u paper H) (is_past_reviewing (phase_of H)) (is_discussed paper o earlier later) (is_author u paper H)
-                    (is_past_discussion (phase_of H)) (not (is_reviewed paper o later)) read a (λ i. h i && p i))
+                by true a d e h f true g = behind g (outside a)
+                by true a d e h f false g =
+                    of-authors a g
+                    (notified (is_number u stamp.maker) (discusses u paper H) (is_discussed paper o earlier later) (is_notified u paper H) (not (is_reviewed paper o later)) read g
+                    (silent a))
+                by false a true e h f m g =
+                    of-members a (over (is_on_committee (role_of u H)) (is_past_submission (phase_of H)) (has_conflict u paper H) (is_past_reviewing (phase_of H)) e) e
+                by false a false e false f m g = behind (made a e) f
+                by false a false e true f m g =
+                    of-herself a
+                    (alone (is_on_committee (role_of u H)) (is_invited u paper H) (is_past_submission (phase_of H)) (has_conflict u paper H) (is_past_reviewing (phase_of H)) f e)
+                    (answered-to (is_notified u paper H) (discusses u paper H) (is_on_committee (role_of u H)) (visits u paper H) (is_past_submission (phase_of H))
+                    (has_conflict u paper H) (is_past_reviewing (phase_of H)) (is_reviewer u paper H) (is_reviewing_now (phase_of H)) (is_number u stamp.maker) f e reviews
+                    (made a e) (reviewing-on (phase_of H) begun))
+                    (made a e)
 
       -- who wrote the paper reads no more of a form than is for authors, but of her own
       not-whole : is_author u paper H ≡ true → is_number u stamp.maker ≡ false → reads_form u H earlier later stamp.maker paper o ≡ true → ⊥

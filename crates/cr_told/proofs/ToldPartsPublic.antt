@@ -6,7 +6,7 @@ use Rattle.std.specs.Str.{bytes_eq}
 use Rattle.std.specs.List.{flat_map, list_any}
 use Rattle.std.proofs.lemmas.Bool.{true≢false, eq-eqb, eqb-true, or_left, or_right}
 use Rattle.std.proofs.lemmas.List.Folds.{list_any-append}
-use Rattle.cr_base.specs.declared.entry.Entry.TheVariants.{Registered, Named, PhaseSet, ModeSet, Submitted, Coauthor, Revised, Withdrawn, DeadlineSet}
+use Rattle.cr_base.specs.declared.entry.Entry.TheVariants.{Registered, Named, Dismissed, PhaseSet, ModeSet, Submitted, Coauthor, Revised, Withdrawn, DeadlineSet}
 use Rattle.cr_base.specs.declared.entry.EntryKind.TheVariants as kinds
 use Rattle.cr_base.specs.declared.entry.Stamp.{Stamp}
 use Rattle.cr_base.specs.declared.reply.AccountLine.{AccountLine}
@@ -34,7 +34,7 @@ use Rattle.cr_policy.specs.ViewFacts.{only, is_user, is_kind, shows_phase, phase
 use Rattle.cr_policy.proofs.BoundsWalk.{shown_to}
 use Rattle.cr_told.specs.ToldPages.{shown_on, writers_shown, writer_by, page_told}
 use Rattle.cr_told.specs.ToldParts.{is_name_of, has, accounts_answered, accounts_given, deadlines_answered, has_deadline, agree, lists, same_mode, same_role, is_told as is_part_told, is_left_untold}
-use Rattle.cr_told.specs.ToldPublic.{account_shown, all_shown, phases_shown, deadlines_shown}
+use Rattle.cr_told.specs.ToldPublic.{account_shown, all_shown, phases_shown, deadlines_shown, role_by, roles_shown}
 use Rattle.cr_told.proofs.ToldEach.{last-here, last-told, last-or-told, listed-here, known}
 use Rattle.cr_told.proofs.ToldKnown.{AllOf, Each, all-of, known-own}
 use Rattle.cr_told.proofs.ToldNames.{role-seen, same-bytes, swap, account-listed, some-named}
@@ -90,6 +90,29 @@ module _ (u : Option ℕ) (H : History) (legal : Legal H) (before after : View) 
       ap (λ reply. lists (accounts_answered reply) test) (conference.accounts_told u H)
       ∙ ap (λ (W : View). list_any test (flat_map (account_shown V) W)) is
       ∙ listed-here test (account_shown V) before after s passes
+
+  -- the last role that a user is shown to be given stands in her line
+  role-told : (user : ℕ) (role : Role) (s : Sighting) → IsRegistered H user → V ≡ before ++ s ∷ after
+      → only (is_user (Some user) s.user) (listed (role_by s.kind s.role)) ≡ role ∷ []
+      → (lists (accounts_given u H) (λ line. eqb user line.user && same_role role line.role) || not (is_nothing (roles_shown (Some user) after))) ≡ true
+  role-told user role s there is gives =
+      by (same_role role now) refl
+      (last-or-told same_role f before after s role Account (eq-eqb (role_number role) (role_number role) refl) gives now
+      (sym (role-seen u (Some user) H) ∙ conference.roles u H (Some user) ∙ ap (λ (W : View). last_or Account (flat_map f W)) is))
+    where
+      now : Role
+      now = role_of (Some user) H
+
+      f : Sighting → List Role
+      f s = only (is_user (Some user) s.user) (listed (role_by s.kind s.role))
+
+      by : (b : Bool) → same_role role now ≡ b → (b || not (is_nothing (flat_map f after))) ≡ true
+          → (lists (accounts_given u H) (λ line. eqb user line.user && same_role role line.role) || not (is_nothing (flat_map f after))) ≡ true
+      by true h either =
+          or_left _ (not (is_nothing (flat_map f after)))
+          (account-listed u H user there (λ line. eqb user line.user && same_role role line.role) true
+          (λ r same. (λ i. (swap r.user user ∙ same) i && same_role role (role_of (Some (eqb-true r.user user same i)) H)) ∙ h) refl)
+      by false h either = or_right (lists (accounts_given u H) (λ line. eqb user line.user && same_role role line.role)) (not (is_nothing (flat_map f after))) either
 
   -- an author who is shown stands among the authors
   author-told : (p v : ℕ) (s : Sighting) → V ≡ before ++ s ∷ after → IsSubmitted H p → IsRegistered H v
@@ -190,27 +213,17 @@ module _ (u : Option ℕ) (H : History) (legal : Legal H) (before after : View) 
     named-to user role part.user there is shown =
         or_left _ false (account-listed u H user there (λ line. eqb user line.user) true (λ r same. swap r.user user ∙ same) refl)
     named-to user role part.role there is shown =
-        by (same_role role now) refl
-        (last-or-told same_role f before after (shown_to u H earlier later stamp (Named user role)) role Account (eq-eqb (role_number role) (role_number role) refl)
-        (ap (λ b. only b (role ∷ [])) (eq-eqb user user refl)) now
-        (sym (role-seen u (Some user) H) ∙ conference.roles u H (Some user) ∙ ap (λ (W : View). last_or Account (flat_map f W)) is))
-      where
-        now : Role
-        now = role_of (Some user) H
-
-        f : Sighting → List Role
-        f s = only (is_user (Some user) s.user) (listed s.role)
-
-        by : (b : Bool) → same_role role now ≡ b → (b || not (is_nothing (flat_map f after))) ≡ true
-            → (lists (accounts_given u H) (λ line. eqb user line.user && same_role role line.role) || not (is_nothing (flat_map f after))) ≡ true
-        by true h either =
-            or_left _ (not (is_nothing (flat_map f after)))
-            (account-listed u H user there (λ line. eqb user line.user && same_role role line.role) true
-            (λ r same. (λ i. (swap r.user user ∙ same) i && same_role role (role_of (Some (eqb-true r.user user same i)) H)) ∙ h) refl)
-        by false h either = or_right (lists (accounts_given u H) (λ line. eqb user line.user && same_role role line.role)) (not (is_nothing (flat_map f after))) either
+        role-told user role (shown_to u H earlier later stamp (Named user role)) there is (ap (λ b. only b (role ∷ [])) (eq-eqb user user refl))
     named-to user role part.at there is shown = known-own (is_number u stamp.maker) stamp.at shown
     named-to user role part.key there is shown = known-own (is_number u stamp.maker) stamp.key shown
     named-to user role _ there is shown = absurd (true≢false (sym shown))
+
+    dismissed : (user : ℕ) (what : Part) → IsRegistered H user → Whole what (shown_to u H earlier later stamp (Dismissed user))
+    dismissed user part.user there is shown =
+        role-told user Account (shown_to u H earlier later stamp (Dismissed user)) there is (ap (λ b. only b (Account ∷ [])) (eq-eqb user user refl))
+    dismissed user part.at there is shown = known-own (is_number u stamp.maker) stamp.at shown
+    dismissed user part.key there is shown = known-own (is_number u stamp.maker) stamp.key shown
+    dismissed user _ there is shown = absurd (true≢false (sym shown))
 
     submitted : (paper : ℕ) (title abstract : List ℕ) (what : Part) → IsSubmitted H paper → IsRegistered H stamp.maker
         → Whole what (shown_to u H earlier later stamp (Submitted paper title abstract))
@@ -267,6 +280,14 @@ named-all = all-of kinds.Named each
     each : Each kinds.Named
     each u H legal before after what earlier later stamp more (Named user role) whole there told is kind shown =
         named-to u H legal before after earlier later stamp more user role what there.there is shown
+    each u H legal before after what earlier later stamp more e whole there told is kind shown = absurd (true≢false (sym kind))
+
+pub dismissed-all : AllOf kinds.Dismissed
+dismissed-all = all-of kinds.Dismissed each
+  where
+    each : Each kinds.Dismissed
+    each u H legal before after what earlier later stamp more (Dismissed user) whole there told is kind shown =
+        dismissed u H legal before after earlier later stamp more user what there.there is shown
     each u H legal before after what earlier later stamp more e whole there told is kind shown = absurd (true≢false (sym kind))
 
 pub phase-set-all : AllOf kinds.PhaseSet

@@ -21,7 +21,7 @@ use Rattle.cr_policy.specs.Legal.{Legal}
 use Rattle.cr_policy.specs.Part as part
 use Rattle.cr_policy.specs.Part.{Part}
 use Rattle.cr_policy.specs.ShownTo.{is_told, is_on_committee, chairs_committee, is_past_submission, is_past_reviewing, has_conflict, hides_reviewers, where_known}
-use Rattle.cr_policy.specs.ShownTo.{is_eligible, oversees, administers, discusses, is_party, is_answered}
+use Rattle.cr_policy.specs.ShownTo.{is_eligible, visits, has_before_her, oversees, administers, discusses, is_party, is_answered}
 use Rattle.cr_policy.specs.Sighting.{Sighting}
 use Rattle.cr_policy.specs.View.{View, view}
 use Rattle.cr_policy.specs.ViewFacts.{only, is_kind, is_user, papers_in_view}
@@ -31,14 +31,13 @@ use Rattle.cr_policy.proofs.StandingLaws.{papers-seen}
 use Rattle.cr_policy.proofs.Walk.{only-true, only-false}
 use Rattle.cr_told.specs.ToldPages.{page_told, label_shown_of, shown_of, shown_by, ordinal_by}
 use Rattle.cr_told.specs.ToldLists.{is_left, knows_reviewers, reviewer_shown, reviewers_listed, name_shown}
-use Rattle.cr_told.specs.ToldParts.{has, agree, lists, same_kind, assigned_given, is_taken_off, is_told as is_part_told, is_left_untold}
+use Rattle.cr_told.specs.ToldParts.{has, agree, lists, same_kind, assigned_given, is_taken_off, is_name_behind, is_label_behind, is_told as is_part_told, is_left_untold}
 use Rattle.cr_told.proofs.ToldEach.{last-here, last-or-told, listed-here, known}
 use Rattle.cr_told.proofs.ToldKnown.{AllOf, Each, all-of, known-own}
 use Rattle.cr_told.proofs.ToldLists.{leads-serves, me_told, page_lists_told}
 use Rattle.cr_told.proofs.ToldNames.{swap, name-is}
 use Rattle.cr_told.proofs.ToldPages.{pages_told}
-use Rattle.cr_told.proofs.ToldPlaces.{known-some, user-known, own-so, number-is}
-use Rattle.cr_told.proofs.ToldWords.{chair-leads}
+use Rattle.cr_told.proofs.ToldPlaces.{known-some, user-known, number-is}
 
 -- a number stands among those that pass
 pub any-filtered : (v : ℕ) (t : ℕ → Bool) → t v ≡ true → (ps : List ℕ) → list_any (λ q. q == v) ps ≡ true → list_any (eqb v) (filter t ps) ≡ true
@@ -89,7 +88,7 @@ module _ (u : Option ℕ) (H : History) (legal : Legal H) (before after : View) 
     key-is h = (page_lists_told u paper H legal there).reviewers ∙ ap (λ b. where_known b (reviewers_listed u paper H)) h
 
   module _ (earlier later : History) (stamp : Stamp) (more : Bool) (paper user : ℕ) (review_kind : Kind) (o : ℕ) (there : IsSubmitted H paper) (registered : IsRegistered H user)
-      (hs : begun ≡ true) (own : (not (is_number u stamp.maker) || lead) ≡ true) (told : is_told u H earlier later stamp.maker (Assigned paper user review_kind o) ≡ true)
+      (hs : begun ≡ true) (told : is_told u H earlier later stamp.maker (Assigned paper user review_kind o) ≡ true)
       (is : view u H ≡ before ++ shown_to u H earlier later stamp (Assigned paper user review_kind o) ∷ after)
     where
       abbrev s : Sighting
@@ -152,6 +151,12 @@ module _ (u : Option ℕ) (H : History) (legal : Legal H) (before after : View) 
           by : (n m l d a : Bool) → n ≡ true → (((n || m || l) || d || a) && n) ≡ true
           by n m l d a h = grind (arith, h)
 
+      not-hers : n ≡ false → is_user u s.user ≡ false
+      not-hers f = hers ∙ by names n f
+        where
+          by : (k n : Bool) → n ≡ false → (k && n) ≡ false
+          by k n h = grind (arith, h)
+
       abbrev again : Bool
       again = not (is_nothing (shown_of u paper (λ (t : Sighting). ordinal_by t.kind t.ordinal) after))
 
@@ -163,40 +168,42 @@ module _ (u : Option ℕ) (H : History) (legal : Legal H) (before after : View) 
           by true answered true stays =
               or_left _ _ (or_left _ _ (reviewer-line (λ r. eqb o r.label) answered stays (eq-eqb o o refl)))
           by r e false gone = or_right _ _ (or_left _ _ (or_left _ _ (ap not gone)))
-          by false none true stays = handled (is_eligible u paper H) refl
+          by false none true stays = handled n refl (has_before_her u paper H) refl
             where
               label-same : Bool
               label-same = agree nat_eq (Some o) (page_told (λ page. page.label) u paper H)
 
-              behind : (x y t g m n o s c l p a d : Bool) → ((((n || m) || (l && not c)) || (((o && s) && not c) && p)) || a) ≡ true
-                  → (((((o && s) && not c) && l) || (((o && s) && not c) && p)) || a) ≡ false → ((o && s) && not c) ≡ false → s ≡ true → (o && l) ≡ l
-                  → ((x || y) || ((t || g) || ((m || (((((n || m) || (l && not c)) || d) || a) && n)) && not ((o && s) && not c)))) ≡ true
-              behind x y t g m n o s c l p a d told none h hs hl = grind (arith, told, none, h, hs, hl)
+              lined : Bool
+              lined = lists (page_told (λ page. page.reviewers) u paper H) (λ r. eqb o r.label)
 
-              mine : (m n o s c l p a : Bool) → ((((n || m) || (l && not c)) || (((o && s) && not c) && p)) || a) ≡ true
-                  → (((((o && s) && not c) && l) || (((o && s) && not c) && p)) || a) ≡ false → ((o && s) && not c) ≡ true → (not m || l) ≡ true → n ≡ true
-              mine m n o s c l p a told none h own = grind (arith, told, none, h, own)
+              -- another's seat that she isn't told with the reviewers is one that she gave
+              other : (x t m n o s c l p a u h : Bool) → ((((n || m) || (l && not c)) || (((o && s) && not c) && p)) || a) ≡ true
+                  → (((((o && s) && not c) && l) || (((o && s) && not c) && p)) || a) ≡ false → n ≡ false → s ≡ true → (o && l) ≡ l → u ≡ false
+                  → (x || (t || (((m || u) && not ((((o && s) && not c) && l) || (((o && s) && not c) && p))) && not (u && h)))) ≡ true
+              other x t m n o s c l p a u h told none hn hs hl hu = grind (arith, told, none, hn, hs, hl, hu)
 
-              clear : (o s c : Bool) → ((o && s) && not c) ≡ true → (o && not c) ≡ true
-              clear o s c h = grind (arith, h)
+              behind : (x t m r a u h : Bool) → (r || a) ≡ false → u ≡ true → h ≡ false → (x || (t || (((m || u) && not r) && not (u && h)))) ≡ true
+              behind x t m r a u h none hu hh = grind (arith, none, hu, hh)
+
+              clear : (o s v c : Bool) → (((o && s) && not c) || ((v && not c) && s)) ≡ true → ((o && not c) || (v && not c)) ≡ true
+              clear o s v c h = grind (arith, h)
 
               pick : (x u a t g c : Bool) → u ≡ true → (a || g) ≡ true → ((x || (u && a)) || ((t || (u && g)) || c)) ≡ true
               pick x u a t g c hu h = grind (arith, hu, h)
 
-              handled : (h : Bool) → is_eligible u paper H ≡ h
+              handled : (mine : Bool) → n ≡ mine → (h : Bool) → has_before_her u paper H ≡ h
                   → IsTrue (is_part_told u H s kinds.Assigned part.ordinal || is_left_untold u H s after kinds.Assigned part.ordinal)
-              handled false e =
-                  ap (λ b. (lists (page_told (λ page. page.reviewers) u paper H) (λ r. eqb o r.label) || (is_user u s.user && label-same))
-                  || ((is_taken_off u H s || (is_user u s.user && again)) || ((m || b) && not (is_eligible u paper H)))) hers
-                  ∙ behind (lists (page_told (λ page. page.reviewers) u paper H) (λ r. eqb o r.label)) (is_user u s.user && label-same) (is_taken_off u H s) (is_user u s.user && again)
-                  m n onc begun c lead past a (discusses u paper H && not hides) told none e hs hl
-              handled true e =
-                  pick (lists (page_told (λ page. page.reviewers) u paper H) (λ r. eqb o r.label)) (is_user u s.user) label-same (is_taken_off u H s) again
-                  ((m || is_user u s.user) && not (is_eligible u paper H))
-                  (n-names (mine m n onc begun c lead past a told none e own))
-                  (last-or-told (agree nat_eq) seats before after s (Some o) None (eq-eqb o o refl) (seat-shown (mine m n onc begun c lead past a told none e own))
-                  (page_told (λ page. page.label) u paper H)
-                  ((pages_told u paper H legal there).label ∙ ap (λ b. if b then label_shown_of u paper V else None) (clear onc begun c e)
+              handled false f h e =
+                  other (lined || (is_user u s.user && label-same)) (is_taken_off u H s || (is_user u s.user && again))
+                  m n onc begun c lead past a (is_user u s.user) (has_before_her u paper H) told none f hs hl (not-hers f)
+              handled true f false e =
+                  behind (lined || (is_user u s.user && label-same)) (is_taken_off u H s || (is_user u s.user && again)) m (oversees u paper H || discusses u paper H) a
+                  (is_user u s.user) (has_before_her u paper H) none (n-names f) e
+              handled true f true e =
+                  pick lined (is_user u s.user) label-same (is_taken_off u H s) again (is_label_behind u H s) (n-names f)
+                  (last-or-told (agree nat_eq) seats before after s (Some o) None (eq-eqb o o refl) (seat-shown f) (page_told (λ page. page.label) u paper H)
+                  ((pages_told u paper H legal there).label
+                  ∙ ap (λ b. if b then label_shown_of u paper V else None) (clear onc begun (visits u paper H) c e)
                   ∙ ap (λ (W : View). label_shown_of u paper W) is))
       assigned part.review_kind shown = by (is_left paper V o) refl ((oversees u paper H || discusses u paper H)) refl
         where
@@ -207,13 +214,13 @@ module _ (u : Option ℕ) (H : History) (legal : Legal H) (before after : View) 
           clear o s c l p h = grind (arith, h)
 
           other : (x t m n o s c l p a d : Bool) → (((n || m) || (l && not c)) || (((o && s) && not c) && p)) ≡ true
-              → ((((o && s) && not c) && l) || (((o && s) && not c) && p)) ≡ false → s ≡ true → (o && l) ≡ l → (not m || l) ≡ true
-              → (x || ((t || ((m || (((((n || m) || (l && not c)) || d) || a) && n)) && not ((o && s) && not c))) || ((((((n || m) || (l && not c)) || d) || a) && n) && not p))) ≡ true
-          other x t m n o s c l p a d told none hs hl own = grind (arith, told, none, hs, hl, own)
+              → ((((o && s) && not c) && l) || (((o && s) && not c) && p)) ≡ false → s ≡ true → (o && l) ≡ l
+              → (x || (t || ((m || (((((n || m) || (l && not c)) || d) || a) && n)) && not ((((o && s) && not c) && l) || (((o && s) && not c) && p))))) ≡ true
+          other x t m n o s c l p a d told none hs hl = grind (arith, told, none, hs, hl)
 
           by : (stays : Bool) → is_left paper V o ≡ stays → (r : Bool) → (oversees u paper H || discusses u paper H) ≡ r
               → IsTrue (is_part_told u H s kinds.Assigned part.review_kind || is_left_untold u H s after kinds.Assigned part.review_kind)
-          by false gone r e = or_right _ _ (or_left _ _ (or_left _ _ (ap not gone)))
+          by false gone r e = or_right _ _ (or_left _ _ (ap not gone))
           by true stays true e =
               or_left _ _
               (reviewer-line (λ r. eqb o r.label && agree same_kind s.review_kind r.kind) (or_left (oversees u paper H || discusses u paper H) a e) stays
@@ -222,9 +229,9 @@ module _ (u : Option ℕ) (H : History) (legal : Legal H) (before after : View) 
               ∙ (λ i. eq-eqb o o refl i && eq-eqb (review_kind_number review_kind) (review_kind_number review_kind) refl i)))
           by true stays false e =
               ap (λ b. lists (page_told (λ page. page.reviewers) u paper H) (λ r. eqb o r.label && agree same_kind s.review_kind r.kind)
-              || ((is_taken_off u H s || ((m || b) && not (is_eligible u paper H))) || (b && not past))) hers
+              || (is_taken_off u H s || ((m || b) && not (oversees u paper H || discusses u paper H)))) hers
               ∙ other (lists (page_told (λ page. page.reviewers) u paper H) (λ r. eqb o r.label && agree same_kind s.review_kind r.kind)) (is_taken_off u H s)
-              m n onc begun c lead past a (discusses u paper H && not hides) shown-to e hs hl own
+              m n onc begun c lead past a (discusses u paper H && not hides) shown-to e hs hl
       assigned part.user shown = by (is_left paper V o) refl (knows_reviewers u paper H) refl n refl
         where
           shown-to : names ≡ true
@@ -239,10 +246,10 @@ module _ (u : Option ℕ) (H : History) (legal : Legal H) (before after : View) 
           pick : (x u a t g c : Bool) → u ≡ true → (a || g) ≡ true → ((x || (u && a)) || ((t || (u && g)) || c)) ≡ true
           pick x u a t g c hu h = grind (arith, hu, h)
 
-          other : (x y t g v m n o s c l p a d : Bool) → ((((n || m) || (l && not c)) || ((((o && s) && not c) && p) && not d)) || a) ≡ true
-              → (((((o && s) && not c) && l) || ((((o && s) && not c) && p) && not d)) || a) ≡ false → n ≡ false → s ≡ true → (o && l) ≡ l → (not m || l) ≡ true
-              → ((x || y) || ((t || g) || ((m || v) && not ((o && s) && not c)))) ≡ true
-          other x y t g v m n o s c l p a d told none hn hs hl own = grind (arith, told, none, hn, hs, hl, own)
+          other : (x y t g m n o s c l p a d u : Bool) → ((((n || m) || (l && not c)) || ((((o && s) && not c) && p) && not d)) || a) ≡ true
+              → (((((o && s) && not c) && l) || ((((o && s) && not c) && p) && not d)) || a) ≡ false → n ≡ false → s ≡ true → (o && l) ≡ l → u ≡ false
+              → ((x || y) || ((t || g) || ((m && not u) && not (((((o && s) && not c) && l) || ((((o && s) && not c) && p) && not d)) || a)))) ≡ true
+          other x y t g m n o s c l p a d u told none hn hs hl hu = grind (arith, told, none, hn, hs, hl, hu)
 
           in-me : n ≡ true → (nothing : Bool) → is_nothing (flat_map seats after) ≡ nothing → (lists (assigned_given u H) (eqb paper) || not nothing) ≡ true
           in-me mine true e =
@@ -264,17 +271,17 @@ module _ (u : Option ℕ) (H : History) (legal : Legal H) (before after : View) 
               ∙ ap (λ user. eqb o o && agree bytes_eq (name_shown user V) (name_shown user V)) (known _ user shown)
               ∙ (λ i. eq-eqb o o refl i && name-is u H user registered i))))
           by true stays false e true f =
-              pick lined (is_user u s.user) (lists (assigned_given u H) (eqb paper)) (is_taken_off u H s) again ((m || is_user u s.user) && not (is_eligible u paper H))
+              pick lined (is_user u s.user) (lists (assigned_given u H) (eqb paper)) (is_taken_off u H s) again (is_name_behind u H s)
               (n-names f) (in-me f (is_nothing (flat_map seats after)) refl)
           by true stays false e false f =
-              other lined (is_user u s.user && lists (assigned_given u H) (eqb paper)) (is_taken_off u H s) (is_user u s.user && again) (is_user u s.user)
-              m n onc begun c lead past a hides shown-to e f hs hl own
+              other lined (is_user u s.user && lists (assigned_given u H) (eqb paper)) (is_taken_off u H s) (is_user u s.user && again)
+              m n onc begun c lead past a hides (is_user u s.user) shown-to e f hs hl (not-hers f)
       assigned part.at shown = known-own (is_number u stamp.maker) stamp.at shown
       assigned part.key shown = known-own (is_number u stamp.maker) stamp.key shown
       assigned _ shown = absurd (true≢false (sym shown))
 
   module _ (earlier later : History) (stamp : Stamp) (more : Bool) (paper user : ℕ) (o : ℕ) (there : IsSubmitted H paper)
-      (hs : begun ≡ true) (own : (not (is_number u stamp.maker) || lead) ≡ true) (told : is_told u H earlier later stamp.maker (Unassigned paper user o) ≡ true)
+      (hs : begun ≡ true) (told : is_told u H earlier later stamp.maker (Unassigned paper user o) ≡ true)
       (is : view u H ≡ before ++ shown_to u H earlier later stamp (Unassigned paper user o) ∷ after)
     where
       abbrev gone : Sighting
@@ -307,9 +314,9 @@ module _ (u : Option ℕ) (H : History) (legal : Legal H) (before after : View) 
       unassigned part.ordinal shown = by (reviewers-answered paper there) refl
         where
           other : (x m n o s c l p a d : Bool) → ((((n || m) || (l && not c)) || (((o && s) && not c) && p)) || a) ≡ true
-              → (((((o && s) && not c) && l) || (((o && s) && not c) && p)) || a) ≡ false → s ≡ true → (o && l) ≡ l → (not m || l) ≡ true
-              → (x || ((((((n || m) || (l && not c)) || d) || a) && n) || (m && not ((o && s) && not c)))) ≡ true
-          other x m n o s c l p a d told none hs hl own = grind (arith, told, none, hs, hl, own)
+              → (((((o && s) && not c) && l) || (((o && s) && not c) && p)) || a) ≡ false → s ≡ true → (o && l) ≡ l
+              → (x || ((m || (((((n || m) || (l && not c)) || d) || a) && n)) && not ((((o && s) && not c) && l) || (((o && s) && not c) && p)))) ≡ true
+          other x m n o s c l p a d told none hs hl = grind (arith, told, none, hs, hl)
 
           by : (r : Bool) → reviewers-answered paper there ≡ r
               → IsTrue (is_part_told u H gone kinds.Unassigned part.ordinal || is_left_untold u H gone after kinds.Unassigned part.ordinal)
@@ -319,11 +326,11 @@ module _ (u : Option ℕ) (H : History) (legal : Legal H) (before after : View) 
               ∙ ap not (none-any (λ (r : Reviewer). eqb o r.label) (line paper there) no-line V))
           by false none =
               ap (λ b. (is_some (page_told (λ page. page.reviewers) u paper H) && not (lists (page_told (λ page. page.reviewers) u paper H) (λ r. eqb o r.label)))
-              || (b || (is_number u stamp.maker && not (is_eligible u paper H))))
+              || ((is_number u stamp.maker || b) && not (oversees u paper H || discusses u paper H)))
               (user-known u (is_party u H stamp.maker paper user || (discusses u paper H && not (hides_reviewers (mode_of H))) || is_answered u paper H) user)
               ∙ other (is_some (page_told (λ page. page.reviewers) u paper H) && not (lists (page_told (λ page. page.reviewers) u paper H) (λ r. eqb o r.label)))
               (is_number u stamp.maker) (is_number u user) onc begun (has_conflict u paper H) lead (is_past_reviewing (phase_of H)) (is_answered u paper H)
-              (discusses u paper H && not (hides_reviewers (mode_of H))) told none hs (leads-serves (role_of u H)) own
+              (discusses u paper H && not (hides_reviewers (mode_of H))) told none hs (leads-serves (role_of u H))
       unassigned part.at shown = known-own (is_number u stamp.maker) stamp.at shown
       unassigned part.key shown = known-own (is_number u stamp.maker) stamp.key shown
       unassigned _ shown = absurd (true≢false (sym shown))
@@ -334,8 +341,7 @@ assigned-all = all-of kinds.Assigned each
     each : Each kinds.Assigned
     each u H legal before after what earlier later stamp more (Assigned paper user review_kind o) whole known told is kind shown =
         assigned u H legal before after earlier later stamp more paper user review_kind o known.there.0 known.there.1
-        (sym (phase-words (phase_of H)).bidding ∙ known.settled.1)
-        (own-so (λ v. chairs_committee (role_of v H)) u stamp.maker (sym (chair-leads (role_of (Some stamp.maker) H)) ∙ known.settled.2)) told is what shown
+        (sym (phase-words (phase_of H)).bidding ∙ known.settled.1) told is what shown
     each u H legal before after what earlier later stamp more e whole known told is kind shown = absurd (true≢false (sym kind))
 
 pub unassigned-all : AllOf kinds.Unassigned
@@ -343,6 +349,5 @@ unassigned-all = all-of kinds.Unassigned each
   where
     each : Each kinds.Unassigned
     each u H legal before after what earlier later stamp more (Unassigned paper user o) whole known told is kind shown =
-        unassigned u H legal before after earlier later stamp more paper user o known.there.0 (sym (phase-words (phase_of H)).bidding ∙ known.settled.1)
-        (own-so (λ v. chairs_committee (role_of v H)) u stamp.maker (sym (chair-leads (role_of (Some stamp.maker) H)) ∙ known.settled.2)) told is what shown
+        unassigned u H legal before after earlier later stamp more paper user o known.there.0 (sym (phase-words (phase_of H)).bidding ∙ known.settled.1) told is what shown
     each u H legal before after what earlier later stamp more e whole known told is kind shown = absurd (true≢false (sym kind))

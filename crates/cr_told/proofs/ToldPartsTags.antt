@@ -25,14 +25,14 @@ use Rattle.cr_policy.specs.ShownTo.{is_told, chairs_committee, is_eligible, is_c
 use Rattle.cr_policy.specs.Sighting.{Sighting}
 use Rattle.cr_policy.specs.View.{View, view}
 use Rattle.cr_policy.specs.ViewFacts.{only, is_kind, tag_shown, tag_seen, tags_in_view}
+use Rattle.cr_policy.proofs.BoundsParts.{for-chairs}
 use Rattle.cr_policy.proofs.BoundsWalk.{shown_to}
 use Rattle.cr_told.specs.ToldPages.{page_told}
 use Rattle.cr_told.specs.ToldParts.{has, agree, lists, is_told as is_part_told, is_left_untold}
 use Rattle.cr_told.proofs.ToldKnown.{AllOf, Each, all-of, known-own}
 use Rattle.cr_told.proofs.ToldLists.{page_lists_told}
 use Rattle.cr_told.proofs.ToldNames.{same-bytes}
-use Rattle.cr_told.proofs.ToldPlaces.{own-so, number-is}
-use Rattle.cr_told.proofs.ToldWords.{chair-leads}
+use Rattle.cr_told.proofs.ToldPlaces.{number-is}
 
 -- ---- whom a tag is for
 
@@ -207,7 +207,6 @@ module _ (u : Option ℕ) (H : History) (legal : Legal H) (before after : View) 
   lead = chairs_committee (role_of u H)
 
   module _ (earlier later : History) (stamp : Stamp) (more : Bool) (paper : ℕ) (tag : List ℕ) (on : Bool) (there : IsSubmitted H paper)
-      (own : (not (is_number u stamp.maker) || (not (is_for_chairs tag) || lead)) ≡ true)
       (told : is_told u H earlier later stamp.maker (Tagged paper tag on) ≡ true)
       (is : view u H ≡ before ++ shown_to u H earlier later stamp (Tagged paper tag on) ∷ after)
     where
@@ -238,14 +237,18 @@ module _ (u : Option ℕ) (H : History) (legal : Legal H) (before after : View) 
           x : TagTold
           x = record { tag = record { tag = tag; owner = owner }; on = true }
 
-      stands-on : on ≡ true → again ≡ false → is_eligible u paper H ≡ true → standing-tags ≡ true
-      stands-on turned none handling = by (is_private tag) refl (is_for_chairs tag) refl
+      -- it is for chairs, and she set it, and is none any more
+      abbrev once-chair : Bool
+      once-chair = is_number u stamp.maker && is_chairs tag && not lead
+
+      stands-on : on ≡ true → again ≡ false → is_eligible u paper H ≡ true → once-chair ≡ false → standing-tags ≡ true
+      stands-on turned none handling still = by (is_private tag) refl (is_for_chairs tag) refl
         where
           mine : (m t k c h l : Bool) → (m || ((t && h) || (k && (h && l)))) ≡ true → ((t || k) || c) ≡ false → m ≡ true
           mine m t k c h l told none = grind (arith, told, none)
 
-          leading : (m t k c h l : Bool) → (m || ((t && h) || (k && (h && l)))) ≡ true → (not m || (not c || l)) ≡ true → t ≡ false → c ≡ true → l ≡ true
-          leading m t k c h l told own ht hc = grind (arith, told, own, ht, hc)
+          leading : (m t k h l : Bool) → (m || ((t && h) || (k && (h && l)))) ≡ true → ((m && k) && not l) ≡ false → t ≡ false → k ≡ true → l ≡ true
+          leading m t k h l told still ht hk = grind (arith, told, still, ht, hk)
 
           by : (private : Bool) → is_private tag ≡ private → (chairs : Bool) → is_for_chairs tag ≡ chairs → standing-tags ≡ true
           by true p chairs c =
@@ -271,7 +274,7 @@ module _ (u : Option ℕ) (H : History) (legal : Legal H) (before after : View) 
               (if p i then only (is_number u stamp.maker) (record { tag = record { tag = tag; owner = u }; on = turned i } ∷ [])
               else record { tag = record { tag = tag; owner = None }; on = turned i } ∷ []))
               ((λ i. if c i then lead else (if p i then is_owner u None else true))
-              ∙ leading (is_number u stamp.maker) (is_committees tag) (is_chairs tag) (is_for_chairs tag) (is_eligible u paper H) lead told own (chairs-words tag c) c)
+              ∙ leading (is_number u stamp.maker) (is_committees tag) (is_chairs tag) (is_eligible u paper H) lead told still (chairs-words tag c) (sym (for-chairs tag) ∙ c))
               none handling
           by false p false c =
               left-on None
@@ -284,10 +287,11 @@ module _ (u : Option ℕ) (H : History) (legal : Legal H) (before after : View) 
       tagged : IsTrue (is_part_told u H s kinds.Tagged part.tag || is_left_untold u H s after kinds.Tagged part.tag)
       tagged =
           final on standing-tags again (is_number u stamp.maker) (is_eligible u paper H) (is_committees tag) (is_chairs tag) lead told
-          (implies (on && not again && is_eligible u paper H) standing-tags
-          (λ h. let first = and_parts (on && not again) (is_eligible u paper H) h in
-          let second = and_parts on (not again) first.0 in
-          stands-on second.0 (is-false again second.1) first.1))
+          (implies (on && not again && is_eligible u paper H && not once-chair) standing-tags
+          (λ h. let first = and_parts (on && not again && is_eligible u paper H) (not once-chair) h in
+          let second = and_parts (on && not again) (is_eligible u paper H) first.0 in
+          let third = and_parts on (not again) second.0 in
+          stands-on third.0 (is-false again third.1) second.1 (is-false once-chair first.1)))
         where
           implies : (x y : Bool) → (x ≡ true → y ≡ true) → (not x || y) ≡ true
           implies true y h = h refl
@@ -297,8 +301,8 @@ module _ (u : Option ℕ) (H : History) (legal : Legal H) (before after : View) 
           is-false true h = absurd (true≢false (sym h))
           is-false false h = refl
 
-          final : (on L X m h t k l : Bool) → (m || ((t && h) || (k && (h && l)))) ≡ true → (not ((on && not X) && h) || L) ≡ true
-              → ((on && L) || ((not on || X) || (m && not h))) ≡ true
+          final : (on L X m h t k l : Bool) → (m || ((t && h) || (k && (h && l)))) ≡ true → (not (((on && not X) && h) && not ((m && k) && not l)) || L) ≡ true
+              → ((on && L) || (((not on || X) || (m && not h)) || ((m && k) && not l))) ≡ true
           final on L X m h t k l told hl = grind (arith, told, hl)
 
       tagged-all' : (what : Part) → IsTrue (has what s) → IsTrue (is_part_told u H s kinds.Tagged what || is_left_untold u H s after kinds.Tagged what)
@@ -313,7 +317,5 @@ tagged-all = all-of kinds.Tagged each
   where
     each : Each kinds.Tagged
     each u H legal before after what earlier later stamp more (Tagged paper tag on) whole known told is kind shown =
-        tagged-all' u H legal before after earlier later stamp more paper tag on known.there
-        (own-so (λ v. not (is_for_chairs tag) || chairs_committee (role_of v H)) u stamp.maker
-        ((λ i. not (is_for_chairs tag) || sym (chair-leads (role_of (Some stamp.maker) H)) i) ∙ known.chairs)) told is what shown
+        tagged-all' u H legal before after earlier later stamp more paper tag on known.there told is what shown
     each u H legal before after what earlier later stamp more e whole known told is kind shown = absurd (true≢false (sym kind))

@@ -1,30 +1,28 @@
--- Each sighting on a paper has its place in an answer, or is the reader's own on a paper that she isn't eligible for.
-use Rattle.std.proofs.Common.{◌≡◌, ◌<◌, ℕ, Bool, true, false, [], ◌∷◌, ◌++◌, refl, sym, ap, ◌∙◌, ◌||◌, ◌&&◌, Option, Some, None, append_assoc, append-nil, eqb, arith}
-use Rattle.std.specs.Prelude.{not, nat_le, ◌==◌, ◌+◌, is_some, IsTrue, if◌then◌else◌}
+-- Each sighting on a paper has its place in an answer, or is the reader's own on a paper that she isn't eligible for, or
+-- doesn't oversee.
+use Rattle.std.proofs.Common.{◌≡◌, ℕ, Bool, true, false, [], ◌∷◌, ◌++◌, refl, sym, ap, ◌∙◌, ◌||◌, ◌&&◌, Option, Some, None, append_assoc, append-nil, eqb, arith}
+use Rattle.std.specs.Prelude.{not, nat_le, ◌==◌, ◌+◌, is_some, IsTrue}
 use Rattle.std.specs.List.{AllByRecursion, list_any}
 use Rattle.std.proofs.lemmas.Bool.Decides.{nat_tests}
-use Rattle.std.proofs.lemmas.Bool.{or_left, eqb-true, true≢false, and_parts}
+use Rattle.std.proofs.lemmas.Bool.{or_left, eqb-true, true≢false}
 use Rattle.std.proofs.lemmas.List.Concat.{flat_map-append}
 use Rattle.std.proofs.lemmas.List.Elements.{recursion_from_All}
 use Rattle.std.proofs.lemmas.List.Folds.{list_any-append}
 use Rattle.cr_base.specs.declared.entry.Entry.{Entry}
-use Rattle.cr_base.specs.declared.entry.Entry.TheVariants.{Named, PhaseSet, Withdrawn, Conflict, Bid, Assigned, Unassigned, Reviewed, Commented, Tagged, Decided}
+use Rattle.cr_base.specs.declared.entry.Entry.TheVariants.{PhaseSet, Withdrawn, Conflict, Bid, Assigned, Unassigned, Reviewed, Commented, Tagged, Decided}
 use Rattle.cr_base.specs.declared.entry.Stamp.{Stamp}
 use Rattle.cr_base.specs.declared.entry.Stamped.{Stamped}
 use Rattle.cr_base.specs.declared.words.Phase.{Phase}
 use Rattle.cr_base.specs.declared.words.Phase.TheVariants.{Setup, Submission, Bidding, Reviewing, Discussion, Notification, Closed}
-use Rattle.cr_base.specs.declared.words.Role.{Role}
-use Rattle.cr_base.specs.declared.words.Role.TheVariants.{Account, Member, Chair}
-use Rattle.cr_base.specs.Lists.{given, is_number, last_or}
+use Rattle.cr_base.specs.Lists.{is_number, last_or}
 use Rattle.cr_base.specs.Drawn.{stamped}
-use Rattle.cr_base.specs.History.{History, all_told, phase_told, role_told, paper_told}
-use Rattle.cr_base.specs.HistoryFacts.{phase_of, mode_of, role_of, papers_of, is_author, is_conflicted, is_reviewer}
+use Rattle.cr_base.specs.History.{History, all_told, phase_told, paper_told}
+use Rattle.cr_base.specs.HistoryFacts.{phase_of, mode_of, role_of, papers_of, is_author, is_reviewer}
 use Rattle.cr_base.specs.Phases.{phase_rank, is_from, is_phase, committee_works}
-use Rattle.cr_base.specs.Words.{is_chair, role_number}
 use Rattle.cr_history.proofs.Folds.{last_or-append}
-use Rattle.cr_history.specs.Invariants.{Invariants, IsInOrder, InTurn, IsInPhase, RaisesRole, IsSubmitted, IsHeld, may_turn}
+use Rattle.cr_history.specs.Invariants.{Invariants, IsInOrder, InTurn, IsInPhase, IsSubmitted, IsHeld}
 use Rattle.cr_policy.specs.Legal.{Legal}
-use Rattle.cr_policy.specs.ShownTo.{is_on_committee, chairs_committee, is_past_submission, is_past_reviewing, has_conflict, serves, is_eligible, oversees, discusses}
+use Rattle.cr_policy.specs.ShownTo.{is_on_committee, chairs_committee, is_past_submission, is_past_reviewing, has_conflict, serves, is_eligible, visits, reads_visiting, has_before_her, oversees, discusses}
 use Rattle.cr_policy.specs.ShownTo.{is_party, is_answered, is_notified, is_in_programme, is_told, where_known, is_committees, is_chairs, hides_reviewers, is_discussed, is_reviewed, is_decided_again}
 use Rattle.cr_policy.specs.Sighting.{Sighting}
 use Rattle.cr_policy.specs.View.{view}
@@ -35,8 +33,7 @@ use Rattle.cr_policy.proofs.DecisionTells.{accepted-seen}
 use Rattle.cr_policy.proofs.LegalLaws.{legal_invariants}
 use Rattle.cr_told.specs.ToldPages.{is_shown_accepted}
 use Rattle.cr_told.specs.ToldPlaces.{has_key, has_reviews, has_comments, is_placed, PlacesTold}
-use Rattle.cr_told.specs.ToldReviews.{is_reviewing_now, reviews_now}
-use Rattle.cr_told.proofs.ToldWords.{chair-leads}
+use Rattle.cr_told.specs.ToldReviews.{is_reviewing_now, reviews_now, reviews_visiting}
 use Rattle.cr_told.proofs.ToldLists.{leads-serves, page_lists_told, comments_told}
 use Rattle.cr_told.proofs.ToldMakers.{still-author}
 use Rattle.cr_told.proofs.ToldPages.{pages_told, programme}
@@ -68,39 +65,9 @@ phase-rises first before (e ∷ after) H whole order from =
     phase-rises first (before ++ e ∷ []) after H (append_assoc before (e ∷ []) after ∙ whole) order.1
     (phase-later first before e.stamp e.more e.entry order.0.phase from)
 
--- a chair stays one
-role-after : (v : Option ℕ) (H : History) (stamp : Stamp) (more : Bool) (e : Entry)
-    → role_of v (H ++ stamped stamp more e ∷ []) ≡ last_or (role_of v H) (role_told v e ++ [])
-role-after v H stamp more e =
-    ap (last_or Account) (flat_map-append (λ (e : Stamped). role_told v e.entry) H (stamped stamp more e ∷ []))
-    ∙ last_or-append Account (all_told (role_told v) H) (role_told v e ++ [])
-
 pub number-is : (v : Option ℕ) (user : ℕ) → is_number v user ≡ true → v ≡ Some user
 number-is None user h = absurd (true≢false (sym h))
 number-is (Some v) user h = ap (λ (n : ℕ). Some n) (eqb-true v user h)
-
-highest : (r s : Role) → is_chair r ≡ true → role_number r < role_number s → is_chair s ≡ true
-highest Account s c h = absurd (true≢false (sym c))
-highest Member s c h = absurd (true≢false (sym c))
-highest Chair Account c h = absurd (omega (arith, h))
-highest Chair Member c h = absurd (omega (arith, h))
-highest Chair Chair c h = refl
-
-chair-later : (v : Option ℕ) (H : History) (stamp : Stamp) (more : Bool) (e : Entry) → RaisesRole H e → is_chair (role_of v H) ≡ true
-    → is_chair (role_of v (H ++ stamped stamp more e ∷ [])) ≡ true
-chair-later v H stamp more (Named user role) raises chair = ap is_chair (role-after v H stamp more (Named user role)) ∙ by (is_number v user) refl
-  where
-    by : (b : Bool) → is_number v user ≡ b → is_chair (last_or (role_of v H) (given b role ++ [])) ≡ true
-    by true same = highest (role_of (Some user) H) role (ap (λ (v : Option ℕ). is_chair (role_of v H)) (sym (number-is v user same)) ∙ chair) raises
-    by false same = chair
-chair-later v H stamp more e raises chair = ap is_chair (role-after v H stamp more e) ∙ chair
-
-pub chair-rises : (v : Option ℕ) (before after H : History) → before ++ after ≡ H → InTurn IsInOrder before after → is_chair (role_of v before) ≡ true
-    → is_chair (role_of v H) ≡ true
-chair-rises v before [] H whole order chair = ap (λ (G : History). is_chair (role_of v G)) (sym (sym (append-nil before) ∙ whole)) ∙ chair
-chair-rises v before (e ∷ after) H whole order chair =
-    chair-rises v (before ++ e ∷ []) after H (append_assoc before (e ∷ []) after ∙ whole) order.1
-    (chair-later v before e.stamp e.more e.entry order.0.role chair)
 
 -- a paper stays there
 still-there : (p : ℕ) (before after H : History) → before ++ after ≡ H → IsSubmitted before p → IsSubmitted H p
@@ -139,16 +106,13 @@ discussed-in Discussion h = refl
 discussed-in Notification h = refl
 discussed-in Closed h = refl
 
--- the paper is there; and who made it is an author of it still, or a chair, or a reviewer; and the phase is no earlier one
+-- the paper is there; and who made it is an author of it still, or a reviewer; and the phase is no earlier one
 abbrev pub IsSettled : History → ℕ → Entry → Type 0
 IsSettled H maker (Withdrawn paper) = IsSubmitted H paper × (is_author (Some maker) paper H ≡ true)
-IsSettled H maker (Conflict paper user on) =
-    IsSubmitted H paper × ((eqb user maker || is_author (Some maker) paper H || (is_chair (role_of (Some maker) H) && is_from Bidding (phase_of H))) ≡ true)
+IsSettled H maker (Conflict paper user on) = IsSubmitted H paper
 IsSettled H maker (Bid paper value) = IsSubmitted H paper
-IsSettled H maker (Assigned paper user review_kind ordinal) =
-    IsSubmitted H paper × (is_from Bidding (phase_of H) ≡ true) × (is_chair (role_of (Some maker) H) ≡ true)
-IsSettled H maker (Unassigned paper user ordinal) =
-    IsSubmitted H paper × (is_from Bidding (phase_of H) ≡ true) × (is_chair (role_of (Some maker) H) ≡ true)
+IsSettled H maker (Assigned paper user review_kind ordinal) = IsSubmitted H paper × (is_from Bidding (phase_of H) ≡ true)
+IsSettled H maker (Unassigned paper user ordinal) = IsSubmitted H paper × (is_from Bidding (phase_of H) ≡ true)
 IsSettled H maker (Reviewed paper ordinal version form) =
     IsSubmitted H paper × (is_from Reviewing (phase_of H) ≡ true) × (is_reviewer (Some maker) paper H ≡ true)
 IsSettled H maker (Commented paper n ordinal text) = IsSubmitted H paper × (is_from Discussion (phase_of H) ≡ true)
@@ -164,48 +128,17 @@ module _ (H : History) where
     from : (first : Phase) → is_from first (phase_of before) ≡ true → is_from first (phase_of H) ≡ true
     from first is = phase-rises first before after H whole order is
 
-    chairs : (v : Option ℕ) → is_chair (role_of v before) ≡ true → is_chair (role_of v H) ≡ true
-    chairs v is = chair-rises v before after H whole order is
-
     writes : (v : Option ℕ) (p : ℕ) → is_author v p before ≡ true → is_author v p H ≡ true
     writes v p is = still-author v p before after H whole is
 
-    turned : (maker paper user : ℕ) (on : Bool) → may_turn before maker paper user on ≡ true
-        → (eqb user maker || is_author (Some maker) paper H || (is_chair (role_of (Some maker) H) && is_from Bidding (phase_of H))) ≡ true
-    turned maker paper user on right = by (is_from Bidding (phase_of before)) refl right
-      where
-        third : (a b c d : Bool) → c ≡ true → d ≡ true → (a || b || (c && d)) ≡ true
-        third a b c d hc hd = grind (arith, hc, hd)
-
-        second : (a b c : Bool) → b ≡ true → (a || b || c) ≡ true
-        second a b c hb = grind (arith, hb)
-
-        early : is_from Bidding (phase_of before) ≡ true → (same on chair clear : Bool) → ((same && on) || (chair && clear)) ≡ true
-            → (chair ≡ true → is_chair (role_of (Some maker) H) ≡ true)
-            → (same || is_author (Some maker) paper H || (is_chair (role_of (Some maker) H) && is_from Bidding (phase_of H))) ≡ true
-        early begun true on chair clear h leads = refl
-        early begun false on chair clear h leads =
-            third false (is_author (Some maker) paper H) (is_chair (role_of (Some maker) H)) (is_from Bidding (phase_of H))
-            (leads (and_parts chair clear h).0) (from Bidding begun)
-
-        by : (b : Bool) → is_from Bidding (phase_of before) ≡ b
-            → (if b then (eqb user maker && on) || (is_chair (role_of (Some maker) before) && not (is_conflicted (Some maker) paper before))
-            else is_author (Some maker) paper before && on) ≡ true
-            → (eqb user maker || is_author (Some maker) paper H || (is_chair (role_of (Some maker) H) && is_from Bidding (phase_of H))) ≡ true
-        by true begun h =
-            early begun (eqb user maker) on (is_chair (role_of (Some maker) before)) (not (is_conflicted (Some maker) paper before)) h (chairs (Some maker))
-        by false begun h =
-            second (eqb user maker) (is_author (Some maker) paper H) (is_chair (role_of (Some maker) H) && is_from Bidding (phase_of H))
-            (writes (Some maker) paper (and_parts (is_author (Some maker) paper before) on h).0)
-
     settled-one : (stamp : Stamp) (more : Bool) (e : Entry) → IsInOrder before (stamped stamp more e) → IsHeld H stamp.maker e → IsSettled H stamp.maker e
     settled-one stamp more (Withdrawn paper) is held = (there paper is.about, writes (Some stamp.maker) paper is.right)
-    settled-one stamp more (Conflict paper user on) is held = (there paper is.about.0, turned stamp.maker paper user on is.right)
+    settled-one stamp more (Conflict paper user on) is held = there paper is.about.0
     settled-one stamp more (Bid paper value) is held = there paper is.about
     settled-one stamp more (Assigned paper user review_kind ordinal) is held =
-        (there paper is.about.0, from Bidding (committee-begun (phase_of before) is.phase), chairs (Some stamp.maker) is.chair)
+        (there paper is.about.0, from Bidding (committee-begun (phase_of before) is.phase))
     settled-one stamp more (Unassigned paper user ordinal) is held =
-        (there paper is.about.0, from Bidding (committee-begun (phase_of before) is.phase), chairs (Some stamp.maker) is.chair)
+        (there paper is.about.0, from Bidding (committee-begun (phase_of before) is.phase))
     settled-one stamp more (Reviewed paper ordinal version form) is held =
         (there paper is.about, from Reviewing (reviewed-in (phase_of before) is.phase), ap is_some held)
     settled-one stamp more (Commented paper n ordinal text) is held = (there paper is.about, from Discussion (discussed-in (phase_of before) is.phase))
@@ -275,8 +208,8 @@ module _ (u : Option ℕ) (H : History) (legal : Legal H) where
   lead = chairs_committee (role_of u H)
 
   module _ (q : ℕ) (is : IsSubmitted H q) where
-    pub withdrawn-key : has_key (λ page. page.withdrawn) u q H ≡ (is_author u q H || serves u H)
-    withdrawn-key = ap is_some (pages_told u q H legal is).withdrawn ∙ known-some (is_author u q H || serves u H) _
+    pub withdrawn-key : has_key (λ page. page.withdrawn) u q H ≡ (is_author u q H || serves u H || reads_visiting u q H)
+    withdrawn-key = ap is_some (pages_told u q H legal is).withdrawn ∙ known-some (is_author u q H || serves u H || reads_visiting u q H) _
 
     pub decision-key : has_key (λ page. page.decision) u q H ≡ (discusses u q H || is_notified u q H || is_in_programme q H)
     decision-key =
@@ -303,8 +236,8 @@ module _ (u : Option ℕ) (H : History) (legal : Legal H) where
     pub tags-key : has_key (λ page. page.tags) u q H ≡ is_eligible u q H
     tags-key = ap is_some (page_lists_told u q H legal is).tags ∙ known-some (is_eligible u q H) _
 
-    pub reviews-key : has_reviews u q H ≡ (is_notified u q H || discusses u q H || reviews_now u q H)
-    reviews-key = ap is_some (reviews_told u q H legal is) ∙ known-some (is_notified u q H || discusses u q H || reviews_now u q H) _
+    pub reviews-key : has_reviews u q H ≡ (is_notified u q H || discusses u q H || reviews_now u q H || reviews_visiting u q H)
+    reviews-key = ap is_some (reviews_told u q H legal is) ∙ known-some (is_notified u q H || discusses u q H || reviews_now u q H || reviews_visiting u q H) _
 
     pub comments-key : has_comments u q H ≡ discusses u q H
     comments-key = ap is_some (comments_told u q H legal is) ∙ known-some (discusses u q H) _
@@ -318,37 +251,27 @@ module _ (u : Option ℕ) (H : History) (legal : Legal H) where
 
   -- one who is assigned, or taken off
   seat-placed : (m n l o s c d h a k : Bool) → k ≡ ((((n || m) || (l && not c)) || (d && not h)) || a)
-      → ((((n || m) || (l && not c)) || d) || a) ≡ true → s ≡ true → (not m || l) ≡ true → (o && l) ≡ l
-      → (((k && n) || (((((o && s) && not c) && l) || d) || a)) || (m && not ((o && s) && not c))) ≡ true
-  seat-placed m n l o s c d h a k hk told hs own hl = grind (arith, hk, told, hs, own, hl)
+      → ((((n || m) || (l && not c)) || d) || a) ≡ true → s ≡ true → (o && l) ≡ l
+      → (((k && n) || (((((o && s) && not c) && l) || d) || a)) || ((m || (k && n)) && not ((((o && s) && not c) && l) || d))) ≡ true
+  seat-placed m n l o s c d h a k hk told hs hl = grind (arith, hk, told, hs, hl)
 
   each : (p : ℕ) (before later : History) (stamp : Stamp) (more : Bool) (e : Entry) → IsSettled H stamp.maker e → is_told u H before later stamp.maker e ≡ true
       → IsTrue (is_number (shown_to u H before later stamp e).paper p)
       → IsTrue (is_placed u p H (shown_to u H before later stamp e).kind (shown_to u H before later stamp e))
   each p before later stamp more (Withdrawn paper) is told same =
       at paper p (λ n. has_key (λ page. page.withdrawn) u n H) same
-      (withdrawn-key paper is.0 ∙ by (is_number u stamp.maker) (is_author u paper H) (serves u H) told (own-so (λ v. is_author v paper H) u stamp.maker is.1))
+      (withdrawn-key paper is.0 ∙ by (is_number u stamp.maker) (is_author u paper H) (serves u H) (reads_visiting u paper H) told (own-so (λ v. is_author v paper H) u stamp.maker is.1))
     where
-      by : (m a s : Bool) → ((m || a) || s) ≡ true → (not m || a) ≡ true → (a || s) ≡ true
-      by m a s h own = grind (arith, h, own)
+      by : (m a s v : Bool) → (((m || a) || s) || v) ≡ true → (not m || a) ≡ true → ((a || s) || v) ≡ true
+      by m a s v h own = grind (arith, h, own)
   each p before later stamp more (Conflict paper user on) is told same =
       at paper p
-      (λ n. is_number u user || has_key (λ page. page.declared) u n H || has_key (λ page. page.conflicts) u n H || (is_number u stamp.maker && not (is_eligible u n H))) same
-      ((λ i. is_number u user || declared-key paper is.0 i || conflicts-key paper is.0 i || (is_number u stamp.maker && not (is_eligible u paper H)))
-      ∙ by (is_number u stamp.maker) (is_number u user) (is_author u paper H) (is_author (Some stamp.maker) paper H) (is_eligible u paper H) lead (is_past_submission (phase_of H)) told own)
+      (λ n. is_number u user || has_key (λ page. page.declared) u n H || has_key (λ page. page.conflicts) u n H || (is_number u stamp.maker && not (is_number u user) && not (oversees u n H))) same
+      ((λ i. is_number u user || declared-key paper is i || conflicts-key paper is i || (is_number u stamp.maker && not (is_number u user) && not (oversees u paper H)))
+      ∙ by (is_number u stamp.maker) (is_number u user) (is_author u paper H) (is_author (Some stamp.maker) paper H) (oversees u paper H) told)
     where
-      by : (m n a w h l s : Bool) → (((n || m) || (a && w)) || (h && l)) ≡ true → (not m || ((n || a) || (l && s))) ≡ true
-          → (((n || a) || (h && l)) || (m && not h)) ≡ true
-      by m n a w h l s told own = grind (arith, told, own)
-
-      own : (not (is_number u stamp.maker) || ((is_number u user || is_author u paper H) || (lead && is_past_submission (phase_of H)))) ≡ true
-      own =
-          own-so (λ v. (is_number v user || is_author v paper H) || (chairs_committee (role_of v H) && is_past_submission (phase_of H))) u stamp.maker
-          ((λ i. (swap user stamp.maker i || is_author (Some stamp.maker) paper H) || (sym (chair-leads (role_of (Some stamp.maker) H)) i && sym (phase-words (phase_of H)).bidding i))
-          ∙ is.1)
-        where
-          swap : (x y : ℕ) → eqb y x ≡ eqb x y
-          swap x y = grind (arith, nat_tests)
+      by : (m n a w o : Bool) → (((n || m) || (a && w)) || o) ≡ true → (((n || a) || o) || ((m && not n) && not o)) ≡ true
+      by m n a w o told = grind (arith, told)
   each p before later stamp more (Bid paper value) is told same =
       at paper p
       (λ n. has_key (λ page. page.bids) u n H || (is_number u stamp.maker && has_key (λ page. page.bid) u n H) || (is_number u stamp.maker && not (is_eligible u n H))) same
@@ -359,39 +282,42 @@ module _ (u : Option ℕ) (H : History) (legal : Legal H) where
       by m h o told = grind (arith, told)
   each p before later stamp more (Assigned paper user review_kind ordinal) is told same =
       at paper p
-      (λ n. is_user u s.user || has_key (λ page. page.reviewers) u n H || (is_number u stamp.maker && not (is_eligible u n H))) same
-      ((λ i. user-known u (names stamp.maker paper user) user i || reviewers-key paper is.0 i || (is_number u stamp.maker && not (is_eligible u paper H)))
+      (λ n. is_user u s.user || has_key (λ page. page.reviewers) u n H || ((is_number u stamp.maker || is_user u s.user) && not (oversees u n H || discusses u n H))) same
+      ((λ i. user-known u (names stamp.maker paper user) user i || reviewers-key paper is.0 i
+      || ((is_number u stamp.maker || user-known u (names stamp.maker paper user) user i) && not (oversees u paper H || discusses u paper H)))
       ∙ seat-placed (is_number u stamp.maker) (is_number u user) lead onc (is_past_submission (phase_of H)) (has_conflict u paper H) (discusses u paper H)
       (hides_reviewers (mode_of H)) (is_answered u paper H) (names stamp.maker paper user) refl told (sym (phase-words (phase_of H)).bidding ∙ is.1)
-      (own-so (λ v. chairs_committee (role_of v H)) u stamp.maker (sym (chair-leads (role_of (Some stamp.maker) H)) ∙ is.2)) (leads-serves (role_of u H)))
+      (leads-serves (role_of u H)))
     where
       s : Sighting
       s = shown_to u H before later stamp (Assigned paper user review_kind ordinal)
   each p before later stamp more (Unassigned paper user ordinal) is told same =
       at paper p
-      (λ n. is_user u s.user || has_key (λ page. page.reviewers) u n H || (is_number u stamp.maker && not (is_eligible u n H))) same
-      ((λ i. user-known u (names stamp.maker paper user) user i || reviewers-key paper is.0 i || (is_number u stamp.maker && not (is_eligible u paper H)))
+      (λ n. is_user u s.user || has_key (λ page. page.reviewers) u n H || ((is_number u stamp.maker || is_user u s.user) && not (oversees u n H || discusses u n H))) same
+      ((λ i. user-known u (names stamp.maker paper user) user i || reviewers-key paper is.0 i
+      || ((is_number u stamp.maker || user-known u (names stamp.maker paper user) user i) && not (oversees u paper H || discusses u paper H)))
       ∙ seat-placed (is_number u stamp.maker) (is_number u user) lead onc (is_past_submission (phase_of H)) (has_conflict u paper H) (discusses u paper H)
       (hides_reviewers (mode_of H)) (is_answered u paper H) (names stamp.maker paper user) refl told (sym (phase-words (phase_of H)).bidding ∙ is.1)
-      (own-so (λ v. chairs_committee (role_of v H)) u stamp.maker (sym (chair-leads (role_of (Some stamp.maker) H)) ∙ is.2)) (leads-serves (role_of u H)))
+      (leads-serves (role_of u H)))
     where
       s : Sighting
       s = shown_to u H before later stamp (Unassigned paper user ordinal)
   each p before later stamp more (Reviewed paper ordinal version form) is told same =
       at paper p
-      (λ n. has_reviews u n H || has_key (λ page. page.reviewers) u n H || (is_number u stamp.maker && not (is_eligible u n H))) same
-      ((λ i. reviews-key paper is.0 i || reviewers-key paper is.0 i || (is_number u stamp.maker && not (is_eligible u paper H)))
-      ∙ by (is_number u stamp.maker) onc (is_past_submission (phase_of H)) (has_conflict u paper H) lead (is_past_reviewing (phase_of H)) (is_reviewing_now (phase_of H))
+      (λ n. has_reviews u n H || has_key (λ page. page.reviewers) u n H || (is_number u stamp.maker && not (has_before_her u n H))) same
+      ((λ i. reviews-key paper is.0 i || reviewers-key paper is.0 i || (is_number u stamp.maker && not (has_before_her u paper H)))
+      ∙ by (is_number u stamp.maker) onc (visits u paper H) (is_past_submission (phase_of H)) (has_conflict u paper H) lead (is_past_reviewing (phase_of H)) (is_reviewing_now (phase_of H))
       (is_reviewer u paper H) (is_discussed paper ordinal before later) (not (is_reviewed paper ordinal before)) (is_notified u paper H)
       (not (is_reviewed paper ordinal later)) (is_answered u paper H) told (reviewing-begun (phase_of H) is.1) (reviewing-on (phase_of H) is.1)
       (own-so (λ v. is_reviewer v paper H) u stamp.maker is.2) (leads-serves (role_of u H)))
     where
-      by : (m o s c l d w r x y n z a : Bool)
+      by : (m o v s c l d w r x y n z a : Bool)
           → (((m || ((((o && s) && not c) && d) && x)) || ((l && not c) && y)) || (n && z)) ≡ true
           → s ≡ true → (d || w) ≡ true → (not m || r) ≡ true → (o && l) ≡ l
-          → ((((n || (((o && s) && not c) && d)) || ((((o && s) && not c) && r) && w)) || (((((o && s) && not c) && l) || (((o && s) && not c) && d)) || a))
-          || (m && not ((o && s) && not c))) ≡ true
-      by m o s c l d w r x y n z a told hs hd own hl = grind (arith, told, hs, hd, own, hl)
+          → (((((n || (((o && s) && not c) && d)) || ((((o && s) && not c) && r) && w)) || ((((v && not c) && s) && r) && (w || d)))
+          || (((((o && s) && not c) && l) || (((o && s) && not c) && d)) || a))
+          || (m && not (((o && s) && not c) || ((v && not c) && s)))) ≡ true
+      by m o v s c l d w r x y n z a told hs hd own hl = grind (arith, told, hs, hd, own, hl)
   each p before later stamp more (Commented paper n ordinal text) is told same =
       at paper p (λ n. has_comments u n H || (is_number u stamp.maker && not (is_eligible u n H))) same
       ((λ i. comments-key paper is.0 i || (is_number u stamp.maker && not (is_eligible u paper H)))

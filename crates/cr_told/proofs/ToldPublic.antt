@@ -5,7 +5,7 @@ use Rattle.std.specs.List.{flat_map}
 use Rattle.std.specs.Option.{option_map}
 use Rattle.std.proofs.lemmas.Bool.{eqb-true, true≢false}
 use Rattle.cr_base.specs.declared.entry.Entry.{Entry}
-use Rattle.cr_base.specs.declared.entry.Entry.TheVariants.{Registered, Named, PhaseSet, ModeSet, Submitted, DeadlineSet}
+use Rattle.cr_base.specs.declared.entry.Entry.TheVariants.{Registered, Named, Dismissed, PhaseSet, ModeSet, Submitted, DeadlineSet}
 use Rattle.cr_base.specs.declared.entry.EntryKind.TheVariants as kinds
 use Rattle.cr_base.specs.declared.entry.Stamp.{Stamp}
 use Rattle.cr_base.specs.declared.reply.AccountLine.{AccountLine}
@@ -23,7 +23,7 @@ use Rattle.cr_policy.specs.View.{view}
 use Rattle.cr_policy.specs.ViewFacts.{only, is_user, is_kind, shows_phase, phase_seen, mode_seen, deadline_seen, paper_seen, role_seen, registration_seen, deadline_in_view, role_in_view, accounts_in_view}
 use Rattle.cr_policy.proofs.BoundsWalk.{shown_to}
 use Rattle.cr_policy.proofs.Walk.{map-flat_map}
-use Rattle.cr_told.specs.ToldPublic.{all_shown, phases_shown, deadlines_shown, role_shown, account_shown, AccountsTold, ConferenceTold, DeadlinesTold}
+use Rattle.cr_told.specs.ToldPublic.{all_shown, phases_shown, deadlines_shown, role_by, role_shown, account_shown, AccountsTold, ConferenceTold, DeadlinesTold}
 use Rattle.cr_told.proofs.ToldShown.{readings}
 
 module _ (u : Option ℕ) (H : History) where
@@ -73,12 +73,13 @@ module _ (u : Option ℕ) (H : History) where
       one before later stamp e = refl
 
   pub roles : (v : Option ℕ) → role_in_view v (view u H) ≡ role_shown v (view u H)
-  roles v = ap (last_or Account) (readings u 0 H (role_seen v) (λ (s : Sighting). only (is_user v s.user) (listed s.role)) one)
+  roles v = ap (last_or Account) (readings u 0 H (role_seen v) (λ (s : Sighting). only (is_user v s.user) (listed (role_by s.kind s.role))) one)
     where
       one : (before later : History) (stamp : Stamp) (e : Entry)
           → role_seen v (shown_to u H before later stamp e)
-          ≡ (let s : Sighting = shown_to u H before later stamp e in only (is_user v s.user) (listed s.role))
+          ≡ (let s : Sighting = shown_to u H before later stamp e in only (is_user v s.user) (listed (role_by s.kind s.role)))
       one before later stamp (Named user role) = refl
+      one before later stamp (Dismissed user) = refl
       one before later stamp e = refl
 
   accounts : accounts_in_view (view u H) ≡ flat_map (account_shown (view u H)) (view u H)

@@ -17,19 +17,19 @@ use Rattle.cr_base.specs.declared.standing.Standing.{Standing}
 use Rattle.cr_base.specs.declared.words.Phase.{Phase}
 use Rattle.cr_base.specs.declared.words.Phase.TheVariants.{Setup, Submission, Bidding, Reviewing, Discussion, Notification, Closed}
 use Rattle.cr_base.specs.Answering.{reply_or_rule}
-use Rattle.cr_base.specs.Checks.{judged, ◌breaks◌}
+use Rattle.cr_base.specs.Checks.{judged, ◌breaks◌, reads_all_forms, reads_own_forms}
 use Rattle.cr_base.specs.History.{History, FormTold}
-use Rattle.cr_base.specs.HistoryFacts.{standing_of, phase_of, role_of, is_author, is_conflict_on, is_conflicted, is_reviewer, assigned_under}
+use Rattle.cr_base.specs.HistoryFacts.{standing_of, phase_of, role_of, is_author, is_conflict_on, is_conflicted, is_external, is_reviewer, assigned_under}
 use Rattle.cr_base.specs.Labels.{by_labels, most_labels}
 use Rattle.cr_base.specs.Lists.{listed, last, is_number, until, since}
-use Rattle.cr_base.specs.Page.{where_told, shows_reviewer}
-use Rattle.cr_base.specs.Phases.{is_from, is_phase, reviewers_read_own, members_read_reviews, authors_read_reviews}
+use Rattle.cr_base.specs.Page.{is_admitted, where_told, shows_reviewer}
+use Rattle.cr_base.specs.Phases.{is_from, is_phase, externals_read_own, authors_read_reviews}
 use Rattle.cr_base.specs.Sources.{has_paper}
 use Rattle.cr_base.specs.Words.{is_member}
 use Rattle.cr_base.proofs.LastLaws.{last_from-map, listed-map}
 use Rattle.cr_history.specs.Invariants.{IsSubmitted, IsInOrder, InTurn}
 use Rattle.cr_policy.specs.Judge.{answer}
-use Rattle.cr_policy.specs.ShownTo.{is_past_submission, is_past_reviewing, discusses, is_notified, where_known}
+use Rattle.cr_policy.specs.ShownTo.{is_on_committee, is_past_submission, is_past_reviewing, discusses, is_notified, where_known}
 use Rattle.cr_policy.specs.Sighting.{Sighting}
 use Rattle.cr_policy.specs.View.{View, view}
 use Rattle.cr_policy.specs.ViewFacts.{only, is_kind, form_shown, form_seen, own_form_seen, discussion_seen, forms_in_view, own_forms_in_view, seats_in_view}
@@ -41,8 +41,8 @@ use Rattle.cr_policy.proofs.StandingLaws.{standing_from_view}
 use Rattle.cr_policy.proofs.Walk.{map-flat_map}
 use Rattle.cr_told.specs.ToldPages.{label_shown_of}
 use Rattle.cr_told.specs.ToldLists.{name_shown, knows_reviewers}
-use Rattle.cr_told.specs.ToldReviews.{reviews_answered, review_shown, forms_listed, reviews_listed, is_reviewing_now, reviews_now, ReviewsTold}
-use Rattle.cr_told.proofs.ToldWords.{member-committee}
+use Rattle.cr_told.specs.ToldReviews.{reviews_answered, review_shown, forms_listed, reviews_listed, is_reviewing_now, reviews_now, reviews_visiting, ReviewsTold}
+use Rattle.cr_told.proofs.ToldWords.{member-committee, visits-same}
 use Rattle.cr_told.proofs.ToldLists.{is-there, knows}
 use Rattle.cr_told.proofs.ToldShown as reads
 use Rattle.cr_told.proofs.ToldShown.{flat_map-same, readings}
@@ -66,6 +66,16 @@ All-since {X} P test (x ∷ xs) all = by (test x) (All-since P test xs (All-tail
     by false rest = rest
 
 -- ---- phases
+
+-- externals read their own forms in the reviewing and later
+visiting-now : (phase : Phase) → externals_read_own phase ≡ (is_reviewing_now phase || is_past_reviewing phase)
+visiting-now Setup = refl
+visiting-now Submission = refl
+visiting-now Bidding = refl
+visiting-now Reviewing = refl
+visiting-now Discussion = refl
+visiting-now Notification = refl
+visiting-now Closed = refl
 
 reviewing-now : (phase : Phase) → is_phase phase Reviewing ≡ is_reviewing_now phase
 reviewing-now Setup = refl
@@ -190,20 +200,20 @@ module _ (u : Option ℕ) (p : ℕ) (H : History) where
     gate true false over true false false lines h = refl
     gate true false over true false true lines h = refl
 
-    answered-to : (not (is_author u p H && not (authors_read_reviews (phase_of H))) && (is_author u p H || is_member (role_of u H))
+    answered-to : (not (is_author u p H && not (authors_read_reviews (phase_of H))) && (is_author u p H || is_admitted stands)
         && not (not (is_author u p H) && is_conflicted u p H)
-        && (is_author u p H || members_read_reviews (phase_of H) || (is_reviewer u p H && reviewers_read_own (phase_of H))))
-        ≡ (is_notified u p H || discusses u p H || reviews_now u p H)
+        && (is_author u p H || reads_all_forms stands || reads_own_forms stands))
+        ≡ (is_notified u p H || discusses u p H || reviews_now u p H || reviews_visiting u p H)
     answered-to =
-        to (is_member (role_of u H)) _ (is_past_submission (phase_of H)) (is_from Discussion (phase_of H)) _ (is_from Notification (phase_of H)) _
-        (is_phase (phase_of H) Reviewing) _ (is_author u p H) (is_conflict_on u p H) (is_reviewer u p H)
-        (member-committee (role_of u H)) (phase-words (phase_of H)).discussion (phase-words (phase_of H)).notification (reviewing-now (phase_of H))
-        (phase-words (phase_of H)).discussion_later (reviewing-serves (phase_of H))
+        to (is_member (role_of u H)) _ (is_external u p H) _ (is_past_submission (phase_of H)) (is_from Discussion (phase_of H)) _ (is_from Notification (phase_of H)) _
+        (is_phase (phase_of H) Reviewing) _ (externals_read_own (phase_of H)) (is_author u p H) (is_conflict_on u p H) (is_reviewer u p H)
+        (member-committee (role_of u H)) (visits-same u p H) (phase-words (phase_of H)).discussion (phase-words (phase_of H)).notification (reviewing-now (phase_of H))
+        (visiting-now (phase_of H)) (phase-words (phase_of H)).discussion_later (reviewing-serves (phase_of H))
       where
-        to : (m m' s d d' n n' w w' a x r : Bool) → m ≡ m' → d ≡ d' → n ≡ n' → w ≡ w' → (s && d') ≡ d' → (s && w') ≡ w'
-            → (not (a && not n) && (a || m) && not (not a && (a || x)) && (a || d || (r && w)))
-            ≡ ((a && n') || (((m' && s) && not (a || x)) && d') || (((m' && s) && not (a || x)) && r && w'))
-        to m m' s d d' n n' w w' a x r hm hd hn hw hs hsw = grind (arith, hm, hd, hn, hw, hs, hsw)
+        to : (m m' e e' s d d' n n' w w' x a y r : Bool) → m ≡ m' → e ≡ e' → d ≡ d' → n ≡ n' → w ≡ w' → x ≡ (w' || d') → (s && d') ≡ d' → (s && w') ≡ w'
+            → (not (a && not n) && (a || (m || e)) && not (not a && (a || y)) && (a || (m && d) || (r && (w || (e && x)))))
+            ≡ ((a && n') || (((m' && s) && not (a || y)) && d') || (((m' && s) && not (a || y)) && r && w') || (((e' && not (a || y)) && s) && r && (w' || d')))
+        to m m' e e' s d d' n n' w w' x a y r hm he hd hn hw hx hs hsw = grind (arith, hm, he, hd, hn, hw, hx, hs, hsw)
 
     -- the lines, by who she is
     abbrev lines_by : Bool → Bool → Bool → Bool → Option ℕ → List ReviewLine
@@ -229,24 +239,26 @@ module _ (u : Option ℕ) (p : ℕ) (H : History) where
         ∙ ap (λ (o : Option ℕ). flat_map (λ (s : Sighting). only (is_kind kinds.Reviewed s && (is_number s.paper p && s.mine)) (review_shown false true p V (unwrap_or o 0) s)) V) is
 
     reviews-told : reviews_answered (answer u V (queries.Reviews (Some p)))
-        ≡ where_known (is_notified u p H || discusses u p H || reviews_now u p H) (reviews_listed u p H)
+        ≡ where_known (is_notified u p H || discusses u p H || reviews_now u p H || reviews_visiting u p H) (reviews_listed u p H)
     reviews-told =
         ap (λ (by : Standing). reviews_answered (reply_or_rule
         (judged (not (has_paper (facts_in_view u V) (Some p)) breaks rules.NoPaper
         ∷ (by.author && not (authors_read_reviews by.phase)) breaks rules.WrongPhase
-        ∷ not (by.author || is_member by.role) breaks rules.NotMember
+        ∷ not (by.author || is_admitted by) breaks rules.NotMember
         ∷ (not by.author && by.conflicted) breaks rules.Conflict
-        ∷ not (by.author || members_read_reviews by.phase || (by.reviewer && reviewers_read_own by.phase)) breaks rules.WrongPhase
+        ∷ not (by.author || reads_all_forms by || reads_own_forms by) breaks rules.WrongPhase
         ∷ [])
-        (replies.Reviews (lines_by by.author (members_read_reviews by.phase) (shows_reviewer by) (not by.author) (ordinal_in_view u p V))))))
+        (replies.Reviews (lines_by by.author (reads_all_forms by) (shows_reviewer by) (not by.author) (ordinal_in_view u p V))))))
         (standing_from_view u (Some p) H)
-        ∙ gate (has_paper (facts_in_view u V) (Some p)) (is_author u p H) (is_from Notification (phase_of H)) (is_member (role_of u H)) (is_conflicted u p H)
-        (is_author u p H || members_read_reviews (phase_of H) || (is_reviewer u p H && reviewers_read_own (phase_of H)))
-        (lines_by (is_author u p H) (members_read_reviews (phase_of H)) (shows_reviewer stands) (not (is_author u p H)) (ordinal_in_view u p V)) (is-there u p H there order)
+        ∙ gate (has_paper (facts_in_view u V) (Some p)) (is_author u p H) (is_from Notification (phase_of H)) (is_admitted stands) (is_conflicted u p H)
+        (is_author u p H || reads_all_forms stands || reads_own_forms stands)
+        (lines_by (is_author u p H) (reads_all_forms stands) (shows_reviewer stands) (not (is_author u p H)) (ordinal_in_view u p V)) (is-there u p H there order)
         ∙ (λ i. where_known (answered-to i)
-        (lines_by (is_author u p H) ((phase-words (phase_of H)).discussion i) (knows u p H there order i) (not (is_author u p H)) (ordinal_in_view u p V)))
-        ∙ ap (where_known (is_notified u p H || discusses u p H || reviews_now u p H))
-        (lines-same (is_author u p H) (is_past_reviewing (phase_of H)) (knows_reviewers u p H) (ordinal_in_view u p V) (label_shown_of u p V) (reads.labels u p H u))
+        (lines_by (is_author u p H) (member-committee (role_of u H) i && (phase-words (phase_of H)).discussion i) (knows u p H there order i) (not (is_author u p H))
+        (ordinal_in_view u p V)))
+        ∙ ap (where_known (is_notified u p H || discusses u p H || reviews_now u p H || reviews_visiting u p H))
+        (lines-same (is_author u p H) (is_on_committee (role_of u H) && is_past_reviewing (phase_of H)) (knows_reviewers u p H) (ordinal_in_view u p V)
+        (label_shown_of u p V) (reads.labels u p H u))
 
 pub reviews_told : ReviewsTold
 reviews_told u p H legal there = reviews-told u p H there (legal_invariants H legal).in_order

@@ -19,7 +19,7 @@ use Rattle.cr_base.specs.Answering.{bidder_told, reviewer_told, uploads_told, pa
 use Rattle.cr_base.specs.Checks.{judged, ◌breaks◌}
 use Rattle.cr_base.specs.History.{History, BidTold, Upload}
 use Rattle.cr_base.specs.Lists.{listed}
-use Rattle.cr_base.specs.Page.{page_of, PaperTexts}
+use Rattle.cr_base.specs.Page.{is_admitted, page_of, PaperTexts}
 use Rattle.cr_base.specs.Searching.{PaperTold, is_found, found_paper}
 use Rattle.cr_base.specs.Sources.{Facts, Shown, has_paper, names_in, decision_by}
 use Rattle.cr_base.specs.Words.{is_member, is_chair}
@@ -36,14 +36,16 @@ use Rattle.cr_told.proofs.ToldShown as reads
 -- ---- the page
 
 -- who may not have the page is told nothing by it
-hidden : (phase : Phase) (mode : Mode) (role : Role) (author conflicted reviewer accepted : Bool) (p : ℕ) (texts : PaperTexts)
-    → (is_member role || author || accepted) ≡ false
-    → page_of (record { phase = phase; mode = mode; role = role; author = author; conflicted = conflicted; reviewer = reviewer }) accepted p texts ≡ no_page p
-hidden phase mode Account false conflicted reviewer false p texts h = refl
-hidden phase mode Account false conflicted reviewer true p texts h = absurd (true≢false h)
-hidden phase mode Account true conflicted reviewer accepted p texts h = absurd (true≢false h)
-hidden phase mode Member author conflicted reviewer accepted p texts h = absurd (true≢false h)
-hidden phase mode Chair author conflicted reviewer accepted p texts h = absurd (true≢false h)
+hidden : (phase : Phase) (mode : Mode) (role : Role) (author conflicted reviewer external accepted : Bool) (p : ℕ) (texts : PaperTexts)
+    → ((is_member role || external) || author || accepted) ≡ false
+    → page_of (record { phase = phase; mode = mode; role = role; author = author; conflicted = conflicted; reviewer = reviewer; external = external }) accepted p texts
+    ≡ no_page p
+hidden phase mode Account false conflicted reviewer false false p texts h = refl
+hidden phase mode Account false conflicted reviewer false true p texts h = absurd (true≢false h)
+hidden phase mode Account true conflicted reviewer false accepted p texts h = absurd (true≢false h)
+hidden phase mode Account author conflicted reviewer true accepted p texts h = absurd (true≢false h)
+hidden phase mode Member author conflicted reviewer external accepted p texts h = absurd (true≢false h)
+hidden phase mode Chair author conflicted reviewer external accepted p texts h = absurd (true≢false h)
 
 gate : (there ok : Bool) (page none : Page) → there ≡ true → (ok ≡ false → page ≡ none)
     → page ≡ unwrap_or (page_answered (reply_or_rule (judged (not there breaks rules.NoPaper ∷ not ok breaks rules.NotMember ∷ []) (replies.Page page)))) none
@@ -125,8 +127,8 @@ module _ (u : Option ℕ) (H : History) where
 
       page-same : page_by F S u p ≡ unwrap_or (page_answered (answer u V (queries.Page (Some p)))) (no_page p)
       page-same =
-          gate (has_paper F (Some p)) (is_member by.role || by.author || is_accepted_in_view p V) (page_by F S u p) (no_page p) there
-          (hidden by.phase by.mode by.role by.author by.conflicted by.reviewer (is_accepted_in_view p V) p texts)
+          gate (has_paper F (Some p)) (is_admitted by || by.author || is_accepted_in_view p V) (page_by F S u p) (no_page p) there
+          (hidden by.phase by.mode by.role by.author by.conflicted by.reviewer by.external (is_accepted_in_view p V) p texts)
 
   found-same : (search : List Step)
       → map (λ (p : ℕ). found_paper p (told_of_paper F S u p)) (filter (λ (p : ℕ). is_found (told_of_paper F S u p) search) (papers_in_view V)) ≡ papers_found u H search

@@ -5,7 +5,7 @@ use Rattle.std.specs.List.{flat_map}
 use Rattle.std.proofs.lemmas.List.Elements.{All-head, All-tail}
 use Rattle.cr_base.specs.declared.entry.Entry.{Entry}
 use Rattle.cr_base.specs.declared.entry.Entry.TheVariants.{Submitted, Coauthor, Revised, Uploaded, Conflict, Bid, Assigned, Unassigned}
-use Rattle.cr_base.specs.declared.entry.Entry.TheVariants.{Reviewed, Tagged, Decided}
+use Rattle.cr_base.specs.declared.entry.Entry.TheVariants.{Reviewed, Tagged, Decided, Invited, Uninvited}
 use Rattle.cr_base.specs.declared.entry.EntryKind.TheVariants as kinds
 use Rattle.cr_base.specs.declared.entry.Stamp.{Stamp}
 use Rattle.cr_base.specs.Lists.{listed, last_from, last_or, is_number}
@@ -14,12 +14,12 @@ use Rattle.cr_policy.specs.Sighting.{Sighting}
 use Rattle.cr_policy.specs.View.{View, view}
 use Rattle.cr_policy.specs.ShownTo.{where_known}
 use Rattle.cr_policy.specs.ViewFacts.{only, is_user, is_kind, title_seen, abstract_seen, author_seen, conflict_seen, ordinal_seen, own_bid_seen, bid_seen, accepted_seen, decision_seen}
-use Rattle.cr_policy.specs.ViewFacts.{upload_seen, withdrawal_seen, authors_in_view, is_conflict_on_in_view, ordinal_in_view}
+use Rattle.cr_policy.specs.ViewFacts.{invite_seen, is_invited_in_view, upload_seen, withdrawal_seen, authors_in_view, is_conflict_on_in_view, ordinal_in_view}
 use Rattle.cr_policy.specs.ViewFacts.{is_accepted_in_view, uploads_in_view, is_withdrawn_in_view, upload_shown}
 use Rattle.cr_policy.proofs.BoundsWalk.{shown_to, each-view}
 use Rattle.cr_policy.proofs.Walk.{only-false, map-flat_map, last_from-append}
 use Rattle.cr_told.specs.ToldPages.{shown_on, shown_by, is_shown, writers_shown, is_shown_in_conflict, label_shown_of, own_bids_shown, bids_shown_of, is_shown_accepted}
-use Rattle.cr_told.specs.ToldPages.{writer_by, ordinal_by}
+use Rattle.cr_told.specs.ToldPages.{writer_by, ordinal_by, invitation_by, is_shown_invited}
 
 -- what two readings make of each sighting is the same, so it is of the view
 pub flat_map-same : {X A : Type 0} (f g : X → List A) (xs : List X) → All (λ (x : X). f x ≡ g x) xs → flat_map f xs ≡ flat_map g xs
@@ -88,6 +88,16 @@ module _ (u : Option ℕ) (p : ℕ) (H : History) where
           ≡ (let s : Sighting = shown_to u H before later stamp e in only (is_number s.paper p && is_user v s.user) (listed (ordinal_by s.kind s.ordinal)))
       one before later stamp (Assigned paper user review_kind ordinal) = refl
       one before later stamp (Unassigned paper user ordinal) = refl
+      one before later stamp e = refl
+
+  pub invites : (v : Option ℕ) → is_invited_in_view v p (view u H) ≡ is_shown_invited v p (view u H)
+  invites v = ap (last_or false) (readings (invite_seen v p) (λ (s : Sighting). only (is_number s.paper p && is_user v s.user) (listed (invitation_by s.kind))) one)
+    where
+      one : (before later : History) (stamp : Stamp) (e : Entry)
+          → invite_seen v p (shown_to u H before later stamp e)
+          ≡ (let s : Sighting = shown_to u H before later stamp e in only (is_number s.paper p && is_user v s.user) (listed (invitation_by s.kind)))
+      one before later stamp (Invited paper user) = refl
+      one before later stamp (Uninvited paper user) = refl
       one before later stamp e = refl
 
   pub own_bids : flat_map (own_bid_seen p) (view u H) ≡ own_bids_shown p (view u H)

@@ -12,7 +12,7 @@ use Rattle.cr_base.specs.Lists.{listed, is_number}
 use Rattle.cr_base.specs.History.{History}
 use Rattle.cr_base.specs.HistoryFacts.{mode_of, is_author}
 use Rattle.cr_history.specs.Invariants.{IsInOrder, InTurn}
-use Rattle.cr_policy.specs.ShownTo.{serves, is_eligible, oversees, hides_authors, is_in_programme, appears, is_told, where_known, is_replaced, is_superseded}
+use Rattle.cr_policy.specs.ShownTo.{serves, reads_visiting, has_before_her, oversees, hides_authors, is_in_programme, appears, is_told, where_known, is_replaced, is_superseded}
 use Rattle.cr_policy.specs.Sighting.{Sighting}
 use Rattle.cr_policy.specs.View.{view}
 use Rattle.cr_policy.specs.ViewFacts.{only, upload_shown, upload_seen, uploads_in_view}
@@ -66,11 +66,11 @@ module _ (u : Option ℕ) (p : ℕ) (H : History) (order : InTurn IsInOrder [] H
         (not-own H u paper maker wrote (ap (λ n. is_author u n H) e ∙ stranger))
         ∙ text-none paper late same
 
-  pub titles-none : is_author u p H ≡ false → (serves u H || is_in_programme p H) ≡ false → shown_on p (λ (s : Sighting). s.title) (view u H) ≡ []
+  pub titles-none : is_author u p H ≡ false → (serves u H || reads_visiting u p H || is_in_programme p H) ≡ false → shown_on p (λ (s : Sighting). s.title) (view u H) ≡ []
   titles-none stranger hidden = none-shown (λ (s : Sighting). only (is_number s.paper p) (listed s.title)) each
     where
       may : ℕ → Bool
-      may n = serves u H || is_in_programme n H
+      may n = serves u H || reads_visiting u n H || is_in_programme n H
 
       each : Each (λ (s : Sighting). only (is_number s.paper p) (listed s.title))
       each before later stamp more (Submitted paper title abstract) right told =
@@ -79,11 +79,11 @@ module _ (u : Option ℕ) (p : ℕ) (H : History) (order : InTurn IsInOrder [] H
           unknown (eqb paper p) _ title (own-none may stranger hidden paper stamp.maker (λ n. is_replaced n later) right)
       each before later stamp more e right told = refl
 
-  pub abstracts-none : is_author u p H ≡ false → (is_eligible u p H || appears p H) ≡ false → shown_on p (λ (s : Sighting). s.abstract) (view u H) ≡ []
+  pub abstracts-none : is_author u p H ≡ false → (has_before_her u p H || appears p H) ≡ false → shown_on p (λ (s : Sighting). s.abstract) (view u H) ≡ []
   abstracts-none stranger hidden = none-shown (λ (s : Sighting). only (is_number s.paper p) (listed s.abstract)) each
     where
       may : ℕ → Bool
-      may n = is_eligible u n H || appears n H
+      may n = has_before_her u n H || appears n H
 
       each : Each (λ (s : Sighting). only (is_number s.paper p) (listed s.abstract))
       each before later stamp more (Submitted paper title abstract) right told =
@@ -92,11 +92,11 @@ module _ (u : Option ℕ) (p : ℕ) (H : History) (order : InTurn IsInOrder [] H
           unknown (eqb paper p) _ abstract (own-none may stranger hidden paper stamp.maker (λ n. is_replaced n later) right)
       each before later stamp more e right told = refl
 
-  pub uploads-none : is_author u p H ≡ false → (is_eligible u p H || appears p H) ≡ false → uploads_in_view p (view u H) ≡ []
+  pub uploads-none : is_author u p H ≡ false → (has_before_her u p H || appears p H) ≡ false → uploads_in_view p (view u H) ≡ []
   uploads-none stranger hidden = none-shown (upload_seen p) each
     where
       may : ℕ → Bool
-      may n = is_eligible u n H || appears n H
+      may n = has_before_her u n H || appears n H
 
       neither : (same known : Bool) (version : ℕ) (content : List ℕ) → (same ≡ true → known ≡ false)
           → only same (upload_shown (where_known known version) (where_known known content)) ≡ []
@@ -111,7 +111,7 @@ module _ (u : Option ℕ) (p : ℕ) (H : History) (order : InTurn IsInOrder [] H
 
   -- who is told of an author
   abbrev pub knows_authors : ℕ → Bool
-  knows_authors n = is_author u n H || oversees u n H || (is_eligible u n H && not (hides_authors (mode_of H))) || is_in_programme n H
+  knows_authors n = is_author u n H || oversees u n H || (has_before_her u n H && not (hides_authors (mode_of H))) || is_in_programme n H
 
   pub writers-none : is_author u p H ≡ false → knows_authors p ≡ false → writers_shown p (view u H) ≡ []
   writers-none stranger hidden = none-shown (λ (s : Sighting). only (is_number s.paper p) (listed (writer_by s.kind s.by s.user))) each
@@ -123,7 +123,7 @@ module _ (u : Option ℕ) (p : ℕ) (H : History) (order : InTurn IsInOrder [] H
       each before later stamp more (Submitted paper title abstract) right told = unknown (eqb paper p) (knows_authors paper) stamp.maker (known paper)
       each before later stamp more (Coauthor paper user) right told =
           untold (eqb paper p) _ user told
-          (λ same. ap (λ b. b || is_author u paper H || oversees u paper H || (is_eligible u paper H && not (hides_authors (mode_of H))) || is_in_programme paper H)
+          (λ same. ap (λ b. b || is_author u paper H || oversees u paper H || (has_before_her u paper H && not (hides_authors (mode_of H))) || is_in_programme paper H)
           (not-own H u paper stamp.maker right (ap (λ n. is_author u n H) (eqb-true paper p same) ∙ stranger))
           ∙ known paper same)
       each before later stamp more e right told = refl

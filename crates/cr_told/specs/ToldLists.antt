@@ -15,7 +15,6 @@ use Rattle.cr_base.specs.declared.page.Reviewer.{Reviewer}
 use Rattle.cr_base.specs.declared.reply.AccountLine.{AccountLine}
 use Rattle.cr_base.specs.declared.reply.Reply.{Reply}
 use Rattle.cr_base.specs.declared.reply.Reply.TheVariants as replies
-use Rattle.cr_base.specs.declared.words.Role.TheVariants.{Account}
 use Rattle.cr_base.specs.Lists.{listed, last, last_or, total, is_number}
 use Rattle.cr_base.specs.History.{History}
 use Rattle.cr_base.specs.HistoryFacts.{mode_of, role_of}
@@ -23,14 +22,16 @@ use Rattle.cr_base.specs.Sources.{name_in}
 use Rattle.cr_history.specs.Invariants.{IsSubmitted}
 use Rattle.cr_policy.specs.Judge.{answer}
 use Rattle.cr_policy.specs.Legal.{Legal}
-use Rattle.cr_policy.specs.ShownTo.{chairs_committee, hides_reviewers, is_eligible, oversees}
+use Rattle.cr_policy.specs.ShownTo.{is_on_committee, chairs_committee, hides_reviewers, is_eligible, oversees}
 use Rattle.cr_policy.specs.ShownTo.{administers, discusses, is_answered, where_known}
 use Rattle.cr_policy.specs.Sighting.{Sighting}
 use Rattle.cr_policy.specs.View.{View, view}
-use Rattle.cr_policy.specs.ViewFacts.{only, is_user, is_kind, label_shown}
+use Rattle.cr_policy.specs.ViewFacts.{only, is_kind, label_shown}
 use Rattle.cr_policy.specs.ViewFacts.{accounts_in_view, papers_in_view, tags_in_view}
-use Rattle.cr_told.specs.ToldPages.{shown_on, shown_by, writers_shown, is_shown_in_conflict, label_shown_of}
+use Rattle.cr_told.specs.ToldPages.{shown_on, shown_by, writers_shown, is_shown_in_conflict, is_shown_invited}
+use Rattle.cr_told.specs.ToldPages.{label_shown_of}
 use Rattle.cr_told.specs.ToldPages.{bids_shown_of, is_shown_accepted, names_shown, is_clear, page_told}
+use Rattle.cr_told.specs.ToldPublic.{role_shown}
 
 -- the name of a user that may be shown, as the accounts shown have it
 abbrev pub name_shown : Option ℕ → View → Option (List ℕ)
@@ -182,8 +183,8 @@ abbrev pub own_shown : {A : Type 0} → (Sighting → Option A) → View → Lis
 own_shown part V = flat_map (λ (s : Sighting). only s.mine (listed (part s))) V
 
 -- her name; the papers of which she is shown as an author, with which she is shown to be in conflict else, and which
--- she is shown to review; how many comments of her own are shown, and how many bytes of contents; and the last role to
--- which she is shown to be named
+-- she is shown to review; those to which she is shown to be invited, where she is on no committee; how many comments of
+-- her own are shown, and how many bytes of contents; and the last role that she is shown to be given
 abbrev pub MeTold : Type 0
 MeTold =
     (v : ℕ) (H : History)
@@ -199,10 +200,14 @@ MeTold =
           (λ (p : ℕ). is_shown_in_conflict (Some v) p (view (Some v) H)
           && not (list_any (is_number (Some v)) (writers_shown p (view (Some v) H))))
           (papers_in_view (view (Some v) H));
+      invited =
+          filter
+          (λ (p : ℕ). not (is_on_committee (role_shown (Some v) (view (Some v) H)))
+          && is_shown_invited (Some v) p (view (Some v) H))
+          (papers_in_view (view (Some v) H));
       name = unwrap_or (name_shown (Some v) (view (Some v) H)) [];
       papers = filter (λ (p : ℕ). list_any (is_number (Some v)) (writers_shown p (view (Some v) H)))
           (papers_in_view (view (Some v) H));
-      role = last_or Account
-          (flat_map (λ (s : Sighting). only (is_user (Some v) s.user) (listed s.role)) (view (Some v) H));
+      role = role_shown (Some v) (view (Some v) H);
       user = v;
     })

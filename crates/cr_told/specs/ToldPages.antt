@@ -3,7 +3,7 @@
 -- decisions, by CoCon's phases): from what the sightings of the view show in a part, whatever the page's definition
 -- makes of them. Who is told, where a view can't show it, is said in the words of the bounds. That each sighting has
 -- its place in an answer stands in ToldPlaces.
-use Rattle.std.specs.Prelude.{ℕ, Bool, false, not, ◌≡◌, ◌&&◌, ◌||◌, ◌==◌, List, [], ◌∷◌}
+use Rattle.std.specs.Prelude.{ℕ, Bool, true, false, not, ◌≡◌, ◌&&◌, ◌||◌, ◌==◌, List, [], ◌∷◌}
 use Rattle.std.specs.Prelude.{map, filter, Option, Some, None, is_some, unwrap_or, if◌then◌else◌}
 use Rattle.std.specs.Option.{option_map}
 use Rattle.std.specs.List.{flat_map, list_any}
@@ -22,7 +22,7 @@ use Rattle.cr_base.specs.Sources.{names_in}
 use Rattle.cr_history.specs.Invariants.{IsSubmitted}
 use Rattle.cr_policy.specs.Judge.{answer}
 use Rattle.cr_policy.specs.Legal.{Legal}
-use Rattle.cr_policy.specs.ShownTo.{is_on_committee, has_conflict, serves, is_eligible}
+use Rattle.cr_policy.specs.ShownTo.{is_on_committee, has_conflict, serves, is_eligible, visits, reads_visiting}
 use Rattle.cr_policy.specs.ShownTo.{oversees, discusses, is_notified, where_known}
 use Rattle.cr_policy.specs.Sighting.{Sighting}
 use Rattle.cr_policy.specs.View.{View, view}
@@ -71,6 +71,16 @@ ordinal_by _ ordinal = None
 abbrev pub label_shown_of : Option ℕ → ℕ → View → Option ℕ
 label_shown_of u p V = last_or None (shown_of u p (λ (s : Sighting). ordinal_by s.kind s.ordinal) V)
 
+-- what a sighting of this kind makes of an invitation: one, or none any more
+abbrev pub invitation_by : EntryKind → Option Bool
+invitation_by kinds.Invited = Some true
+invitation_by kinds.Uninvited = Some false
+invitation_by _ = None
+
+-- the user's invitation to the paper, as the last sighting shows it that invites her or takes that back
+abbrev pub is_shown_invited : Option ℕ → ℕ → View → Bool
+is_shown_invited u p V = last_or false (shown_of u p (λ (s : Sighting). invitation_by s.kind) V)
+
 -- the reader's own bids on the paper, and those of a user that are shown as hers
 abbrev pub own_bids_shown : ℕ → View → List ℕ
 own_bids_shown p V = flat_map (λ (s : Sighting). only (is_number s.paper p && s.mine) (listed s.value)) V
@@ -118,24 +128,26 @@ some_names [] V = None
 some_names (u ∷ users) V = Some (names_shown (u ∷ users) V)
 
 -- each key of the page of a paper that is there: when it is on the page, and what it holds. The page is answered to
--- whoever is on the committee, is an author, or is shown that the paper is accepted. Title and abstract: exactly where
--- the view shows one of the paper, and it is the last. Authors: exactly where the view shows one, and they are all
--- that it shows, in order. Withdrawn: to authors and to those who serve, and it says whether the view shows that it
--- was. Versions: exactly where the view shows an abstract, and they are those of the uploads that it shows. Decision:
--- to those who discuss it, to authors who are notified, and to everyone who is shown that the paper is accepted, and
--- then it is that; else the last one that is shown. Conflict: to the committee and to authors; she is shown to be an
--- author, or in conflict. Conflicts: to those who oversee it; whoever is shown in conflict, by number. Declared: to
--- authors; whom an author named, by number. Bid: to those who are eligible for it; the last of her own that is shown,
--- else 20, for none. Label: to the committee's members in no conflict; the one under which she is shown to review it.
+-- whoever is on the committee, is an external or an author, or is shown that the paper is accepted. Title and
+-- abstract: exactly where the view shows one of the paper, and it is the last. Authors: exactly where the view shows
+-- one, and they are all that it shows, in order. Withdrawn: to authors, to those who serve and to externals who read
+-- it, and it says whether the view shows that it was. Versions: exactly where the view shows an abstract, and they
+-- are those of the uploads that it shows. Decision: to those who discuss it, to authors who are notified, and to
+-- everyone who is shown that the paper is accepted, and then it is that; else the last one that is shown. Conflict:
+-- to the committee, to externals and to authors; she is shown to be an author, or in conflict. Conflicts: to those
+-- who oversee it; whoever is shown in conflict, by number. Declared: to authors; whom an author named, by number.
+-- Bid: to those who are eligible for it; the last of her own that is shown, else 20, for none. Label: to the
+-- committee's members and to externals in no conflict; the one under which she is shown to review it.
 pub record PageTold (u : Option ℕ) (p : ℕ) (H : History) : Type 0 where
   pub paper : page_told (λ page. Some page.paper) u p H
-      ≡ where_known (is_on_committee (role_of u H) || is_author u p H || is_shown_accepted p (view u H)) p
+      ≡ where_known (is_on_committee (role_of u H) || visits u p H || is_author u p H
+      || is_shown_accepted p (view u H)) p
   pub title : page_told (λ page. page.title) u p H ≡ last (shown_on p (λ (s : Sighting). s.title) (view u H))
   pub abstract_ : page_told (λ page. page.abstract_) u p H
       ≡ last (shown_on p (λ (s : Sighting). s.abstract) (view u H))
   pub authors : page_told (λ page. page.authors) u p H ≡ some_names (writers_shown p (view u H)) (view u H)
   pub withdrawn : page_told (λ page. page.withdrawn) u p H
-      ≡ where_known (is_author u p H || serves u H) (is_shown kinds.Withdrawn p (view u H))
+      ≡ where_known (is_author u p H || serves u H || reads_visiting u p H) (is_shown kinds.Withdrawn p (view u H))
   pub versions : page_told (λ page. page.versions) u p H
       ≡ where_known (is_some (last (shown_on p (λ (s : Sighting). s.abstract) (view u H))))
       (shown_by kinds.Uploaded p (λ (s : Sighting). s.version) (view u H))
@@ -144,7 +156,7 @@ pub record PageTold (u : Option ℕ) (p : ℕ) (H : History) : Type 0 where
       (if is_shown_accepted p (view u H) then Some Accept
       else last (shown_on p (λ (s : Sighting). s.decision) (view u H)))
   pub conflict : page_told (λ page. page.conflict) u p H
-      ≡ where_known (is_on_committee (role_of u H) || is_author u p H)
+      ≡ where_known (is_on_committee (role_of u H) || visits u p H || is_author u p H)
       (list_any (is_number u) (writers_shown p (view u H)) || is_shown_in_conflict u p (view u H))
   pub conflicts : page_told (λ page. page.conflicts) u p H
       ≡ where_known (oversees u p H)
@@ -154,7 +166,8 @@ pub record PageTold (u : Option ℕ) (p : ℕ) (H : History) : Type 0 where
       (names_shown (users_shown (λ v. list_any (λ w. w == v) (declared_by_authors p H)) (view u H)) (view u H))
   pub bid : page_told (λ page. page.bid) u p H
       ≡ where_known (is_eligible u p H) (unwrap_or (last (own_bids_shown p (view u H))) 20)
-  pub label : page_told (λ page. page.label) u p H ≡ (if is_clear u p H then label_shown_of u p (view u H) else None)
+  pub label : page_told (λ page. page.label) u p H
+      ≡ (if is_clear u p H || (visits u p H && not (has_conflict u p H)) then label_shown_of u p (view u H) else None)
 
 abbrev pub PagesTold : Type 0
 PagesTold = (u : Option ℕ) (p : ℕ) (H : History) → Legal H → IsSubmitted H p → PageTold u p H

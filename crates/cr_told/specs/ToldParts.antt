@@ -1,6 +1,6 @@
 -- Told of every part: of each sighting of a view, and each part that it shows, an answer tells it, or it is left out
 -- under a name. First when an answer tells a part, kind by kind, then what is left out.
-use Rattle.std.specs.Prelude.{ℕ, Bool, true, false, not, ◌≡◌, ◌==◌, ◌&&◌, ◌||◌, List, ◌∷◌}
+use Rattle.std.specs.Prelude.{ℕ, Bool, true, false, not, ◌≡◌, ◌==◌, ◌&&◌, ◌||◌, List, [], ◌∷◌}
 use Rattle.std.specs.Prelude.{◌++◌, Option, Some, None, is_some, is_none, unwrap_or, IsTrue, nat_eq, if◌then◌else◌}
 use Rattle.std.specs.Option.{option_map, option_and_then}
 use Rattle.std.specs.List.{flat_map, list_any}
@@ -23,24 +23,25 @@ use Rattle.cr_base.specs.declared.words.Kind.{Kind}
 use Rattle.cr_base.specs.declared.words.Mode.{Mode}
 use Rattle.cr_base.specs.declared.words.Phase.TheVariants.{Setup}
 use Rattle.cr_base.specs.declared.words.Role.{Role}
+use Rattle.cr_base.specs.declared.words.Role.TheVariants.{Account}
 use Rattle.cr_base.specs.Lists.{listed, is_nothing, is_number, until}
 use Rattle.cr_base.specs.History.{History}
-use Rattle.cr_base.specs.HistoryFacts.{phase_of, is_author}
+use Rattle.cr_base.specs.HistoryFacts.{role_of, is_author, declared_by_authors}
 use Rattle.cr_base.specs.Phases.{is_phase}
 use Rattle.cr_base.specs.Words.{decision_number, mode_number, role_number, review_kind_number}
 use Rattle.cr_policy.specs.Judge.{answer}
 use Rattle.cr_policy.specs.Legal.{Legal}
 use Rattle.cr_policy.specs.Part as part
 use Rattle.cr_policy.specs.Part.{Part}
-use Rattle.cr_policy.specs.ShownTo.{is_past_reviewing, is_eligible}
+use Rattle.cr_policy.specs.ShownTo.{is_on_committee, chairs_committee, is_chairs, has_before_her}
 use Rattle.cr_policy.specs.Sighting.{Sighting}
 use Rattle.cr_policy.specs.View.{View, view}
 use Rattle.cr_policy.specs.ViewFacts.{only, is_user, is_kind, discussion_seen}
 use Rattle.cr_told.specs.ToldPages.{shown_on, page_told, shown_of}
-use Rattle.cr_told.specs.ToldPages.{bids_shown_of, own_bids_shown, ordinal_by, is_shown_accepted}
-use Rattle.cr_told.specs.ToldLists.{name_shown, is_left, comments_answered}
+use Rattle.cr_told.specs.ToldPages.{bids_shown_of, own_bids_shown, ordinal_by, invitation_by, is_shown_accepted}
+use Rattle.cr_told.specs.ToldLists.{name_shown, is_left, knows_reviewers, comments_answered}
 use Rattle.cr_told.specs.ToldLists.{content_answered, accepted_answered, me_answered}
-use Rattle.cr_told.specs.ToldPlaces.{is_left_behind}
+use Rattle.cr_told.specs.ToldPlaces.{is_left_behind, is_conflict_behind, is_seat_behind, is_form_behind}
 use Rattle.cr_told.specs.ToldReviews.{reviews_answered}
 use Rattle.cr_told.specs.ToldPublic.{all_shown, phases_shown, deadlines_shown, roles_shown}
 
@@ -141,6 +142,10 @@ accepted_given u H = accepted_answered (answer u (view u H) queries.AcceptedPape
 abbrev pub assigned_given : Option ℕ → History → Option (List ℕ)
 assigned_given u H = option_map (λ (me : Me). me.assigned) (me_answered (answer u (view u H) queries.Me))
 
+-- those to which she is invited
+abbrev pub invited_given : Option ℕ → History → Option (List ℕ)
+invited_given u H = option_map (λ (me : Me). me.invited) (me_answered (answer u (view u H) queries.Me))
+
 -- and those with which she is in conflict
 abbrev pub conflicts_given : Option ℕ → History → Option (List ℕ)
 conflicts_given u H = option_map (λ (me : Me). me.conflicts) (me_answered (answer u (view u H) queries.Me))
@@ -184,8 +189,8 @@ has_deadline u H s test =
 -- role; the conference its phase and mode; the deadlines each phase that has one, and it; the paper's page its title,
 -- abstract, authors, versions, conflicts, bids, reviewers, tags and decision, and the reader's own bid and label; the
 -- content of a version; the reviews and the comments their lines; the accepted papers that it is one; and what she is
--- told of herself with which papers she is in conflict, and which she reviews. A line for each part that a kind has,
--- and nothing else is told
+-- told of herself with which papers she is in conflict, which she reviews, and to which she is invited. A line for
+-- each part that a kind has, and nothing else is told
 abbrev pub is_told : Option ℕ → History → Sighting → EntryKind → Part → Bool
 is_told u H s kinds.Registered part.user = lists (accounts_given u H) (λ line. is_number s.user line.user)
 is_told u H s kinds.Registered part.name =
@@ -193,6 +198,8 @@ is_told u H s kinds.Registered part.name =
 is_told u H s kinds.Named part.user = lists (accounts_given u H) (λ line. is_number s.user line.user)
 is_told u H s kinds.Named part.role =
     lists (accounts_given u H) (λ line. is_number s.user line.user && agree same_role s.role (Some line.role))
+is_told u H s kinds.Dismissed part.user =
+    lists (accounts_given u H) (λ line. is_number s.user line.user && same_role Account line.role)
 is_told u H s kinds.PhaseSet part.phase =
     agree is_phase s.phase (option_map (λ (c : Conference). c.phase) (conference_given u H))
 is_told u H s kinds.ModeSet part.mode =
@@ -228,6 +235,7 @@ is_told u H s kinds.Assigned part.ordinal =
 is_told u H s kinds.Unassigned part.ordinal =
     is_some (key (λ page. page.reviewers) u H s)
     && not (lists (key (λ page. page.reviewers) u H s) (λ reviewer. is_number s.ordinal reviewer.label))
+is_told u H s kinds.Invited part.user = is_user u s.user && lists (invited_given u H) (is_number s.paper)
 is_told u H s kinds.Reviewed part.version = has_line u H s (λ line. agree nat_eq s.version line.version)
 is_told u H s kinds.Reviewed part.score = has_line u H s (λ line. agree nat_eq s.score (Some line.score))
 is_told u H s kinds.Reviewed part.confidence =
@@ -259,14 +267,16 @@ is_told u H s _ _ = false
 abbrev pub is_again : {A : Type 0} → (Sighting → Option A) → Sighting → View → Bool
 is_again of s after = not (is_nothing (shown_on (paper_of s) of after))
 
--- the conflict is turned off, and no list has it any more; or a later sighting turns it on or off; or it is the
--- reader's own, with a paper of hers, with which all its authors are in conflict; or it is left behind
+-- the conflict is turned off, and no list has it any more. Else, to an author of the paper, who is told of all that
+-- its authors declared: it is her own, and none of them declared it. To others: a later sighting turns it on or off, or
+-- it is left behind
 abbrev pub is_conflict_left : Option ℕ → History → Sighting → View → Bool
 is_conflict_left u H s after =
     not (unwrap_or s.on true)
-    || not (is_nothing (shown_of s.user (paper_of s) (λ (t : Sighting). t.on) after))
-    || (is_user u s.user && is_author u (paper_of s) H)
-    || is_left_behind u (paper_of s) H s
+    || (if is_author u (paper_of s) H
+    then is_user u s.user && not (list_any (is_number s.user) (declared_by_authors (paper_of s) H))
+    else not (is_nothing (shown_of s.user (paper_of s) (λ (t : Sighting). t.on) after))
+    || is_conflict_behind u (paper_of s) H s)
 
 -- the reviewer who is assigned is shown to be taken off
 abbrev pub is_taken_off : Option ℕ → History → Sighting → Bool
@@ -277,10 +287,20 @@ abbrev pub is_seated_again : Option ℕ → Sighting → View → Bool
 is_seated_again u s after = is_user u s.user
     && not (is_nothing (shown_of u (paper_of s) (λ (t : Sighting). ordinal_by t.kind t.ordinal) after))
 
--- the reader assigned her, or is the one assigned, and isn't eligible for the paper, since she came into conflict with
--- it
-abbrev pub is_conflicted_since : Option ℕ → History → Sighting → Bool
-is_conflicted_since u H s = (s.mine || is_user u s.user) && not (is_eligible u (paper_of s) H)
+-- the reader gave another the seat as a chair, and may not know who reviews the paper: she came into conflict with it
+-- since, or was dismissed
+abbrev pub is_name_behind : Option ℕ → History → Sighting → Bool
+is_name_behind u H s = s.mine && not (is_user u s.user) && not (knows_reviewers u (paper_of s) H)
+
+-- the seat is behind, but for the reader's own on a paper that is before her, of which she is told her label
+abbrev pub is_label_behind : Option ℕ → History → Sighting → Bool
+is_label_behind u H s =
+    is_seat_behind u (paper_of s) H s && not (is_user u s.user && has_before_her u (paper_of s) H)
+
+-- a later sighting invites the reader to the paper again, or takes that back
+abbrev pub is_uninvited : Option ℕ → Sighting → View → Bool
+is_uninvited u s after =
+    not (is_nothing (shown_of u (paper_of s) (λ (t : Sighting). invitation_by t.kind) after))
 
 -- the scores that sightings show under the label of this ordinal
 abbrev pub scores_at : ℕ → ℕ → View → List ℕ
@@ -297,15 +317,17 @@ is_followed u H s after =
     (if is_author u (paper_of s) H then after else until discussion_seen after)))
 
 abbrev pub is_form_left : Option ℕ → History → Sighting → View → Bool
-is_form_left u H s after = is_followed u H s after || is_left_behind u (paper_of s) H s
+is_form_left u H s after = is_followed u H s after || is_form_behind u (paper_of s) H s
 
--- the tag is turned off, and no list has it any more; or a later sighting turns it on or off; or it is left behind
+-- the tag is turned off, and no list has it any more; or a later sighting turns it on or off; or it is left behind, or
+-- is one for chairs, of which the reader is none any more
 abbrev pub is_tag_left : Option ℕ → History → Sighting → View → Bool
 is_tag_left u H s after =
     not (unwrap_or s.on true)
     || list_any
     (λ (t : Sighting). is_kind kinds.Tagged t && is_number t.paper (paper_of s) && agree bytes_eq s.tag t.tag) after
     || is_left_behind u (paper_of s) H s
+    || (s.mine && is_chairs (unwrap_or s.tag []) && not (chairs_committee (role_of u H)))
 
 -- the phase's deadline is taken away, and no list has it any more; or a later sighting sets it, or takes it away
 abbrev pub is_deadline_left : Sighting → View → Bool
@@ -315,14 +337,17 @@ is_deadline_left s after =
 -- what no answer tells of a sighting of this kind: the digest of a secret; a role, a phase, a mode, a deadline, a
 -- title, an abstract, a bid, a form, a decision, a conflict or a tag turned on, that a later sighting follows; a
 -- deadline that is taken away; a conflict and a tag that are turned off; a reviewer who is taken off, and who it was;
--- the reader's own seat, where she is seated anew, and what she is to the paper, before the discussion; her conflict
--- with a paper of her own; the label with a comment whose writer is named, and that she has none; a decision before
--- the one by which the paper was accepted; and the reader's own entries on a paper that she isn't eligible for, and
--- being assigned to it, since she came into conflict with it; and when she made her own entries, and by
--- which numbers
+-- the reader's own seat, where she is seated anew, and what she is to the paper, where she isn't told its reviewers;
+-- her conflict with a paper of her own, where no author declared it; the label with a comment whose writer is named,
+-- and that she has none; a decision before the one by which the paper was accepted; and the reader's own entries on a
+-- paper that she isn't eligible for, what she did as a chair: conflicts on one that she doesn't oversee, and seats on
+-- one of which she isn't told the reviewers, and her own label on one that isn't before her, since she came into
+-- conflict with it or was dismissed; who else is invited, that she is where she is a member since, and whose
+-- invitation was taken back; and when she made her own entries, and by which numbers
 abbrev pub is_left_untold : Option ℕ → History → Sighting → View → EntryKind → Part → Bool
 is_left_untold u H s after kinds.Registered part.digest = true
 is_left_untold u H s after kinds.Named part.role = not (is_nothing (roles_shown s.user after))
+is_left_untold u H s after kinds.Dismissed part.user = not (is_nothing (roles_shown s.user after))
 is_left_untold u H s after kinds.PhaseSet part.phase = not (is_nothing (phases_shown after))
 is_left_untold u H s after kinds.ModeSet part.mode = not (is_nothing (all_shown (λ (t : Sighting). t.mode) after))
 is_left_untold u H s after kinds.DeadlineSet part.phase = is_deadline_left s after
@@ -338,13 +363,16 @@ is_left_untold u H s after kinds.Bid part.value =
     || (s.mine && not (is_nothing (own_bids_shown (paper_of s) after)))
     || is_left_behind u (paper_of s) H s
 is_left_untold u H s after kinds.Assigned part.user =
-    is_taken_off u H s || is_seated_again u s after || is_conflicted_since u H s
+    is_taken_off u H s || is_seated_again u s after || is_name_behind u H s
 is_left_untold u H s after kinds.Assigned part.review_kind =
-    is_taken_off u H s || is_conflicted_since u H s || (is_user u s.user && not (is_past_reviewing (phase_of H)))
+    is_taken_off u H s || is_seat_behind u (paper_of s) H s
 is_left_untold u H s after kinds.Assigned part.ordinal =
-    is_taken_off u H s || is_seated_again u s after || is_conflicted_since u H s
+    is_taken_off u H s || is_seated_again u s after || is_label_behind u H s
 is_left_untold u H s after kinds.Unassigned part.user = true
-is_left_untold u H s after kinds.Unassigned part.ordinal = is_user u s.user || is_left_behind u (paper_of s) H s
+is_left_untold u H s after kinds.Unassigned part.ordinal = is_seat_behind u (paper_of s) H s
+is_left_untold u H s after kinds.Invited part.user =
+    not (is_user u s.user) || is_on_committee (role_of u H) || is_uninvited u s after
+is_left_untold u H s after kinds.Uninvited part.user = true
 is_left_untold u H s after kinds.Reviewed part.version = is_form_left u H s after
 is_left_untold u H s after kinds.Reviewed part.score = is_form_left u H s after
 is_left_untold u H s after kinds.Reviewed part.confidence = is_form_left u H s after

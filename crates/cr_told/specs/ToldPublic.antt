@@ -1,8 +1,9 @@
 -- Told of the conference: what everyone is shown of accounts, of the phase, of the mode and of deadlines, the answers
 -- tell.
-use Rattle.std.specs.Prelude.{ℕ, ◌≡◌, List, length, map, Option, None, unwrap_or}
+use Rattle.std.specs.Prelude.{ℕ, ◌≡◌, List, length, map, Option, Some, None, unwrap_or}
 use Rattle.std.specs.List.{flat_map}
 use Rattle.cr_base.specs.declared.command.Query.TheVariants as queries
+use Rattle.cr_base.specs.declared.entry.EntryKind.{EntryKind}
 use Rattle.cr_base.specs.declared.entry.EntryKind.TheVariants as kinds
 use Rattle.cr_base.specs.declared.reply.AccountLine.{AccountLine}
 use Rattle.cr_base.specs.declared.reply.Reply.TheVariants as replies
@@ -31,9 +32,15 @@ phases_shown V = flat_map (λ (s : Sighting). only (is_kind kinds.PhaseSet s) (l
 abbrev pub deadlines_shown : Phase → View → List (Option ℕ)
 deadlines_shown phase V = flat_map (λ (s : Sighting). only (shows_phase phase s.phase) (listed s.until)) V
 
--- the roles to which the user is shown to be named, in order; and the last, else that of an account
+-- the role that a sighting of this kind shows of its user: the one to which she is named, and an account's where she is
+-- dismissed
+abbrev pub role_by : EntryKind → Option Role → Option Role
+role_by kinds.Dismissed role = Some Account
+role_by _ role = role
+
+-- the roles that the user is shown to be given, in order; and the last, else that of an account
 abbrev pub roles_shown : Option ℕ → View → List Role
-roles_shown user V = flat_map (λ (s : Sighting). only (is_user user s.user) (listed s.role)) V
+roles_shown user V = flat_map (λ (s : Sighting). only (is_user user s.user) (listed (role_by s.kind s.role))) V
 
 abbrev pub role_shown : Option ℕ → View → Role
 role_shown user V = last_or Account (roles_shown user V)

@@ -12,11 +12,12 @@ use Rattle.cr_base.specs.declared.words.Phase.TheVariants.{Reviewing}
 use Rattle.cr_base.specs.Labels.{by_labels, most_labels}
 use Rattle.cr_base.specs.Lists.{listed, last, is_number, until, since}
 use Rattle.cr_base.specs.History.{History}
-use Rattle.cr_base.specs.HistoryFacts.{phase_of, is_author, is_reviewer, assigned_under}
+use Rattle.cr_base.specs.HistoryFacts.{phase_of, role_of, is_author, is_reviewer, assigned_under}
 use Rattle.cr_history.specs.Invariants.{IsSubmitted}
 use Rattle.cr_policy.specs.Judge.{answer}
 use Rattle.cr_policy.specs.Legal.{Legal}
-use Rattle.cr_policy.specs.ShownTo.{is_past_reviewing, is_eligible, discusses, is_notified, where_known}
+use Rattle.cr_policy.specs.ShownTo.{is_on_committee, is_past_reviewing, is_eligible, reads_visiting, discusses}
+use Rattle.cr_policy.specs.ShownTo.{is_notified, where_known}
 use Rattle.cr_policy.specs.Sighting.{Sighting}
 use Rattle.cr_policy.specs.View.{View, view}
 use Rattle.cr_policy.specs.ViewFacts.{only, is_kind, discussion_seen, seats_in_view}
@@ -56,14 +57,14 @@ own_forms_listed u p V =
     (review_shown false true p V (unwrap_or (label_shown_of u p V) 0) s))
     V
 
--- authors: of each label the last form that is shown, without what is for the committee; else from the discussion on:
--- of each label the last that stands before the discussion, and all later ones; and before it: her own
+-- authors: of each label the last form that is shown, without what is for the committee; else to the committee from the
+-- discussion on: of each label the last that stands before the discussion, and all later ones; and else: her own
 abbrev pub reviews_listed : Option ℕ → ℕ → History → List ReviewLine
 reviews_listed u p H =
     let V : View = view u H in
     if is_author u p H
     then by_labels (λ (o : ℕ). listed (last (forms_listed (knows_reviewers u p H) false p V o V))) most_labels
-    else (if is_past_reviewing (phase_of H)
+    else (if is_on_committee (role_of u H) && is_past_reviewing (phase_of H)
     then by_labels
     (λ (o : ℕ).
     listed (last (forms_listed (knows_reviewers u p H) true p V o (until discussion_seen V)))
@@ -80,10 +81,16 @@ is_reviewing_now _ = false
 abbrev pub reviews_now : Option ℕ → ℕ → History → Bool
 reviews_now u p H = is_eligible u p H && is_reviewer u p H && is_reviewing_now (phase_of H)
 
--- the reviews of a paper are answered to authors who are notified, to those who discuss it, and in
--- the reviewing to its reviewers
+-- she reviews the paper as an external in no conflict with it, in the reviewing or later
+abbrev pub reviews_visiting : Option ℕ → ℕ → History → Bool
+reviews_visiting u p H =
+    reads_visiting u p H && is_reviewer u p H && (is_reviewing_now (phase_of H) || is_past_reviewing (phase_of H))
+
+-- the reviews of a paper are answered to authors who are notified, to those who discuss it, in the reviewing to its
+-- reviewers, and from then on to those who review it as externals
 abbrev pub ReviewsTold : Type 0
 ReviewsTold =
     (u : Option ℕ) (p : ℕ) (H : History) → Legal H → IsSubmitted H p
     → reviews_answered (answer u (view u H) (queries.Reviews (Some p)))
-    ≡ where_known (is_notified u p H || discusses u p H || reviews_now u p H) (reviews_listed u p H)
+    ≡ where_known (is_notified u p H || discusses u p H || reviews_now u p H || reviews_visiting u p H)
+    (reviews_listed u p H)

@@ -21,9 +21,10 @@ ghost use Rattle.cr_told.specs.ToldSearches.{SearchesTold};
 /// their terms hold of what its page, its reviews and its comments tell.
 ///
 /// The last two say that this is all. Each sighting on a paper has its place: the key or the list that tells it is
-/// there, or it is the caller's own on a paper that she isn't eligible for. And each part of each sighting, of every
-/// kind of entry, stands in an answer, or on a list of what is left out: what a later entry replaced, turned off or
-/// took back, and a few more, each by its name. Neither speaks of the mark that an entry is the caller's own.
+/// there, or it is the caller's own on a paper that she isn't eligible for, or, where she did it as a chair, that she
+/// doesn't oversee; but for invitations, which are told to the one invited alone. And each part of each sighting, of
+/// every kind of entry, stands in an answer, or on a list of what is left out: what a later entry replaced, turned off
+/// or took back, and a few more, each by its name. Neither speaks of the mark that an entry is the caller's own.
 pub fn law_told()
     ensures pages { PagesTold }
     ensures page_lists { PageListsTold }

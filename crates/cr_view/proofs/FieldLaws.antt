@@ -14,12 +14,12 @@ use Rattle.cr_base.specs.declared.words.Phase.TheVariants.{Discussion}
 use Rattle.cr_base.specs.Accounts.{lines_of}
 use Rattle.cr_base.specs.Answering.{reply_or_rule, review_told, reviews_answered, uploads_told}
 use Rattle.cr_base.specs.Labels.{by_labels, most_labels}
-use Rattle.cr_base.specs.Checks.{Check, judged}
+use Rattle.cr_base.specs.Checks.{Check, judged, reads_all_forms}
 use Rattle.cr_base.specs.History.{FormTold, Upload}
 use Rattle.cr_base.specs.HistoryFacts.{assigned_under}
 use Rattle.cr_base.specs.Lists.{is_nothing, last, last_from, listed}
 use Rattle.cr_base.specs.Page.{shows_reviewer}
-use Rattle.cr_base.specs.Phases.{is_from, members_read_reviews}
+use Rattle.cr_base.specs.Phases.{is_from}
 use Rattle.cr_base.specs.Reviews.{forms_discussed_in, forms_in, is_written_in, last_form_in, written_told}
 use Rattle.cr_base.specs.Seats.{ordinal_in, seats_in}
 use Rattle.cr_base.specs.Tables.{Tables}
@@ -179,6 +179,6 @@ module _ (t : Tables) (user : Option ℕ) (by : Standing) (p : ℕ) where
       (λ o. some-map written_told (discussed (forms_in t.reviews p o)) ∙ some-discussed (forms_in t.reviews p o))
   some-all false false h = absurd (true≢false (sym h))
 
-  -- to authors, and from the discussion on, something is told where there is a form
-  pub some-reviews : (by.author || members_read_reviews by.phase) ≡ true → some_label written 26 ≡ not (is_nothing (reviews_at t user by p))
-  some-reviews h = some-all by.author (members_read_reviews by.phase) h
+  -- to authors, and to members from the discussion on, something is told where there is a form
+  pub some-reviews : (by.author || reads_all_forms by) ≡ true → some_label written 26 ≡ not (is_nothing (reviews_at t user by p))
+  some-reviews h = some-all by.author (reads_all_forms by) h

@@ -11,11 +11,12 @@ use Rattle.cr_base.specs.declared.seat.Seat.{Seat}
 use Rattle.cr_base.specs.declared.words.Role.{Role}
 use Rattle.cr_base.specs.Accounts.{account_at, role_in}
 use Rattle.cr_base.specs.Answering.{me_by}
-use Rattle.cr_base.specs.Sources.{facts_of_tables}
+use Rattle.cr_base.specs.Sources.{facts_of_tables, is_external_in}
 use Rattle.cr_base.proofs.FiledLaws.{filter-filter}
 use Rattle.cr_base.proofs.ListLaws.{name_in-lines_of}
 use Rattle.cr_base.specs.declared.pairs.Order.TheVariants.{ByPaper, ByUser}
 use Rattle.cr_base.specs.declared.pairs.Tie.{Tie}
+use Rattle.cr_base.specs.Invites.{is_invited_in}
 use Rattle.cr_base.specs.Lists.{IsRising, given, is_number}
 use Rattle.cr_base.specs.Pairs.{has_pair, ties_of, papers_tied_to}
 use Rattle.cr_base.specs.Papers.{paper_count, paper_numbers, own_bytes}
@@ -23,6 +24,7 @@ use Rattle.cr_base.specs.Seats.{SeatsState, ordinal_in}
 use Rattle.cr_base.specs.Tables.{Tables}
 use Rattle.cr_base.specs.Talk.{own_comments_in}
 use Rattle.cr_base.specs.Ties.{BareTies, pair_of, bare_tie, is_author_in, is_conflict_on_in, is_conflicted_in, are_within, AreWithin}
+use Rattle.cr_base.specs.Words.{is_member}
 use Rattle.cr_base.proofs.PairLaws.{list_any-others_of}
 use Rattle.cr_base.proofs.RisingLists.{has_number, numbers-others_of}
 use Rattle.cr_base.proofs.TieLaws.{within-pair}
@@ -104,14 +106,40 @@ module _ (t : Tables) (user : ℕ) (within : AreWithin (paper_count t.papers) t.
       ∙ sym (filter-filter (λ p. is_conflict_on_in t.ties (Some user) p) (λ p. not (is_author_in t.ties (Some user) p)) (paper_numbers t.papers))
       ∙ ap (λ (test : ℕ → Bool). filter test (paper_numbers t.papers)) (λ i p. only_declared (is_author_in t.ties (Some user) p) (is_conflict_on_in t.ties (Some user) p) i)
 
+-- the papers to which she is invited
+own-invites : (t : Tables) (user : ℕ) → are_within (paper_count t.papers) t.invites ≡ true → IsRising (papers_tied_to user t.invites)
+    → papers_tied_to user t.invites ≡ filter (λ p. is_invited_in t.invites (Some user) p) (paper_numbers t.papers)
+own-invites t user within rising =
+    sym (numbers-others_of (λ p. is_invited_in t.invites (Some user) p) ByUser user t.papers.papers t.invites rising
+    (λ p there. within-pair (paper_count t.papers) (pair_of p user) t.invites within there)
+    (λ p. refl))
+
+-- none pass a test that nothing passes
+filter-none : (ns : List ℕ) → filter (λ p. false) ns ≡ []
+filter-none [] = refl
+filter-none (n ∷ ns) = filter-none ns
+
+-- the papers of which she is an external: none of a member's, else those to which she is invited
+pub external-none : (t : Tables) (user : ℕ) → is_member (role_in t.accounts (Some user)) ≡ true
+    → [] ≡ filter (λ p. is_external_in t (Some user) p) (paper_numbers t.papers)
+external-none t user is =
+    sym (ap (λ (b : Bool). filter (λ p. not b && is_invited_in t.invites (Some user) p) (paper_numbers t.papers)) is ∙ filter-none (paper_numbers t.papers))
+
+pub external-some : (t : Tables) (user : ℕ) → is_member (role_in t.accounts (Some user)) ≡ false → are_within (paper_count t.papers) t.invites ≡ true
+    → IsRising (papers_tied_to user t.invites) → papers_tied_to user t.invites ≡ filter (λ p. is_external_in t (Some user) p) (paper_numbers t.papers)
+external-some t user is within rising =
+    own-invites t user within rising
+    ∙ sym (ap (λ (b : Bool). filter (λ p. not b && is_invited_in t.invites (Some user) p) (paper_numbers t.papers)) is)
+
 -- ---- the answer
 
 -- what is read piece by piece is what she is told
-pub me-told : (t : Tables) (user bytes comments : ℕ) (assigned papers conflicts name : List ℕ) (role : Role)
+pub me-told : (t : Tables) (user bytes comments : ℕ) (assigned papers conflicts invited name : List ℕ) (role : Role)
     → assigned ≡ filter (λ p. is_some (ordinal_in t.seats (Some user) p)) (paper_numbers t.papers)
     → bytes ≡ own_bytes t.papers (Some user) → comments ≡ own_comments_in t.talk (Some user)
     → papers ≡ filter (λ p. is_author_in t.ties (Some user) p) (paper_numbers t.papers)
     → conflicts ≡ filter (λ p. is_conflicted_in t.ties (Some user) p && not (is_author_in t.ties (Some user) p)) (paper_numbers t.papers)
+    → invited ≡ filter (λ p. is_external_in t (Some user) p) (paper_numbers t.papers)
     → name ≡ unwrap_or (option_map (λ (a : Account). a.name) (account_at t.accounts user)) []
     → role ≡ role_in t.accounts (Some user)
     → ◌≡◌ {A = Me} (record {
@@ -119,24 +147,26 @@ pub me-told : (t : Tables) (user bytes comments : ℕ) (assigned papers conflict
       bytes = bytes;
       comments = comments;
       conflicts = conflicts;
+      invited = invited;
       name = name;
       papers = papers;
       role = role;
       user = user;
     })
     (me_by (facts_of_tables t (Some user)) user)
-me-told t user bytes comments assigned papers conflicts name role reviewed uploaded wrote hers others named has =
+me-told t user bytes comments assigned papers conflicts invited name role reviewed uploaded wrote hers others asked named has =
     let wanted : Me = me_by (facts_of_tables t (Some user)) user in
     let known : name ≡ wanted.name = named ∙ sym (ap (λ (o : Option (List ℕ)). unwrap_or o []) (name_in-lines_of t.accounts user)) in
-    let told : List ℕ → ℕ → ℕ → List ℕ → List ℕ → List ℕ → Role → Me =
-    λ a b k c n p r. record { assigned = a; bytes = b; comments = k; conflicts = c; name = n; papers = p; role = r; user = user } in
-    ap (λ (a : List ℕ). told a bytes comments conflicts name papers role) reviewed
-    ∙ ap (λ (b : ℕ). told wanted.assigned b comments conflicts name papers role) uploaded
-    ∙ ap (λ (k : ℕ). told wanted.assigned wanted.bytes k conflicts name papers role) wrote
-    ∙ ap (λ (c : List ℕ). told wanted.assigned wanted.bytes wanted.comments c name papers role) others
-    ∙ ap (λ (n : List ℕ). told wanted.assigned wanted.bytes wanted.comments wanted.conflicts n papers role) known
-    ∙ ap (λ (p : List ℕ). told wanted.assigned wanted.bytes wanted.comments wanted.conflicts wanted.name p role) hers
-    ∙ ap (λ (r : Role). told wanted.assigned wanted.bytes wanted.comments wanted.conflicts wanted.name wanted.papers r) has
+    let told : List ℕ → ℕ → ℕ → List ℕ → List ℕ → List ℕ → List ℕ → Role → Me =
+    λ a b k c i n p r. record { assigned = a; bytes = b; comments = k; conflicts = c; invited = i; name = n; papers = p; role = r; user = user } in
+    ap (λ (a : List ℕ). told a bytes comments conflicts invited name papers role) reviewed
+    ∙ ap (λ (b : ℕ). told wanted.assigned b comments conflicts invited name papers role) uploaded
+    ∙ ap (λ (k : ℕ). told wanted.assigned wanted.bytes k conflicts invited name papers role) wrote
+    ∙ ap (λ (c : List ℕ). told wanted.assigned wanted.bytes wanted.comments c invited name papers role) others
+    ∙ ap (λ (i : List ℕ). told wanted.assigned wanted.bytes wanted.comments wanted.conflicts i name papers role) asked
+    ∙ ap (λ (n : List ℕ). told wanted.assigned wanted.bytes wanted.comments wanted.conflicts wanted.invited n papers role) known
+    ∙ ap (λ (p : List ℕ). told wanted.assigned wanted.bytes wanted.comments wanted.conflicts wanted.invited wanted.name p role) hers
+    ∙ ap (λ (r : Role). told wanted.assigned wanted.bytes wanted.comments wanted.conflicts wanted.invited wanted.name wanted.papers r) has
 
 -- ---- walks
 

@@ -1,13 +1,17 @@
--- Nobody has no ties to a paper, and no seat.
-use Rattle.std.proofs.Common.{ℕ, false, ◌≡◌, List, [], ◌∷◌, refl, sym, ap, ◌∙◌, ◌||◌, Option, Some, None}
-use Rattle.std.specs.Prelude.{find, is_some}
+-- Nobody has no ties to a paper, no seat and no invitation.
+use Rattle.std.proofs.Common.{ℕ, Bool, true, false, ◌≡◌, List, [], ◌∷◌, refl, sym, ap, ◌∙◌, ◌||◌, ◌&&◌, Option, Some, None}
+use Rattle.std.specs.Prelude.{find, is_some, not}
 use Rattle.std.specs.List.{list_any}
 use Rattle.std.specs.Option.{option_map}
 use Rattle.cr_base.specs.declared.pairs.Tie.{Tie}
 use Rattle.cr_base.specs.declared.seat.Seat.{Seat}
 use Rattle.cr_base.specs.Lists.{at_some, is_number}
 use Rattle.cr_base.specs.Seats.{SeatsState, seats_taken, ordinal_in}
+use Rattle.cr_base.specs.Sources.{is_external_in}
+use Rattle.cr_base.specs.Tables.{Tables}
 use Rattle.cr_base.specs.Ties.{TiesState, authors_in, is_author_in, is_conflicted_in}
+use Rattle.cr_base.specs.Words.{is_member}
+use Rattle.cr_base.specs.Accounts.{role_in}
 
 nobody : (users : List ℕ) → list_any (is_number None) users ≡ false
 nobody [] = refl
@@ -34,3 +38,11 @@ nobody-seat seats user p is =
 pub nobody-reviewer : (seats : SeatsState) (user paper : Option ℕ) → user ≡ None → false ≡ at_some (λ p. is_some (ordinal_in seats user p)) paper
 nobody-reviewer seats user None is = refl
 nobody-reviewer seats user (Some p) is = ap is_some (nobody-seat seats user p is)
+
+-- nor is nobody an external
+pub nobody-external : (t : Tables) (user : Option ℕ) (p : ℕ) → user ≡ None → false ≡ is_external_in t user p
+nobody-external t user p is = sym (ap (λ (u : Option ℕ). is_external_in t u p) is ∙ no (not (is_member (role_in t.accounts None))))
+  where
+    no : (b : Bool) → (b && false) ≡ false
+    no true = refl
+    no false = refl

@@ -45,9 +45,10 @@ either false declared chair late c d n h k = by (chair && not declared && late)
     by false = omega arith
 
 -- each list twice at most
-sums : (a c d s b f v g x y n : ℕ) → a + c + s + b + f + v + g ≤ n → a + d + s + b + f + v + g ≤ n → x + y ≤ n - (a + s + b + f + v + g)
-    → (a + c + s + 4) + ((a + x + y + b + b + (s + f)) + (v + 1) + g) ≤ 2 * n + 16
-sums a c d s b f v g x y n kept named lists = omega (arith, kept, named, lists)
+sums : (a c d s i b f v g x y n : ℕ) → a + c + s + i + b + f + v + g ≤ n → a + d + s + i + b + f + v + g ≤ n
+    → x + y ≤ n - (a + s + i + b + f + v + g)
+    → (a + c + s + i + 4) + ((a + x + y + b + b + (s + f)) + (v + 1) + g) ≤ 2 * n + 16
+sums a c d s i b f v g x y n kept named lists = omega (arith, kept, named, lists)
 
 module _ (t : Tables) (user : Option ℕ) (p : ℕ) (H : History) (is : t ≡ tables_of H) where
   abbrev by : Standing
@@ -71,14 +72,15 @@ module _ (t : Tables) (user : Option ℕ) (p : ℕ) (H : History) (is : t ≡ ta
       let c : ℕ = length (users_tied_to p t.ties.conflicts) in
       let d : ℕ = length (users_tied_to p t.ties.declared) in
       let s : ℕ = length (ties_of ByPaper p t.seats) in
+      let i : ℕ = length (users_tied_to p t.invites) in
       let b : ℕ = length (bids_in t.ties p) in
       let f : ℕ = length (filed_of p t.reviews.forms) in
       let v : ℕ = length (uploads_at t.papers p) in
       let g : ℕ = length (filed_of p t.tags) in
       let x : ℕ = cond (gets_conflicts by) c 0 in
       let y : ℕ = cond (gets_declared by) d 0 in
-      sums a c d s b f v g x y n kept named
-      (either (is_author_in t.ties user p) (is_conflict_on_in t.ties user p) (is_chair by.role) (chairs_see_conflicts by.phase) c d (n - (a + s + b + f + v + g)) (omega (arith, kept)) (omega (arith, named)))
+      sums a c d s i b f v g x y n kept named
+      (either (is_author_in t.ties user p) (is_conflict_on_in t.ties user p) (is_chair by.role) (chairs_see_conflicts by.phase) c d (n - (a + s + i + b + f + v + g)) (omega (arith, kept)) (omega (arith, named)))
 
 pub few-read : (t : Tables) (user : Option ℕ) (p : ℕ) (s u : Option ℕ) → TakesAtMost (facts_reads t p) s u → TakesFew t p s u
 few-read t user p s u h H is = at_most-more (facts_reads t p) (2 * entries_on p H + 16) s u (few-facts t user p H is) h

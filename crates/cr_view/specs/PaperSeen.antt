@@ -21,7 +21,7 @@ use Rattle.cr_base.specs.Pairs.{ties_of, users_tied_to}
 use Rattle.cr_base.specs.Papers.{uploads_at}
 use Rattle.cr_base.specs.Reviews.{is_written_in}
 use Rattle.cr_base.specs.Seats.{ordinal_in, reviewers_in}
-use Rattle.cr_base.specs.Sources.{names_in, standing_at}
+use Rattle.cr_base.specs.Sources.{names_in, standing_at, is_external_in}
 use Rattle.cr_base.specs.Steps.{TakesAtMost}
 use Rattle.cr_base.specs.Tables.{Tables, tables_of}
 use Rattle.cr_base.specs.Tags.{tags_in}
@@ -40,6 +40,7 @@ tie_at t user p = record {
   author = is_author_in t.ties user p;
   conflicted = is_conflicted_in t.ties user p;
   label = ordinal_in t.seats user p;
+  external = is_external_in t user p;
 }
 
 -- how a user stands who has this tie to it
@@ -51,6 +52,7 @@ stance_at t user tie = record {
   author = tie.author;
   conflicted = tie.conflicted;
   reviewer = is_some tie.label;
+  external = tie.external;
 }
 
 -- its number; how she stands to it; the ordinal under which she reviews it; the last decision on it; and what is kept
@@ -167,7 +169,10 @@ page_listed t s lists versions tags = record {
 -- of the paper's own: for what a caller is to it; for the facts; and for the lists that its page tells
 abbrev pub tie_reads : Tables → ℕ → ℕ
 tie_reads t p =
-    length (authors_in t.ties p) + length (users_tied_to p t.ties.conflicts) + length (ties_of ByPaper p t.seats)
+    length (authors_in t.ties p)
+    + length (users_tied_to p t.ties.conflicts)
+    + length (ties_of ByPaper p t.seats)
+    + length (users_tied_to p t.invites)
 
 abbrev pub facts_reads : Tables → ℕ → ℕ
 facts_reads t p = tie_reads t p + 4

@@ -1,4 +1,4 @@
-//! What is answered of a paper's content: the last version to members, any to authors.
+//! What is answered of a paper's content: the last version to members and externals, any to authors.
 ghost use Rattle.std.specs.Prelude.{◌≡◌, IfOk, IfErr, Ok, Err, Some};
 ghost use Rattle.std.specs.Option.{option_copied};
 ghost use Rattle.cr_base.specs.Answering.{content_asked};
@@ -103,7 +103,7 @@ impl Live {
         if by.author || self.has_published(paper) {
             return Ok(by);
         }
-        if !by.role.is_member() {
+        if !by.is_admitted() {
             return Err(Rule::NotMember);
         }
         if by.conflicted {

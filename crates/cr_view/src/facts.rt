@@ -26,6 +26,8 @@ pub(crate) struct PaperTie {
     conflicted: bool,
     /// The ordinal of the label under which she reviews it, if she does.
     label: Option<Ordinal>,
+    /// Whether she is an external of it.
+    external: bool,
 }
 
 /// What is asked of one paper for one caller: how she stands to it, the label under which she reviews it, the last
@@ -191,7 +193,7 @@ impl<'a> PaperFacts<'a> {
 /// How they are read.
 impl Live {
     /// What a user, or nobody, is to the paper: a step for each of its authors and its seats at most, and those of a
-    /// search among the users declared in conflict with it.
+    /// search among the users declared in conflict with it, and of one among those invited to it.
     fn tie_to<L: Ledger>(
         &self,
         user: &Option<UserNo>,
@@ -207,6 +209,7 @@ impl Live {
                 author: false,
                 conflicted: false,
                 label: None,
+                external: false,
             },
         }
     }
@@ -219,10 +222,13 @@ impl Live {
         let author = self.ties.is_author(user, paper, steps);
         let declared = self.ties.is_declared(user, paper, steps);
         let label = self.seats.ordinal_of(user, paper, steps);
+        let role = self.accounts.standing_for(&Some(user));
+        let external = self.seats.is_external(user, paper, role, steps);
         PaperTie {
             author,
             conflicted: author || declared,
             label,
+            external,
         }
     }
 
@@ -245,12 +251,13 @@ impl Live {
             author: tie.author,
             conflicted: tie.conflicted,
             reviewer: tie.label.is_some(),
+            external: tie.external,
         }
     }
 
     /// What is asked of the paper for a user, or nobody, of whom it tells the same where there is no such paper. It is
     /// found by number: a step for each of its authors and its seats at most, those of a search among the users
-    /// declared in conflict with it, and four; takes no memory.
+    /// declared in conflict with it, of one among those invited to it, and four; takes no memory.
     pub fn facts<L: Ledger>(
         &self,
         user: &Option<UserNo>,
@@ -274,8 +281,8 @@ impl Live {
     }
 
     /// What a user, or nobody, is to the conference and to a paper, where one is named. A caller who is nobody is an
-    /// `Account` without ties. Takes no memory; of the paper it reads the authors, the seats and, by a search, who is
-    /// declared in conflict with it.
+    /// `Account` without ties. Takes no memory; of the paper it reads the authors, the seats and, by a search each, who
+    /// is declared in conflict with it and who is invited to it.
     pub fn standing(&self, user: &Option<UserNo>, paper: &Option<PaperNo>) -> Standing
         ensures { result ≡ standing_at self.now.tables user.now paper.now }
     {
@@ -299,6 +306,7 @@ impl Live {
                 author: false,
                 conflicted: false,
                 label: None,
+                external: false,
             },
         }
     }

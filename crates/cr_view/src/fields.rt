@@ -114,7 +114,7 @@ impl Live {
             (reviews_at self.now.tables user.now facts.now.by facts.now.paper)) }
     {
         let by = facts.by();
-        if by.author || by.phase.members_read_reviews() {
+        if by.author || by.reads_all_forms() {
             return self.has_any_form(facts.paper());
         }
         match facts.label() {

@@ -69,6 +69,7 @@ impl Model for Live {
         papers = t.papers.papers;
         ties = t.ties.ties;
         seats = t.seats.seats;
+        invites = t.seats.invites;
         reviews = t.reviews.reviews;
         talk = t.talk.talk;
         tags = t.tags.tags;
@@ -86,9 +87,10 @@ impl Model for Live {
       };
     } };
 
-    // The papers that have ties are there, and so are those that have seats.
+    // The papers that have ties are there, and so are those that have seats, and those to which somebody is invited.
     ghost invariant = { λ t. AreWithin (paper_count t.papers.papers) t.ties.ties
-        × IsTrue (are_within (paper_count t.papers.papers) t.seats.seats) };
+        × IsTrue (are_within (paper_count t.papers.papers) t.seats.seats)
+        × IsTrue (are_within (paper_count t.papers.papers) t.seats.invites) };
 }
 
 /// The tables and their entries.
@@ -198,10 +200,12 @@ impl Live {
         }
     }
 
-    /// Nothing to run: a law, that the papers which have ties are there, and those which have seats.
+    /// Nothing to run: a law, that the papers which have ties are there, those which have seats, and those to which
+    /// somebody is invited.
     pub fn law_within(&self)
         ensures ties { AreWithin (paper_count self.now.tables.papers) self.now.tables.ties }
         ensures seats { IsTrue (are_within (paper_count self.now.tables.papers) self.now.tables.seats) }
+        ensures invites { IsTrue (are_within (paper_count self.now.tables.papers) self.now.tables.invites) }
     {
         let _papers = &self.papers;
     }
@@ -237,9 +241,10 @@ impl Live {
         &self.ties
     }
 
-    /// The table of who reviews which paper.
+    /// The table of who reviews which paper, and who is invited to.
     pub fn seat_table(&self) -> &Seats
-        ensures { result.now.seats ≡ self.now.tables.seats }
+        ensures seats { result.now.seats ≡ self.now.tables.seats }
+        ensures invites { result.now.invites ≡ self.now.tables.invites }
     {
         &self.seats
     }

@@ -3,8 +3,9 @@ ghost use Rattle.std.specs.Prelude.{◌≡◌, ◌++◌, [], IfOk, OnOk, Some, f
 ghost use Rattle.std.specs.Option.{option_map};
 ghost use Rattle.cr_base.specs.Accounts.{account_at};
 ghost use Rattle.cr_base.specs.Answering.{me_by};
-ghost use Rattle.cr_base.specs.Sources.{facts_of_tables};
+ghost use Rattle.cr_base.specs.Sources.{facts_of_tables, is_external_in};
 ghost use Rattle.cr_base.specs.Lists.{given};
+ghost use Rattle.cr_base.specs.Papers.{paper_numbers};
 ghost use Rattle.cr_base.specs.Ties.{is_author_in};
 
 use crate::live::Live;
@@ -13,8 +14,8 @@ use std::alloc::{AllocError, Global};
 
 impl Live {
     /// What a user is told of herself; an error only for lack of memory. A few look-ups by number, and
-    /// a walk over her own papers, over those with which she is declared in conflict and over those that
-    /// she reviews.
+    /// a walk over her own papers, over those with which she is declared in conflict, over those that
+    /// she reviews and over those to which she is invited.
     pub fn me(&self, alloc: Global, user: UserNo) -> Result<Me, AllocError>
         ensures { IfOk result (λ me. me ≡ me_by (facts_of_tables self.now.tables (Some user)) user) }
     {
@@ -26,16 +27,33 @@ impl Live {
             self.ties.conflicting(user, &mut Steps::uncounted()),
         )?;
         let assigned = papers_of(alloc, self.seats.reviewed(user, &mut Steps::uncounted()))?;
+        let invited = self.invited(alloc, user)?;
         Ok(Me {
             assigned,
             bytes: self.papers.bytes_of_user(user),
             comments: self.talk.count_of_user(user),
             conflicts,
+            invited,
             name: self.own_name(user),
             papers,
             role: self.accounts.standing_for(&Some(user)),
             user,
         })
+    }
+
+    /// The papers of which the user is an external: none of a member's, else those to which she is invited.
+    fn invited(&self, alloc: Global, user: UserNo) -> Result<PaperNos, AllocError>
+        ensures { IfOk result (λ papers. papers
+            ≡ filter (λ p. is_external_in self.now.tables (Some user) p) (paper_numbers self.now.tables.papers)) }
+    {
+        self.law_within();
+        let role = self.accounts.standing_for(&Some(user));
+        if role.is_member() {
+            let none = Vec::new(alloc);
+            return Ok(PaperNos::from_vec(none));
+        }
+        let papers = papers_of(alloc, self.seats.inviting(user, &mut Steps::uncounted()))?;
+        Ok(papers)
     }
 
     /// Her name; no bytes where nobody has that number.

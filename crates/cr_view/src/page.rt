@@ -11,28 +11,30 @@ use cr_anonymity::shows_reviewer;
 use cr_base::{Kind, Standing, Text, Versions};
 use std::alloc::{AllocError, Global};
 
-/// Whether she is told the title: authors; members from bidding on; everyone where the paper is accepted.
+/// Whether she is told the title: authors; from bidding on members, and externals who aren't in conflict; everyone
+/// where the paper is accepted.
 pub(crate) fn gets_title(by: &Standing, accepted: bool) -> bool
     ensures { result ≡ gets_title by.now accepted }
 {
-    by.author || (by.role.is_member() && by.phase.members_see_papers()) || accepted
+    by.author
+        || (by.role.is_member() && by.phase.members_see_papers())
+        || (by.is_clear_external() && by.phase.members_see_papers())
+        || accepted
 }
 
-/// Whether she is told the abstract: authors; from bidding on members who aren't in conflict; everyone where
-/// the paper is published.
+/// Whether she is told the abstract: authors; from bidding on members and externals who aren't in conflict; everyone
+/// where the paper is published.
 pub(crate) fn gets_abstract(by: &Standing, accepted: bool) -> bool
     ensures { result ≡ gets_abstract by.now accepted }
 {
-    by.author
-        || (by.is_clear_member() && by.phase.members_see_papers())
-        || by.phase.publishes(accepted)
+    by.author || (by.reads_paper() && by.phase.members_see_papers()) || by.phase.publishes(accepted)
 }
 
-/// Whether she is told if she is in conflict: members and authors.
+/// Whether she is told if she is in conflict: members, externals and authors.
 fn gets_conflict(by: &Standing) -> bool
     ensures { result ≡ gets_conflict by.now }
 {
-    by.role.is_member() || by.author
+    by.is_admitted() || by.author
 }
 
 /// Whether she is in conflict with the paper, where she is told that.
@@ -61,21 +63,22 @@ pub(crate) fn gets_declared(by: &Standing) -> bool
     by.author
 }
 
-/// Whether she is told the versions: authors; from bidding on members who aren't in conflict; everyone where the
-/// paper is published.
+/// Whether she is told the versions: authors; from bidding on members and externals who aren't in conflict; everyone
+/// where the paper is published.
 pub(crate) fn gets_versions(by: &Standing, accepted: bool) -> bool
     ensures { result ≡ gets_versions by.now accepted }
 {
-    by.author
-        || (by.is_clear_member() && by.phase.members_see_papers())
-        || by.phase.publishes(accepted)
+    by.author || (by.reads_paper() && by.phase.members_see_papers()) || by.phase.publishes(accepted)
 }
 
-/// Whether she is told if the paper is withdrawn: authors; members from bidding on.
+/// Whether she is told if the paper is withdrawn: authors; from bidding on members, and externals who aren't in
+/// conflict.
 fn gets_withdrawn(by: &Standing) -> bool
     ensures { result ≡ gets_withdrawn by.now }
 {
-    by.author || (by.role.is_member() && by.phase.members_see_papers())
+    by.author
+        || (by.role.is_member() && by.phase.members_see_papers())
+        || (by.is_clear_external() && by.phase.members_see_papers())
 }
 
 /// Whether the paper is withdrawn, where she is told that.
@@ -103,11 +106,11 @@ pub(crate) fn gets_bids(by: &Standing) -> bool
     by.is_clear_chair() && by.phase.chairs_see_bids()
 }
 
-/// Whether she is told her own label: reviewers of the paper who are members and not in conflict.
+/// Whether she is told her own label: reviewers of the paper who are members or externals and not in conflict.
 pub(crate) fn gets_label(by: &Standing) -> bool
     ensures { result ≡ gets_label by.now }
 {
-    by.is_clear_member() && by.reviewer
+    by.reads_paper() && by.reviewer
 }
 
 /// Whether she is told who reviews, each by her label at least: whoever is shown their names, and from

@@ -1,5 +1,5 @@
-//! What plans ask of the tables: whether one may be asked for, which papers and members are planned, and who is free for
-//! which paper. None takes memory.
+//! What plans ask of the tables: whether one may be asked for, which papers and members are planned, and who is free
+//! for which paper. None takes memory.
 ghost use Rattle.std.specs.Prelude.{◌≡◌, ◌≤◌, ◌+◌, ◌&&◌, nat_le, not, length};
 ghost use Rattle.cr_base.specs.Answering.{plan_asked};
 ghost use Rattle.cr_base.specs.Checks.{judged};
@@ -12,8 +12,8 @@ ghost use Rattle.cr_view.specs.Plans.{is_planned_in, one};
 use crate::live::Live;
 use cr_base::{Bid, MOST_LABELS, PaperNo, PerPaper, Rule, Steps, UserNo};
 
-/// Whether a plan of so many papers and members, with so many places for each paper, has more than 512 places, or papers
-/// times members passes 4,096. There are at most 9,999 of each.
+/// Whether a plan of so many papers and members, with so many places for each paper, has more than 512 places, or
+/// papers times members passes 4,096. There are at most 9,999 of each.
 fn is_too_large(per_paper: PerPaper, papers: u64, members: u64) -> bool
     requires papers { papers ≤ 9999 }
     requires members { members ≤ 9999 }
@@ -75,8 +75,8 @@ impl Live {
         Ok(())
     }
 
-    /// Whether a plan with so many places for each paper is too large for a user, or nobody, to ask for. A walk over all
-    /// papers, of each what `is_planned` costs, and one over the accounts.
+    /// Whether a plan with so many places for each paper is too large for a user, or nobody, to ask for. A walk over
+    /// all papers, of each what `is_planned` costs, and one over the accounts.
     fn is_plan_too_large(&self, user: &Option<UserNo>, per_paper: PerPaper) -> bool
         ensures { result ≡ is_too_large per_paper
             (length (planned_papers (facts_of_tables self.now.tables user.now)

@@ -7,7 +7,7 @@ ghost use Rattle.cr_base.specs.Checks.{judged};
 ghost use Rattle.cr_base.specs.Deadlines.{deadline_in, deadlines_told, phase_deadline};
 ghost use Rattle.cr_base.specs.Filed.{filed_of};
 ghost use Rattle.cr_base.specs.Lists.{listed};
-ghost use Rattle.cr_base.specs.Page.{gets_tags, gets_versions, where_told};
+ghost use Rattle.cr_base.specs.Page.{gets_tags, gets_versions, is_admitted, where_told};
 ghost use Rattle.cr_base.specs.Sources.{facts_of_tables, shown_in_tables, has_paper};
 ghost use Rattle.cr_base.specs.Papers.{uploads_at};
 ghost use Rattle.cr_base.specs.Steps.{TakesAtMost};
@@ -45,20 +45,21 @@ fn maker(caller: &Option<UserNo>) -> UserNo
 
 /// Whether the caller may see the page of a paper of which this is asked.
 fn may_see_page(facts: &PaperFacts<'_>) -> bool
-    ensures { result ≡ (is_member facts.now.by.role || facts.now.by.author || accepted_seen facts.now) }
+    ensures { result ≡ (is_admitted facts.now.by || facts.now.by.author || accepted_seen facts.now) }
 {
-    facts.by().role.is_member() || facts.by().author || facts.is_accepted()
+    facts.by().is_admitted() || facts.by().author || facts.is_accepted()
 }
 
 /// Who may ask.
 impl Live {
     /// Whether a user, or nobody, may ask this, or the first broken rule of its kind: of a page
     /// `NoPaper` where there is no such paper, else `NotMember` where she is neither a member of the
-    /// committee nor an author of the paper, and it isn't accepted; of a content, of reviews and of comments as
-    /// `content_for`, `reviews_for` and `comments_for` tell it; of a report as it is told at `Report`: `NotMember` or
-    /// `NotChair`, of a letter `NoPaper` and then `NotAuthor`, and last `WrongPhase`; of a plan `NotChair`,
-    /// `WrongPhase` and `PlanTooLarge`, but not `NoPlan`, which memory finds. Takes no memory; a few reads by number,
-    /// of a content one look-up besides, and of a plan a walk over all papers and one over the accounts.
+    /// committee nor an external or an author of the paper, and it isn't accepted; of a content, of reviews and of
+    /// comments as `content_for`, `reviews_for` and `comments_for` tell it; of a report as it is told at `Report`:
+    /// `NotMember` or `NotChair`, of a letter `NoPaper` and then `NotAuthor`, and last `WrongPhase`; of a plan
+    /// `NotChair`, `WrongPhase` and `PlanTooLarge`, but not `NoPlan`, which memory finds. Takes no memory; a few
+    /// reads by number, of a content one look-up besides, and of a plan a walk over all papers and one over the
+    /// accounts.
     pub fn may(&self, user: &Option<UserNo>, query: &Query) -> Result<(), Rule>
         ensures { result ≡ judged (query_checks (facts_of_tables self.now.tables user.now)
             (shown_in_tables self.now.tables) query.now) tt }

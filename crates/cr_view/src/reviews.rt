@@ -126,16 +126,16 @@ pub(crate) fn reviews_rule(by: &Standing, there: bool) -> Result<(), Rule>
         }
         return Ok(());
     }
-    if !by.role.is_member() {
+    if !by.is_admitted() {
         return Err(Rule::NotMember);
     }
     if by.conflicted {
         return Err(Rule::Conflict);
     }
-    if by.phase.members_read_reviews() {
+    if by.reads_all_forms() {
         return Ok(());
     }
-    if !(by.reviewer && by.phase.reviewers_read_own()) {
+    if !by.reads_own_forms() {
         return Err(Rule::WrongPhase);
     }
     Ok(())
@@ -145,10 +145,11 @@ pub(crate) fn reviews_rule(by: &Standing, there: bool) -> Result<(), Rule>
 impl Live {
     /// The reviews of a paper as a user, or nobody, is told them, or the first broken rule: `NoPaper` where
     /// there is no such paper; of its authors `WrongPhase` before the notification; of others `NotMember`, else
-    /// `Conflict` where she is in conflict with it, else `WrongPhase` before the discussion, unless it is the
-    /// reviewing and she reviews it. An error for lack of memory only where no rule is broken. Shares the texts
-    /// that are told, and no others. Authors, and members from the discussion on, cost a walk over the paper's
-    /// forms, and two more at most for each label under which there is one; a reviewer before it costs one.
+    /// `Conflict` where she is in conflict with it, else `WrongPhase`: of a member before the discussion, unless it is
+    /// the reviewing and she reviews it; of an external who doesn't review it, or before the reviewing.
+    /// An error for lack of memory only where no rule is broken. Shares the texts that are told, and no others.
+    /// Authors, and members from the discussion on, cost a walk over the paper's forms, and two more at most for each
+    /// label under which there is one; a reviewer before it costs one.
     pub fn reviews_for(
         &self,
         alloc: Global,
@@ -210,7 +211,7 @@ impl Live {
     ) -> Result<ReviewLines, AllocError>
         ensures { IfOk result (λ lines. lines ≡ reviews_at self.now.tables user.now by.now paper) }
     {
-        if by.author || by.phase.members_read_reviews() {
+        if by.author || by.reads_all_forms() {
             return self.all_reviews(alloc, by, paper);
         }
         self.own_reviews(alloc, user, by, paper)

@@ -75,6 +75,9 @@ given asks.Assign paper body =
     of_each asks.Assign (json_of body) (command_in asks.Assign paper) (λ d.
     of_each asks.Assign (kind_under (codes "kind") d) _ (λ kind.
     of_each asks.Assign (user_under (codes "user") d) _ (λ user. refl)))
+given asks.Invite paper body =
+    of_each asks.Invite (json_of body) (command_in asks.Invite paper) (λ d.
+    of_each asks.Invite (user_under (codes "user") d) _ (λ user. refl))
 given asks.Review paper body =
     of_each asks.Review (json_of body) (command_in asks.Review paper) (λ d.
     of_each asks.Review (grade_under (codes "score") d) _ (λ score.
@@ -131,6 +134,7 @@ ask_by_ask asks.Revise found key query body = by_body asks.Revise found key body
 ask_by_ask asks.SetConflict found key query body = by_body asks.SetConflict found key body
 ask_by_ask asks.Bid found key query body = by_body asks.Bid found key body
 ask_by_ask asks.Assign found key query body = by_body asks.Assign found key body
+ask_by_ask asks.Invite found key query body = by_body asks.Invite found key body
 ask_by_ask asks.Review found key query body = by_body asks.Review found key body
 ask_by_ask asks.Comment found key query body = by_body asks.Comment found key body
 ask_by_ask asks.Decide found key query body = by_body asks.Decide found key body

@@ -1,5 +1,5 @@
--- What a request wishes, by its method, its target, its number and its body: of its query string only searches and plans
--- are told.
+-- What a request wishes, by its method, its target, its number and its body: of its query string only searches and
+-- plans are told.
 use Rattle.std.specs.Prelude.{ℕ, List, Bool, true, false, IsTrue, ◌||◌, Option, Some, None}
 use Rattle.std.specs.Prelude.{Result, Ok, Err, option_and_then, option_map, if◌then◌else◌}
 use Rattle.std.specs.Option.{option_map_or}
@@ -20,7 +20,7 @@ use Rattle.cr_base.specs.declared.ask.Ask.{Ask}
 use Rattle.cr_base.specs.declared.ask.Ask.TheVariants as asks
 use Rattle.cr_wire.specs.Caller.{ask_of}
 use Rattle.cr_wire.specs.Number.{key_of, number_for, request_of}
-use Rattle.cr_wire.specs.Paper.{paper_of, tag_of, user_of, version_of}
+use Rattle.cr_wire.specs.Paper.{member_of, paper_of, tag_of, user_of, version_of}
 use Rattle.cr_wire.specs.Query.{search_in, plan_in}
 use Rattle.cr_wire.specs.Target.{path_of, query_of}
 use Rattle.cr_wire.specs.declared.numbered.Numbered.{Numbered}
@@ -57,6 +57,7 @@ abbrev pub asked : Ask → FoundPath → Option RetryKey → List ℕ → List �
 asked asks.Register found key query body = commanded asks.Register found key body
 asked asks.Accounts found key query body = Queries queries.Accounts
 asked asks.Name found key query body = commanded asks.Name found key body
+asked asks.Dismiss found key query body = Commands key (commands.Dismiss (member_of found))
 asked asks.SetMode found key query body = commanded asks.SetMode found key body
 asked asks.Phase found key query body = Queries queries.Phase
 asked asks.SetPhase found key query body = commanded asks.SetPhase found key body
@@ -73,6 +74,8 @@ asked asks.SetConflict found key query body = commanded asks.SetConflict found k
 asked asks.Bid found key query body = commanded asks.Bid found key body
 asked asks.Assign found key query body = commanded asks.Assign found key body
 asked asks.Unassign found key query body = Commands key (commands.Unassign (paper_of found) (user_of found))
+asked asks.Invite found key query body = commanded asks.Invite found key body
+asked asks.Uninvite found key query body = Commands key (commands.Uninvite (paper_of found) (user_of found))
 asked asks.Review found key query body = commanded asks.Review found key body
 asked asks.Reviews found key query body = Queries (queries.Reviews (paper_of found))
 asked asks.Comment found key query body = commanded asks.Comment found key body
@@ -121,6 +124,7 @@ abbrev pub ask_has_body : Ask → Bool
 ask_has_body asks.Register = true
 ask_has_body asks.Accounts = false
 ask_has_body asks.Name = true
+ask_has_body asks.Dismiss = false
 ask_has_body asks.SetMode = true
 ask_has_body asks.Phase = false
 ask_has_body asks.SetPhase = true
@@ -137,6 +141,8 @@ ask_has_body asks.SetConflict = true
 ask_has_body asks.Bid = true
 ask_has_body asks.Assign = true
 ask_has_body asks.Unassign = false
+ask_has_body asks.Invite = true
+ask_has_body asks.Uninvite = false
 ask_has_body asks.Review = true
 ask_has_body asks.Reviews = false
 ask_has_body asks.Comment = true

@@ -36,6 +36,7 @@ abbrev pub ask_reads_number : Ask → Bool
 ask_reads_number asks.Register = false
 ask_reads_number asks.Accounts = false
 ask_reads_number asks.Name = true
+ask_reads_number asks.Dismiss = true
 ask_reads_number asks.SetMode = true
 ask_reads_number asks.Phase = false
 ask_reads_number asks.SetPhase = true
@@ -52,6 +53,8 @@ ask_reads_number asks.SetConflict = true
 ask_reads_number asks.Bid = true
 ask_reads_number asks.Assign = true
 ask_reads_number asks.Unassign = true
+ask_reads_number asks.Invite = true
+ask_reads_number asks.Uninvite = true
 ask_reads_number asks.Review = true
 ask_reads_number asks.Reviews = false
 ask_reads_number asks.Comment = true

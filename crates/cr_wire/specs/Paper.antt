@@ -29,6 +29,10 @@ version_of found = option_map_or parse_version found.second 0
 abbrev pub user_of : FoundPath → Option (List ℕ)
 user_of found = option_and_then parse_name found.second
 
+-- the same of a path that is on no paper: her name is its first parameter
+abbrev pub member_of : FoundPath → Option (List ℕ)
+member_of found = option_and_then parse_name found.first
+
 -- the tag of a text
 abbrev pub parse_tag : List ℕ → Option (List ℕ)
 parse_tag text = if is_tag text then Some text else None

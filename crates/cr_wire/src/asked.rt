@@ -14,7 +14,7 @@ ghost use Rattle.cr_wire.specs.Outcome.{Gives};
 
 use crate::number::number_for;
 use crate::numbered::Numbered;
-use crate::paper::{paper_of, tag_of, user_of, version_of};
+use crate::paper::{member_of, paper_of, tag_of, user_of, version_of};
 use crate::query::{plan_in, search_in};
 use crate::what::What;
 use cr_base::{Ask, Command, DecodeError, PaperNo, Query, Report};
@@ -149,6 +149,14 @@ fn asked(
             let user = user_of(found);
             Ok(request.giving(Command::Unassign { paper, user }))
         }
+        Ask::Uninvite => {
+            let user = user_of(found);
+            Ok(request.giving(Command::Uninvite { paper, user }))
+        }
+        Ask::Dismiss => {
+            let user = member_of(found);
+            Ok(request.giving(Command::Dismiss { user }))
+        }
         Ask::Reviews => Ok(What::Query(Query::Reviews { paper })),
         Ask::Comments => Ok(What::Query(Query::Comments { paper })),
         Ask::Tag => Ok(tagged(ask, found, request, true)),
@@ -167,7 +175,7 @@ fn asked(
         Ask::SetDeadline | Ask::Submit | Ask::Revise | Ask::SetConflict | Ask::Bid => {
             command(alloc, ask, found, request)
         }
-        Ask::Assign | Ask::Review | Ask::Comment | Ask::Decide => {
+        Ask::Assign | Ask::Invite | Ask::Review | Ask::Comment | Ask::Decide => {
             command(alloc, ask, found, request)
         }
     }

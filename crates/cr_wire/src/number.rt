@@ -35,6 +35,7 @@ fn reads_number(ask: Ask) -> bool
         Ask::Name | Ask::SetMode | Ask::SetPhase | Ask::SetDeadline => true,
         Ask::Submit | Ask::Revise | Ask::Upload | Ask::Withdraw => true,
         Ask::SetConflict | Ask::Bid | Ask::Assign | Ask::Unassign => true,
+        Ask::Dismiss | Ask::Invite | Ask::Uninvite => true,
         Ask::Review | Ask::Comment | Ask::Tag | Ask::Untag => true,
         Ask::Decide | Ask::Bulk => true,
         Ask::Register | Ask::Accounts | Ask::Phase | Ask::Deadlines => false,

@@ -55,6 +55,13 @@ pub(crate) fn user_of(found: Matched<'_>) -> Option<Short>
     parse_name(found.second?.as_bytes())
 }
 
+/// The user that a path is about which is on no paper: its first parameter, where that is a name. Costs the same.
+pub(crate) fn member_of(found: Matched<'_>) -> Option<Short>
+    ensures { result ≡ spec.member_of (seen found.entry) }
+{
+    parse_name(found.first?.as_bytes())
+}
+
 /// The tag of a text.
 fn parse_tag(text: &[u8]) -> Option<Tag>
     ensures value { result ≡ spec.parse_tag text.now }

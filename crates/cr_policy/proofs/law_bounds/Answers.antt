@@ -7,7 +7,9 @@ use Rattle.cr_policy.proofs.BoundsSeats.{own-bids, reviewers-from-authors, revie
 use Rattle.cr_policy.proofs.BoundsWritten.{forms-early, forms-from-authors, comments-from-authors, writers-unnamed, private-tags, chairs-tags}
 use Rattle.cr_policy.proofs.BoundsWritten.{decisions-early, decisions-untold}
 use Rattle.cr_policy.proofs.BoundsTexts.{one-title, one-abstract, one-content, one-decision}
-use Rattle.cr_policy.proofs.BoundsLeft.{outsiders-shown, strangers-shown, nobody-shown}
+use Rattle.cr_policy.proofs.BoundsLeft.{outsiders-shown}
+use Rattle.cr_policy.proofs.BoundsPublic.{accounts-shown, strangers-shown, nobody-shown}
+use Rattle.cr_policy.proofs.BoundsVisits.{externals-shown}
 use Rattle.cr_policy.proofs.law_bounds.Goals as goal
 
 pub returns : goal.returns
@@ -61,6 +63,8 @@ returns c = record {
   one_content = one-content;
   one_decision = one-decision;
   outsiders = outsiders-shown;
+  externals = externals-shown;
+  accounts = accounts-shown;
   strangers = strangers-shown;
   nobody = nobody-shown;
 }

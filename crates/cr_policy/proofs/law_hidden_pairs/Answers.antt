@@ -5,6 +5,8 @@ use Rattle.cr_policy.proofs.HiddenPairProofs.{tag-hidden, tagger-hidden, assigne
 use Rattle.cr_policy.proofs.HiddenPairProofs.{unassigner-hidden, form-hidden, form-hidden_from_members, to_pc-hidden, reviewer-hidden, comment-hidden}
 use Rattle.cr_policy.proofs.HiddenPairProofs.{writer-hidden, decision-hidden, decider-hidden}
 use Rattle.cr_policy.proofs.HiddenPairProofs.{comment-removable, version-removable}
+use Rattle.cr_policy.proofs.HiddenPairProofs.{dismisser-hidden, invited-hidden, inviter-hidden, uninvited-hidden, uninviter-hidden}
+use Rattle.cr_policy.proofs.HiddenPairProofs.{seat-hidden_from_external, bid-hidden_from_external, tag-hidden_from_external, comment-hidden_from_external}
 use Rattle.cr_policy.proofs.law_hidden_pairs.Goals as goal
 
 pub returns : goal.returns
@@ -35,6 +37,15 @@ returns c = record {
   assigned = assigned-hidden;
   seats = seat-hidden;
   assigners = assigner-hidden;
+  dismissers = dismisser-hidden;
+  invited = invited-hidden;
+  inviters = inviter-hidden;
+  uninvited = uninvited-hidden;
+  uninviters = uninviter-hidden;
+  seats_from_externals = seat-hidden_from_external;
+  bids_from_externals = bid-hidden_from_external;
+  tags_from_externals = tag-hidden_from_external;
+  comments_from_externals = comment-hidden_from_external;
   unassigned = unassigned-hidden;
   unassigners = unassigner-hidden;
   forms = form-hidden;

@@ -1,7 +1,12 @@
 use Rattle.std.proofs.Common.{◌∙◌, sym, Ok, Err}
 use Rattle.cr_judge.specs.Effects.{drawn_by}
+use Rattle.cr_book.proofs.GiverLaws.{call-logged}
 use Rattle.cr_book.proofs.OpeningCommands.{told-judged}
 use Rattle.cr_book.proofs.rebuilding.effect_of.Goals as goal
+
+pub judge-requires-clause-caller : goal.judge-requires-clause-caller
+judge-requires-clause-caller c =
+    call-logged c.args.live.now.tables c.args.authors c.args.first c.in_ok-call.call (sym c.call_of.ensures ∙ c.in_ok-call.was)
 
 pub returns-in-Ok-clause-drawn : goal.returns-in-Ok-clause-drawn
 returns-in-Ok-clause-drawn c =

@@ -19,7 +19,7 @@ pub held-paper-requires : goal.held-paper-requires
 held-paper-requires c =
     let named = c.named_paper-named.result in
     let ties = ties_from c.tie_table.result.now.ties c.args.earlier.now in
-    is-there (λ (p : NamedPaper). conflict_checks named.by p (target_of ties c.args.stamp.now.maker named.paper c.target_of-target.result) c.args.on c.is_late-late.result)
+    is-there (λ (p : NamedPaper). conflict_checks named.by p (target_of ties c.args.stamp.now.maker named.paper c.target_of-target.result c.is_external_target.result) c.args.on c.is_late-late.result)
     (λ (w : Bool) (x : Unit {0}). refl) named.paper named.withdrawn tt tt c.in_ok-judge_conflict.ensures
 
 pub held-user-requires : goal.held-user-requires
@@ -28,7 +28,7 @@ held-user-requires c =
     let stamp : Stamp = c.args.stamp.now in
     let ties = ties_from c.tie_table.result.now.ties c.args.earlier.now in
     target-there c.args.live.now.tables.accounts c.args.user.now c.target_of-target.result c.target_of-target.ensures
-    (λ (t : ℕ × Role). target_in ties stamp.maker named.paper t.0 t.1)
+    (λ (t : ℕ × Role). target_in ties stamp.maker named.paper c.is_external_target.result t.0 t.1)
     (λ (o : Option Target). conflict_checks named.by (record { there = is_some named.paper; withdrawn = named.withdrawn }) o c.args.on c.is_late-late.result)
     (λ none. true≢false none.1.0) tt tt c.in_ok-judge_conflict.ensures
 
@@ -44,6 +44,7 @@ returns c =
     (target-behind c.args.live.now.tables c.args.earlier.now c.requires.rows c.args.user.now c.target_of-target.result c.target_of-target.ensures)
     c.args.on c.is_late-late.result (late-behind c.args.live.now.tables c.args.earlier.now c.requires.rows stamp c.is_late-late.result c.is_late-late.ensures)
     (ties_from seen c.args.earlier.now) (ties-seen c.args.live.now.tables c.args.earlier.now c.requires.rows seen c.tie_table.ensures)
+    c.is_external_target.result c.is_external_target.ensures
     (Ok tt) c.in_ok-judge_conflict.ensures
 
 pub returns-in_err-judge_conflict : goal.returns-in_err-judge_conflict
@@ -57,4 +58,5 @@ returns-in_err-judge_conflict c =
     (target-behind c.args.live.now.tables c.args.earlier.now c.requires.rows c.args.user.now c.target_of-target.result c.target_of-target.ensures)
     c.args.on c.is_late-late.result (late-behind c.args.live.now.tables c.args.earlier.now c.requires.rows stamp c.is_late-late.result c.is_late-late.ensures)
     (ties_from seen c.args.earlier.now) (ties-seen c.args.live.now.tables c.args.earlier.now c.requires.rows seen c.tie_table.ensures)
+    c.is_external_target.result c.is_external_target.ensures
     (Err c.in_err-judge_conflict.field-0.0) c.in_err-judge_conflict.ensures)

@@ -1,7 +1,9 @@
 use Rattle.std.proofs.Common.{◌≡◌, ◌∷◌, true, subst, sym, arith}
+use Rattle.cr_base.specs.Invites.{InvitesState, invites_after}
 use Rattle.cr_base.specs.Papers.{PapersState, paper_count, PapersFit}
 use Rattle.cr_base.specs.Seats.{SeatsState, seats_after}
 use Rattle.cr_base.specs.Ties.{TiesState, ties_after, are_within, AreWithin}
+use Rattle.cr_base.proofs.InviteLaws.{invites-within}
 use Rattle.cr_base.proofs.SeatLaws.{seats-within}
 use Rattle.cr_base.proofs.TieLaws.{within-after}
 use Rattle.cr_rooms.proofs.GroupRooms.{room-for-behind}
@@ -25,6 +27,9 @@ invariant_of-self-in-Registered-1 c =
       subst (λ (seats : SeatsState). are_within (paper_count c.apply-in_default.new.self.papers) seats ≡ true) (sym c.apply-4.ensures.after)
           (subst (λ (state : PapersState). are_within (paper_count state) (seats_after x.seats.seats entry) ≡ true) papers
           (seats-within x.papers.papers x.seats.seats maker entry fits c.self.invariant.1)),
+      subst (λ (invites : InvitesState). are_within (paper_count c.apply-in_default.new.self.papers) invites ≡ true) (sym c.apply-4.ensures.invites)
+          (subst (λ (state : PapersState). are_within (paper_count state) (invites_after x.seats.invites entry) ≡ true) papers
+          (invites-within x.papers.papers x.seats.invites maker entry fits c.self.invariant.2)),
     )
 
 -- a table that isn't told of the entry has room for the rest as before

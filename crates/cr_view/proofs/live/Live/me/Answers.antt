@@ -25,9 +25,10 @@ returns c =
     let reviewed = c.in_ok-assigned.ensures
     ∙ own-seats t user (map (λ (tie : Tie ℕ). tie.pair.paper) c.reviewed.result.now) c.law_within.ensures.seats c.reviewed.ensures.rising
     (λ p. c.reviewed.ensures.papers p ∙ ap (λ (v : SeenTables). is_some (ordinal_in v.tables.seats (Some user) p)) c.self.view_is) in
+    let asked = c.in_ok-invited.ensures in
     let role = c.standing_for.ensures ∙ ap (λ (v : SeenTables). role_in v.tables.accounts (Some user)) c.self.view_is in
     let bytes = c.bytes_of_user.ensures ∙ ap (λ (v : SeenTables). own_bytes v.tables.papers (Some user)) c.self.view_is in
     let wrote = c.count_of_user.ensures ∙ ap (λ (v : SeenTables). own_comments_in v.tables.talk (Some user)) c.self.view_is in
     me-told t user c.bytes_of_user.result c.count_of_user.result
-    c.in_ok-assigned.assigned c.in_ok-papers.papers c.in_ok-conflicts.conflicts c.own_name.result c.standing_for.result
-    reviewed bytes wrote hers others c.own_name.ensures role
+    c.in_ok-assigned.assigned c.in_ok-papers.papers c.in_ok-conflicts.conflicts c.in_ok-invited.invited c.own_name.result c.standing_for.result
+    reviewed bytes wrote hers others asked c.own_name.ensures role
