@@ -11,13 +11,14 @@ import os
 import subprocess
 import sys
 
-from model import Conference, PHASES, view_lines
+from model import Conference, PHASES
+from model_views import view_lines
 
 TOP = os.path.dirname(os.path.dirname(os.path.abspath(__file__)))
 CONFD = os.path.join(TOP, "crates/confd/out/confd")
 CAST = [f"u{number}" for number in range(1, 9)]
 KINDS = ["registered", "named", "phase", "mode", "submitted", "coauthor", "revised", "uploaded", "withdrawn", "conflict", "bid",
-         "assigned", "unassigned", "reviewed", "commented", "tagged", "decided", "deadline"]
+         "assigned", "unassigned", "reviewed", "commented", "tagged", "decided", "deadline", "dismissed", "invited", "uninvited"]
 DRILLS = [(1, 4), (0, 1), (2147483647, 2), (5, 3), (1, 5), (2, 7), (3, 40), (4, 41), (11, 150), (12, 300), (13, 600)]
 
 

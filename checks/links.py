@@ -3,11 +3,12 @@
 
     python3 checks/links.py
 
-Each link leads to a file and a heading that are there; each path in backticks stands in the repository; each crate named is
-there; each name of code in backticks stands in a source file, and in docs/CLAIMS_BY_CRATE.md in one of a crate
-that its section names; the table of errors in docs/API.md has exactly the names that cr_print prints; each decision
-that is cited is there; prose stays under 100 columns, and all pages under 50,000 words. Python 3 alone is needed. Prints a line for each thing that isn't so, and last
-`N cited, M wrong`; ends with status 0 where none is wrong. Takes some seconds.
+Each link leads to a file and a heading that are there; each path in backticks stands in the repository; each crate
+named is there; each name of code in backticks stands in a source file, and in docs/CLAIMS_BY_CRATE.md in one of a
+crate that its section names; the table of errors in docs/API.md has exactly the names that cr_print prints; each
+decision that is cited is there; prose stays under 100 columns, and all pages under 50,000 words. Python 3 alone is
+needed. Prints a line for each thing that isn't so, and last `N cited, M wrong`; ends with status 0 where none is
+wrong. Takes some seconds.
 """
 
 import fnmatch

@@ -36,10 +36,10 @@ from store import (
 HERE = os.path.dirname(os.path.abspath(__file__))
 DATA = os.path.join(HERE, "../crates/confd/data")
 USERS = ("alice", "bob", "carol", "dave", "erin")
-# The tables of rows of each version, and their kinds of entry.
+# The tables of rows of each version, and their kinds of entry; an older version has none of the last three.
 OLDER = {1: ("people", "papers", "ties", "talk"), 2: ("people_v2", "papers_v2", "ties_v2", "talk_v2")}
 VERSIONS = {**OLDER, VERSION: TABLES}
-KINDS = ({*range(1, 5), 18}, {*range(5, 10)}, {*range(10, 14)}, {*range(14, 18)})
+KINDS = ({*range(1, 5), 18, 19}, {*range(5, 10)}, {*range(10, 14), 20, 21}, {*range(14, 18)})
 # The fields of a row of this version, its place first; those that an older one lacks, and what stands for them in SQL.
 FIELDS = ("place", "kind", "maker", "more", "at", "num", "mark", "n1", "n2", "n3", "n4", "n5", "b1", "b2")
 LACKED = {1: {"at": "0", "num": "0", "mark": "x''"}, 2: {"num": "0", "mark": "x''"}, VERSION: {}}
@@ -181,7 +181,7 @@ def of_earlier_confds(program, folder):
     for version, requests in REQUESTS.items():
         store = kept(version, folder)
         found, due = stands_in(store)
-        kinds = set().union(*KINDS) - ({18} if version == 1 else set())
+        kinds = set().union(*KINDS) - {19, 20, 21} - ({18} if version == 1 else set())
         expect((found, {row[1] for row in due}) == (version, kinds), f"version {found}, or a kind is missing")
         with open(os.path.join(HERE, f"version_{version}.views")) as file:
             views = json.load(file)

@@ -1,10 +1,10 @@
 """A small model of confd, written from docs/API.md, STORE.md and VIEWS.md and from nothing else.
 
 A conference is a list of entries; each answer, each rule and each line of a view is read off that list anew, with no table
-beside it but the answers to commands that had a number. It is slow and short, and stands against the program in `random_runs.py`
-and `retries.py`. It answers requests whose bodies are well formed; what is wrong with a body or a head stands in cases. Whoever
-asks it sets the moment of the request. Below, `u` and `v` are users' numbers, `p` is a paper's, and `t` is the user whom a command
-names; nobody's number is None.
+beside it but the answers to commands that had a number. The lines of a view are made in `model_views.py`. It is slow and short,
+and stands against the program in `random_runs.py`, `drills.py` and `retries.py`. It answers requests whose bodies are well formed;
+what is wrong with a body or a head stands in cases. Whoever asks it sets the moment of the request. Below, `u` and `v` are users'
+numbers, `p` is a paper's, and `t` is the user whom a command names; nobody's number is None.
 """
 import csv
 import datetime
@@ -105,10 +105,27 @@ class Conference:
 
     def role_of(self, u):
         r = "account"
-        for m, (v, role) in self.entries_of("named"):
-            if v == u:
-                r = role
+        for m, k, f in self.history:
+            if k == "named" and f[0] == u:
+                r = f[1]
+            if k == "dismissed" and f == u:
+                r = "account"
         return r
+
+    def chairs(self):
+        return [v for v, n in self.users() if self.role_of(v) == "chair"]
+
+    def invited(self, u, p):
+        """Whether the last that was said of the two is an invitation."""
+        told = [k for m, k, f in self.history if k in ("invited", "uninvited") and f == (p, u)]
+        return told[-1:] == ["invited"]
+
+    def external(self, u, p):
+        return self.role_of(u) == "account" and self.invited(u, p)
+
+    def stranger(self, u, p):
+        """Neither a member nor an external of the paper."""
+        return self.role_of(u) == "account" and not self.external(u, p)
 
     def papers(self):
         return [f[0] for m, f in self.entries_of("submitted")]
@@ -246,6 +263,8 @@ class Conference:
             return self.set_mode(u, body["mode"])
         if path == "/members":
             return self.member(u, body)
+        if path.startswith("/members/"):
+            return self.dismiss(u, path.split("/")[2])
         if path == "/assign":
             return self.bulk(u, body)
         if path == "/papers":
@@ -256,10 +275,12 @@ class Conference:
             return self.withdraw(u, p) if method == "DELETE" else self.revise(u, p, body)
         if rest[0] == "reviewers" and method == "DELETE":
             return self.unassign(u, p, rest[1])
+        if rest[0] == "externals" and method == "DELETE":
+            return self.uninvite(u, p, rest[1])
         if rest[0] == "tags":
             return self.tag(u, p, rest[1], method == "PUT")
         told = {"content": self.upload, "conflicts": self.conflict, "bid": self.set_bid, "reviewers": self.assign, "review": self.review,
-                "comments": self.comment, "decision": self.decide}
+                "comments": self.comment, "decision": self.decide, "externals": self.invite}
         return told[rest[0]](u, p, body)
 
     def told_of(self, u, path, query):
@@ -384,12 +405,11 @@ class Conference:
 
     def content(self, u, p, v):
         author = u in self.authors(p)
-        member = self.role_of(u) != "account"
         ups = self.uploads(p)
         told = ups if author else ups[-1:]
         got = told[-1:] if v is None else [x for x in told if x[1] == v]
         free = author or self.published(p)
-        r = self.first((not self.is_there(p), "no_paper"), (not free and not member, "not_member"),
+        r = self.first((not self.is_there(p), "no_paper"), (not free and self.stranger(u, p), "not_member"),
                        (not free and self.conflicted(u, p), "conflict"),
                        (not free and not self.is_from("bidding"), "wrong_phase"), (not got, "no_content"))
         return r if r else (200, "bytes: " + got[0][2])
@@ -404,9 +424,9 @@ class Conference:
         if r:
             return r
         chair, wd = self.role_of(u) == "chair", (self.withdrawn(p), "withdrawn")
-        nam = (self.role_of(t) == "account", "not_a_member")
+        nam = (self.stranger(t, p), "not_a_member")
         if on and not self.is_from("bidding"):
-            rules = [(u not in self.authors(p), "not_author"), self.late(), wd, nam]
+            rules = [(u not in self.authors(p), "not_author"), self.late(), wd, (self.role_of(t) == "account", "not_a_member")]
         elif on and self.committee() and t == u:
             rules = [(self.role_of(u) == "account", "not_member"), wd]
         elif on and self.committee():
@@ -437,7 +457,7 @@ class Conference:
     def assign(self, u, p, body):
         t = self.number_of(body["user"])
         r = self.first(*self.chairs_rules(u, p, t))
-        r = r or self.first((self.role_of(t) == "account", "not_a_member"), (self.conflicted(t, p), "target_conflict"),
+        r = r or self.first((self.stranger(t, p), "not_a_member"), (self.conflicted(t, p), "target_conflict"),
                             (self.ordinal_of(t, p) is not None, "already_assigned"), (self.labels(p) >= 26, "labels_spent"))
         if r:
             return r
@@ -452,6 +472,34 @@ class Conference:
         if r:
             return r
         self.history.append((u, "unassigned", (p, t, self.ordinal_of(t, p))))
+        return 200, dump({"paper": p})
+
+    def dismiss(self, u, name):
+        t = self.number_of(name)
+        r = self.first((t is None, "no_user"), (self.role_of(u) != "chair", "not_chair"), (self.is_from("notification"), "wrong_phase"))
+        r = r or self.first((self.role_of(t) == "account", "not_a_member"), (self.chairs() == [t], "last_chair"))
+        if r:
+            return r
+        self.history.append((u, "dismissed", t))
+        return 200, dump({"name": name, "role": "account"})
+
+    def invite(self, u, p, body):
+        t = self.number_of(body["user"])
+        r = self.first(*self.chairs_rules(u, p, t))
+        r = r or self.first((self.role_of(t) != "account", "is_member"), (self.conflicted(t, p), "target_conflict"),
+                            (self.invited(t, p), "already_invited"))
+        if r:
+            return r
+        self.history.append((u, "invited", (p, t)))
+        return 200, dump({"paper": p})
+
+    def uninvite(self, u, p, name):
+        t = self.number_of(name)
+        r = self.first(*self.chairs_rules(u, p, t))
+        r = r or self.first((not self.invited(t, p), "not_invited"), (self.ordinal_of(t, p) is not None, "still_assigned"))
+        if r:
+            return r
+        self.history.append((u, "uninvited", (p, t)))
         return 200, dump({"paper": p})
 
     # ---- bulks
@@ -561,7 +609,8 @@ class Conference:
         return ((not self.is_there(p), "no_paper"), (self.role_of(u) == "account", "not_member"), (self.conflicted(u, p), "conflict"))
 
     def review(self, u, p, body):
-        r = self.first(*self.members_rules(u, p), (self.ordinal_of(u, p) is None, "not_reviewer"),
+        r = self.first((not self.is_there(p), "no_paper"), (self.stranger(u, p), "not_member"), (self.conflicted(u, p), "conflict"),
+                       (self.ordinal_of(u, p) is None, "not_reviewer"),
                        (self.phase not in ("reviewing", "discussion"), "wrong_phase"), self.late(), (self.withdrawn(p), "withdrawn"))
         if r:
             return r
@@ -575,10 +624,11 @@ class Conference:
 
     def reviews(self, u, p):
         author = self.is_there(p) and u in self.authors(p)
-        ordinal, reviewing = self.ordinal_of(u, p), self.phase == "reviewing"
+        ordinal, member = self.ordinal_of(u, p), self.role_of(u) != "account"
+        own = ordinal is not None and (self.phase == "reviewing" if member else self.is_from("reviewing"))
         r = self.first((not self.is_there(p), "no_paper"), (author and not self.is_from("notification"), "wrong_phase"),
-                       (not author and self.role_of(u) == "account", "not_member"), (not author and self.conflicted(u, p), "conflict"),
-                       (not author and not self.is_from("discussion") and not (reviewing and ordinal is not None), "wrong_phase"))
+                       (not author and self.stranger(u, p), "not_member"), (not author and self.conflicted(u, p), "conflict"),
+                       (not author and not (member and self.is_from("discussion")) and not own, "wrong_phase"))
         if r:
             return r
         out = []
@@ -593,7 +643,7 @@ class Conference:
         for o in range(1, self.labels(p) + 1):
             if author:
                 add(o, self.forms(p, o)[-1:], authors_keys, self.mode == "open")
-            elif self.is_from("discussion"):
+            elif member and self.is_from("discussion"):
                 add(o, self.forms_discussed(p, o), all_keys, self.role_of(u) == "chair" or self.mode != "anonymous")
             elif o == ordinal:
                 add(o, self.forms(p, o), all_keys, False)
@@ -643,7 +693,8 @@ class Conference:
         return 200, dump({
             "assigned": [p for p in ps if self.ordinal_of(u, p) is not None],
             "bytes": sum(len(f[2]) for m, f in self.entries_of("uploaded") if m == u), "comments": self.own_comments(u),
-            "conflicts": [p for p in ps if self.conflicted(u, p) and u not in self.authors(p)], "name": self.name_of(u),
+            "conflicts": [p for p in ps if self.conflicted(u, p) and u not in self.authors(p)],
+            "invited": [p for p in ps if self.external(u, p)], "name": self.name_of(u),
             "papers": [p for p in ps if u in self.authors(p)], "role": self.role_of(u), "user": u})
 
     def told(self, u, p):
@@ -673,24 +724,24 @@ class Conference:
         author = p in self.papers() and u in self.authors(p)
         member, chair = self.role_of(u) != "account", self.role_of(u) == "chair"
         accepted, published = self.accepted(p), self.published(p)
-        r = self.first((not self.is_there(p), "no_paper"), (not member and not author and not accepted, "not_member"))
+        r = self.first((not self.is_there(p), "no_paper"), (self.stranger(u, p) and not author and not accepted, "not_member"))
         if r:
             return r
         clear = not self.conflicted(u, p)
-        cm, cc = member and clear, chair and clear
+        cm, cc, ce = member and clear, chair and clear, self.external(u, p) and clear
         bidding, disc, notif = self.is_from("bidding"), self.is_from("discussion"), self.is_from("notification")
         anon = self.mode == "anonymous"
         out = {"paper": p}
         title, abstract = self.last_texts(p)
-        if author or (cm and bidding) or published:
+        if author or ((cm or ce) and bidding) or published:
             out["abstract"] = abstract
-        if author or (cc and bidding) or (cm and bidding and not anon) or accepted:
+        if author or (cc and bidding) or ((cm or ce) and bidding and not anon) or accepted:
             out["authors"] = [self.name_of(v) for v in self.authors(p)]
         if cm and bidding:
             out["bid"] = self.bid_of(u, p) or 0
         if cc and bidding:
             out["bids"] = [{"bid": self.bid_of(v, p), "user": n} for v, n in self.users() if self.bid_of(v, p) is not None]
-        if member or author:
+        if member or author or self.external(u, p):
             out["conflict"] = self.conflicted(u, p)
         if cc and bidding:
             out["conflicts"] = [n for v, n in self.users() if self.declared_on(v, p)]
@@ -699,7 +750,7 @@ class Conference:
         if author:
             by = [f[1] for m, f in self.entries_of("conflict") if f[0] == p and m in self.authors(p)]
             out["declared"] = [n for v, n in self.users() if v in by]
-        if cm and self.ordinal_of(u, p) is not None:
+        if (cm or ce) and self.ordinal_of(u, p) is not None:
             out["label"] = chr(64 + self.ordinal_of(u, p))
         lab = lambda f: chr(64 + f[3])
         if cc and bidding:
@@ -710,125 +761,13 @@ class Conference:
             out["reviewers"] = [{"label": lab(f), "user": self.name_of(f[1])} for f in self.reviewers(p)]
         if cm and bidding:
             out["tags"] = self.tags(u, p)
-        if author or (member and bidding) or accepted:
+        if author or ((member or ce) and bidding) or accepted:
             out["title"] = title
         ups = [f[1] for f in self.uploads(p)]
         if author:
             out["versions"] = ups
-        elif (cm and bidding) or published:
+        elif ((cm or ce) and bidding) or published:
             out["versions"] = ups[-1:]
-        if author or (member and bidding):
+        if author or ((member or ce) and bidding):
             out["withdrawn"] = self.withdrawn(p)
         return 200, dump(out)
-
-
-def view_lines(c, who):
-    """What `confd view` prints for a user, line by line, by the table of who sees what."""
-    u = c.number_of(who)
-    role = c.role_of(u)
-    member, chair = role != "account", role == "chair"
-    bidding, disc, notif = c.is_from("bidding"), c.is_from("discussion"), c.is_from("notification")
-    anon, overt = c.mode == "anonymous", c.mode == "open"
-    out = []
-
-    def last_text(i, p):
-        return not any(k in ("submitted", "revised") and f[0] == p for m, k, f in c.history[i + 1:])
-
-    def first_form(i, p, o):
-        return not c.forms(p, o, c.history[:i])
-
-    def last_form(i, p, o):
-        return not c.forms(p, o, c.history[i + 1:])
-
-    def opening(entries):
-        return next((i for i, (m, k, f) in enumerate(entries) if k == "phase" and f == "discussion"), None)
-
-    def discussed_form(i, p, o):
-        later = c.history[i + 1:]
-        return opening(c.history[:i]) is not None or not c.forms(p, o, later[:opening(later)])
-
-    def last_upload(i, p):
-        return not any(k == "uploaded" and f[0] == p for m, k, f in c.history[i + 1:])
-
-    def last_decision(i, p):
-        return not any(k == "decided" and f[0] == p for m, k, f in c.history[i + 1:])
-
-    for i, (m, k, f) in enumerate(c.history):
-        mine = m == u
-        shown = {}
-        seen = mine
-
-        def row(test, parts):
-            nonlocal seen
-            if test:
-                seen = True
-                shown.update(parts)
-
-        if k == "registered":
-            digest = hashlib.sha256(f"{f[1]}-secret-000001".encode()).hexdigest()
-            row(True, {"user": f[0], "name": f[1]})
-            row(mine, {"user": f[0], "name": f[1], "digest": digest})
-            kind = "registered"
-        elif k == "named":
-            row(True, {"user": f[0], "role": f[1]})
-            kind = "named"
-        elif k in ("phase", "mode"):
-            row(True, {k: f})
-            kind = f"{k}set"
-        elif k == "deadline":
-            row(True, {"phase": f[0], "until": f[1]})
-            kind = "deadlineset"
-        else:
-            p = f if k == "withdrawn" else f[0]
-            author, clear = u in c.authors(p), not c.conflicted(u, p)
-            cm, cc = member and clear, chair and clear
-            accepted, published = c.accepted(p), c.published(p)
-            kind = k
-            if k in ("submitted", "revised"):
-                row(author or mine, {"paper": p, "title": f[1], "abstract": f[2]})
-                row(last_text(i, p) and ((member and bidding) or accepted), {"paper": p, "title": f[1]})
-                row(last_text(i, p) and ((cm and bidding) or published), {"paper": p, "abstract": f[2]})
-            if k == "submitted":
-                row(True, {"paper": p})
-                row(author or accepted or ((cc or (cm and not anon)) and bidding), {"by": m})
-            if k == "coauthor":
-                whole = {"paper": p, "user": f[1]}
-                row(author or mine or ((cc or (cm and not anon)) and bidding) or accepted, whole)
-            if k == "uploaded":
-                whole = {"paper": p, "version": f[1], "bytes": len(f[2])}
-                row(author or mine or (last_upload(i, p) and ((cm and bidding) or published)), whole)
-            if k == "withdrawn":
-                row(author or mine or (member and bidding), {"paper": p})
-            if k == "conflict":
-                whole = {"paper": p, "user": f[1], "on": f[2]}
-                row(f[1] == u or mine or (m in c.authors(p) and author) or (cc and bidding), whole)
-            if k == "bid":
-                row(mine, {"paper": p, "value": f[1]})
-                row(cc and bidding, {"paper": p, "value": f[1], "user": m})
-            if k in ("assigned", "unassigned"):
-                whole = {"paper": p, "user": f[1], "ordinal": f[-1]}
-                if k == "assigned":
-                    whole["seat"] = f[2]
-                row(mine or f[1] == u or cc, whole)
-                row(cm and disc, {x: y for x, y in whole.items() if x != "user"})
-                row(cm and disc and not anon, {"paper": p, "user": f[1]})
-                row(author and overt and notif, {"paper": p, "user": f[1], "ordinal": f[-1]})
-            if k == "reviewed":
-                form = {"paper": p, "ordinal": f[1], "version": f[2], **f[3]}
-                row(mine or (discussed_form(i, p, f[1]) and cm and disc), form)
-                row(first_form(i, p, f[1]) and cc, {"paper": p, "ordinal": f[1], "done": True})
-                row(last_form(i, p, f[1]) and author and notif, {x: form[x] for x in ("paper", "ordinal", "score", "confidence", "to_authors")})
-            if k == "commented":
-                row(mine, {"paper": p, "n": f[1], "ordinal": f[2], "text": f[3]})
-                row(cm and disc, {"paper": p, "n": f[1], "text": f[3], **({"writer": m} if chair or not anon else {"ordinal": f[2]})})
-            if k == "tagged":
-                whole = {"paper": p, "tag": f[1], "on": f[2]}
-                row(mine or (not f[1].startswith("~") and cm and bidding) or (f[1].startswith("~~") and cc and bidding), whole)
-            if k == "decided":
-                row(mine or (cm and disc), {"paper": p, "decision": f[1]})
-                row(last_decision(i, p) and author and notif, {"paper": p, "outcome": True, "decision": f[1]})
-                row(last_decision(i, p) and accepted, {"paper": p, "accepted": True})
-        if seen:
-            own = {"mine": True, "at": c.moments.get(i, 0), **({"num": c.numbers[i]} if i in c.numbers else {})} if mine else {}
-            out.append(dump({"kind": kind, **own, **shown}))
-    return out

@@ -23,7 +23,8 @@ import tempfile
 import time
 import urllib.parse
 
-from model import Conference, PHASES, content_of, view_lines
+from model import Conference, PHASES, content_of
+from model_views import view_lines
 from serve import APART, moment_of
 from shim import Orders, Shim
 from store import Program
@@ -64,7 +65,7 @@ class Run:
         steps = {"setup": 5, "submission": 90, "bidding": 160, "reviewing": 80, "discussion": 130, "notification": 60, "closed": 100}
         for phase in PHASES:
             if phase != "setup":
-                self.ask("alice", "POST", "/phase", {"phase": phase})
+                self.ask(self.model.name_of(self.model.chairs()[0]), "POST", "/phase", {"phase": phase})
             for _ in range(self.random.randint(steps[phase] // 2, steps[phase])):
                 if self.stands and self.random.random() < 0.05:
                     self.turn()
@@ -124,6 +125,18 @@ class Run:
 
     def name(self):
         return self.random.choice(NAMES * 4 + STRANGERS)
+
+    def outsider(self):
+        """Mostly somebody who is on no committee."""
+        return self.caller_of(lambda user: self.model.role_of(user) == "account", self.name())
+
+    def guest(self, paper):
+        """Mostly an external of the paper."""
+        return self.caller_of(lambda user: paper.isdigit() and self.model.external(user, int(paper)), self.name())
+
+    def caller_of(self, fits, other):
+        fitting = [name for name in NAMES if fits(self.model.number_of(name))]
+        return self.random.choice(fitting) if fitting and self.random.random() < 0.7 else other
 
     def caller(self, fits):
         """Mostly somebody of whom this holds, if there is anybody."""
@@ -186,17 +199,17 @@ class Run:
         """What is asked for, as often as the phase suggests."""
         asked = ["page"] * 6 + ["reviews", "comments"] * 3 + ["search"] * 6 + ["report"] * 4
         asked += ["me", "conflict", "content", "version", "member", "accounts", "phase", "back", "tag", "decide", "accepted", "deadlines", "plan"]
-        asked += ["deadline"] * (3 if self.model.late()[0] else 4)
+        asked += ["deadline"] * (3 if self.model.late()[0] else 4) + ["dismiss", "invite", "uninvite"]
         if self.model.phase == "submission":
             return asked + ["submit"] * 6 + ["upload", "revise", "conflict"] * 3 + ["withdraw", "bid", "assign", "unassign"]
         if self.model.phase == "bidding":
-            return asked + ["bid", "assign", "tag"] * 5 + ["unassign", "conflict", "bulk", "plan"] * 3 + ["submit", "upload", "revise", "withdraw", "review"]
+            return asked + ["bid", "assign", "tag"] * 5 + ["unassign", "conflict", "bulk", "plan", "invite"] * 3 + ["submit", "upload", "revise", "withdraw", "review"]
         if self.model.phase == "discussion":
             return asked + ["review", "comment", "tag"] * 6 + ["decide"] * 10 + ["assign", "unassign", "conflict", "bulk"] * 2 + ["bid", "submit", "upload", "revise", "withdraw"]
         if self.model.is_from("notification"):
             asked += ["bid", "assign", "unassign", "review", "comment", "submit", "upload", "revise", "withdraw"]
             return asked + ["page", "content", "version"] * 9 + ["accepted", "bulk"] * 3 + ["report"] * 6
-        return asked + ["review"] * 8 + ["assign", "tag"] * 4 + ["unassign", "conflict", "bulk"] * 3 + ["bid", "submit", "upload", "revise", "withdraw", "comment"]
+        return asked + ["review"] * 8 + ["assign", "tag"] * 4 + ["unassign", "conflict", "bulk", "invite", "member"] * 3 + ["bid", "submit", "upload", "revise", "withdraw", "comment"]
 
     def step(self):
         choose, p = self.random, self.paper()
@@ -205,7 +218,7 @@ class Run:
         deed = choose.choice(self.deeds())
         read = choose.choice(["GET", "GET", "GET", "HEAD"])
         if deed == "page":
-            self.ask(self.reader(), read, f"/papers/{p}")
+            self.ask(self.caller_of(lambda user: p.isdigit() and self.model.external(user, int(p)), self.reader()) if choose.random() < 0.2 else self.reader(), read, f"/papers/{p}")
         elif deed == "me":
             self.ask(anybody, "GET", "/me")
         elif deed == "search":
@@ -214,7 +227,14 @@ class Run:
         elif deed == "bid":
             self.ask(anybody, "PUT", f"/papers/{p}/bid", {"bid": choose.randint(-20, 20)})
         elif deed == "assign":
-            self.ask(self.chair(p), "POST", f"/papers/{p}/reviewers", {"kind": choose.choice(["primary", "secondary", "pc"]), "user": self.name()})
+            self.ask(self.chair(p), "POST", f"/papers/{p}/reviewers", {"kind": choose.choice(["primary", "secondary", "pc"]), "user": self.guest(p) if choose.random() < 0.3 else self.name()})
+        elif deed == "invite":
+            self.ask(self.chair(p), "POST", f"/papers/{p}/externals", {"user": self.outsider()})
+        elif deed == "uninvite":
+            invited = [name for name in NAMES if p.isdigit() and self.model.invited(self.model.number_of(name), int(p))]
+            self.ask(self.chair(p), "DELETE", f"/papers/{p}/externals/{choose.choice(invited * 2 + [choose.choice(NAMES + ['zoe'])])}")
+        elif deed == "dismiss":
+            self.ask(self.chair(), "DELETE", f"/members/{self.name()}")
         elif deed == "unassign":
             reviewers = [self.model.name_of(seat[1]) for seat in self.model.reviewers(int(p))] if p.isdigit() else []
             self.ask(self.chair(p), "DELETE", f"/papers/{p}/reviewers/{choose.choice(reviewers + [choose.choice(NAMES + ['zoe'])])}")

@@ -78,6 +78,10 @@ for name in bob dave fay; do
 done
 ask alice POST /members '{"name":"carol","role":"chair"}'
 due 200 '{"name":"carol","role":"chair"}'
+ask alice POST /members '{"name":"gus","role":"member"}'
+due 200 '{"name":"gus","role":"member"}'
+ask alice DELETE /members/gus
+due 200 '{"name":"gus","role":"account"}'
 ask alice POST /mode '{"mode":"anonymous"}'
 due 200 '{"mode":"anonymous"}'
 ask - GET /phase
@@ -163,6 +167,18 @@ ask alice POST /assign @"$room/assignments.csv"
 due 200 '{"rows":2}'
 ask alice GET '/search?q=re:bob'
 due 200 '{"count":3,"papers":[{"paper":1,"title":"Proofs, again"},{"paper":2,"title":"Types"},{"paper":3,"title":"Terms"}]}'
+ask alice POST /papers/2/reviewers '{"kind":"secondary","user":"gus"}'
+due 409 '{"error":"not_a_member"}'
+ask alice POST /papers/2/externals '{"user":"gus"}'
+due 200 '{"paper":2}'
+ask alice POST /papers/2/reviewers '{"kind":"secondary","user":"gus"}'
+due 201 '{"label":"C"}'
+ask gus GET /papers/2
+due 200 '{"abstract":"","conflict":false,"label":"C","paper":2,"title":"Types","versions":[1],"withdrawn":false}'
+ask gus GET /me
+due 200 '{"assigned":[2],"bytes":12,"comments":0,"conflicts":[],"invited":[2],"name":"gus","papers":[1,3],"role":"account","user":7}'
+ask alice DELETE /papers/2/externals/gus
+due 409 '{"error":"still_assigned"}'
 ask dave GET /reports/papers
 due 200 $'   1 C Proofs, again\n   2 - Types\n   3 - Terms\n3 papers\n'
 ask bob PUT '/papers/1/tags/~mine'
@@ -178,6 +194,8 @@ due 200 '{"version":1}'
 ask fay PUT /papers/1/review '{"score":2,"confidence":2,"to_authors":"Fair.","to_pc":""}'
 due 200 '{"version":1}'
 ask dave PUT /papers/2/review '{"score":1,"confidence":5,"to_authors":"No.","to_pc":""}'
+due 200 '{"version":1}'
+ask gus PUT /papers/2/review '{"score":3,"confidence":4,"to_authors":"So-so.","to_pc":""}'
 due 200 '{"version":1}'
 ask bob GET /papers/1/reviews
 due 200 '{"reviews":[{"confidence":3,"label":"A","score":4,"to_authors":"Good.","to_pc":"ok","version":1}]}'
@@ -198,9 +216,13 @@ due 201 '{"comment":1}'
 ask fay PUT /papers/1/review '{"score":4,"confidence":2,"to_authors":"Fair, now.","to_pc":"convinced"}'
 due 200 '{"version":2}'
 ask bob GET /reports/scores
-due 200 $'   1  2 4.00 Proofs, again\n   2  1 1.00 Types\n'
+due 200 $'   1  2 4.00 Proofs, again\n   2  2 2.00 Types\n'
 ask dave GET /reports/scores
-due 200 $'   2  1 1.00 Types\n'
+due 200 $'   2  2 2.00 Types\n'
+ask gus GET /papers/2/reviews
+due 200 '{"reviews":[{"confidence":4,"label":"C","score":3,"to_authors":"So-so.","to_pc":"","version":1}]}'
+ask gus GET /papers/2/comments
+due 403 '{"error":"not_member"}'
 ask fay GET /papers/1/comments
 due 200 '{"comments":[{"label":"A","n":1,"text":"Accept?"}]}'
 ask carol GET /papers/1/comments
@@ -243,7 +265,7 @@ ask fay GET /papers/2
 due 200 '{"abstract":"","authors":["fay"],"conflict":true,"decision":"reject","declared":[],"paper":2,"title":"Types","versions":[1],"withdrawn":false}'
 ask dave GET /papers/1
 due 200 '{"authors":["erin","gus"],"conflict":true,"decision":"accept","paper":1,"title":"Proofs, again","withdrawn":false}'
-ask gus GET /papers/2
+ask erin GET /papers/2
 due 403 '{"error":"not_member"}'
 ask - GET /accepted
 due 200 '{"papers":[{"authors":["erin","gus"],"paper":1,"title":"Proofs, again"}]}'

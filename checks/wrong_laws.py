@@ -8,7 +8,7 @@
 A rule that definition, view and tables share is the same on both sides of the law that views suffice. What refuses it is what is
 said of rules a second time: of old the invariants of cr_history and that the small conference is legal, and since then the
 clauses of `law_permissions`, `law_first_told` and `law_goes_on` of cr_policy. They are computed of histories that the planted
-rules let come about: the small conference phase by phase, and twins of it; for nobody and eight users, each command, query and
+rules let come about: the small conference phase by phase, and twins of it; for nobody and nine users, each command, query and
 bulk of checks/planted/asked.py. Of the rules as they stand all have to hold. WORD picks rows by a word of their name, or a topic.
 Ends with status 0 where all were as due.
 """
@@ -29,10 +29,10 @@ from planted.specs import BUILT_IN, ENDS, History, Specs, applied, arity
 sys.setrecursionlimit(50000)
 CRATES = ("cr_base", "cr_history", "cr_policy")
 NONE, some = asked.NONE, asked.some
-CALLERS = [NONE] + [some(n) for n in range(1, 9)]
+CALLERS = [NONE] + [some(n) for n in range(1, 10)]
 DIGESTS = {name: (n,) * 32 for n, name in enumerate(asked.NAMES)}
 ASIDES = {"tag": asked.words("a"), "to_pc": asked.words("New."), "comment": asked.words("Take it.")}
-CASES = ("OfTheConference", "OfPapers", "OfConflicts", "OfReviewers", "OfTheDiscussion", "OfQueries", "OfBulks")
+CASES = ("OfTheConference", "OfPapers", "OfConflicts", "OfReviewers", "OfExternals", "OfTheDiscussion", "OfQueries", "OfBulks")
 # what is computed of the rows of a topic
 ASKS = {"commands": ("commands", "adds"), "queries": ("queries",), "added": ("commands", "adds"), "bulks": ("bulks",)}
 EVERY = ("commands", "adds", "queries", "bulks")

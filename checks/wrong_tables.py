@@ -23,7 +23,7 @@ from planted.rows import TOP, lost, read
 from planted.specs import BUILT_IN, MEMO, PAPERS, History, Specs, applied, arity
 
 POLICY = "crates/cr_policy"
-NOBODY, USERS = ("None",), [("Some", n) for n in range(1, 9)]
+NOBODY, USERS = ("None",), [("Some", n) for n in range(1, 10)]
 PHASES = ["Submission", "Bidding", "Reviewing", "Discussion", "Notification", "Closed"]
 MODES = [("Overt",), ("Blind",), ("Anonymous",)]
 BUILT_IN["values"] = lambda xs: tuple(x for x in xs if x is not False and x != NOBODY)
@@ -65,7 +65,8 @@ def made_up(seed):
         lambda: ("Unassigned", paper(), user(), dice.randint(1, 3)), lambda: ("Reviewed", paper(), dice.randint(1, 2), dice.randint(1, 4), form()),
         lambda: ("Commented", paper(), dice.randint(1, 9), dice.choice([NOBODY, ("Some", 1), ("Some", 2)]), text()),
         lambda: ("Tagged", paper(), words(dice.choice(["hot", "~own", "~~odd"])), dice.random() < 0.7),
-        lambda: ("Decided", paper(), (dice.choice(["Accept", "Reject"]),)),
+        lambda: ("Decided", paper(), (dice.choice(["Accept", "Reject"]),)), lambda: ("Dismissed", user()),
+        lambda: ("Invited", paper(), user()), lambda: ("Invited", paper(), dice.randint(6, 8)), lambda: ("Uninvited", paper(), dice.randint(6, 8)),
         lambda: ("DeadlineSet", (dice.choice(PHASES[:4]),), dice.choice([NOBODY, ("Some", dice.randint(1, 2_000))]))]
     entries = [(1, ("Registered", n, text(), text())) for n in (1, 2)] + [
         (1, ("Named", n, (role,))) for n, role in ((1, "Chair"), (2, "Chair"), (3, "Member"), (4, "Member"), (5, "Member"))]
@@ -82,16 +83,44 @@ def stamped(entries):
 
 
 def by_hand():
-    """What is rarely made up: a paper that is accepted though it was withdrawn, once the conference is closed; a tag in the submission."""
+    """What is rarely made up: a paper that is accepted though it was withdrawn, once the conference is closed; a tag in the submission; an
+    external of a withdrawn paper in it; and one in the bidding who is in conflict with it."""
     closed = [("Submitted", 3, words("a"), words("b")), ("Uploaded", 3, 1, words("c")), ("Withdrawn", 3), ("Decided", 3, ("Accept",)), ("PhaseSet", ("Closed",))]
     early = [("Named", 4, ("Member",)), ("PhaseSet", ("Submission",)), ("Submitted", 1, words("a"), words("b")), ("Tagged", 1, words("hot"), True)]
-    return [stamped([(6, entry) for entry in entries]) for entries in (closed, early)]
+    invited = [("PhaseSet", ("Submission",)), ("Submitted", 3, words("a"), words("b")), ("Withdrawn", 3), ("Invited", 3, 5)]
+    barred = [*invited, ("Conflict", 3, 5, True), ("PhaseSet", ("Bidding",))]
+    return [stamped([(6, entry) for entry in entries]) for entries in (closed, early, invited, barred)]
+
+
+def outside(mode, ending):
+    """A conference with users 7 and 8 from outside, up to a phase: 8 reviews paper 1, is in conflict with 2, and is invited to 3, which
+    is withdrawn; 4 is dismissed behind a bid, and invited to paper 1; 7 is invited to it no longer; and of the members 5 is invited."""
+    form = lambda score: {"score": score, "confidence": 3, "to_authors": words(f"for authors {score}"), "to_pc": words(f"for us {score}")}
+    roles = [(1, ("Named", n, (role,))) for n, role in ((1, "Chair"), (2, "Chair"), (3, "Member"), (4, "Member"), (5, "Member"))]
+    parts = {
+        "Submission": [(6, ("Submitted", 1, words("a"), words("b"))), (6, ("Coauthor", 1, 7)), (6, ("Uploaded", 1, 1, words("c"))),
+                       (6, ("Revised", 1, words("d"), words("e"))), (6, ("Revised", 1, words("f"), words("g"))), (6, ("Uploaded", 1, 2, words("h"))),
+                       (7, ("Submitted", 2, words("i"), words("j"))), (7, ("Uploaded", 2, 1, words("k"))), (6, ("Submitted", 3, words("l"), words("m"))),
+                       (6, ("Withdrawn", 3)), (6, ("Conflict", 1, 2, True)), (1, ("Invited", 1, 8)), (1, ("Invited", 3, 8)), (1, ("Invited", 2, 8)),
+                       (1, ("Uninvited", 2, 8))],
+        "Bidding": [(1, ("Invited", 2, 8)), (1, ("Conflict", 2, 8, True)), (3, ("Bid", 1, 25)), (4, ("Bid", 1, 0)),
+                    (1, ("Dismissed", 4)), (1, ("Invited", 1, 4)), (1, ("Invited", 1, 5)), (1, ("Invited", 3, 7)), (1, ("Uninvited", 3, 7)),
+                    (1, ("Assigned", 1, 3, ("Primary",), 1)), (1, ("Assigned", 1, 8, ("Pc",), 2)), (3, ("Tagged", 1, words("hot"), True)),
+                    (1, ("Tagged", 1, words("~~odd"), True)), (1, ("Assigned", 1, 5, ("Pc",), 3)), (1, ("Unassigned", 1, 5, 3))],
+        "Reviewing": [(3, ("Reviewed", 1, 1, 1, form(1))), (8, ("Reviewed", 1, 2, 1, form(2))), (3, ("Reviewed", 1, 1, 2, form(3)))],
+        "Discussion": [(3, ("Commented", 1, 1, ("Some", 1), words("n"))), (5, ("Commented", 1, 2, NOBODY, words("o"))), (8, ("Reviewed", 1, 2, 2, form(4))),
+                       (1, ("Decided", 1, ("Reject",))), (1, ("Decided", 1, ("Accept",))), (1, ("Decided", 2, ("Reject",)))],
+        "Notification": [], "Closed": []}
+    entries = roles + [(1, ("ModeSet", mode))]
+    for phase in PHASES[:PHASES.index(ending) + 1]:
+        entries += [(1, ("PhaseSet", (phase,)))] + parts[phase]
+    return stamped(entries)
 
 
 def small_conference(specs):
     """What the small conference is made of, and its histories in each mode and phase."""
     of = lambda name: specs.get("cr_policy.specs.Conference", name)
-    digests = {name: tuple([n] * 32) for n, name in enumerate("alice bob carol dave erin fay gus hal".split())}
+    digests = {name: tuple([n] * 32) for n, name in enumerate("alice bob carol dave erin fay gus hal ivy".split())}
     asides = [{"tag": words(t), "to_pc": words("New."), "comment": words(c)} for t, c in (("a", "Take it."), ("b", "Leave it."))]
     some = [NOBODY, ("Some", ("Accept",)), ("Some", ("Reject",))]
     verdicts = [of("verdicts"), of("reversed")] + [{"other": some[a], "first": some[b], "last": some[c]} for a, b, c in ((2, 0, 1), (0, 1, 1), (1, 2, 1))]
@@ -120,6 +149,7 @@ class Computed:
             self.specs.changed[file] = text.replace(told, "values (map seen (view u H)) ≡ values (each_told u H (part u H) [] H)")
             self.digests, self.asides, self.verdicts, conference = small_conference(self.specs)
             self.histories = by_hand() + [made_up(seed) for seed in range(40)] + conference
+            self.histories += [outside(mode, ending) for mode in MODES for ending in PHASES]
 
     def holds_of(self, clause, history):
         if arity(clause) == 1:

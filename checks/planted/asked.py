@@ -6,7 +6,7 @@ missing an option.
 NONE = ("None",)
 # When all is asked: the moment of the small conference (`morning` in Witness.antt of cr_policy).
 MORNING = 1_772_442_000
-NAMES = ("alice", "bob", "carol", "dave", "erin", "fay", "gus", "hal")
+NAMES = ("alice", "bob", "carol", "dave", "erin", "fay", "gus", "hal", "ivy")
 PHASES = ("Setup", "Submission", "Bidding", "Reviewing", "Discussion", "Notification", "Closed")
 
 
@@ -44,11 +44,11 @@ def form(score):
 
 def conference():
     """Who gives which command, and between them the names of stages."""
-    alice, bob, carol, dave, _, fay, gus, hal = [some(n) for n in range(1, 9)]
+    alice, bob, carol, dave, _, fay, gus, hal, ivy = [some(n) for n in range(1, 10)]
     steps = [(NONE, ("Register", words(name), (n,) * 32)) for n, name in enumerate(NAMES)]
     steps += [(alice, ("Name", named(name), (role,))) for name, role in
-              (("carol", "Member"), ("dave", "Member"), ("fay", "Chair"), ("hal", "Member"))]
-    steps += ["setup", (alice, ("SetMode", ("Blind",))), (alice, ("SetPhase", ("Submission",)))]
+              (("carol", "Member"), ("dave", "Member"), ("fay", "Chair"), ("hal", "Member"), ("ivy", "Member"))]
+    steps += [(alice, ("Dismiss", named("ivy"))), "setup", (alice, ("SetMode", ("Blind",))), (alice, ("SetPhase", ("Submission",)))]
     steps += [(bob, ("Submit", words("Proofs"), words("We prove."), (named("gus"),))), (gus, ("Submit", words("Types"), words("We type."), ())),
               (gus, ("Submit", words("Drafts"), words("We draft."), ())), "submitted"]
     steps += [(bob, ("Upload", some(1), words("Let x be."))), (gus, ("Upload", some(2), words("x : A"))),
@@ -62,9 +62,12 @@ def conference():
     steps += [(user, ("Tag", some(paper), words(tag), on)) for user, paper, tag, on in
               ((dave, 1, "hot", True), (dave, 1, "~xa", True), (alice, 1, "~~x", True), (hal, 1, "hot", False), (fay, 2, "~~x", True))]
     steps += [(alice, ("Assign", some(paper), named(name), (kind,))) for paper, name, kind in
-              ((1, "dave", "Primary"), (1, "alice", "Secondary"), (2, "fay", "Pc"))] + ["bidding"]
+              ((1, "dave", "Primary"), (1, "alice", "Secondary"), (2, "fay", "Pc"))]
+    steps += [(alice, (command, some(paper), named("ivy"))) for command, paper in (("Invite", 1), ("Uninvite", 1), ("Invite", 2))]
+    steps += [(alice, ("Assign", some(2), named("ivy"), ("Secondary",))), "bidding"]
     steps += [(alice, ("SetPhase", ("Reviewing",))), (alice, ("Unassign", some(1), named("dave"))), (alice, ("Assign", some(1), named("dave"), ("Pc",)))]
-    steps += [(user, ("Review", some(1), form(score))) for user, score in ((dave, 2), (alice, 4), (dave, 3))] + ["reviewing"]
+    steps += [(user, ("Review", some(1), form(score))) for user, score in ((dave, 2), (alice, 4), (dave, 3))]
+    steps += [(ivy, ("Review", some(2), form(1))), "reviewing"]
     steps += [(alice, ("SetPhase", ("Discussion",))), (dave, ("Review", some(1), form(5))), (dave, ("Comment", some(1), words("Take it."))),
               (hal, ("Comment", some(1), words("Agreed."))), (fay, ("Decide", some(2), ("Reject",))), (alice, ("Decide", some(1), ("Reject",))),
               (alice, ("Decide", some(1), ("Accept",))), "discussion", (alice, ("SetPhase", ("Notification",))), "notification",
@@ -78,6 +81,15 @@ TWINS = {
     "dave is in conflict": ("bidding", [(some(4), ("SetConflict", some(1), named("dave"), True))]),
     "authors are named late": ("discussion", [(some(1), ("Name", named("bob"), ("Member",))), (some(1), ("Name", named("gus"), ("Chair",)))]),
     "an author is a member": ("submission", [(some(1), ("Name", named("bob"), ("Member",)))]),
+    "dave is dismissed": ("bidding", [(some(1), ("Dismiss", named("dave")))]),
+    "fay is dismissed": ("reviewing", [(some(1), ("Dismiss", named("fay")))]),
+    "erin is invited": ("bidding", [(some(1), ("Invite", some(1), named("erin"))), (some(1), ("Assign", some(1), named("erin"), ("Pc",)))]),
+    "erin is in conflict": ("bidding", [(some(1), ("Invite", some(1), named("erin"))), (some(1), ("SetConflict", some(1), named("erin"), True))]),
+    "erin reviews": ("reviewing", [(some(1), ("Invite", some(1), named("erin"))), (some(1), ("Assign", some(1), named("erin"), ("Pc",))),
+                                   (some(5), ("Review", some(1), form(4))), (some(1), ("Invite", some(2), named("erin")))]),
+    "erin has reviewed": ("reviewing", [(some(1), ("Invite", some(1), named("erin"))), (some(1), ("Assign", some(1), named("erin"), ("Pc",))),
+                                        (some(5), ("Review", some(1), form(4))), (some(1), ("SetPhase", ("Discussion",))),
+                                        (some(1), ("SetPhase", ("Notification",)))]),
     "some papers": ("submitted", [(some(5), ("Submit", words("P"), (), ()))] * 2),
     "many papers": ("submitted", [(some(7), ("Submit", words("P"), (), ()))] * 17),
     "many bytes": ("submitted", [(some(7), ("Upload", some(2), Bytes(33554432))), (some(7), ("Upload", some(1), Bytes(33554000)))]),
@@ -98,8 +110,8 @@ def entry(maker, made):
 
 def labels_spent():
     """Entries behind which paper 2 has 26 labels."""
-    given = [entry(1, ("Assigned", 2, 8, ("Pc",), o)) for o in range(2, 27)]
-    left = [entry(1, ("Unassigned", 2, 8, o)) for o in range(2, 26)]
+    given = [entry(1, ("Assigned", 2, 8, ("Pc",), o)) for o in range(3, 27)]
+    left = [entry(1, ("Unassigned", 2, 8, o)) for o in range(3, 26)]
     return tuple(made for pair in zip(given, left) for made in pair) + (given[-1],)
 
 
@@ -121,6 +133,7 @@ def commands():
     users = [named(name) for name in ("alice", "bob", "carol", "dave", "erin", "hal", "zoe")]
     given = [("Register", words("zoe"), (9,) * 32), ("Register", words("bob"), (9,) * 32)]
     given += [("Name", user, (role,)) for user in users for role in ("Member", "Chair")]
+    given += [("Dismiss", user) for user in users]
     given += [("SetMode", (mode,)) for mode in ("Overt", "Anonymous")] + [("SetPhase", (phase,)) for phase in PHASES]
     given += [("SetDeadline", (phase,), until) for phase in PHASES[1:5] for until in (NONE, some(MORNING + 60))]
     told = ((), (named("erin"), named("erin"), named("bob"), named("erin"), named("hal")), (named("gus"), named("dave")), (named("zoe"),))
@@ -131,7 +144,8 @@ def commands():
         given += [("Tag", p, words(tag), on) for tag in ("hot", "~x", "~~x") for on in (True, False)]
         given += [("Decide", p, (decision,)) for decision in ("Accept", "Reject")]
         for user in users if p in (some(1), some(3)) else [named(name) for name in ("dave", "hal", "zoe")]:
-            given += [("SetConflict", p, user, True), ("SetConflict", p, user, False), ("Assign", p, user, ("Secondary",)), ("Unassign", p, user)]
+            given += [("SetConflict", p, user, True), ("SetConflict", p, user, False), ("Assign", p, user, ("Secondary",)), ("Unassign", p, user),
+                      ("Invite", p, user), ("Uninvite", p, user)]
     return given
 
 

@@ -68,6 +68,7 @@ BUILT_IN = {
     "All": lambda f, xs: all(each(f, xs)),
     "map": lambda f, xs: tuple(each(f, xs)),
     "filter": lambda f, xs: tuple(x for x, stays in zip(xs, each(f, xs)) if stays),
+    "count_by": lambda f, xs: sum(map(bool, each(f, xs))),
     "flat_map": lambda f, xs: tuple(y for ys in each(f, xs) for y in ys),
     "unwrap_or": lambda o, a: o[1] if o[0] == "Some" else a,
     "is_some": lambda o: o[0] == "Some",
