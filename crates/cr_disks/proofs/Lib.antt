@@ -2,3 +2,4 @@ mod Record
 mod Images
 mod Time
 mod Putting
+mod Paths

@@ -1,3 +1,4 @@
 pub mod Disk
 pub mod Past
 pub mod Held
+pub mod Paths

@@ -7,7 +7,9 @@
 mod disk;
 mod disks;
 mod mem_disk;
+mod mem_disks;
 
 pub use disk::{Disk, DiskFailed};
 pub use disks::Disks;
 pub use mem_disk::{DiskCall, MemDisk};
+pub use mem_disks::MemDisks;

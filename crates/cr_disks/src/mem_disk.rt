@@ -278,6 +278,24 @@ impl MemDisk {
         self.calls_left -= 1;
     }
 
+    /// Its bytes, and how many faults it has counted.
+    pub(crate) fn into_parts(self) -> (Vec<u8>, u64)
+        ensures bytes { result.0.items ≡ self.bytes }
+        ensures faults { result.1 ≡ self.faults }
+    {
+        let MemDisk {
+            first: _,
+            calls: _,
+            put: _,
+            bytes,
+            failing: _,
+            room: _,
+            calls_left: _,
+            faults,
+        } = self;
+        (bytes, faults)
+    }
+
     /// The bytes that its writes put there, one after the other.
     pub fn put(&self) -> &[u8]
         ensures { result.now ≡ self.now.put }

@@ -1,15 +1,21 @@
 //! A disk over a file.
-ghost use Rattle.std.specs.Prelude.{◌≡◌, ◌≤◌, false, [], ℕ};
+ghost use Rattle.std.specs.Prelude.{◌≡◌, ◌≤◌, false, [], ℕ, length};
+ghost use Rattle.std.specs.Io.{ReadsAtMost};
 ghost use Rattle.cr_ports.specs.Count.{Rises};
 
+use crate::reason::Reason;
 use cr_disks::{Disk, DiskFailed};
 use cr_ports::ReadStep;
 use std::fs::File;
+use std::io::{self, ErrorKind};
 use std::marker::Model;
 use std::os::unix::fs::FileExt;
 
 /// The most bytes that a disk has.
 const MOST: u64 = 1 << 62;
+
+/// How often a read that a signal broke off is tried again.
+const AGAIN: u32 = 16;
 
 /// A file of the system, as a disk that doesn't tell its bytes. After a sync that failed each write and each sync fails:
 /// what the system then shows of the file may not be on the disk.
@@ -19,6 +25,7 @@ const MOST: u64 = 1 << 62;
 pub struct FileDisk {
     file: File,
     faults: u64,
+    reason: Option<Reason>,
     is_over: bool,
 }
 
@@ -30,6 +37,20 @@ impl Model for FileDisk {
     ghost view = { λ d. d.faults };
 }
 
+/// One read of the file, again where a signal broke it off.
+fn read_on(file: &File, at: u64, buf: &mut [u8]) -> io::Result<usize>
+    ensures size { ReadsAtMost result buf.new }
+    ensures length { length buf.new ≡ length buf.old }
+{
+    'reading: for _ in 0..AGAIN {
+        match file.read_at(buf, at) {
+            Err(error) if error.kind() == ErrorKind::Interrupted => {}
+            answer => return answer,
+        }
+    }
+    file.read_at(buf, at)
+}
+
 impl FileDisk {
     /// A disk over an open file, with no fault counted.
     pub(crate) fn new(file: File) -> Self
@@ -38,8 +59,19 @@ impl FileDisk {
         FileDisk {
             file,
             faults: 0,
+            reason: None,
             is_over: false,
         }
+    }
+
+    /// What the last fault was; none where no call has failed.
+    pub fn reason(&self) -> Option<Reason> {
+        self.reason
+    }
+
+    /// Whether a sync has failed, so that no further write is taken.
+    pub fn is_over(&self) -> bool {
+        self.is_over
     }
 
     /// Closes the file. How many faults were counted.
@@ -49,18 +81,28 @@ impl FileDisk {
         let FileDisk {
             file: _,
             faults,
+            reason: _,
             is_over: _,
         } = self;
         faults
     }
 
     /// Counts a fault.
-    fn fail(&mut self) -> DiskFailed
+    fn count(&mut self) -> DiskFailed
         ensures later { self.old ≤ self.new }
         ensures rises { Rises self.old self.new }
     {
         self.faults = self.faults.saturating_add(1);
         DiskFailed
+    }
+
+    /// Counts a fault, and keeps its reason.
+    fn fail(&mut self, reason: Reason) -> DiskFailed
+        ensures later { self.old ≤ self.new }
+        ensures rises { Rises self.old self.new }
+    {
+        self.reason = Some(reason);
+        self.count()
     }
 }
 
@@ -84,36 +126,45 @@ impl Disk for FileDisk {
     fn len(&mut self) -> Result<u64, DiskFailed> {
         match self.file.metadata() {
             Ok(found) if found.len() <= MOST => Ok(found.len()),
-            Ok(_) | Err(_) => Err(self.fail()),
+            Ok(_) => Err(self.fail(Reason::TooLong)),
+            Err(error) => Err(self.fail(Reason::System(error))),
         }
     }
 
     fn read_at(&mut self, at: u64, buf: &mut [u8]) -> ReadStep {
-        match self.file.read_at(buf, at) {
+        match read_on(&self.file, at, buf) {
             Ok(0) => ReadStep::End,
             Ok(n) => ReadStep::Got(n),
-            Err(_) => {
-                self.fail();
+            Err(error) => {
+                self.fail(Reason::System(error));
                 ReadStep::Failed
             }
         }
     }
 
     fn write_at(&mut self, at: u64, piece: &[u8]) -> Result<(), DiskFailed> {
-        if self.is_over || at > MOST || piece.len() as u64 > MOST - at {
-            return Err(self.fail());
+        if self.is_over {
+            return Err(self.count());
+        }
+        if at > MOST || piece.len() as u64 > MOST - at {
+            return Err(self.fail(Reason::TooLong));
         }
         match self.file.write_all_at(piece, at) {
             Ok(()) => Ok(()),
-            Err(_) => Err(self.fail()),
+            Err(error) => Err(self.fail(Reason::System(error))),
         }
     }
 
     fn sync(&mut self) -> Result<(), DiskFailed> {
-        if self.is_over || self.file.sync_data().is_err() {
-            self.is_over = true;
-            return Err(self.fail());
+        if self.is_over {
+            return Err(self.count());
         }
-        Ok(())
+        match self.file.sync_data() {
+            Ok(()) => Ok(()),
+            Err(error) => {
+                self.is_over = true;
+                Err(self.fail(Reason::System(error)))
+            }
+        }
     }
 }

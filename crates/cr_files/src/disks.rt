@@ -90,7 +90,8 @@ impl FileDisks {
         }
     }
 
-    /// Why the last file that wasn't opened wasn't; none where each was.
+    /// Why the last file that wasn't opened wasn't, or what the last fault of a disk was that was shut later; none where
+    /// nothing has failed.
     pub fn reason(&self) -> Option<Reason> {
         self.reason
     }
@@ -122,6 +123,7 @@ impl Disks for FileDisks {
 
     /// Closes the file, which lets go of it.
     fn shut(&mut self, _path: &str, disk: FileDisk) {
+        self.reason = disk.reason().or(self.reason);
         self.faults = self.faults.saturating_add(disk.into_faults());
     }
 }

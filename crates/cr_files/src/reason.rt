@@ -1,7 +1,7 @@
-//! What was wrong where a file wasn't opened.
+//! What was wrong with a file.
 use std::{fmt, io};
 
-/// Why a file wasn't opened. Its text is one line, without the path.
+/// Why a file wasn't opened, or a call of its disk failed. Its text is one line, without the path.
 #[derive(Clone, Copy)]
 pub enum Reason {
     /// A call of the system failed.
@@ -10,6 +10,8 @@ pub enum Reason {
     Busy,
     /// What stands at the path is no file.
     NoFile,
+    /// It is longer than a disk may be, or would become so.
+    TooLong,
 }
 
 impl fmt::Display for Reason {
@@ -18,6 +20,7 @@ impl fmt::Display for Reason {
             Reason::System(error) => write!(f, "{error}"),
             Reason::Busy => f.write_str("another process has the file open"),
             Reason::NoFile => f.write_str("it is no file"),
+            Reason::TooLong => f.write_str("the file is too long"),
         }
     }
 }

@@ -1,11 +1,14 @@
 //! A shelf of journals over disks.
-ghost use Rattle.std.specs.Prelude.{◌≡◌, ◌+◌, ℕ, List, Option, None, Err, IfOk, OnOk, IsTrue};
+ghost use Rattle.std.specs.Prelude.{◌≡◌, ◌≢◌, ◌⊎◌, ◌+◌, ◌≤◌, ℕ, [], List, Option, None, Err, IfOk, OnOk, IsTrue, IsFalse};
 ghost use Rattle.cr_base.specs.declared.row.Row.{Row};
 ghost use Rattle.cr_disks.specs.Disk.{Only, with_bytes};
-ghost use Rattle.cr_ports.specs.Count.{Gains};
+ghost use Rattle.cr_ports.specs.Count.{Gains, Rises};
 ghost use Rattle.cr_ports.specs.Keeping.{HasCause};
+ghost use Rattle.cr_ports.specs.declared.keeper.KeeperError.TheVariants.{Failed};
 ghost use Rattle.cr_journal.specs.Grammar.{IsJournalOf};
 ghost use Rattle.cr_journal.specs.Keeping.{rows_of};
+ghost use Rattle.cr_journal.specs.Shelving.{IsNoJournal};
+ghost use Rattle.cr_journal.specs.declared.opening.OpenError.TheVariants.{NoJournal};
 
 use crate::keeper::JournalKeeper;
 use crate::opening::OpenError;
@@ -16,13 +19,13 @@ use std::marker::Model;
 
 /// Opens the files of disks as journals.
 ///
-/// Contracts see its disks, and how many files were opened that are no journals, or whose disk failed meanwhile.
+/// Contracts see its disks, and how many files were opened that are no journals.
 #[derive(Drop)]
 pub struct JournalShelf<D: Disks> {
     alloc: Global,
     disks: D,
     refused: u64,
-    last: Option<OpenError>,
+    found_none: bool,
 }
 
 impl<D: Disks> Model for JournalShelf<D> {
@@ -33,18 +36,17 @@ impl<D: Disks> Model for JournalShelf<D> {
     ghost view = { λ s. record { disks = s.disks; refused = s.refused } };
 }
 
-/// Notes why a file wasn't opened, and counts it. Out of memory is no fault.
-fn refuse(refused: &mut u64, last: &mut Option<OpenError>, error: OpenError) -> KeeperError
-    ensures { HasCause {T = ℕ} refused.old refused.new (Err result) }
+/// Counts a file where it is no journal. Whether it was one.
+fn refuse(refused: &mut u64, error: OpenError) -> bool
+    ensures counted { refused.old ≤ refused.new }
+    ensures none { IsTrue result → Rises refused.old refused.new × (error ≡ NoJournal) }
+    ensures other { IsFalse result → (refused.new ≡ refused.old) × (error ≢ NoJournal) }
 {
-    *last = Some(error);
-    match error {
-        OpenError::Failed | OpenError::NoJournal => {
-            *refused = refused.saturating_add(1);
-            KeeperError::Failed
-        }
-        OpenError::OutOfMemory => KeeperError::OutOfMemory,
+    if error != OpenError::NoJournal {
+        return false;
     }
+    *refused = refused.saturating_add(1);
+    true
 }
 
 impl<D: Disks> JournalShelf<D> {
@@ -57,7 +59,7 @@ impl<D: Disks> JournalShelf<D> {
             alloc,
             disks,
             refused: 0,
-            last: None,
+            found_none: false,
         }
     }
 
@@ -68,9 +70,9 @@ impl<D: Disks> JournalShelf<D> {
         &self.disks
     }
 
-    /// Why the last file that a disk was had for wasn't opened as a journal; none where there was no such file.
-    pub fn last_refusal(&self) -> Option<OpenError> {
-        self.last
+    /// Whether the last file that it was to open is no journal.
+    pub fn found_none(&self) -> bool {
+        self.found_none
     }
 }
 
@@ -93,12 +95,25 @@ impl<D: Disks> Shelf for JournalShelf<D> {
         // The rows are those of the groups of which the file is a journal.
         ensures journal { IsTrue D.Disk.tells → IfOk result (λ k. (groups : List (List Row))
             × IsJournalOf groups (D.Disk.seen k.disk) × (rows_of groups ≡ k.rows)) }
-        ensures files { IsTrue D.Disk.tells → D.files self.new.disks ≡ D.files self.old.disks }
+        ensures file { IsTrue D.Disk.tells → D.files self.old.disks path.now ≢ []
+            → IfOk result (λ k. D.Disk.seen k.disk ≡ D.files self.old.disks path.now) }
+        ensures files { IsTrue D.Disk.tells → result ≢ Err Failed → D.files self.new.disks ≡ D.files self.old.disks }
+
+        // It fails only where the disks or a disk failed, or where the file is no journal.
+        ensures failed { result ≡ Err Failed → Rises (D.faults self.old.disks) (D.faults self.new.disks)
+            ⊎ (Rises self.old.refused self.new.refused
+            × (IsTrue D.Disk.tells → IsNoJournal (D.files self.old.disks path.now))) }
     {
+        self.found_none = false;
         let disk = self.disks.open(path)?;
         match JournalKeeper::open(self.alloc, disk) {
             Ok(keeper) => Ok(keeper),
-            Err((error, _)) => Err(refuse(&mut self.refused, &mut self.last, error)),
+            Err((OpenError::OutOfMemory, _)) => Err(KeeperError::OutOfMemory),
+            Err((error, disk)) => {
+                self.disks.shut(path, disk);
+                self.found_none = refuse(&mut self.refused, error);
+                Err(KeeperError::Failed)
+            }
         }
     }
 

@@ -11,7 +11,7 @@ ghost use Rattle.cr_top.specs.Exits.{exit_status};
 
 use cr_net::TcpGates;
 use cr_ports::{ReadSource, SystemClock, WriteSink};
-use cr_sqlite::SqliteShelf;
+use cr_stores::FileShelf;
 use cr_top::{Exit, run_top};
 use cr_words::{Job, read_words};
 use std::alloc::{AllocError, Global};
@@ -51,7 +51,7 @@ fn tell(
     rt: &HostRuntime,
     words: &[String],
     exit: Exit,
-    shelf: &SqliteShelf,
+    shelf: &FileShelf,
     gates: &TcpGates,
 ) -> io::Result<()> {
     let Named { store, address } = names_in(rt.alloc(), words);
@@ -66,7 +66,7 @@ fn tell(
         }
         Exit::ReadFault => eprintln!(rt; "confd: the input could not be read"),
         Exit::WriteFault => eprintln!(rt; "confd: the output could not be written"),
-        Exit::KeeperFault => match shelf.reason() {
+        Exit::KeeperFault => match shelf.reason(store) {
             Some(reason) => eprintln!(rt; "confd: {store}: {reason}"),
             None => eprintln!(rt; "confd: {store}: the store could not be read"),
         },
@@ -92,7 +92,7 @@ fn status_of(exit: Exit) -> ExitCode
 pub fn run<R: Threads + Wait + Sync>(rt: &HostRuntime, handle: &R) -> ExitCode {
     let mut input = ReadSource::new(rt.stdin());
     let mut out = WriteSink::new(rt.stdout());
-    let mut shelf = SqliteShelf::new(rt);
+    let mut shelf = FileShelf::new(rt);
     let mut gates = TcpGates::new(rt);
     let mut clock = SystemClock::new(*rt);
     let Ok(words) = words(rt) else {

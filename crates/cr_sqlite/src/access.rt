@@ -1,14 +1,12 @@
 //! Who may read a store's files.
 
-use std::fs::{self, OpenOptions};
+use cr_notices::tell_if_open;
+use std::fs::OpenOptions;
 use std::io::{self, ErrorKind};
-use std::os::unix::fs::{OpenOptionsExt, PermissionsExt};
+use std::os::unix::fs::OpenOptionsExt;
 
 /// The mode of a file that is made: its owner alone reads and writes it.
 const OWNERS_ALONE: u32 = 0o600;
-
-/// The bits of a mode by which a group, or everybody, may read.
-const READ_BY_OTHERS: u32 = 0o044;
 
 /// A name that the crate `sqlite` refuses, so no file is made for it.
 const IN_MEMORY: &str = ":memory:";
@@ -37,19 +35,5 @@ pub(crate) fn tell_open_ones(rt: &HostRuntime, path: &str) {
     tell_if_open(rt, path);
     if let Ok(log) = format!(in rt.alloc(); "{path}-wal") {
         tell_if_open(rt, log.as_str());
-    }
-}
-
-fn tell_if_open(rt: &HostRuntime, path: &str) {
-    if is_open_to_others(rt, path) {
-        let _ = eprintln!(rt; "confd: {path}: others on this machine may read this file");
-    }
-}
-
-/// Whether others than its owner may read the file; not where that can't be found out.
-fn is_open_to_others(rt: &HostRuntime, path: &str) -> bool {
-    match fs::metadata(rt, path) {
-        Ok(found) => found.permissions().mode() & READ_BY_OTHERS != 0,
-        Err(_) => false,
     }
 }

@@ -4,12 +4,12 @@ ghost use Rattle.cr_ports.specs.Keeping.{HasCause};
 ghost use Rattle.cr_sqlite.specs.Telling.{without_reason};
 
 use crate::cursors::Cursors;
-use crate::notices::Notices;
 use crate::reason::{Reason, StoreError};
 use crate::record::insert;
 use crate::schema::bring_up_to_date;
 use crate::table::Table;
 use cr_base::Row;
+use cr_notices::Notices;
 use cr_ports::{Keeper, KeeperError};
 use sqlite::{Alter, Connection, Error, ErrorCode, Transaction};
 use std::alloc::Global;
@@ -228,7 +228,7 @@ impl<S: Alter> SqliteKeeper<S> {
     {
         if let StoreError::Failed(reason) = refusal {
             let is_over = is_over(&mut self.conn);
-            self.notices.refused(reason, is_over);
+            self.notices.refused(&reason, is_over);
         }
     }
 

@@ -9,7 +9,6 @@ mod access;
 mod cursors;
 mod keeper;
 mod migrate;
-mod notices;
 mod reason;
 mod record;
 mod schema;

@@ -1,14 +1,18 @@
 //! The stores of the program: a journal where the path ends in `.cj`, and else a file of SQLite's format.
 #![tactic(auto)]
 
-ghost use Rattle.std.specs.Prelude.{◌≡◌, ◌+◌, ℕ, None, ⊤};
+ghost use Rattle.std.specs.Prelude.{◌≡◌, ◌+◌, ℕ, None, ⊤, IfOk};
+ghost use Rattle.cr_ports.specs.Keeping.{HasCause};
 
+mod journal;
 mod reason;
 
 use cr_files::FileDisks;
 use cr_journal::{EitherKeeper, JournalShelf};
+use cr_notices::tell_if_open;
 use cr_ports::{KeeperError, Shelf};
 use cr_sqlite::SqliteShelf;
+pub use journal::FileJournal;
 pub use reason::Reason;
 use std::marker::Model;
 use std::rt::HostRuntime;
@@ -21,6 +25,7 @@ const JOURNALS: &str = ".cj";
 /// Contracts see the count of faults of both.
 #[derive(Drop)]
 pub struct FileShelf {
+    rt: HostRuntime,
     journals: JournalShelf<FileDisks>,
     databases: SqliteShelf,
 }
@@ -44,9 +49,20 @@ impl FileShelf {
         ensures { result ≡ 0 }
     {
         FileShelf {
+            rt: *rt,
             journals: JournalShelf::new(rt.alloc(), FileDisks::new(rt)),
             databases: SqliteShelf::new(rt),
         }
+    }
+
+    /// A keeper of the journal at the path.
+    fn open_journal(&mut self, path: &str) -> Result<FileJournal, KeeperError>
+        ensures fresh { IfOk result (λ journal. journal.disk ≡ 0) }
+        ensures cause { HasCause self.old self.new result }
+    {
+        let keeper = self.journals.open(path)?;
+        tell_if_open(&self.rt, path);
+        Ok(FileJournal::new(&self.rt, keeper))
     }
 
     /// What the last fault at the path was; none where nothing has failed there that has a reason.
@@ -54,18 +70,15 @@ impl FileShelf {
         if !is_journal(path) {
             return self.databases.reason().map(Reason::Database);
         }
-        match self.journals.last_refusal() {
-            Some(error) => Some(Reason::Journal(error)),
-            None => self.journals.disks().reason().map(Reason::File),
+        if self.journals.found_none() {
+            return Some(Reason::NoJournal);
         }
+        self.journals.disks().reason().map(Reason::File)
     }
 }
 
 impl Shelf for FileShelf {
-    type Keeper = EitherKeeper<
-        <JournalShelf<FileDisks> as Shelf>::Keeper,
-        <SqliteShelf as Shelf>::Keeper,
-    >;
+    type Keeper = EitherKeeper<FileJournal, <SqliteShelf as Shelf>::Keeper>;
 
     ghost rows = { λ _. None };
 
@@ -73,13 +86,12 @@ impl Shelf for FileShelf {
 
     ghost faults = { λ s. s };
 
-    /// Opens the file as a journal where its name ends in `.cj`, and else as a database.
+    /// Opens the file as a journal where its name ends in `.cj`, and else as a database. Where others may read a file that
+    /// is taken, standard error is told so in a line.
     fn open(&mut self, path: &str) -> Result<Self::Keeper, KeeperError> {
         if is_journal(path) {
-            return match self.journals.open(path) {
-                Ok(keeper) => Ok(EitherKeeper::First(keeper)),
-                Err(error) => Err(error),
-            };
+            let journal = self.open_journal(path)?;
+            return Ok(EitherKeeper::First(journal));
         }
         match self.databases.open(path) {
             Ok(keeper) => Ok(EitherKeeper::Second(keeper)),
@@ -90,7 +102,7 @@ impl Shelf for FileShelf {
     /// Shuts the file by the shelf that opened it.
     fn shut(&mut self, path: &str, keeper: Self::Keeper) {
         match keeper {
-            EitherKeeper::First(keeper) => self.journals.shut(path, keeper),
+            EitherKeeper::First(journal) => self.journals.shut(path, journal.into_keeper()),
             EitherKeeper::Second(keeper) => self.databases.shut(path, keeper),
         }
     }

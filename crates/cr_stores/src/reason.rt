@@ -1,5 +1,4 @@
 //! What was wrong with a store.
-use cr_journal::OpenError;
 use std::fmt;
 
 /// What a fault was. Its text is one line, without the path.
@@ -7,10 +6,10 @@ use std::fmt;
 pub enum Reason {
     /// A file of SQLite's format, or what it has.
     Database(cr_sqlite::Reason),
-    /// A journal's file couldn't be had.
+    /// The file of a journal couldn't be had, read or written.
     File(cr_files::Reason),
-    /// A file wasn't opened as a journal.
-    Journal(OpenError),
+    /// The bytes of the file are no journal.
+    NoJournal,
 }
 
 impl fmt::Display for Reason {
@@ -18,11 +17,7 @@ impl fmt::Display for Reason {
         match self {
             Reason::Database(reason) => write!(f, "{reason}"),
             Reason::File(reason) => write!(f, "{reason}"),
-            Reason::Journal(OpenError::Failed) => {
-                f.write_str("the disk failed, or holds more than a journal may")
-            }
-            Reason::Journal(OpenError::NoJournal) => f.write_str("it is no journal"),
-            Reason::Journal(OpenError::OutOfMemory) => f.write_str("out of memory"),
+            Reason::NoJournal => f.write_str("the file is no journal"),
         }
     }
 }

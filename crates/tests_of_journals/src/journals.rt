@@ -34,6 +34,16 @@ fn groups(alloc: Global) -> Result<Vec<Vec<Row>>, AllocError> {
     Ok(groups)
 }
 
+/// Thirty groups: those three, ten times.
+fn thirty_groups(alloc: Global) -> Result<Vec<Vec<Row>>, AllocError> {
+    let mut all = Vec::new(alloc);
+    for _ in 0..10 {
+        let mut three = groups(alloc)?;
+        all.append(&mut three)?;
+    }
+    Ok(all)
+}
+
 #[test]
 fn a_new_journal_is_nine_bytes(rt: HostRuntime) -> Result<(), Fail> {
     let keeper = new_journal(rt.alloc(), Vec::new(rt.alloc())).ok_or("it opens")?;
@@ -144,14 +154,14 @@ fn first_bad_stop(
 #[test]
 fn a_stop_at_any_call_leaves_whole_groups(rt: HostRuntime) -> Result<(), Fail> {
     let alloc = rt.alloc();
-    let groups = groups(alloc)?;
+    let groups = thirty_groups(alloc)?;
     let ways = ways(alloc)?;
     let mut keeper = new_journal(alloc, Vec::new(alloc)).ok_or("it opens")?;
     for group in &groups {
         let kept = keeper.append_all(group).is_ok();
         assert!(rt; kept);
     }
-    assert_eq!(rt; keeper.disk().calls().len(), 14);
+    assert_eq!(rt; keeper.disk().calls().len(), 122);
     assert_eq!(rt; first_bad_stop(alloc, keeper.disk(), &groups, &ways), None);
     Ok(())
 }
@@ -188,6 +198,29 @@ fn an_append_that_failed_is_made_again(rt: HostRuntime) -> Result<(), Fail> {
     // The write of its gate, and its sync: the next append has six.
     assert_eq!(rt; with_failing(alloc, &groups, 8), Some((19, 5)));
     assert_eq!(rt; with_failing(alloc, &groups, 9), Some((20, 5)));
+    Ok(())
+}
+
+#[test]
+fn a_full_disk_keeps_what_it_has_room_for(rt: HostRuntime) -> Result<(), Fail> {
+    let alloc = rt.alloc();
+    let groups = groups(alloc)?;
+    // Nine bytes make the journal, and a phase takes 113 more.
+    let disk = MemDisk::new(alloc, Vec::new(alloc), 9 + 2 * 115, 256, Vec::new(alloc))?;
+    let mut keeper = JournalKeeper::open(alloc, disk).ok().ok_or("it opens")?;
+    let [first, second, third] = groups.as_slice() else {
+        return Err("there are three groups".into());
+    };
+    let kept = [
+        keeper.append_all(first).is_ok(),
+        keeper.append_all(second).is_ok(),
+        keeper.append_all(third).is_ok(),
+    ];
+    assert_eq!(rt; kept, [true, false, true]);
+    let bytes = keeper.disk().bytes().to_vec(alloc)?;
+    let mut due = Vec::new(alloc);
+    due.push(Vec::from_array(alloc, [phase_set(1), phase_set(2)])?)?;
+    assert_eq!(rt; opens_to(alloc, bytes, &due), Some(2));
     Ok(())
 }
 

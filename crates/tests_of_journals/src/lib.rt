@@ -8,3 +8,5 @@ mod images;
 mod journals;
 #[cfg(test)]
 mod rows;
+#[cfg(test)]
+mod shelves;

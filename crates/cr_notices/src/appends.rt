@@ -1,6 +1,6 @@
 //! What standard error is told of appends.
 
-use crate::reason::Reason;
+use std::fmt::Display;
 
 /// Whether appends are taken.
 #[derive(Clone, Copy, PartialEq, Eq)]
@@ -9,12 +9,13 @@ enum Appends {
     Taken,
     /// One was refused for a reason that may pass, as a full disk.
     Refused,
-    /// No further one is taken over this connection: a sync failed, or the last write of an append.
+    /// No further one is taken until the program is started again: a sync failed, or what else leaves in doubt what
+    /// the disk has.
     Over,
 }
 
 /// Tells standard error in a line where appends begin to be refused, and in one where they are taken again; or nobody.
-pub(crate) struct Notices {
+pub struct Notices {
     rt: Option<HostRuntime>,
     /// As it was told last.
     appends: Appends,
@@ -29,7 +30,7 @@ impl Drop for Notices {
 
 impl Notices {
     /// Nobody is told.
-    pub(crate) fn none() -> Notices {
+    pub fn none() -> Notices {
         Notices {
             rt: None,
             appends: Appends::Taken,
@@ -37,7 +38,7 @@ impl Notices {
     }
 
     /// Standard error is told.
-    pub(crate) fn on_standard_error(rt: &HostRuntime) -> Notices {
+    pub fn on_standard_error(rt: &HostRuntime) -> Notices {
         Notices {
             rt: Some(*rt),
             appends: Appends::Taken,
@@ -45,14 +46,14 @@ impl Notices {
     }
 
     /// An append was kept.
-    pub(crate) fn taken(&mut self) {
+    pub fn taken(&mut self) {
         if self.has_changed(Appends::Taken) {
             self.tell_taken();
         }
     }
 
     /// An append was refused for this reason; none is taken any more where it `is_over`.
-    pub(crate) fn refused(&mut self, reason: Reason, is_over: bool) {
+    pub fn refused<R: Display>(&mut self, reason: &R, is_over: bool) {
         if is_over {
             if self.has_changed(Appends::Over) {
                 self.tell_over(reason);
@@ -77,7 +78,7 @@ impl Notices {
         }
     }
 
-    fn tell_refused(&self, reason: Reason) {
+    fn tell_refused<R: Display>(&self, reason: &R) {
         if let Some(rt) = &self.rt {
             let _ = eprintln!(rt;
                 "confd: commands are refused (503): {reason}; they are taken again as soon as one can be kept"
@@ -85,7 +86,7 @@ impl Notices {
         }
     }
 
-    fn tell_over(&self, reason: Reason) {
+    fn tell_over<R: Display>(&self, reason: &R) {
         if let Some(rt) = &self.rt {
             let _ = eprintln!(rt;
                 "confd: commands are refused (503): {reason}; confd has to be started again, to see what the disk has"

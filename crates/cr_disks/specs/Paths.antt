@@ -1,0 +1,26 @@
+-- What stands at each path of disks in memory.
+use Rattle.std.specs.Prelude.{ℕ, List, [], Bool, is_some, String, Vec}
+use Rattle.std.specs.Option.{option_map_or}
+use Rattle.std.specs.declared.alloc.Global.{Global}
+use Rattle.std.specs.Map.{lookup}
+use Rattle.cr_ports.specs.Shelving.{is_path}
+
+-- what a map by path has, as it keeps it
+abbrev pub FilesByPath : Type 0
+FilesByPath = List (String Global × Vec ℕ Global)
+
+-- the bytes at a path, none where nothing stands
+abbrev pub bytes_at : FilesByPath → List ℕ → List ℕ
+bytes_at files path = option_map_or (λ bytes. bytes.items) (lookup (is_path path) files) []
+
+abbrev pub has_file : FilesByPath → List ℕ → Bool
+has_file files path = is_some (lookup (is_path path) files)
+
+-- disks in memory: the bytes at each path, which calls of each disk fail, for how many more bytes and calls each has
+-- room, and the faults
+pub record Filed : Type 0 where
+  pub files : FilesByPath
+  pub failing : List ℕ
+  pub room : ℕ
+  pub calls : ℕ
+  pub faults : ℕ

@@ -1,0 +1,185 @@
+//! Disks in memory, by their paths.
+ghost use Rattle.std.specs.Prelude.{◌≡◌, ◌↔◌, ◌<◌, ◌≤◌, ◌+◌, ◌^◌, ◌-◌, [], IfOk, IsFalse, IsTrue, OnOk, length, min};
+ghost use Rattle.cr_ports.specs.Count.{Gains};
+ghost use Rattle.cr_ports.specs.Keeping.{HasCause};
+ghost use Rattle.cr_disks.specs.Disk.{with_bytes};
+ghost use Rattle.cr_disks.specs.Paths.{bytes_at, has_file};
+
+use crate::disks::Disks;
+use crate::mem_disk::MemDisk;
+use cr_ports::KeeperError;
+use std::alloc::{AllocError, Global};
+use std::collections::BTreeMap;
+use std::marker::Model;
+
+/// Files in memory, by path. A disk over one has room for so many more bytes and calls, and fails at the calls that are
+/// listed.
+///
+/// Contracts see the bytes at each path, the list, the room and the count of faults.
+pub struct MemDisks {
+    alloc: Global,
+    files: BTreeMap<String, Vec<u8>>,
+    failing: Vec<u64>,
+    room: usize,
+    calls: usize,
+    faults: u64,
+}
+
+// Written out, so that a caller doesn't prove again how each part is dropped.
+impl Drop for MemDisks {
+    fn drop(self) {
+        let MemDisks {
+            alloc: _,
+            files: _,
+            failing: _,
+            room: _,
+            calls: _,
+            faults: _,
+        } = self;
+    }
+}
+
+impl Model for MemDisks {
+    ghost use Rattle.cr_disks.specs.Paths.{Filed};
+
+    ghost Value = { Filed };
+
+    ghost view = { λ d. record {
+      files = d.files.entries;
+      failing = d.failing.items;
+      room = d.room;
+      calls = d.calls;
+      faults = d.faults;
+    } };
+}
+
+impl MemDisks {
+    /// Disks with no file at any path, and no fault counted. Each that they open has room for so many bytes past those of
+    /// its file and for so many writes and syncs, and of these, numbered from 0, those in `failing` fail.
+    pub fn new(alloc: Global, room: usize, calls: usize, failing: Vec<u64>) -> Self
+        ensures files { bytes_at result.files ≡ (λ _. []) }
+        ensures failing { result.failing ≡ failing.items }
+        ensures room { (result.room ≡ room) × (result.calls ≡ calls) }
+        ensures faults { result.faults ≡ 0 }
+    {
+        MemDisks {
+            alloc,
+            files: BTreeMap::new(alloc),
+            failing,
+            room,
+            calls,
+            faults: 0,
+        }
+    }
+
+    /// The bytes that stand at the path; one look-up.
+    pub fn bytes_at(&self, path: &str) -> &[u8]
+        ensures { result.now ≡ bytes_at self.now.files path.now }
+    {
+        match self.files.get(path) {
+            Some(bytes) => bytes.as_slice(),
+            None => &[],
+        }
+    }
+
+    /// Makes an empty file at the path where there is none.
+    fn make_file(&mut self, path: &str) -> Result<(), AllocError>
+        ensures opened { OnOk result (IsTrue (has_file self.new.files path.now)) }
+        ensures files { bytes_at self.new.files ≡ bytes_at self.old.files }
+        ensures failing { self.new.failing ≡ self.old.failing }
+        ensures room { (self.new.room ≡ self.old.room) × (self.new.calls ≡ self.old.calls) }
+        ensures faults { self.new.faults ≡ self.old.faults }
+    {
+        if self.files.contains_key(path) {
+            return Ok(());
+        }
+        add_file(self.alloc, &mut self.files, path)
+    }
+
+    /// Whether a disk over the file at the path would have more bytes than a disk may have.
+    fn is_too_long(&self, path: &str) -> bool
+        ensures { IsFalse result ↔ (length (bytes_at self.now.files path.now) + self.now.room < 2 ^ 62) }
+    {
+        let most = (1u64 << 62).saturating_sub(self.room as u64);
+        self.bytes_at(path).len() as u64 >= most
+    }
+
+    /// A disk over a copy of the bytes at the path.
+    fn disk_at(&self, path: &str) -> Result<MemDisk, AllocError>
+        requires { length (bytes_at self.now.files path.now) + self.now.room < 2 ^ 62 }
+        ensures bytes { IfOk result (λ disk. disk.bytes ≡ bytes_at self.now.files path.now) }
+        ensures faults { IfOk result (λ disk. disk.faults ≡ 0) }
+    {
+        let mut first = Vec::new(self.alloc);
+        first.extend_from_slice(self.bytes_at(path))?;
+        let failing = self.failing.clone()?;
+        MemDisk::new(self.alloc, first, self.room, self.calls, failing)
+    }
+}
+
+/// Makes an empty file at a path where there is none.
+fn add_file(
+    alloc: Global,
+    files: &mut BTreeMap<String, Vec<u8>>,
+    path: &str,
+) -> Result<(), AllocError>
+    requires { IsFalse (has_file files.old.entries path.now) }
+    ensures opened { OnOk result (IsTrue (has_file files.new.entries path.now)) }
+    ensures files { bytes_at files.new.entries ≡ bytes_at files.old.entries }
+{
+    let name = String::from_str(alloc, path)?;
+    match files.insert(name, Vec::new(alloc)) {
+        Ok(_) => Ok(()),
+        Err(_) => Err(AllocError),
+    }
+}
+
+/// Puts bytes at a path where there is a file.
+fn put(files: &mut BTreeMap<String, Vec<u8>>, path: &str, bytes: Vec<u8>)
+    requires { IsTrue (has_file files.old.entries path.now) }
+    ensures { bytes_at files.new.entries ≡ with_bytes (bytes_at files.old.entries) path.now bytes.items }
+{
+    if let Some(file) = files.get_mut(path) {
+        *file = bytes;
+    }
+}
+
+impl Disks for MemDisks {
+    type Disk = MemDisk;
+
+    ghost files = { λ d. bytes_at d.files };
+
+    ghost has_opened = { λ d path. IsTrue (has_file d.files path) };
+
+    ghost faults = { λ d. d.faults };
+
+    fn open(&mut self, path: &str) -> Result<MemDisk, KeeperError>
+        ensures found { IfOk result (λ disk. disk.bytes ≡ bytes_at self.old.files path.now) }
+        ensures fresh { IfOk result (λ disk. disk.faults ≡ 0) }
+        ensures opened { OnOk result (IsTrue (has_file self.new.files path.now)) }
+        ensures same { bytes_at self.new.files ≡ bytes_at self.old.files }
+        ensures cause { HasCause self.old.faults self.new.faults result }
+    {
+        if self.is_too_long(path) {
+            self.faults = self.faults.saturating_add(1);
+            return Err(KeeperError::Failed);
+        }
+        if self.make_file(path).is_err() {
+            return Err(KeeperError::OutOfMemory);
+        }
+        match self.disk_at(path) {
+            Ok(disk) => Ok(disk),
+            Err(_) => Err(KeeperError::OutOfMemory),
+        }
+    }
+
+    fn shut(&mut self, path: &str, disk: MemDisk)
+        requires { IsTrue (has_file self.old.files path.now) }
+        ensures kept { bytes_at self.new.files ≡ with_bytes (bytes_at self.old.files) path.now disk.bytes }
+        ensures count { Gains self.old.faults disk.faults self.new.faults }
+    {
+        let (bytes, faults) = disk.into_parts();
+        self.faults = self.faults.saturating_add(faults);
+        put(&mut self.files, path, bytes);
+    }
+}
