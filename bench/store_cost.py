@@ -71,10 +71,11 @@ def run(program, store, text):
     return spent, resource.getrusage(resource.RUSAGE_CHILDREN).ru_maxrss * 1024
 
 
-def fill(store, first):
-    """Rows that turn bob's conflict on and off, up to a million in all."""
+def fill(store, rows=ROWS):
+    """Rows that turn bob's conflict on and off, up to so many in all."""
     with opened(store) as file:
-        file.executemany(ROW.format(TIES), ((place, 10, 1, 1, 2, place % 2, b"", b"") for place in range(first, ROWS)))
+        first = sum(file.execute(f"SELECT count(*) FROM {table}").fetchone()[0] for table in TABLES)
+        file.executemany(ROW.format(TIES), ((place, 10, 1, 1, 2, place % 2, b"", b"") for place in range(first, rows)))
 
 
 def read_all(store):
@@ -90,9 +91,7 @@ def read_all(store):
 def opening(program, folder):
     store = os.path.join(folder, "million")
     run(program, store, conference())
-    with opened(store) as file:
-        first = sum(file.execute(f"SELECT count(*) FROM {table}").fetchone()[0] for table in TABLES)
-    fill(store, first)
+    fill(store)
     spent, memory = run(program, store, b"")
     print(f"opening {ROWS:,} rows: {spent:.1f} s, {memory / 1e6:.0f} MB at most")
     print(f"reading them by Python's sqlite3: {read_all(store):.1f} s")

@@ -9,6 +9,7 @@ checks/shim.c, which lets the calls fail; without a `cc` it ends well with a lin
 and last `N passed, M failed`; ends with status 0 where none failed. Takes about a quarter of a minute.
 """
 
+import collections
 import errno
 import json
 import os
@@ -21,8 +22,6 @@ from store import LASTING, PASSING, TAKEN_AGAIN, answers, expect, register, requ
 
 NAMES = [f"user{number}" for number in range(12)]
 QUESTION = request("GET", "/accounts")
-NO_ROOM = "database or disk is full"
-FULL = PASSING.format(NO_ROOM)
 LINE = b"confd: the input ended inside a request\n"
 WORDS = ["pipe", "--store", "store"]
 shim = None
@@ -47,9 +46,15 @@ def names_in(store):
     return [bytes(row[5]).decode() for row in rows(store) if row[1] == 1]
 
 
-def told(program, folder):
+# A kind of store: what its file is named here, how the names in it are read, and what is said where a call fails, and where there is
+# no room.
+Kind = collections.namedtuple("Kind", "name names failed no_room")
+DATABASE = Kind("store", names_in, "disk I/O error", "database or disk is full")
+
+
+def told(kind, program, folder):
     """What a run says of the store that another left: the names, in their order."""
-    found, status = program.pipe(os.path.join(folder, "store"), QUESTION)
+    found, status = program.pipe(os.path.join(folder, kind.name), QUESTION)
     expect(status == 0, f"opened again with status {status}")
     return [account["name"] for account in json.loads(found[0][1])["accounts"]]
 
@@ -59,20 +64,21 @@ def registrations():
     return b"".join(register(name) + QUESTION for name in NAMES)
 
 
-def appends(program, folder, out, status, err, goes_on):
+def appends(kind, program, folder, out, status, err, goes_on, may_be_left=False):
     """A run of `registrations` in which a call on the store failed: the names that were answered 201, and what is left.
 
-    `goes_on`: whether what failed passes, so that later ones are taken again. The last write of an append is the exception: where
-    that fails it isn't known what the file has, so the store is closed as it is by a failed sync.
+    `goes_on`: whether what failed passes, so that later ones are taken again. The last write of an append to a database is the
+    exception: where that fails it isn't known what the file has, so the store is closed as it is by a failed sync. `may_be_left`:
+    whether a command that was refused last may be in the file all the same, though later ones would have been taken.
     """
     lines = err.decode().splitlines(keepends=True)
-    reason = "disk I/O error"
-    if goes_on and lines[:1] == [LASTING.format(NO_ROOM)]:
-        goes_on, reason = False, NO_ROOM
+    reason = kind.failed
+    if goes_on and lines[:1] == [LASTING.format(kind.no_room)]:
+        goes_on, reason = False, kind.no_room
     if status == 6:
         expect(out == b"" and len(lines) == 1, f"status 6: {out[:80]}, {lines}")
-        expect(lines[0].startswith("confd: store: "), f"status 6: {lines}")
-        expect(told(program, folder) == [], "names in a store that could not be made")
+        expect(lines[0].startswith(f"confd: {kind.name}: "), f"status 6: {lines}")
+        expect(told(kind, program, folder) == [], "names in a store that could not be made")
         return
     expect(status == 0, f"status {status}, {lines}")
     found = answers(out)
@@ -89,18 +95,19 @@ def appends(program, folder, out, status, err, goes_on):
     first = codes.index(503) if 503 in codes else len(codes)
     if goes_on:
         expect(codes.count(503) <= 1, f"one call failed, and the answers are {codes}")
-        due = ([FULL] if first < len(codes) else []) + ([TAKEN_AGAIN] if first < len(codes) - 1 else [])
+        full = PASSING.format(kind.no_room)
+        due = ([full] if first < len(codes) else []) + ([TAKEN_AGAIN] if first < len(codes) - 1 else [])
     else:
         expect(codes == [201] * first + [503] * (len(codes) - first), f"{codes}")
         due = [LASTING.format(reason)] if first < len(codes) else []
     expect(lines[: len(due)] == due, f"standard error has {lines}, due {due}")
     # What is left over tells that the store was not shut well.
     rest = lines[len(due) :]
-    expect(len(rest) <= 1 and all("store: " in line for line in rest), f"standard error has {lines}")
-    now = told(program, folder)
-    lost = [] if goes_on else NAMES[first : first + 1]
+    expect(len(rest) <= 1 and all(f"{kind.name}: " in line for line in rest), f"standard error has {lines}")
+    now = told(kind, program, folder)
+    lost = NAMES[first : first + 1] if not goes_on or (may_be_left and first == len(NAMES) - 1) else []
     expect(now in (kept, kept + lost), f"the store has {now}, due {kept}, and perhaps {lost}")
-    expect(names_in(os.path.join(folder, "store")) == now, "the rows are others than the program tells")
+    expect(kind.names(os.path.join(folder, kind.name)) == now, "the rows are others than the program tells")
 
 
 def syncs(program, _folder):
@@ -111,7 +118,7 @@ def syncs(program, _folder):
         once = number <= count
         orders = {"refuse_sync": number if once else number - count, "lasts": 0 if once else 1, "error": errno.EIO}
         out, status, err, _ = shim.run(program, WORDS, registrations(), folder, **orders)
-        appends(program, folder, out, status, err, goes_on=False)
+        appends(DATABASE, program, folder, out, status, err, goes_on=False)
 
     each(2 * count, fail)
 
@@ -123,7 +130,7 @@ def full(program, _folder):
     def fail(number, folder):
         orders = {"refuse_write": number, "error": errno.ENOSPC, "scope": FILES}
         out, status, err, _ = shim.run(program, WORDS, registrations(), folder, **orders)
-        appends(program, folder, out, status, err, goes_on=True)
+        appends(DATABASE, program, folder, out, status, err, goes_on=True)
 
     each(count, fail)
 
