@@ -19,4 +19,5 @@ pub mod OpeningSpelling
 pub mod OutcomeLaws
 pub mod PlanPostedLaws
 pub mod ViewLaws
+pub mod StopLaws
 pub mod StoreLaws

@@ -1,5 +1,5 @@
 -- What a command or a bulk comes to, by what was looked up and what was judged.
-use Rattle.std.proofs.Common.{◌≡◌, true, false, List, refl, sym, ap, subst, ◌∙◌, Option, Some, Result, Ok, Err, IfOk, IsOk, IsSome}
+use Rattle.std.proofs.Common.{◌≡◌, true, false, List, refl, sym, ap, subst, ◌∙◌, Option, None, Some, Result, Ok, Err, IfOk, IsOk, IsSome}
 use Rattle.std.proofs.lemmas.Result.{IfOk-weaker}
 use Rattle.cr_base.specs.declared.bulk.Broken.{Broken}
 use Rattle.cr_base.specs.declared.bulk.Broken.TheVariants as broken
@@ -72,6 +72,14 @@ module _ {E : Type 0} (outcome : Outcome E) (judgement : Result Drawn E) (is : o
       some (Ok drawn) ok = refl
       some (Err refusal) ok = cc (ok)
 
+  -- what is drawn is what was judged
+  pub judged-draws : (drawn : Drawn) → drawn_by outcome ≡ Some drawn → judgement ≡ Ok drawn
+  judged-draws drawn told = by judgement (subst (λ (o : Outcome E). drawn_by o ≡ Some drawn) is told)
+    where
+      by : (r : Result Drawn E) → drawn_by (Judged r) ≡ Some drawn → r ≡ Ok drawn
+      by (Ok d) some = cc (some)
+      by (Err refusal) some = absurd (cc (some))
+
 -- ---- where it wasn't
 
 module _ {E : Type 0} (outcome : Outcome E) (receipt : Receipt) (is : outcome ≡ Repeats receipt) where
@@ -83,6 +91,12 @@ module _ {E : Type 0} (outcome : Outcome E) (receipt : Receipt) (is : outcome �
     where
       same : ◌≡◌ {A = Outcome E} (Repeats receipt) (Repeats told) → ◌≡◌ {A = Result Receipt (BookError E)} (Ok receipt) (Ok told)
       same e = cc (e)
+
+  pub repeat-draws_nothing : (drawn : Drawn) → drawn_by outcome ≡ Some drawn → ⊥
+  repeat-draws_nothing drawn told = no (subst (λ (o : Outcome E). drawn_by o ≡ Some drawn) is told)
+    where
+      no : ◌≡◌ {A = Option Drawn} None (Some drawn) → ⊥
+      no e = cc (e)
 
   pub repeat-not_refused : (refusal : E) → outcome ≡ Judged (Err refusal) → ⊥
   repeat-not_refused refusal told = no (sym is ∙ told)

@@ -6,4 +6,5 @@ pub mod BulkRebuilding
 pub mod Rebuilding
 pub mod Seen
 pub mod Sound
+pub mod Stopping
 pub mod Kinds

@@ -3,10 +3,11 @@ use Rattle.std.specs.Prelude.{List}
 use Rattle.cr_base.specs.declared.entry.Stamped.{Stamped}
 use Rattle.cr_base.specs.declared.row.Row.{Row}
 
--- the history, and the keeper of its rows
+-- the history, the keeper of its rows, and that keeper as it was when the book was opened
 pub record SeenBook (K : Type 0) : Type 0 where
   pub log : List Stamped
   pub keeper : K
+  pub opened : K
 
 -- the history of the groups that are whole, and the rows of the one that isn't yet
 pub record SeenReading : Type 0 where

@@ -1,10 +1,11 @@
 //! The book: one history, its tables and its keeper.
-ghost use Rattle.std.specs.Prelude.{◌≡◌, ◌≢◌, ◌≤◌, ◌++◌, ℕ, length};
+ghost use Rattle.std.specs.Prelude.{◌≡◌, ◌≢◌, ◌≤◌, ◌++◌, ℕ, length, IsTrue};
 ghost use Rattle.std.specs.Prelude.{IfOk, IfErr, IsOk, IsSome, OnOk, OnErr, IfSome, Ok, Err, None, Some};
 ghost use Rattle.cr_base.specs.declared.bulk.Broken.{Broken};
 ghost use Rattle.cr_base.specs.declared.reply.Receipt.{Receipt};
 ghost use Rattle.cr_base.specs.declared.reply.Rule.{Rule};
 ghost use Rattle.cr_base.specs.Calls.{call_of, bulk_by};
+ghost use Rattle.cr_base.specs.Drawn.{Drawn};
 ghost use Rattle.cr_base.specs.HistoryFacts.{number_of, caller_of};
 ghost use Rattle.cr_base.specs.Retries.{Repeats, Judged, drawn_by};
 ghost use Rattle.cr_base.specs.Tables.{tables_of, FitInTurn};
@@ -21,6 +22,7 @@ ghost use Rattle.cr_view.specs.Replies.{AnswersAsDue, AnswersOrPlans};
 ghost use Rattle.cr_book.specs.Kinds.{count_of_kind};
 ghost use Rattle.cr_book.specs.Opening.{Opens, IsCounted};
 ghost use Rattle.cr_book.specs.Sound.{IsKept, Accepts, AcceptsBulk, Acts};
+ghost use Rattle.cr_book.specs.Stopping.{Adding, AddsOne, KeepsTold};
 
 use crate::earlier::{Earlier, look_up};
 use crate::judging::judge_bulk;
@@ -39,16 +41,19 @@ use cr_sights::{ViewError, view_len, write_view};
 use cr_view::{AnswerError, Live};
 use std::alloc::{AllocError, Global};
 use std::marker::Model;
+use std::snapshot::Snapshot;
 
 /// A history, the tables that it comes to, and the keeper of its rows.
 ///
-/// Contracts see the history and the keeper. Of every book it is true that the history is legal, that
-/// the tables are the history's, and that the keeper's rows, where it tells them, are the history's.
+/// Contracts see the history, the keeper, and the keeper as it was when the book was opened. Of every book it is true
+/// that the history is legal, that the tables are the history's, and that the keeper's rows, where it tells them, are
+/// the history's; and, where it tells what a stop of the machine may leave, that this opens to whole groups.
 pub struct Book<K: Keeper> {
     alloc: Global,
     log: Log,
     live: Live,
     keeper: K,
+    opened: Snapshot<K>,
 }
 
 impl<K: Keeper> Model for Book<K> {
@@ -56,11 +61,15 @@ impl<K: Keeper> Model for Book<K> {
 
     ghost Value = { SeenBook K };
 
-    ghost view = { λ b. record { log = b.log.entries; keeper = b.keeper } };
+    ghost view = { λ b. record { log = b.log.entries; keeper = b.keeper; opened = b.opened.value } };
 
     ghost use Rattle.cr_book.specs.Sound.{IsSound};
+    ghost use Rattle.cr_book.specs.Stopping.{StopsWell};
+    ghost use Rattle.std.specs.Prelude.{IsTrue};
 
-    ghost invariant = { λ b. IsSound K.rows b.log.entries b.live.tables b.keeper };
+    ghost invariant = { λ b. IsSound K.rows b.log.entries b.live.tables b.keeper
+        × (IsTrue K.tells_stops → StopsWell K.rows K.tried K.moment K.left_since K.opens b.opened.value b.keeper
+        b.log.entries) };
 }
 
 /// Why a command or a bulk was not taken. `B` tells what is broken: a `Rule` of a command, a `Broken` of a bulk.
@@ -92,24 +101,35 @@ impl<K: Keeper> Book<K> {
         ensures legal { IfOk result (λ book. Legal book.log) }
         ensures same { IfOk result (λ book. K.rows book.keeper ≡ K.rows keeper) }
         ensures steady { IfOk result (λ book. K.faults book.keeper ≡ K.faults keeper) }
+        ensures opened { IfOk result (λ book. book.opened ≡ keeper) }
+        ensures still { IsTrue K.tells_stops → IfOk result (λ book. book.keeper ≡ keeper) }
         ensures given_back { IfErr result (λ e. K.rows e.1 ≡ K.rows keeper) }
+        ensures still_back { IsTrue K.tells_stops → IfErr result (λ e. e.1 ≡ keeper) }
         ensures cause { IfErr result (λ e. IsCounted {T = Unit {0}} (K.faults keeper) (K.faults e.1) (Err e.0)) }
     {
+        let opened = Snapshot::of(&keeper);
         match read_all(alloc, &mut keeper) {
             Ok((log, live)) => Ok(Book {
                 alloc,
                 log,
                 live,
                 keeper,
+                opened,
             }),
             Err(error) => Err((error, keeper)),
         }
     }
 
     /// Gives the keeper back, which keeps the rows of the history; takes no memory.
+    ///
+    /// What a stop of the machine since the opening might have left opens to the rows of a history that goes on from
+    /// the one that was opened and is a beginning of the last one, or to these and then whole the group of one command or
+    /// bulk more: that is so where the keeper tells it, and had tried nothing in vain when the book was opened.
     pub fn close(self) -> K
         ensures same { result ≡ self.keeper }
         ensures kept { IsKept K.rows result self.log }
+        ensures stops { KeepsTold K.rows K.tried K.moment K.left_since K.opens K.tells_stops self.opened result
+            self.log }
         ensures legal { Legal self.log }
     {
         let Book {
@@ -117,6 +137,7 @@ impl<K: Keeper> Book<K> {
             log: _,
             live: _,
             keeper,
+            opened: _,
         } = self;
         keeper
     }
@@ -131,6 +152,10 @@ impl<K: Keeper> Book<K> {
     /// told, whatever memory there is, so both other errors come only for a command that is judged and accepted.
     /// `KeeperFault` comes only where the keeper's count of faults rose, or stands at its last value; with all else the
     /// count is as it was, and `OutOfMemory` comes for lack of memory alone.
+    ///
+    /// Where the keeper tells what a stop of the machine may leave: one at a moment of the call leaves the rows that
+    /// were there, or these and then whole one group: the command's, or one that was tried since the last that was
+    /// kept.
     ///
     /// A number costs one look-up, however many there are.
     pub fn command(
@@ -174,6 +199,13 @@ impl<K: Keeper> Book<K> {
         ensures steady { result ≢ Err BookError.KeeperFault → K.faults self.new.keeper ≡ K.faults self.old.keeper }
         ensures count { K.faults self.old.keeper ≤ K.faults self.new.keeper }
         ensures legal { Legal self.new.log }
+        ensures opened { self.new.opened ≡ self.old.opened }
+
+        // What a stop may leave while something is added.
+        ensures stops { IsTrue K.tells_stops → (drawn : Drawn)
+            → drawn_by (decide (view caller.now self.old.log) (call_of caller.now at key command)) ≡ Some drawn
+            → Adding K.rows K.tried K.moment K.left_since K.opens result self.old.log drawn.group self.old.keeper
+            self.new.keeper }
     {
         match look_up(&self.log, &self.live, caller, &key, false) {
             Earlier::Nothing => self.judge_command(Call {
@@ -212,6 +244,10 @@ impl<K: Keeper> Book<K> {
         ensures steady { result ≢ Err BookError.KeeperFault → K.faults self.new.keeper ≡ K.faults self.old.keeper }
         ensures count { K.faults self.old.keeper ≤ K.faults self.new.keeper }
         ensures legal { Legal self.new.log }
+        ensures opened { self.new.opened ≡ self.old.opened }
+        ensures stops { IsTrue K.tells_stops → (drawn : Drawn) → judge (view call.caller self.old.log) call ≡ Ok drawn
+            → Adding K.rows K.tried K.moment K.left_since K.opens result self.old.log drawn.group self.old.keeper
+            self.new.keeper }
     {
         let effect = match judge(&self.live, call) {
             Ok(effect) => effect,
@@ -237,6 +273,8 @@ impl<K: Keeper> Book<K> {
     /// is, since look-up and judging take none; so both other errors come only for a bulk that is judged and accepted.
     /// `KeeperFault` comes only where the keeper's count of faults rose, or stands at its last value; with all else the
     /// count is as it was, and `OutOfMemory` comes for lack of memory alone.
+    ///
+    /// A stop of the machine at a moment of the call leaves what one at a command's does.
     ///
     /// Costs one look-up where it has a number; and where it is judged, one judgement for each row, which walks over
     /// the entries of the rows before it, at most 511; the keeper is asked once.
@@ -281,6 +319,13 @@ impl<K: Keeper> Book<K> {
         ensures steady { result ≢ Err BookError.KeeperFault → K.faults self.new.keeper ≡ K.faults self.old.keeper }
         ensures count { K.faults self.old.keeper ≤ K.faults self.new.keeper }
         ensures legal { Legal self.new.log }
+        ensures opened { self.new.opened ≡ self.old.opened }
+
+        // What a stop may leave while something is added.
+        ensures stops { IsTrue K.tells_stops → (drawn : Drawn)
+            → drawn_by (decide_bulk (view (Some caller) self.old.log) (bulk_by caller at key rows)) ≡ Some drawn
+            → Adding K.rows K.tried K.moment K.left_since K.opens result self.old.log drawn.group self.old.keeper
+            self.new.keeper }
     {
         let stamp = Stamp {
             maker: caller,
@@ -323,6 +368,11 @@ impl<K: Keeper> Book<K> {
         ensures steady { result ≢ Err BookError.KeeperFault → K.faults self.new.keeper ≡ K.faults self.old.keeper }
         ensures count { K.faults self.old.keeper ≤ K.faults self.new.keeper }
         ensures legal { Legal self.new.log }
+        ensures opened { self.new.opened ≡ self.old.opened }
+        ensures stops { IsTrue K.tells_stops → (drawn : Drawn)
+            → judge_bulk (view (Some stamp.maker) self.old.log) (record { stamp = stamp; rows = rows }) ≡ Ok drawn
+            → Adding K.rows K.tried K.moment K.left_since K.opens result self.old.log drawn.group self.old.keeper
+            self.new.keeper }
     {
         let group = match judge_bulk(&self.live, &stamp, rows) {
             Ok(group) => group,
@@ -340,6 +390,7 @@ impl<K: Keeper> Book<K> {
     /// judged, so nothing is told as broken.
     fn keep<B>(&mut self, group: Vec<Stamped>) -> Result<(), BookError<B>>
         requires legal { Legal (self.old.log ++ group.items) }
+        requires adds { AddsOne self.old.log group.items }
         requires follows { MayFollow self.old.log group.items }
         requires fits { FitInTurn (tables_of self.old.log) group.items }
         ensures kept { OnOk result (self.new.log ≡ self.old.log ++ group.items) }
@@ -351,6 +402,9 @@ impl<K: Keeper> Book<K> {
         ensures steady { result ≢ Err BookError.KeeperFault → K.faults self.new.keeper ≡ K.faults self.old.keeper }
         ensures count { K.faults self.old.keeper ≤ K.faults self.new.keeper }
         ensures legal { Legal self.new.log }
+        ensures opened { self.new.opened ≡ self.old.opened }
+        ensures stops { IsTrue K.tells_stops → Adding K.rows K.tried K.moment K.left_since K.opens result self.old.log
+            group.items self.old.keeper self.new.keeper }
     {
         let Ok(rows) = rows_of(self.alloc, &group) else {
             return Err(BookError::OutOfMemory);
@@ -503,13 +557,18 @@ impl<K: Keeper> Book<K> {
     }
 }
 
-/// Behind a lock a book stands for its history, and its count of faults is its keeper's.
+/// Behind a lock a book stands for its history, its count of faults is its keeper's, and it remembers the keeper with
+/// which it was opened.
 impl<K: Keeper> Stands for Book<K> {
     type Entry = Stamped;
+
+    type Root = K;
 
     ghost list = { λ b. b.log };
 
     ghost faults = { λ b. K.faults b.keeper };
+
+    ghost root = { λ b. b.opened };
 
     fn entries(&self) -> u64 {
         self.log.len()

@@ -1,9 +1,10 @@
 //! How a store opens.
-ghost use Rattle.std.specs.Prelude.{◌≡◌, ◌++◌, List, length, IfOk, IfErr, IfSome};
+ghost use Rattle.std.specs.Prelude.{◌≡◌, ◌++◌, List, length, IfOk, IfErr, IfSome, IsTrue, ℕ};
 ghost use Rattle.cr_base.specs.declared.row.Row.{Row};
 ghost use Rattle.cr_base.specs.Rows.{rows_of};
 ghost use Rattle.cr_base.specs.Tables.{tables_of};
 ghost use Rattle.cr_policy.specs.Legal.{Legal};
+ghost use Rattle.cr_ports.specs.Stopping.{OpensToTold};
 ghost use Rattle.cr_book.specs.Opening.{Explains, IsCounted};
 ghost use Rattle.cr_book.specs.Reading.{refusal, untold};
 
@@ -58,6 +59,7 @@ fn read_rows<K: Keeper>(alloc: Global, keeper: &mut K, count: u64) -> Result<Rea
         (λ read. IfSome (K.rows keeper.old) (λ rows. rows_of read.log ++ read.pending ≡ rows)) }
     ensures bad { IfErr result (λ e. IfSome (K.rows keeper.old) (λ rows. Explains rows e)) }
     ensures same { K.rows keeper.new ≡ K.rows keeper.old }
+    ensures still { IsTrue K.tells_stops → keeper.new ≡ keeper.old }
     ensures cause { IsCounted (K.faults keeper.old) (K.faults keeper.new) result }
 {
     let mut reading = Reading::new(alloc);
@@ -80,6 +82,10 @@ pub(crate) fn read_all<K: Keeper>(alloc: Global, keeper: &mut K) -> Result<(Log,
     ensures spelled { IfOk result (λ read. IfSome (K.rows keeper.old) (λ rows. rows_of read.0.entries ≡ rows)) }
     ensures bad { IfErr result (λ e. IfSome (K.rows keeper.old) (λ rows. Explains rows e)) }
     ensures same { K.rows keeper.new ≡ K.rows keeper.old }
+    ensures still { IsTrue K.tells_stops → keeper.new ≡ keeper.old }
+    ensures between { IsTrue K.tells_stops → IfOk result (λ read. (image : List ℕ)
+        → K.left_since keeper.old (K.moment keeper.old) image
+        → OpensToTold K.opens (K.rows keeper.old) (K.tried keeper.old) image) }
     ensures cause { IsCounted (K.faults keeper.old) (K.faults keeper.new) result }
 {
     let count = match keeper.len() {

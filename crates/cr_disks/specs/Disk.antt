@@ -43,13 +43,6 @@ pub record Elapses (before now : ℕ) (past since : ℕ → List ℕ → Type 0)
   pub nothing_else : (t : ℕ) (image : List ℕ) → t ≤ before → since t image → past t image ⊎ may_leave image
   pub keeps : (t : ℕ) (image : List ℕ) → t ≤ before → past t image → since t image
 
--- A stop at any moment since old leaves bytes that have P.
-pub record LeavesOnly {D : Type 0} (moment : D → ℕ) (left_since : D → ℕ → List ℕ → Type 0) (old new : D) (P : List ℕ → Type 0) : Type 0 where
-  pub later : moment old ≤ moment new
-  pub each : (image : List ℕ) → left_since new (moment old) image → P image
-  -- for a run that began earlier
-  pub before : (t : ℕ) (image : List ℕ) → t ≤ moment old → left_since new t image → left_since old t image ⊎ P image
-
 -- ---- faults
 
 -- The count never falls; it rose where the call failed, and nowhere else.

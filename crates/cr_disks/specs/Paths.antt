@@ -1,9 +1,10 @@
 -- What stands at each path of disks in memory.
-use Rattle.std.specs.Prelude.{ℕ, List, [], Bool, is_some, String, Vec}
+use Rattle.std.specs.Prelude.{ℕ, List, [], Bool, is_some, Option, None, Some, String, Vec}
 use Rattle.std.specs.Option.{option_map_or}
 use Rattle.std.specs.declared.alloc.Global.{Global}
 use Rattle.std.specs.Map.{lookup}
 use Rattle.cr_ports.specs.Shelving.{is_path}
+use Rattle.cr_disks.specs.Held.{Held, left_since_of}
 
 -- what a map by path has, as it keeps it
 abbrev pub FilesByPath : Type 0
@@ -17,10 +18,16 @@ abbrev pub has_file : FilesByPath → List ℕ → Bool
 has_file files path = is_some (lookup (is_path path) files)
 
 -- disks in memory: the bytes at each path, which calls of each disk fail, for how many more bytes and calls each has
--- room, and the faults
+-- room, the faults, and the disk that was shut last
 pub record Filed : Type 0 where
   pub files : FilesByPath
   pub failing : List ℕ
   pub room : ℕ
   pub calls : ℕ
   pub faults : ℕ
+  pub last : Option Held
+
+-- what a stop at some moment of that disk, from this one on, might have left of it
+abbrev pub left_of_last : Option Held → ℕ → List ℕ → Type 0
+left_of_last None t image = ⊥
+left_of_last (Some disk) t image = left_since_of disk t image

@@ -1,5 +1,5 @@
 //! What opens disks by their paths.
-ghost use Rattle.std.specs.Prelude.{◌≡◌, ℕ, List, IfOk, OnOk, IsTrue};
+ghost use Rattle.std.specs.Prelude.{◌≡◌, ◌↔◌, ℕ, List, IfOk, OnOk, IsTrue};
 ghost use Rattle.cr_ports.specs.Count.{Gains};
 ghost use Rattle.cr_ports.specs.Keeping.{HasCause};
 ghost use Rattle.cr_disks.specs.Disk.{with_bytes};
@@ -18,6 +18,9 @@ pub trait Disks {
 
     /// Of which paths a disk may be taken back.
     ghost has_opened: { Self → List ℕ → Type 0 };
+
+    /// What a stop at some moment of the disk that was last shut at a path, from that moment on, might have left of it.
+    ghost left: { Self → List ℕ → ℕ → List ℕ → Type 0 };
 
     /// How often a call, or one of a disk that was shut, has failed.
     ghost faults: { Self → ℕ };
@@ -39,5 +42,7 @@ pub trait Disks {
         requires { has_opened self.old path.now }
         ensures kept { IsTrue Self.Disk.tells
             → files self.new ≡ with_bytes (files self.old) path.now (Self.Disk.seen disk) }
+        ensures stops { IsTrue Self.Disk.tells → (t : ℕ) (image : List ℕ)
+            → left self.new path.now t image ↔ Self.Disk.left_since disk t image }
         ensures count { Gains (faults self.old) (Self.Disk.faults disk) (faults self.new) };
 }

@@ -1,9 +1,10 @@
 //! Disks in memory, by their paths.
-ghost use Rattle.std.specs.Prelude.{◌≡◌, ◌↔◌, ◌<◌, ◌≤◌, ◌+◌, ◌^◌, ◌-◌, [], IfOk, IsFalse, IsTrue, OnOk, length, min};
+ghost use Rattle.std.specs.Prelude.{◌≡◌, ◌↔◌, ◌<◌, ◌≤◌, ◌+◌, ◌^◌, ◌-◌, [], ℕ, List, IfOk, IsFalse, IsTrue, OnOk, length, min};
 ghost use Rattle.cr_ports.specs.Count.{Gains};
 ghost use Rattle.cr_ports.specs.Keeping.{HasCause};
 ghost use Rattle.cr_disks.specs.Disk.{with_bytes};
-ghost use Rattle.cr_disks.specs.Paths.{bytes_at, has_file};
+ghost use Rattle.cr_disks.specs.Held.{left_since_of};
+ghost use Rattle.cr_disks.specs.Paths.{bytes_at, has_file, left_of_last};
 
 use crate::disks::Disks;
 use crate::mem_disk::MemDisk;
@@ -11,11 +12,12 @@ use cr_ports::KeeperError;
 use std::alloc::{AllocError, Global};
 use std::collections::BTreeMap;
 use std::marker::Model;
+use std::snapshot::Snapshot;
 
 /// Files in memory, by path. A disk over one has room for so many more bytes and calls, and fails at the calls that are
 /// listed.
 ///
-/// Contracts see the bytes at each path, the list, the room and the count of faults.
+/// Contracts see the bytes at each path, the list, the room, the count of faults, and the disk that was shut last.
 pub struct MemDisks {
     alloc: Global,
     files: BTreeMap<String, Vec<u8>>,
@@ -23,6 +25,7 @@ pub struct MemDisks {
     room: usize,
     calls: usize,
     faults: u64,
+    last: Option<Snapshot<MemDisk>>,
 }
 
 // Written out, so that a caller doesn't prove again how each part is dropped.
@@ -35,11 +38,15 @@ impl Drop for MemDisks {
             room: _,
             calls: _,
             faults: _,
+            last: _,
         } = self;
     }
 }
 
 impl Model for MemDisks {
+    ghost use Rattle.std.specs.Option.{option_map};
+    ghost use Rattle.std.specs.declared.snapshot.Snapshot.{Snapshot};
+    ghost use Rattle.cr_disks.specs.Held.{Held};
     ghost use Rattle.cr_disks.specs.Paths.{Filed};
 
     ghost Value = { Filed };
@@ -50,6 +57,7 @@ impl Model for MemDisks {
       room = d.room;
       calls = d.calls;
       faults = d.faults;
+      last = option_map (λ (disk : Snapshot Held). disk.value) d.last;
     } };
 }
 
@@ -69,6 +77,7 @@ impl MemDisks {
             room,
             calls,
             faults: 0,
+            last: None,
         }
     }
 
@@ -151,6 +160,8 @@ impl Disks for MemDisks {
 
     ghost has_opened = { λ d path. IsTrue (has_file d.files path) };
 
+    ghost left = { λ d _ t image. left_of_last d.last t image };
+
     ghost faults = { λ d. d.faults };
 
     fn open(&mut self, path: &str) -> Result<MemDisk, KeeperError>
@@ -177,7 +188,9 @@ impl Disks for MemDisks {
         requires { IsTrue (has_file self.old.files path.now) }
         ensures kept { bytes_at self.new.files ≡ with_bytes (bytes_at self.old.files) path.now disk.bytes }
         ensures count { Gains self.old.faults disk.faults self.new.faults }
+        ensures stops { (t : ℕ) (image : List ℕ) → left_of_last self.new.last t image ↔ left_since_of disk t image }
     {
+        self.last = Some(Snapshot::of(&disk));
         let (bytes, faults) = disk.into_parts();
         self.faults = self.faults.saturating_add(faults);
         put(&mut self.files, path, bytes);

@@ -102,6 +102,8 @@ impl Disks for FileDisks {
 
     ghost files = { λ _ _. [] };
 
+    ghost left = { λ _ _ _ _. ⊥ };
+
     ghost has_opened = { λ _ _. ⊤ };
 
     ghost faults = { λ d. d };

@@ -2,7 +2,8 @@
 use Rattle.std.proofs.Common.{◌≡◌, ◌⊎◌, inl, inr, ⊎_elim, Bool, true, false, ℕ, ◌+◌, List, [], ◌∷◌, ◌++◌, map, refl, sym, ◌∙◌, ap, subst}
 use Rattle.std.proofs.lemmas.List.{map_push}
 use Rattle.cr_base.specs.declared.row.Row.{Row}
-use Rattle.cr_journal.specs.Gates.{IsAmong, IsKeptOrOneMore}
+use Rattle.cr_ports.specs.Stopping.{IsAmong}
+use Rattle.cr_journal.specs.Gates.{IsKeptOrOneMore, SameBut, SameTo}
 use Rattle.cr_journal.specs.Grammar.{FitGroups, FitsGroup, IsJournal, payload}
 use Rattle.cr_journal.specs.Keeping.{Keeps, OpensTo, rows_of}
 use Rattle.cr_journal.specs.Standing.{Stands, doubted}
@@ -30,28 +31,29 @@ of_group (g ∷ tried) p fit (inr there) =
 pub opens_of : (groups tried : List (List Row)) (c : List ℕ) → FitGroups groups → FitGroups tried
     → IsKeptOrOneMore (map payload groups) (map payload tried) c → OpensTo (rows_of groups) tried c
 opens_of groups tried c fit fits (inl same) =
-    record { groups = groups; journal = record { fit = fit; journal = same }; rows_are = inl refl }
+    inl (record { groups = groups; journal = record { fit = fit; journal = same }; rows_are = refl })
 opens_of groups tried c fit fits (inr one) =
     let o = of_group tried one.0 fits one.1 in
     let more : map payload groups ++ one.0 ∷ [] ≡ map payload (groups ++ o.group ∷ []) =
     ap (λ (p : List ℕ). map payload groups ++ p ∷ []) o.is ∙ sym (map_push payload groups o.group) in
-    record {
-      groups = groups ++ o.group ∷ [];
-      journal = record {
-        fit = all-push FitsGroup groups o.group fit o.fits;
-        journal = subst (λ (ps : List (List ℕ)). IsJournal ps c) more one.2;
-      };
-      rows_are = inr (o.group, o.among, rows-push groups o.group);
-    }
+    inr (
+      o.group,
+      o.among,
+      record {
+        groups = groups ++ o.group ∷ [];
+        journal = record {
+          fit = all-push FitsGroup groups o.group fit o.fits;
+          journal = subst (λ (ps : List (List ℕ)). IsJournal ps c) more one.2;
+        };
+        rows_are = rows-push groups o.group;
+      },
+    )
 
 -- any more groups may have been tried
 pub opens_wider : (rows : List Row) (few many : List (List Row)) (c : List ℕ) → ((g : List Row) → IsAmong few g → IsAmong many g)
     → OpensTo rows few c → OpensTo rows many c
-opens_wider rows few many c wider o = record {
-  groups = o.groups;
-  journal = o.journal;
-  rows_are = ⊎_elim (λ same. inl same) (λ one. inr (one.0, wider one.0 one.1, one.2)) o.rows_are;
-}
+opens_wider rows few many c wider (inl same) = inl same
+opens_wider rows few many c wider (inr one) = inr (one.0, wider one.0 one.1, one.2)
 
 -- of a group and of a list of groups
 pub among_first : (group : List Row) (tried : List (List Row)) (g : List Row) → IsAmong (group ∷ []) g → IsAmong (group ∷ tried) g
@@ -102,27 +104,42 @@ module _ {D : Type 0} (seen : D → List ℕ) (may_leave : D → List ℕ → Ty
   kept_still old new rows doubt k s =
       record { groups = k.groups; fit = k.fit; rows_are = k.rows_are; doubt_fits = k.doubt_fits; stands = s }
 
-  -- what a stop between two calls leaves
-  pub stops_between : (journal : Journal D) (rows doubt : List Row) → Keeps seen may_leave journal rows doubt
-      → (c : List ℕ) → may_leave journal.disk c → OpensTo rows (doubted journal.in_doubt doubt) c
-  stops_between journal rows doubt k c left = go journal.in_doubt refl
+  -- what opens that is the file up to its gate and this, or but for its gate
+  opens_near : (journal : Journal D) (rows doubt : List Row) → Keeps seen may_leave journal rows doubt → (c : List ℕ)
+      → (journal.in_doubt ≡ false → SameTo (journal.gate + 1) (seen journal.disk) c)
+      → (journal.in_doubt ≡ true → SameBut journal.gate (seen journal.disk) c)
+      → OpensTo rows (doubted journal.in_doubt doubt) c
+  opens_near journal rows doubt k c to but = go journal.in_doubt refl
     where
       go : (b : Bool) → journal.in_doubt ≡ b → OpensTo rows (doubted b doubt) c
       go false off =
           let s = k.stands.shut off in
           subst (λ (l : List Row). OpensTo l [] c) k.rows_are
           (opens_of k.groups [] c k.fit tt
-          (inl (shut_opens (seen journal.disk) (may_leave journal.disk) journal.gate (map payload k.groups) c s (s.synced c left))))
+          (inl (shut_opens (seen journal.disk) (may_leave journal.disk) journal.gate (map payload k.groups) c s (to off))))
       go true on =
           let m = k.stands.doubt on in
           subst (λ (l : List Row). OpensTo l (doubt ∷ []) c) k.rows_are
           (opens_of k.groups (doubt ∷ []) c k.fit (k.doubt_fits, tt)
-          (one (may_opens (seen journal.disk) (may_leave journal.disk) journal.gate (map payload k.groups) (payload doubt) c m (m.synced c left))))
+          (one (may_opens (seen journal.disk) (may_leave journal.disk) journal.gate (map payload k.groups) (payload doubt) c m (but on))))
         where
           one : IsJournal (map payload k.groups) c ⊎ IsJournal (map payload k.groups ++ payload doubt ∷ []) c
               → IsKeptOrOneMore (map payload k.groups) (payload doubt ∷ []) c
           one (inl same) = inl same
           one (inr more) = inr (payload doubt, inl refl, more)
+
+  -- what a stop between two calls leaves
+  pub stops_between : (journal : Journal D) (rows doubt : List Row) → Keeps seen may_leave journal rows doubt
+      → (c : List ℕ) → may_leave journal.disk c → OpensTo rows (doubted journal.in_doubt doubt) c
+  stops_between journal rows doubt k c left =
+      opens_near journal rows doubt k c (λ off. (k.stands.shut off).synced c left) (λ on. (k.stands.doubt on).synced c left)
+
+  -- and what a read gives
+  pub opens_seen : (journal : Journal D) (rows doubt : List Row) → Keeps seen may_leave journal rows doubt
+      → OpensTo rows (doubted journal.in_doubt doubt) (seen journal.disk)
+  opens_seen journal rows doubt k =
+      opens_near journal rows doubt k (seen journal.disk)
+      (λ off. record { front = refl; long = (k.stands.shut off).long }) (λ on. record { front = refl; back = refl; long = refl })
 
 -- what a stop leaves while a group is appended behind a gate that isn't in doubt
 pub opens_one : (groups : List (List Row)) (rows group : List Row) (c : List ℕ) → FitGroups groups → FitsGroup group

@@ -12,3 +12,5 @@ mod Gating
 mod GateByGate
 mod ReadLaws
 mod OpenLaws
+mod Stored
+mod Shelving

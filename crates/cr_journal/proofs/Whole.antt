@@ -1,11 +1,12 @@
 -- What a stop leaves during two calls, in words of payloads.
 use Rattle.std.proofs.Common.{◌≡◌, ◌⊎◌, inl, inr, Bool, true, false, ℕ, ◌+◌, List, [], ◌∷◌, ◌++◌, refl}
-use Rattle.cr_disks.specs.Disk.{LeavesOnly}
-use Rattle.cr_journal.specs.Gates.{SameTo, SameBut, IsShut, MayBeOpen, IsAmong, IsKeptOrOneMore}
+use Rattle.cr_ports.specs.Stopping.{LeavesOnly}
+use Rattle.cr_ports.specs.Stopping.{IsAmong}
+use Rattle.cr_journal.specs.Gates.{SameTo, SameBut, IsShut, MayBeOpen, IsKeptOrOneMore}
 use Rattle.cr_journal.specs.Grammar.{IsJournal}
 use Rattle.cr_journal.specs.Standing.{doubted}
 use Rattle.cr_journal.proofs.Calls.{shut_opens, may_opens}
-use Rattle.cr_journal.proofs.Moments.{weaken}
+use Rattle.cr_ports.proofs.StopLaws.{weaken}
 
 pub not_both : {A : Type 0} (b : Bool) → b ≡ false → b ≡ true → A
 not_both b off on = absurd (cc (off, on))

@@ -1,5 +1,6 @@
 -- What stands at the gate at which a journal ends, in what a read gives and in what a stop may leave.
 use Rattle.std.specs.Prelude.{◌≡◌, ◌≢◌, ◌⊎◌, ℕ, ◌+◌, ◌<◌, ◌≤◌, List, [], ◌∷◌, ◌++◌, length, take, drop}
+use Rattle.cr_ports.specs.Stopping.{IsAmong}
 use Rattle.cr_journal.specs.Grammar.{AreSized, IsJournal, field, front}
 
 -- new has the first n bytes of old
@@ -33,11 +34,6 @@ pub record MayBeOpen (file : List ℕ) (images : List ℕ → Type 0) (gate : �
   pub rest : List ℕ
   pub behind : drop (gate + 1) file ≡ field p ++ 0 ∷ rest
   pub synced : (image : List ℕ) → images image → SameBut gate file image
-
--- the payload is one of these
-abbrev pub IsAmong : {T : Type 0} → List T → T → Type 0
-IsAmong [] x = ⊥
-IsAmong (y ∷ ys) x = (x ≡ y) ⊎ IsAmong ys x
 
 -- the file is a journal of the payloads kept, or of those and one of these
 abbrev pub IsKeptOrOneMore : List (List ℕ) → List (List ℕ) → List ℕ → Type 0

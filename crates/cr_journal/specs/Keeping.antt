@@ -2,10 +2,10 @@
 use Rattle.std.specs.Prelude.{◌≡◌, ◌≢◌, ◌⊎◌, ℕ, ◌+◌, ◌≤◌, ◌<◌, List, [], ◌∷◌, ◌++◌, length, take, drop, map, Result, Ok, Err, ⊤}
 use Rattle.cr_base.specs.declared.row.Row.{Row}
 use Rattle.cr_ports.specs.Count.{Rises}
+use Rattle.cr_ports.specs.Stopping as stopping
 use Rattle.cr_ports.specs.declared.keeper.KeeperError.{KeeperError}
 use Rattle.cr_ports.specs.declared.source.ReadStep.{ReadStep}
 use Rattle.cr_ports.specs.declared.source.ReadStep.TheVariants as reads
-use Rattle.cr_journal.specs.Gates.{IsAmong}
 use Rattle.cr_journal.specs.Grammar.{AreSized, FitGroups, FitsGroup, IsJournalOf, IsTail, front, number, payload}
 use Rattle.cr_journal.specs.Standing.{Stands}
 use Rattle.cr_journal.specs.declared.state.Journal.{Journal}
@@ -19,23 +19,21 @@ abbrev pub rows_of : List (List Row) → List Row
 rows_of [] = []
 rows_of (group ∷ groups) = group ++ rows_of groups
 
--- The file opens to these rows, or to them followed whole by one of these groups.
-pub record OpensTo (rows : List Row) (tried : List (List Row)) (file : List ℕ) : Type 0 where
+-- the file opens to these rows
+pub record Opens (file : List ℕ) (rows : List Row) : Type 0 where
   pub groups : List (List Row)
   pub journal : IsJournalOf groups file
-  pub rows_are : (rows_of groups ≡ rows) ⊎ ((group : List Row) × IsAmong tried group × (rows_of groups ≡ rows ++ group))
+  pub rows_are : rows_of groups ≡ rows
+
+-- or to them followed whole by one of these groups
+abbrev pub OpensTo : List Row → List (List Row) → List ℕ → Type 0
+OpensTo rows tried file = stopping.OpensTo Opens rows tried file
 
 -- a keeper: its disk, its rows, and the group that may stand behind its gate, where one may
 pub record Journaled (D : Type 0) : Type 0 where
   pub disk : D
   pub rows : List Row
   pub doubted : List (List Row)
-
--- What may be found behind the rows once an append of this group was tried: nothing where it was kept; else nothing,
--- this group, or what might have been found before.
-abbrev pub DoubtAfter : Result Unit KeeperError → List (List Row) → List Row → List (List Row) → Type 0
-DoubtAfter (Ok done) old group new = new ≡ []
-DoubtAfter (Err error) old group new = (new ≡ []) ⊎ ((new ≡ group ∷ []) ⊎ (new ≡ old))
 
 -- ---- opening
 

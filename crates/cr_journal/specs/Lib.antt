@@ -3,5 +3,6 @@ pub mod Reading
 pub mod Gates
 pub mod Standing
 pub mod Keeping
+pub mod Stored
 pub mod Shelving
 pub mod Either

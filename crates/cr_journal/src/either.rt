@@ -1,4 +1,6 @@
 //! A keeper of one of two kinds.
+ghost use Rattle.std.specs.Prelude.{[], false};
+ghost use Rattle.cr_ports.specs.Stopping.{untold};
 ghost use Rattle.cr_journal.specs.Either.{either_faults, either_rows};
 
 use cr_base::Row;
@@ -17,6 +19,18 @@ impl<K: Keeper, L: Keeper> Keeper for EitherKeeper<K, L> {
     ghost rows = { either_rows K.rows L.rows };
 
     ghost faults = { either_faults K.faults L.faults };
+
+    ghost tells_stops = { false };
+
+    ghost rows_told = { λ told keeper. untold told };
+
+    ghost tried = { λ _. [] };
+
+    ghost moment = { λ _. 0 };
+
+    ghost left_since = { λ _ _ _. ⊥ };
+
+    ghost opens = { λ _ _. ⊥ };
 
     fn append_all(&mut self, added: &[Row]) -> Result<(), KeeperError> {
         match self {

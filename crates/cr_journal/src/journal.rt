@@ -1,6 +1,7 @@
 //! The journal: an append in four device calls, and two before them after one that failed in its third or fourth.
 ghost use Rattle.std.specs.Prelude.{◌≡◌, ◌≤◌, ◌<◌, ◌+◌, ◌^◌, ◌++◌, [], ◌∷◌, false, true, List, ℕ, length, OnOk, OnErr, IsTrue};
-ghost use Rattle.cr_disks.specs.Disk.{LeavesOnly, HasCause};
+ghost use Rattle.cr_disks.specs.Disk.{HasCause};
+ghost use Rattle.cr_ports.specs.Stopping.{LeavesOnly};
 ghost use Rattle.cr_journal.specs.Grammar.{field};
 ghost use Rattle.cr_journal.specs.Gates.{IsKeptOrOneMore};
 ghost use Rattle.cr_journal.specs.Standing.{Stands, doubted};

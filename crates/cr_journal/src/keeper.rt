@@ -1,11 +1,12 @@
 //! A keeper over a disk.
 ghost use Rattle.std.specs.Prelude.{◌≡◌, ◌≢◌, ◌↔◌, ◌<◌, ◌≤◌, ◌+◌, ◌^◌, ◌++◌, [], ◌∷◌, List, ℕ, length, vec_len, vec_capacity};
-ghost use Rattle.std.specs.Prelude.{Err, Some, false, IfOk, IfErr, OnOk, OnErr, IsTrue};
+ghost use Rattle.std.specs.Prelude.{Err, Some, false, true, IfOk, IfErr, OnOk, OnErr, IsTrue};
 ghost use Rattle.cr_base.specs.declared.row.Row.{Row};
-ghost use Rattle.cr_disks.specs.Disk.{LeavesOnly, Only};
+ghost use Rattle.cr_disks.specs.Disk.{Only};
+ghost use Rattle.cr_ports.specs.Stopping.{LeavesOnly, TriedAfter};
 ghost use Rattle.cr_ports.specs.Keeping.{HasCause, and_rows};
 ghost use Rattle.cr_journal.specs.Grammar.{empty_journal, field, payload, FitsGroup, IsJournalOf};
-ghost use Rattle.cr_journal.specs.Keeping.{DoubtAfter, Keeps, OpenCause, OpensTo, rows_of};
+ghost use Rattle.cr_journal.specs.Keeping.{Keeps, OpenCause, Opens, OpensTo, rows_of};
 ghost use Rattle.cr_journal.specs.Standing.{doubted};
 ghost use Rattle.cr_journal.specs.declared.opening.OpenError.TheVariants.{NoJournal};
 
@@ -105,7 +106,7 @@ fn keep_ready<D: Disk>(
     ensures keeps { IsTrue D.tells → Keeps D.seen D.may_leave journal.new rows.new.items doubt.new.items }
     ensures kept { OnOk result (rows.new.items ≡ rows.old.items ++ prepared.copies.items) }
     ensures refused { OnErr result (rows.new.items ≡ rows.old.items) }
-    ensures doubt { (old : List (List Row)) → DoubtAfter result old prepared.copies.items
+    ensures doubt { (old : List (List Row)) → TriedAfter result old prepared.copies.items
         (doubted journal.new.in_doubt doubt.new.items) }
     ensures any_moment { IsTrue D.tells → LeavesOnly D.moment D.left_since journal.old.disk journal.new.disk
         (OpensTo rows.old.items (prepared.copies.items ∷ [])) }
@@ -141,7 +142,7 @@ fn keep_group<D: Disk>(
     ensures keeps { IsTrue D.tells → Keeps D.seen D.may_leave journal.new rows.new.items doubt.new.items }
     ensures kept { OnOk result (rows.new.items ≡ rows.old.items ++ prepared.copies.items) }
     ensures refused { OnErr result (rows.new.items ≡ rows.old.items) }
-    ensures doubt { DoubtAfter result (doubted journal.old.in_doubt doubt.old.items) prepared.copies.items
+    ensures doubt { TriedAfter result (doubted journal.old.in_doubt doubt.old.items) prepared.copies.items
         (doubted journal.new.in_doubt doubt.new.items) }
     ensures any_moment { IsTrue D.tells → LeavesOnly D.moment D.left_since journal.old.disk journal.new.disk
         (OpensTo rows.old.items (prepared.copies.items ∷ doubted journal.old.in_doubt doubt.old.items)) }
@@ -165,6 +166,7 @@ impl<D: Disk> JournalKeeper<D> {
         ensures made { IsTrue D.tells → D.seen disk ≡ [] → IfOk result (λ k. D.seen k.disk ≡ empty_journal) }
         ensures durable { IsTrue D.tells → IfOk result (λ k. Only (D.seen k.disk) (D.may_leave k.disk)) }
         ensures settled { IfOk result (λ k. k.doubted ≡ []) }
+        ensures spared { IsTrue D.tells → D.seen disk ≢ [] → IfErr result (λ e. D.seen e.1 ≡ D.seen disk) }
         ensures none { IsTrue D.tells → IfErr result (λ e. e.0 ≡ NoJournal → (D.seen disk ≢ [])
             × ((groups : List (List Row)) → IsJournalOf groups (D.seen disk) → ⊥)) }
         ensures steady { IfOk result (λ k. D.faults k.disk ≡ D.faults disk) }
@@ -186,9 +188,11 @@ impl<D: Disk> JournalKeeper<D> {
         }
     }
 
-    /// Its disk.
+    /// Its disk, whose file opens to the rows, or to these and then whole a group whose append failed since the last
+    /// that was kept.
     pub fn into_disk(self) -> D
-        ensures { result ≡ self.disk }
+        ensures disk { result ≡ self.disk }
+        ensures opens { IsTrue D.tells → OpensTo self.rows self.doubted (D.seen self.disk) }
     {
         let JournalKeeper {
             alloc: _,
@@ -219,6 +223,18 @@ impl<D: Disk> Keeper for JournalKeeper<D> {
 
     ghost faults = { λ k. D.faults k.disk };
 
+    ghost tells_stops = { D.tells };
+
+    ghost rows_told = { λ told keeper i. true };
+
+    ghost tried = { λ k. k.doubted };
+
+    ghost moment = { λ k. D.moment k.disk };
+
+    ghost left_since = { λ k t image. D.left_since k.disk t image };
+
+    ghost opens = { Opens };
+
     /// Four calls of the disk, or six where a group may be found behind the rows, which is taken away first.
     fn append_all(&mut self, added: &[Row]) -> Result<(), KeeperError>
         ensures kept { OnOk result (Some self.new.rows ≡ and_rows (Some self.old.rows) added.now) }
@@ -226,12 +242,14 @@ impl<D: Disk> Keeper for JournalKeeper<D> {
         ensures cause { HasCause (D.faults self.old.disk) (D.faults self.new.disk) result }
 
         // What may be found behind the rows after a stop.
-        ensures doubt { DoubtAfter result self.old.doubted added.now self.new.doubted }
+        ensures doubt { TriedAfter result self.old.doubted added.now self.new.doubted }
 
         // A stop at any moment of the call leaves a file that opens to the rows kept so far, or to these and then whole
         // one group: this one, or one whose append failed since the last that was kept.
         ensures any_moment { IsTrue D.tells → LeavesOnly D.moment D.left_since self.old.disk self.new.disk
             (OpensTo self.old.rows (added.now ∷ self.old.doubted)) }
+        ensures between { IsTrue D.tells → (image : List ℕ)
+            → D.left_since self.new.disk (D.moment self.new.disk) image → OpensTo self.new.rows self.new.doubted image }
     {
         match prepare(self.alloc, &mut self.rows, added) {
             Ok(prepared) => keep_group(

@@ -1,13 +1,14 @@
 //! A shelf of journals over disks.
-ghost use Rattle.std.specs.Prelude.{◌≡◌, ◌≢◌, ◌⊎◌, ◌+◌, ◌≤◌, ℕ, [], List, Option, None, Err, IfOk, OnOk, IsTrue, IsFalse};
+ghost use Rattle.std.specs.Prelude.{◌≡◌, ◌≢◌, ◌⊎◌, ◌+◌, ◌≤◌, ℕ, [], List, Some, Err, IfOk, IfSome, OnOk, IsTrue, IsFalse};
 ghost use Rattle.cr_base.specs.declared.row.Row.{Row};
 ghost use Rattle.cr_disks.specs.Disk.{Only, with_bytes};
 ghost use Rattle.cr_ports.specs.Count.{Gains, Rises};
 ghost use Rattle.cr_ports.specs.Keeping.{HasCause};
+ghost use Rattle.cr_ports.specs.Shelving.{StaysOpened};
 ghost use Rattle.cr_ports.specs.declared.keeper.KeeperError.TheVariants.{Failed};
 ghost use Rattle.cr_journal.specs.Grammar.{IsJournalOf};
 ghost use Rattle.cr_journal.specs.Keeping.{rows_of};
-ghost use Rattle.cr_journal.specs.Shelving.{IsNoJournal};
+ghost use Rattle.cr_journal.specs.Shelving.{IsNoJournal, opened_at, rows_at};
 ghost use Rattle.cr_journal.specs.declared.opening.OpenError.TheVariants.{NoJournal};
 
 use crate::keeper::JournalKeeper;
@@ -16,24 +17,33 @@ use cr_disks::Disks;
 use cr_ports::{KeeperError, Shelf};
 use std::alloc::Global;
 use std::marker::Model;
+use std::snapshot::Snapshot;
 
 /// Opens the files of disks as journals.
 ///
-/// Contracts see its disks, and how many files were opened that are no journals.
+/// Contracts see its disks, how many files were opened that are no journals, and the disk of the journal that was opened
+/// last, as it was then.
 #[derive(Drop)]
 pub struct JournalShelf<D: Disks> {
     alloc: Global,
     disks: D,
     refused: u64,
     found_none: bool,
+    last: Option<Snapshot<D::Disk>>,
 }
 
 impl<D: Disks> Model for JournalShelf<D> {
     ghost use Rattle.cr_journal.specs.Shelving.{Shelved};
+    ghost use Rattle.std.specs.Option.{option_map};
+    ghost use Rattle.std.specs.declared.snapshot.Snapshot.{Snapshot};
 
-    ghost Value = { Shelved D };
+    ghost Value = { Shelved D D.Disk };
 
-    ghost view = { λ s. record { disks = s.disks; refused = s.refused } };
+    ghost view = { λ s. record {
+      disks = s.disks;
+      refused = s.refused;
+      last = option_map (λ (disk : Snapshot D.Disk). disk.value) s.last;
+    } };
 }
 
 /// Counts a file where it is no journal. Whether it was one.
@@ -60,6 +70,7 @@ impl<D: Disks> JournalShelf<D> {
             disks,
             refused: 0,
             found_none: false,
+            last: None,
         }
     }
 
@@ -79,17 +90,26 @@ impl<D: Disks> JournalShelf<D> {
 impl<D: Disks> Shelf for JournalShelf<D> {
     type Keeper = JournalKeeper<D::Disk>;
 
-    ghost rows = { λ _. None };
+    ghost rows = { λ s path. rows_at D.Disk.tells (D.files s.disks) path };
 
     ghost has_opened = { λ s path. D.has_opened s.disks path };
 
     ghost faults = { λ s. D.faults s.disks + s.refused };
 
+    ghost opened_at = { λ s. opened_at D.Disk.moment s };
+
+    ghost left = { λ s path image. D.left s.disks path (opened_at D.Disk.moment s) image };
+
     /// A file that is missing or empty becomes a journal of no rows. All of it is read, once it is synced.
     fn open(&mut self, path: &str) -> Result<JournalKeeper<D::Disk>, KeeperError>
+        ensures found { IfOk result (λ k. IfSome (rows_at D.Disk.tells (D.files self.old.disks) path.now)
+            (λ there. Some k.rows ≡ Some there)) }
         ensures fresh { IfOk result (λ k. D.Disk.faults k.disk ≡ 0) }
         ensures opened { OnOk result (D.has_opened self.new.disks path.now) }
-        ensures same { ◌≡◌ {A = Option (List ℕ → List Row)} None None }
+        ensures begins { IsTrue D.Disk.tells
+            → IfOk result (λ k. (opened_at D.Disk.moment self.new ≡ D.Disk.moment k.disk) × (k.doubted ≡ [])) }
+        ensures same { StaysOpened D.Disk.tells path.now result (rows_at D.Disk.tells (D.files self.old.disks))
+            (rows_at D.Disk.tells (D.files self.new.disks)) }
         ensures cause { HasCause (D.faults self.old.disks + self.old.refused) (D.faults self.new.disks + self.new.refused) result }
 
         // The rows are those of the groups of which the file is a journal.
@@ -107,7 +127,10 @@ impl<D: Disks> Shelf for JournalShelf<D> {
         self.found_none = false;
         let disk = self.disks.open(path)?;
         match JournalKeeper::open(self.alloc, disk) {
-            Ok(keeper) => Ok(keeper),
+            Ok(keeper) => {
+                self.last = Some(Snapshot::of(keeper.disk()));
+                Ok(keeper)
+            }
             Err((OpenError::OutOfMemory, _)) => Err(KeeperError::OutOfMemory),
             Err((error, disk)) => {
                 self.disks.shut(path, disk);

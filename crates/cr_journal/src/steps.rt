@@ -1,6 +1,7 @@
 //! The device calls of an append, two at a time, each with what a stop at any moment of them leaves.
 ghost use Rattle.std.specs.Prelude.{◌≡◌, ◌≤◌, ◌<◌, ◌+◌, ◌^◌, [], ◌∷◌, List, ℕ, length, OnOk, IsTrue};
-ghost use Rattle.cr_disks.specs.Disk.{Only, Holds, LeavesOnly, HasCause};
+ghost use Rattle.cr_disks.specs.Disk.{Only, Holds, HasCause};
+ghost use Rattle.cr_ports.specs.Stopping.{LeavesOnly};
 ghost use Rattle.cr_journal.specs.Gates.{SameTo, SameBut};
 
 use cr_disks::{Disk, DiskFailed};
@@ -16,7 +17,8 @@ pub(crate) fn stage<D: Disk>(disk: &mut D, at: u64, block: &[u8]) -> Result<(), 
     ensures images { IsTrue D.tells
         → (image : List ℕ) → D.may_leave disk.new image → SameTo at (D.seen disk.old) image }
     // A stop at any moment of the call leaves what was synced in front.
-    ensures any_moment { IsTrue D.tells → LeavesOnly D.moment D.left_since disk.old disk.new (SameTo at (D.seen disk.old)) }
+    ensures any_moment { IsTrue D.tells
+        → LeavesOnly D.moment D.left_since disk.old disk.new (SameTo at (D.seen disk.old)) }
     ensures cause { HasCause (D.faults disk.old) (D.faults disk.new) result }
 {
     disk.write_at(at, block)?;
@@ -33,7 +35,8 @@ pub(crate) fn set_gate<D: Disk>(disk: &mut D, gate: u64, value: u8) -> Result<()
     ensures images { IsTrue D.tells
         → (image : List ℕ) → D.may_leave disk.new image → SameBut gate (D.seen disk.old) image }
     // A stop at any moment of the call leaves every byte but the gate.
-    ensures any_moment { IsTrue D.tells → LeavesOnly D.moment D.left_since disk.old disk.new (SameBut gate (D.seen disk.old)) }
+    ensures any_moment { IsTrue D.tells
+        → LeavesOnly D.moment D.left_since disk.old disk.new (SameBut gate (D.seen disk.old)) }
     ensures cause { HasCause (D.faults disk.old) (D.faults disk.new) result }
 {
     disk.write_at(gate, &[value])?;

@@ -21,17 +21,19 @@ use Rattle.cr_lock.proofs.Prefixes.{prefix_self, prefix_trans}
 use Rattle.cr_lock.proofs.Sums.{total_set, within_join, within_out}
 
 -- what a pass knows stays so where the history goes on, unless it has the value
-fits_activity : {E : Type 0} (start : ℕ) (log more : List E) (serving next : ℕ) (risen risen' : ℕ → Type 0) (v : PassState E) (activity : Activity E)
+fits_activity : {E Root : Type 0} (start : ℕ) (log more : List E) (serving next : ℕ) (risen risen' : ℕ → Root → Type 0) (v : PassState E Root) (activity : Activity E Root)
     → IsPrefix log more
-    → ((t n : ℕ) → activity ≡ Holding t n → (t ≡ serving) × (v.seen ≡ log) × risen n → (t ≡ next) × (v.seen ≡ more) × risen' n)
+    → ((t n : ℕ) (origin : Root) → activity ≡ Holding t n origin → (t ≡ serving) × (v.seen ≡ log) × risen n origin
+    → (t ≡ next) × (v.seen ≡ more) × risen' n origin)
     → FitsActivity start log serving risen v activity → FitsActivity start more next risen' v activity
 fits_activity start log more serving next risen risen' v Idle p on f = tt
 fits_activity start log more serving next risen risen' v (Waiting u) p on f = tt
-fits_activity start log more serving next risen risen' v (Holding u n) p on f = on u n refl f
+fits_activity start log more serving next risen risen' v (Holding u n origin) p on f = on u n origin refl f
 fits_activity start log more serving next risen risen' v (Joined a b m o) p on f = (prefix_trans a log more f.0 p, prefix_trans b log more f.1 p, f.2)
 
-pub fits_on : {E : Type 0} (start : ℕ) (log more : List E) (serving next : ℕ) (risen risen' : ℕ → Type 0) (v : PassState E) → IsPrefix log more
-    → ((t n : ℕ) → v.activity ≡ Holding t n → (t ≡ serving) × (v.seen ≡ log) × risen n → (t ≡ next) × (v.seen ≡ more) × risen' n)
+pub fits_on : {E Root : Type 0} (start : ℕ) (log more : List E) (serving next : ℕ) (risen risen' : ℕ → Root → Type 0) (v : PassState E Root) → IsPrefix log more
+    → ((t n : ℕ) (origin : Root) → v.activity ≡ Holding t n origin → (t ≡ serving) × (v.seen ≡ log) × risen n origin
+    → (t ≡ next) × (v.seen ≡ more) × risen' n origin)
     → FitsLock start log serving risen v → FitsLock start more next risen' v
 fits_on start log more serving next risen risen' v p on f = record {
   seen = prefix_trans v.seen log more f.seen p;
@@ -43,7 +45,7 @@ fits_on start log more serving next risen risen' v p on f = record {
 }
 
 -- the turns of few passes are few
-products : {E : Type 0} (most : ℕ) (vs : List (PassState E)) → ((j : ℕ) (u : PassState E) → get_elem? vs j ≡ some u → u.turns ≤ most)
+products : {E Root : Type 0} (most : ℕ) (vs : List (PassState E Root)) → ((j : ℕ) (u : PassState E Root) → get_elem? vs j ≡ some u → u.turns ≤ most)
     → total (λ u. u.share * u.turns) vs ≤ total (λ u. u.share) vs * most
 products most [] few = omega arith
 products most (u ∷ us) few =
@@ -52,21 +54,21 @@ products most (u ∷ us) few =
     let e : (u.share + total (λ u. u.share) us) * most ≡ u.share * most + total (λ u. u.share) us * most = add-mul u.share (total (λ u. u.share) us) most in
     omega arith
 
-module _ {T E : Type 0} (list : T → List E) (faults : T → ℕ) (first : T) where
+module _ {T E Root : Type 0} (list : T → List E) (faults : T → ℕ) (root : T → Root) (first : T) where
   abbrev V : Type 0
-  V = PassState E
+  V = PassState E Root
 
   abbrev St : Type 0
   St = State (Option T) V
 
   abbrev pub Rule : St → Type 0
-  Rule = OneHistory list faults first
+  Rule = OneHistory list faults root first
 
   abbrev start : ℕ
   start = length (list first)
 
-  abbrev pub Rose : List V → ℕ → Type 0
-  Rose = Risen {T = T} {E = E} list faults first
+  abbrev pub Rose : List V → ℕ → Root → Type 0
+  Rose = Risen {T = T} {E = E} {Root = Root} list faults root first
 
   abbrev pub marked : V → ℕ
   marked v = marks v.mine
@@ -88,11 +90,12 @@ module _ {T E : Type 0} (list : T → List E) (faults : T → ℕ) (first : T) w
       total_set (λ (u : V). total f u.mine) vs id v w at in
       let e : total f w.mine ≡ total f v.mine = ap (total f) same in omega arith
 
-  pub risen_same : (vs ws : List V) (n : ℕ) → WeighAlike vs ws → Rose vs n → Rose ws n
-  risen_same vs ws n e r = record {
+  pub risen_same : (vs ws : List V) (n : ℕ) (origin : Root) → WeighAlike vs ws → Rose vs n origin → Rose ws n origin
+  risen_same vs ws n origin e r = record {
     count = r.count ∙ ap (λ (k : ℕ). faults first + k) (e (λ t. t.rise));
     marks = (let same : total marked vs ≡ total marked ws = e (λ t. if t.marked then 1 else 0) in
         ⊎_elim (λ (a : faults first + total marked vs ≤ n). inl (omega arith)) (λ (a : last_count ≤ n). inr a) r.marks);
+    stays = r.stays;
   }
 
   each_set : (F G : V → Type 0) (vs : List V) (me : ℕ) (w : V) → G w → ((j : ℕ) (u : V) → j ≢ me → get_elem? vs j ≡ some u → F u → G u)
@@ -117,10 +120,10 @@ module _ {T E : Type 0} (list : T → List E) (faults : T → ℕ) (first : T) w
       → ticket + v.share * v.turns ≤ r.ticket + w.share * w.turns
       → ((k : ℕ) → within start (length r.log) k + groups_with k w.mine ≡ within start (length log) k + groups_with k v.mine)
       → FitsLock start log serving (Rose (set s.views id w)) w
-      → ((j : ℕ) (u : V) → j ≢ id → get_elem? s.views j ≡ some u → (t n : ℕ) → u.activity ≡ Holding t n → (t ≡ r.serving) × (u.seen ≡ r.log) × Rose s.views n
-      → (t ≡ serving) × (u.seen ≡ log) × Rose (set s.views id w) n)
-      → Home list faults first log record { words = ws; homes = homes; views = set s.views id w }
-      ⊎ Away list faults first record { words = ws; homes = homes; views = set s.views id w }
+      → ((j : ℕ) (u : V) → j ≢ id → get_elem? s.views j ≡ some u → (t n : ℕ) (origin : Root) → u.activity ≡ Holding t n origin
+      → (t ≡ r.serving) × (u.seen ≡ r.log) × Rose s.views n origin → (t ≡ serving) × (u.seen ≡ log) × Rose (set s.views id w) n origin)
+      → Home list faults root first log record { words = ws; homes = homes; views = set s.views id w }
+      ⊎ Away list faults root first record { words = ws; homes = homes; views = set s.views id w }
       → Rule record { words = ws; homes = homes; views = set s.views id w }
   change s r id v w at log ticket serving ws homes words order grows tick share drawn grp fits others value = record {
     log = log;
@@ -168,16 +171,16 @@ module _ {T E : Type 0} (list : T → List E) (faults : T → ℕ) (first : T) w
     drawn = omega arith;
     groups = λ k. sym (within_out start start k (dite (dec_le start k) (λ a. inl a) (λ a. inr (omega arith))));
     each = opens_each;
-    value = inl (first, refl, refl, record { count = omega arith; marks = inl (omega arith) }, refl);
+    value = inl (first, refl, refl, record { count = omega arith; marks = inl (omega arith); stays = refl }, refl);
   }
 
   -- the same value, where no state's marks change and the passes that have the value are as many
   pub value_same : (log : List E) (s : St) (ws : List ℕ) (vs : List V) → total has vs ≡ total has s.views → WeighAlike s.views vs
-      → Home list faults first log s ⊎ Away list faults first s
-      → Home list faults first log record { words = ws; homes = s.homes; views = vs }
-      ⊎ Away list faults first record { words = ws; homes = s.homes; views = vs }
-  value_same log s ws vs e m h = ⊎_elim (λ (a : Home list faults first log s). inl (a.0, a.1, a.2, risen_same s.views vs (faults a.0) m a.3, e ∙ a.4))
-      (λ (a : Away list faults first s). inr (a.0, e ∙ a.1)) h
+      → Home list faults root first log s ⊎ Away list faults root first s
+      → Home list faults root first log record { words = ws; homes = s.homes; views = vs }
+      ⊎ Away list faults root first record { words = ws; homes = s.homes; views = vs }
+  value_same log s ws vs e m h = ⊎_elim (λ (a : Home list faults root first log s). inl (a.0, a.1, a.2, risen_same s.views vs (faults a.0) (root a.0) m a.3, e ∙ a.4))
+      (λ (a : Away list faults root first s). inr (a.0, e ∙ a.1)) h
 
   draw_keeps : (s : St) (r : Rule s) (id : ℕ) (v : V) (m : ℕ) → v.activity ≡ Idle → 0 < v.share → v.turns < 1099511627776 → get_elem? s.views id ≡ some v
       → m ≡ r.ticket
@@ -216,7 +219,7 @@ module _ {T E : Type 0} (list : T → List E) (faults : T → ℕ) (first : T) w
         alive = ⊎_elim (λ (a : (0 < v.share) × (start ≤ length v.seen)). inl a)
             (λ (a : v ≡ spent_state). absurd (let z : v.share ≡ 0 = ap (λ (u : V). u.share) a in omega arith)) f.alive;
       })
-      (λ j u ne e t n is' g. (g.0, g.1, risen_same s.views (set s.views id w) n same g.2))
+      (λ j u ne e t n origin is' g. (g.0, g.1, risen_same s.views (set s.views id w) n origin same g.2))
       (value_same r.log s (set s.words 0 ((m + 1) % 2 ^ 64)) (set s.views id w) same' same r.value)
 
   pub draws : (slots id : ℕ) (v : V) (cs : List (ℕ × Option T)) → v.activity ≡ Idle → 0 < v.share → v.turns < 1099511627776

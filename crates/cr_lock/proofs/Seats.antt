@@ -27,9 +27,10 @@ use Rattle.cr_lock.proofs.Order.{follows, merged_in_order}
 use Rattle.cr_lock.proofs.Sums.{total_append, total_set, total_at, total_two, total_only, total_merged, every_merged, within_one, within_in, within_is}
 use Rattle.cr_lock.proofs.Changes.{Rule, Rose, WeighAlike, change, alike_set, risen_same, value_same, fits_on}
 
-unmoved_risen : {E : Type 0} (P Q : ℕ → Type 0) (serving : ℕ) (v : PassState E) (log : List E) → ((n : ℕ) → P n → Q n) → (t n : ℕ) → v.activity ≡ Holding t n
-    → (t ≡ serving) × (v.seen ≡ log) × P n → (t ≡ serving) × (v.seen ≡ log) × Q n
-unmoved_risen P Q serving v log on t n is g = (g.0, g.1, on n g.2)
+unmoved_risen : {E Root : Type 0} (P Q : ℕ → Root → Type 0) (serving : ℕ) (v : PassState E Root) (log : List E)
+    → ((n : ℕ) (origin : Root) → P n origin → Q n origin) → (t n : ℕ) (origin : Root) → v.activity ≡ Holding t n origin
+    → (t ≡ serving) × (v.seen ≡ log) × P n origin → (t ≡ serving) × (v.seen ≡ log) × Q n origin
+unmoved_risen P Q serving v log on t n origin is g = (g.0, g.1, on n origin g.2)
 
 -- an entry in a group that stands in a list has its number in the list
 covered : {E : Type 0} (k : ℕ) (ts : List (Turn E)) (log : List E) → Every (StandsIn log) ts → 0 < groups_with k ts → k < length log
@@ -59,21 +60,21 @@ longer_of : {A : Type 0} (xs ys zs : List A) → IsPrefix xs zs → IsPrefix ys 
     → IsPrefix xs (longer xs ys) × IsPrefix ys (longer xs ys) × IsPrefix (longer xs ys) zs
 longer_of xs ys zs p q = longer_is xs ys zs (nat_lt (length xs) (length ys)) (λ e. grind (arith, nat_tests)) (λ e. grind (arith, nat_tests)) p q
 
-module _ {T E : Type 0} (list : T → List E) (faults : T → ℕ) (first : T) where
+module _ {T E Root : Type 0} (list : T → List E) (faults : T → ℕ) (root : T → Root) (first : T) where
   abbrev V : Type 0
-  V = PassState E
+  V = PassState E Root
 
   abbrev St : Type 0
   St = State (Option T) V
 
   abbrev R : St → Type 0
-  R = Rule list faults first
+  R = Rule list faults root first
 
   abbrev start : ℕ
   start = length (list first)
 
-  abbrev Up : List V → ℕ → Type 0
-  Up = Rose list faults first
+  abbrev Up : List V → ℕ → Root → Type 0
+  Up = Rose list faults root first
 
   alive_some : (v : V) → 0 < v.share → ((0 < v.share) × (start ≤ length v.seen)) ⊎ (v ≡ spent_state) → start ≤ length v.seen
   alive_some v some_share a = ⊎_elim (λ (h : (0 < v.share) × (start ≤ length v.seen)). h.1)
@@ -91,7 +92,7 @@ module _ {T E : Type 0} (list : T → List E) (faults : T → ℕ) (first : T) w
       let f = r.each id v at in
       let vs' = set s.views id l ++ o ∷ [] in
       let half : v.share / 2 ≤ v.share = omega arith in
-      let same : WeighAlike list faults first s.views vs' = λ f. sym (cut (λ (u : V). total f u.mine) s.views id v l o at (omega arith)) in
+      let same : WeighAlike list faults root first s.views vs' = λ f. sym (cut (λ (u : V). total f u.mine) s.views id v l o at (omega arith)) in
       let long = alive_some v (omega arith) f.alive in
       let holders : total (λ (u : V). has_value u.activity) vs' ≡ total (λ (u : V). has_value u.activity) s.views =
       (let z : has_value v.activity ≡ 0 = ap has_value idle in cut (λ (u : V). has_value u.activity) s.views id v l o at (omega arith)) in
@@ -122,11 +123,11 @@ module _ {T E : Type 0} (list : T → List E) (faults : T → ℕ) (first : T) w
             (λ (a : get_elem? (set s.views id l) j ≡ some u). ⊎_elim
             (λ (b : (j ≡ id) × (l ≡ u)). subst (FitsLock start r.log r.serving (Up vs')) b.1 (fits_idle l idle refl refl f.stand f.sorted (omega arith)))
             (λ (b : (j ≢ id) × (get_elem? s.views j ≡ some u)). fits_on start r.log r.log r.serving r.serving (Up s.views) (Up vs') u (prefix_self r.log)
-            (unmoved_risen (Up s.views) (Up vs') r.serving u r.log (λ n. risen_same list faults first s.views vs' n same)) (r.each j u b.1))
+            (unmoved_risen (Up s.views) (Up vs') r.serving u r.log (λ n origin. risen_same list faults root first s.views vs' n origin same)) (r.each j u b.1))
             (at_set s.views id j l u a))
             (λ (a : o ≡ u). subst (FitsLock start r.log r.serving (Up vs')) a (fits_idle o idle refl refl tt tt (omega arith)))
             (at_snoc (set s.views id l) o u j e);
-        value = value_same list faults first r.log s s.words vs' holders same r.value;
+        value = value_same list faults root first r.log s s.words vs' holders same r.value;
       }
 
   -- what a sum becomes where two states are made one
@@ -137,7 +138,7 @@ module _ {T E : Type 0} (list : T → List E) (faults : T → ℕ) (first : T) w
       total_set F (set vs id b) other w spent_state at' in
       let q : total F (set vs id b) + F v ≡ total F vs + F b = total_set F vs id v b at in omega arith
 
-  spent_fits : (log : List E) (serving : ℕ) (risen : ℕ → Type 0) → FitsLock start log serving risen spent_state
+  spent_fits : (log : List E) (serving : ℕ) (risen : ℕ → Root → Type 0) → FitsLock start log serving risen spent_state
   spent_fits log serving risen = record { seen = (log, refl); few = omega arith; stand = tt; sorted = tt; activity = tt; alive = inr refl }
 
   -- a list in which each group stands and that has what was there at first, where each later entry is in a group, has all entries
@@ -157,7 +158,7 @@ module _ {T E : Type 0} (list : T → List E) (faults : T → ℕ) (first : T) w
       let vs' = set (set s.views id b) other spent_state in
       let no : has_value v.activity ≡ 0 = ap has_value idle in
       let no' : has_value w.activity ≡ 0 = ap has_value idle' in
-      let same : WeighAlike list faults first s.views vs' =
+      let same : WeighAlike list faults root first s.views vs' =
       λ f. sym (glue (λ (u : V). total f u.mine) s.views id other v w b at at' (total_merged f v.mine w.mine) refl) in
       let holders : total (λ (u : V). has_value u.activity) vs' ≡ total (λ (u : V). has_value u.activity) s.views =
       glue (λ (u : V). has_value u.activity) s.views id other v w b at at' (omega arith) refl in
@@ -204,10 +205,10 @@ module _ {T E : Type 0} (list : T → List E) (faults : T → ℕ) (first : T) w
             (λ (a : (j ≢ other) × (get_elem? (set s.views id b) j ≡ some u)). ⊎_elim
             (λ (c : (j ≡ id) × (b ≡ u)). subst (FitsLock start r.log r.serving (Up vs')) c.1 fits_b)
             (λ (c : (j ≢ id) × (get_elem? s.views j ≡ some u)). fits_on start r.log r.log r.serving r.serving (Up s.views) (Up vs') u (prefix_self r.log)
-            (unmoved_risen (Up s.views) (Up vs') r.serving u r.log (λ n. risen_same list faults first s.views vs' n same)) (r.each j u c.1))
+            (unmoved_risen (Up s.views) (Up vs') r.serving u r.log (λ n origin. risen_same list faults root first s.views vs' n origin same)) (r.each j u c.1))
             (at_set s.views id j b u a.1))
             (at_set (set s.views id b) other j spent_state u e);
-        value = value_same list faults first r.log s s.words vs' holders same r.value;
+        value = value_same list faults root first r.log s s.words vs' holders same r.value;
       }
 
   settle_keeps : (s : St) (r : R s) (id : ℕ) (v : V) (a b : List E) (m o : List (Turn E)) → get_elem? s.views id ≡ some v → v.activity ≡ Joined a b m o
@@ -217,11 +218,11 @@ module _ {T E : Type 0} (list : T → List E) (faults : T → ℕ) (first : T) w
       let f = r.each id v at in
       let vs' = set s.views id w in
       let no : has_value v.activity ≡ 0 = ap has_value is in
-      let same = alike_set list faults first s.views id v w at refl in
+      let same = alike_set list faults root first s.views id v w at refl in
       let holders : total (λ (u : V). has_value u.activity) vs' ≡ total (λ (u : V). has_value u.activity) s.views =
       (let c : total (λ (u : V). has_value u.activity) vs' + has_value v.activity ≡ total (λ (u : V). has_value u.activity) s.views + 0 =
       total_set (λ (u : V). has_value u.activity) s.views id v w at in omega arith) in
-      change list faults first s r id v w at r.log r.ticket r.serving (set s.words 1 (get_or s.words 1 0)) s.homes
+      change list faults root first s r id v w at r.log r.ticket r.serving (set s.words 1 (get_or s.words 1 0)) s.homes
       (set-get_or s.words 1 0 ∙ r.words)
       r.order
       (prefix_self r.log)
@@ -238,10 +239,11 @@ module _ {T E : Type 0} (list : T → List E) (faults : T → ℕ) (first : T) w
         alive = inl (⊎_elim (λ (h : (0 < v.share) × (start ≤ length v.seen)). h)
             (λ (h : v ≡ spent_state). absurd (let e : v.activity ≡ Idle = ap (λ (u : V). u.activity) h in cc (e, is))) f.alive);
       })
-      (λ j u ne e t n is' g. unmoved_risen (Up s.views) (Up vs') r.serving u r.log (λ k. risen_same list faults first s.views vs' k same) t n is' g)
-      (value_same list faults first r.log s (set s.words 1 (get_or s.words 1 0)) vs' holders same r.value)
+      (λ j u ne e t n origin is' g. unmoved_risen (Up s.views) (Up vs') r.serving u r.log
+      (λ k o. risen_same list faults root first s.views vs' k o same) t n origin is' g)
+      (value_same list faults root first r.log s (set s.words 1 (get_or s.words 1 0)) vs' holders same r.value)
 
-  same_four : (a b : List E) (m o : List (Turn E)) (a' b' : List E) (m' o' : List (Turn E)) {activity : Activity E} → activity ≡ Joined a b m o
+  same_four : (a b : List E) (m o : List (Turn E)) (a' b' : List E) (m' o' : List (Turn E)) {activity : Activity E Root} → activity ≡ Joined a b m o
       → activity ≡ Joined a' b' m' o'
       → ◌≡◌ {A = List E × List E × List (Turn E) × List (Turn E)} (a, b, m, o) (a', b', m', o')
   same_four a b m o a' b' m' o' e e' = let p : a ≡ a' = cc (e, e') in let q : b ≡ b' = cc (e, e') in let t : m ≡ m' = cc (e, e') in
@@ -277,7 +279,7 @@ module _ {T E : Type 0} (list : T → List E) (faults : T → ℕ) (first : T) w
   known lock v = record { lock = lock; share = v.share; turns = v.turns; seen = v.seen; mine = v.mine }
 
   pub ends : (lock : TableId) (id : ℕ) (v : V) (ws : List ℕ) (xs : List (Option T)) → v.activity ≡ Idle → v.share ≡ 64 → Final (Seen R id v) ws xs
-      → (x : T) × (get_elem? xs 0 ≡ some (Some x)) × Closes list faults first (known lock v) x
+      → (x : T) × (get_elem? xs 0 ≡ some (Some x)) × Closes list faults root first (known lock v) x
   ends lock id v ws xs idle whole fin =
       let s : St = fin.0 in
       let r : R s = fin.1.0 in
@@ -288,8 +290,8 @@ module _ {T E : Type 0} (list : T → List E) (faults : T → ℕ) (first : T) w
       (λ j u e z. ⊎_elim (λ (h : (0 < u.share) × (start ≤ length u.seen)). absurd (let a = h.0 in omega arith)) (λ (h : u ≡ spent_state). ap F h ∙ zero_spent)
       (r.each j u e).alive) in
       let nobody : total (λ (u : V). has_value u.activity) s.views ≡ 0 = only (λ (u : V). has_value u.activity) refl ∙ ap has_value idle in
-      let home : Home list faults first r.log s = ⊎_elim (λ (a : Home list faults first r.log s). a)
-      (λ (a : Away list faults first s). absurd (let o = a.1 in omega arith)) r.value in
+      let home : Home list faults root first r.log s = ⊎_elim (λ (a : Home list faults root first r.log s). a)
+      (λ (a : Away list faults root first s). absurd (let o = a.1 in omega arith)) r.value in
       let x : T = home.0 in
       let counted : (k : ℕ) → groups_with k v.mine ≡ within start (length r.log) k = λ k. sym (only (λ (u : V). groups_with k u.mine) refl) ∙ r.groups k in
       let all_seen : v.seen ≡ r.log = prefix_whole v.seen r.log f.seen (seen_all v.seen r.log v.mine f.stand (alive_some v (omega arith) f.alive) counted) in
@@ -306,6 +308,7 @@ module _ {T E : Type 0} (list : T → List E) (faults : T → ℕ) (first : T) w
               (prefix_length (list first) r.log r.begins) counted));
           marks = ⊎_elim (λ (a : faults first + total (λ (u : V). marks u.mine) s.views ≤ faults x). inl (omega arith))
               (λ (a : last_count ≤ faults x). inr a) home.3.marks;
+          root = home.3.stays;
           count = home.3.count ∙ ap (λ (k : ℕ). faults first + k) (only (λ (u : V). rises u.mine) refl);
         },
       )

@@ -25,42 +25,42 @@ use Rattle.cr_lock.proofs.Sums.{total_append, total_set, total_at, total_two, to
 use Rattle.cr_lock.proofs.Changes.{Rule, Rose, has, change, alike_set, risen_same, ticket_small}
 
 -- a turn on a value that stood for the list xs and stands for ys
-abbrev pub after_turn : {E : Type 0} → PassState E → List E → List E → ℕ → ℕ → PassState E
+abbrev pub after_turn : {E Root : Type 0} → PassState E Root → List E → List E → ℕ → ℕ → PassState E Root
 after_turn v xs ys m n = record v { turns = v.turns + 1; seen = ys; mine = v.mine ++ turn_at (length xs) (drop (length xs) ys) m n ∷ [] }
 
 -- a pass that has the value holds the ticket that is served
-has_at_most : {E : Type 0} (start : ℕ) (log : List E) (serving : ℕ) (risen : ℕ → Type 0) (v : PassState E) (activity : Activity E)
+has_at_most : {E Root : Type 0} (start : ℕ) (log : List E) (serving : ℕ) (risen : ℕ → Root → Type 0) (v : PassState E Root) (activity : Activity E Root)
     → FitsActivity start log serving risen v activity → has_value activity ≤ holds_ticket serving activity
 has_at_most start log serving risen v Idle f = omega arith
 has_at_most start log serving risen v (Waiting u) f = omega arith
-has_at_most start log serving risen v (Holding u n) f = let e : within u (u + 1) serving ≡ 1 =
+has_at_most start log serving risen v (Holding u n origin) f = let e : within u (u + 1) serving ≡ 1 =
     (let z = f.0 in within_in u (u + 1) serving (omega arith) (omega arith)) in omega arith
 has_at_most start log serving risen v (Joined a b m o) f = omega arith
 
-served : {E : Type 0} (start : ℕ) (log : List E) (serving : ℕ) (risen : ℕ → Type 0) (v : PassState E) (t n : ℕ) → v.activity ≡ Holding t n
-    → FitsLock start log serving risen v → (t ≡ serving) × (v.seen ≡ log) × risen n
-served start log serving risen v t n e f = subst (λ activity. FitsActivity start log serving risen v activity) e f.activity
+served : {E Root : Type 0} (start : ℕ) (log : List E) (serving : ℕ) (risen : ℕ → Root → Type 0) (v : PassState E Root) (t n : ℕ) (origin : Root)
+    → v.activity ≡ Holding t n origin → FitsLock start log serving risen v → (t ≡ serving) × (v.seen ≡ log) × risen n origin
+served start log serving risen v t n origin e f = subst (λ activity. FitsActivity start log serving risen v activity) e f.activity
 
 -- the count of faults has risen by one more mark, where it has risen
 marked_more : (a n c : ℕ) → n ≤ c → (a ≤ n) ⊎ (last_count ≤ n) → (a + (if has_risen n c then 1 else 0) ≤ c) ⊎ (last_count ≤ c)
 marked_more a n c le h = ⊎_elim (λ (p : a ≤ n). dite (dec_le last_count c) (λ full. inr full) (λ less. inl (grind (arith, nat_tests))))
     (λ (p : last_count ≤ n). inr (omega arith)) h
 
-module _ {T E : Type 0} (list : T → List E) (faults : T → ℕ) (first : T) where
+module _ {T E Root : Type 0} (list : T → List E) (faults : T → ℕ) (root : T → Root) (first : T) where
   abbrev V : Type 0
-  V = PassState E
+  V = PassState E Root
 
   abbrev St : Type 0
   St = State (Option T) V
 
   abbrev R : St → Type 0
-  R = Rule list faults first
+  R = Rule list faults root first
 
   abbrev start : ℕ
   start = length (list first)
 
-  abbrev Up : List V → ℕ → Type 0
-  Up = Rose list faults first
+  abbrev Up : List V → ℕ → Root → Type 0
+  Up = Rose list faults root first
 
   alive_share : (v : V) → v.activity ≢ Idle → ((0 < v.share) × (start ≤ length v.seen)) ⊎ (v ≡ spent_state) → (0 < v.share) × (start ≤ length v.seen)
   alive_share v busy a = ⊎_elim (λ (h : (0 < v.share) × (start ≤ length v.seen)). h) (λ (h : v ≡ spent_state). absurd (busy (ap (λ (u : V). u.activity) h))) a
@@ -79,26 +79,26 @@ module _ {T E : Type 0} (list : T → List E) (faults : T → ℕ) (first : T) w
       let d : within r.serving r.ticket r.serving ≤ 1 = within_one r.serving r.ticket r.serving in omega arith
 
   look_takes : (s : St) (r : R s) (id : ℕ) (v : V) (t : ℕ) (x : T) → get_elem? s.views id ≡ some v → v.activity ≡ Waiting t → t ≡ r.serving
-      → s.homes ≡ some (Some x) ∷ [] → list x ≡ r.log → Up s.views (faults x)
+      → s.homes ≡ some (Some x) ∷ [] → list x ≡ r.log → Up s.views (faults x) (root x)
       → R record {
         words = set s.words 1 (get_or s.words 1 0);
         homes = set s.homes 0 none;
-        views = set s.views id (record v { seen = list x; activity = Holding t (faults x) });
+        views = set s.views id (record v { seen = list x; activity = Holding t (faults x) (root x) });
       }
   look_takes s r id v t x at waits e home stands up =
-      let w : V = record v { seen = list x; activity = Holding t (faults x) } in
+      let w : V = record v { seen = list x; activity = Holding t (faults x) (root x) } in
       let f = r.each id v at in
       let vs' = set s.views id w in
       let nobody : total (λ (u : V). has_value u.activity) s.views ≡ 0 = at_home s r id v t at waits e in
       let no : has_value v.activity ≡ 0 = ap has_value waits in
-      let same = alike_set list faults first s.views id v w at refl in
+      let same = alike_set list faults root first s.views id v w at refl in
       let one : total (λ (u : V). has_value u.activity) vs' ≡ 1 =
       (let c : total (λ (u : V). has_value u.activity) vs' + has_value v.activity ≡ total (λ (u : V). has_value u.activity) s.views + 1 =
       total_set (λ (u : V). has_value u.activity) s.views id v w at in omega arith) in
       let seen : IsPrefix v.seen (list x) = subst (λ z. IsPrefix v.seen z) (sym stands) f.seen in
       let longer : length v.seen ≤ length (list x) = prefix_length v.seen (list x) seen in
       let alive = alive_share v (λ idle. absurd (cc (idle, waits))) f.alive in
-      change list faults first s r id v w at r.log r.ticket r.serving (set s.words 1 (get_or s.words 1 0)) (set s.homes 0 none)
+      change list faults root first s r id v w at r.log r.ticket r.serving (set s.words 1 (get_or s.words 1 0)) (set s.homes 0 none)
       (set-get_or s.words 1 0 ∙ r.words)
       r.order
       (prefix_self r.log)
@@ -111,21 +111,21 @@ module _ {T E : Type 0} (list : T → List E) (faults : T → ℕ) (first : T) w
         few = f.few;
         stand = every_longer v.seen (list x) v.mine seen f.stand;
         sorted = f.sorted;
-        activity = (e, stands, risen_same list faults first s.views vs' (faults x) same up);
+        activity = (e, stands, risen_same list faults root first s.views vs' (faults x) (root x) same up);
         alive = inl (alive.0, omega arith);
       })
-      (λ j u ne a k n is' g. absurd (let h : has_value u.activity ≡ 1 = ap has_value is' in
+      (λ j u ne a k n origin is' g. absurd (let h : has_value u.activity ≡ 1 = ap has_value is' in
       let q : has_value u.activity ≤ total (λ (z : V). has_value z.activity) s.views = total_at (λ (z : V). has_value z.activity) s.views j u a in
       omega arith))
       (inr (ap (λ hs. set hs 0 none) home, one))
 
   look_finds : (s : St) (r : R s) (id : ℕ) (v : V) (t : ℕ) → get_elem? s.views id ≡ some v → v.activity ≡ Waiting t → t ≡ r.serving
-      → Home list faults first r.log s ⊎ Away list faults first s → Home list faults first r.log s
-  look_finds s r id v t at waits e h = ⊎_elim (λ (a : Home list faults first r.log s). a)
-      (λ (a : Away list faults first s). absurd (let z : total (λ (u : V). has_value u.activity) s.views ≡ 0 = at_home s r id v t at waits e in
+      → Home list faults root first r.log s ⊎ Away list faults root first s → Home list faults root first r.log s
+  look_finds s r id v t at waits e h = ⊎_elim (λ (a : Home list faults root first r.log s). a)
+      (λ (a : Away list faults root first s). absurd (let z : total (λ (u : V). has_value u.activity) s.views ≡ 0 = at_home s r id v t at waits e in
       let o = a.1 in omega arith)) h
 
-  yes_is : (t u : ℕ) {activity : Activity E} → activity ≡ Waiting t → activity ≡ Waiting u → t ≡ u
+  yes_is : (t u : ℕ) {activity : Activity E Root} → activity ≡ Waiting t → activity ≡ Waiting u → t ≡ u
   yes_is t u a b = cc (a, b)
 
   unmoved : (s : St) (id : ℕ) (v : V) → get_elem? s.views id ≡ some v
@@ -133,13 +133,13 @@ module _ {T E : Type 0} (list : T → List E) (faults : T → ℕ) (first : T) w
   unmoved s id v at = sym (ap (λ (ws : List ℕ). record { words = ws; homes = s.homes; views = set s.views id v }) (set-get_or s.words 1 0)
       ∙ ap (λ (vs : List V). record { words = s.words; homes = s.homes; views = vs }) (set_again s.views id v at))
 
-  looks_at : (slots id : ℕ) (v : V) (t : ℕ) → v.activity ≡ Waiting t → Allows R slots id (v, []) 1 (λ n. n) (Looked list faults (step slots 1 0 0 none) (v, []))
+  looks_at : (slots id : ℕ) (v : V) (t : ℕ) → v.activity ≡ Waiting t → Allows R slots id (v, []) 1 (λ n. n) (Looked list faults root (step slots 1 0 0 none) (v, []))
   looks_at slots id v t waits s r _ at _ =
       let m : ℕ = get_or s.words 1 0 in
       let here : m ≡ r.serving = ap (λ (ws : List ℕ). get_or ws 1 0) r.words in
       dite (ℕ_discrete m t)
       (λ yes. let h = look_finds s r id v t at waits (sym yes ∙ here) r.value in let x : T = h.0 in let f = r.each id v at in (
-        record v { seen = list x; activity = Holding t (faults x) },
+        record v { seen = list x; activity = Holding t (faults x) (root x) },
         takes 0 (Some x),
         ap (λ hs. get_elem? hs 0) h.1,
         look_takes s r id v t x at waits (sym yes ∙ here) h.1 h.2 h.3,
@@ -147,7 +147,7 @@ module _ {T E : Type 0} (list : T → List E) (faults : T → ℕ) (first : T) w
           λ is. (
             x,
             subst (λ z. IsPrefix v.seen z) (sym h.2) f.seen,
-            ap (λ (k : ℕ). (record v { seen = list x; activity = Holding k (faults x) }, (0, Some x) ∷ [])) (yes_is t u waits e),
+            ap (λ (k : ℕ). (record v { seen = list x; activity = Holding k (faults x) (root x) }, (0, Some x) ∷ [])) (yes_is t u waits e),
           ),
           λ no. absurd (no (yes ∙ yes_is t u waits e)),
         ),
@@ -160,38 +160,38 @@ module _ {T E : Type 0} (list : T → List E) (faults : T → ℕ) (first : T) w
         λ u e. (λ is. absurd (no (is ∙ yes_is u t e waits)), λ _. refl),
       ))
 
-  same_turn : (t n t' n' : ℕ) (x y : T) {activity : Activity E} → activity ≡ Holding t n → activity ≡ Holding t' n'
+  same_turn : (t n t' n' : ℕ) (origin origin' : Root) (x y : T) {activity : Activity E Root} → activity ≡ Holding t n origin → activity ≡ Holding t' n' origin'
       → ◌≡◌ {A = List (ℕ × Option T)} ((0, Some x) ∷ []) ((0, Some y) ∷ []) → ◌≡◌ {A = ℕ × ℕ × T} (t, n, x) (t', n', y)
-  same_turn t n t' n' x y a b c = let p : t ≡ t' = cc (a, b) in let q : n ≡ n' = cc (a, b) in
+  same_turn t n t' n' origin origin' x y a b c = let p : t ≡ t' = cc (a, b) in let q : n ≡ n' = cc (a, b) in
       let d : ◌≡◌ {A = ℕ × Option T} (0, Some x) (0, Some y) = cc (c) in let e : ◌≡◌ {A = Option T} (Some x) (Some y) = ap (λ (z : ℕ × Option T). z.1) d in
       let o : x ≡ y = cc (e) in λ i. (p i, q i, o i)
 
   -- where the pass has the value, it is away, and no other pass has it
-  away : (s : St) (r : R s) (id : ℕ) (v : V) (t n : ℕ) → get_elem? s.views id ≡ some v → v.activity ≡ Holding t n
-      → Home list faults first r.log s ⊎ Away list faults first s → Away list faults first s
-  away s r id v t n at has h = ⊎_elim (λ (a : Home list faults first r.log s). absurd (let one : has_value v.activity ≡ 1 = ap has_value has in
+  away : (s : St) (r : R s) (id : ℕ) (v : V) (t n : ℕ) (origin : Root) → get_elem? s.views id ≡ some v → v.activity ≡ Holding t n origin
+      → Home list faults root first r.log s ⊎ Away list faults root first s → Away list faults root first s
+  away s r id v t n origin at has h = ⊎_elim (λ (a : Home list faults root first r.log s). absurd (let one : has_value v.activity ≡ 1 = ap has_value has in
       let q : has_value v.activity ≤ total (λ (z : V). has_value z.activity) s.views = total_at (λ (z : V). has_value z.activity) s.views id v at in
       let z = a.4 in omega arith))
-      (λ (a : Away list faults first s). a) h
+      (λ (a : Away list faults root first s). a) h
 
-  no_other : (s : St) (id : ℕ) (v : V) (t n : ℕ) → get_elem? s.views id ≡ some v → v.activity ≡ Holding t n
+  no_other : (s : St) (id : ℕ) (v : V) (t n : ℕ) (origin : Root) → get_elem? s.views id ≡ some v → v.activity ≡ Holding t n origin
       → total (λ (z : V). has_value z.activity) s.views ≡ 1
-      → (j : ℕ) (u : V) → j ≢ id → get_elem? s.views j ≡ some u → (k m : ℕ) → u.activity ≡ Holding k m → ⊥
-  no_other s id v t n at has one j u ne a k m is =
+      → (j : ℕ) (u : V) → j ≢ id → get_elem? s.views j ≡ some u → (k m : ℕ) (o : Root) → u.activity ≡ Holding k m o → ⊥
+  no_other s id v t n origin at has one j u ne a k m o is =
       let p : has_value v.activity ≡ 1 = ap has_value has in let q : has_value u.activity ≡ 1 = ap has_value is in
       let two : has_value u.activity + has_value v.activity ≤ total (λ (z : V). has_value z.activity) s.views =
       total_two (λ (z : V). has_value z.activity) s.views j id u v ne a at in omega arith
 
-  note_keeps : (s : St) (r : R s) (id : ℕ) (v : V) (t n : ℕ) (x : T) (k : ℕ) → get_elem? s.views id ≡ some v → v.activity ≡ Holding t n
-      → IsPrefix v.seen (list x) → n ≤ faults x
+  note_keeps : (s : St) (r : R s) (id : ℕ) (v : V) (t n : ℕ) (origin : Root) (x : T) (k : ℕ) → get_elem? s.views id ≡ some v
+      → v.activity ≡ Holding t n origin → IsPrefix v.seen (list x) → n ≤ faults x → origin ≡ root x
       → length v.seen + k ≡ length (list x) → length (list x) < 2 ^ 64
-      → R record { words = set s.words 2 ((get_or s.words 2 0 + k) % 2 ^ 64); homes = s.homes; views = set s.views id (noted_at list faults t n v x) }
-  note_keeps s r id v t n x k at has seen le len small =
-      let w : V = noted_at list faults t n v x in
+      → R record { words = set s.words 2 ((get_or s.words 2 0 + k) % 2 ^ 64); homes = s.homes; views = set s.views id (noted_at list faults root t n v x) }
+  note_keeps s r id v t n origin x k at has seen le kept len small =
+      let w : V = noted_at list faults root t n v x in
       let f = r.each id v at in
-      let mine = served start r.log r.serving (Up s.views) v t n has f in
+      let mine = served start r.log r.serving (Up s.views) v t n origin has f in
       let vs' = set s.views id w in
-      let out = away s r id v t n at has r.value in
+      let out = away s r id v t n origin at has r.value in
       let group : List E = drop (length v.seen) (list x) in
       let flag = has_risen n (faults x) in
       let turn : Turn E = turn_at (length v.seen) group n (faults x) in
@@ -209,7 +209,8 @@ module _ {T E : Type 0} (list : T → List E) (faults : T → ℕ) (first : T) w
       let mark : marks w.mine ≡ marks v.mine + (if flag then 1 else 0) =
       (let a : marks (v.mine ++ turn ∷ []) ≡ marks v.mine + ((if flag then 1 else 0) + 0) =
       total_append (λ (z : Turn E). if z.marked then 1 else 0) v.mine (turn ∷ []) in omega arith) in
-      let up : Up vs' (faults x) = record {
+      let up : Up vs' (faults x) (root x) = record {
+        stays = sym kept ∙ mine.2.stays;
         marks = (let h = marked_more (faults first + total (λ (u : V). marks u.mine) s.views) n (faults x) le mine.2.marks in
             ⊎_elim (λ (a : faults first + total (λ (u : V). marks u.mine) s.views + (if flag then 1 else 0) ≤ faults x). inl (omega arith))
             (λ (a : last_count ≤ faults x). inr a) h);
@@ -222,7 +223,7 @@ module _ {T E : Type 0} (list : T → List E) (faults : T → ℕ) (first : T) w
       let c : total (λ (u : V). has_value u.activity) vs' + has_value v.activity ≡ total (λ (u : V). has_value u.activity) s.views + 1 =
       total_set (λ (u : V). has_value u.activity) s.views id v w at in omega arith) in
       let alive = alive_share v (λ idle. absurd (cc (idle, has))) f.alive in
-      change list faults first s r id v w at (list x) r.ticket r.serving (set s.words 2 ((get_or s.words 2 0 + k) % 2 ^ 64)) s.homes
+      change list faults root first s r id v w at (list x) r.ticket r.serving (set s.words 2 ((get_or s.words 2 0 + k) % 2 ^ 64)) s.homes
       (ap (λ (ws : List ℕ). set ws 2 ((get_or s.words 2 0 + k) % 2 ^ 64)) r.words ∙ ap (λ (z : ℕ). r.ticket ∷ r.serving ∷ z ∷ []) now)
       r.order
       grows
@@ -245,33 +246,35 @@ module _ {T E : Type 0} (list : T → List E) (faults : T → ℕ) (first : T) w
         activity = (mine.0, refl, up);
         alive = inl (alive.0, (let a = alive.1 in omega arith));
       })
-      (λ j u ne a i m is g. absurd (no_other s id v t n at has out.1 j u ne a i m is))
+      (λ j u ne a i m o is g. absurd (no_other s id v t n origin at has out.1 j u ne a i m o is))
       (inr (out.0, one))
 
-  notes_at : (slots id : ℕ) (v : V) (t n : ℕ) (x : T) (k : ℕ) → v.activity ≡ Holding t n → IsPrefix v.seen (list x) → n ≤ faults x
+  notes_at : (slots id : ℕ) (v : V) (t n : ℕ) (origin : Root) (x : T) (k : ℕ) → v.activity ≡ Holding t n origin → IsPrefix v.seen (list x)
+      → n ≤ faults x → origin ≡ root x
       → length v.seen + k ≡ length (list x) → length (list x) < 2 ^ 64
-      → Allows R slots id (v, (0, Some x) ∷ []) 2 (λ m. (m + k) % 2 ^ 64) (Noted list faults (step slots 2 k 0 none) (v, (0, Some x) ∷ []))
-  notes_at slots id v t n x k has seen le len small s r _ at _ = (
-    noted_at list faults t n v x,
+      → Allows R slots id (v, (0, Some x) ∷ []) 2 (λ m. (m + k) % 2 ^ 64) (Noted list faults root (step slots 2 k 0 none) (v, (0, Some x) ∷ []))
+  notes_at slots id v t n origin x k has seen le kept len small s r _ at _ = (
+    noted_at list faults root t n v x,
     keeps,
     tt,
-    note_keeps s r id v t n x k at has seen le len small,
-    λ t' n' y has' is. ap (λ (z : ℕ × ℕ × T). (noted_at list faults z.0 z.1 v z.2, (0, Some x) ∷ [])) (same_turn t n t' n' x y has has' is),
+    note_keeps s r id v t n origin x k at has seen le kept len small,
+    λ t' n' origin' y has' is. ap (λ (z : ℕ × ℕ × T). (noted_at list faults root z.0 z.1 v z.2, (0, Some x) ∷ [])) (same_turn t n t' n' origin origin' x y has has' is),
   )
 
-  next_keeps : (s : St) (r : R s) (id : ℕ) (v : V) (t n : ℕ) (x : T) → get_elem? s.views id ≡ some v → v.activity ≡ Holding t n → list x ≡ v.seen → faults x ≡ n
+  next_keeps : (s : St) (r : R s) (id : ℕ) (v : V) (t : ℕ) (x : T) → get_elem? s.views id ≡ some v → v.activity ≡ Holding t (faults x) (root x)
+      → list x ≡ v.seen
       → R record {
         words = set s.words 1 ((get_or s.words 1 0 + 1) % 2 ^ 64);
         homes = set s.homes 0 (some (Some x));
         views = set s.views id (record v { activity = Idle });
       }
-  next_keeps s r id v t n x at has stands counts =
+  next_keeps s r id v t x at has stands =
       let w : V = record v { activity = Idle } in
       let f = r.each id v at in
-      let mine = served start r.log r.serving (Up s.views) v t n has f in
+      let mine = served start r.log r.serving (Up s.views) v t (faults x) (root x) has f in
       let vs' = set s.views id w in
-      let out = away s r id v t n at has r.value in
-      let same = alike_set list faults first s.views id v w at refl in
+      let out = away s r id v t (faults x) (root x) at has r.value in
+      let same = alike_set list faults root first s.views id v w at refl in
       let nobody : total (λ (u : V). has_value u.activity) vs' ≡ 0 = (let a : has_value v.activity ≡ 1 = ap has_value has in let b = out.1 in
       let c : total (λ (u : V). has_value u.activity) vs' + has_value v.activity ≡ total (λ (u : V). has_value u.activity) s.views + 0 =
       total_set (λ (u : V). has_value u.activity) s.views id v w at in omega arith) in
@@ -281,12 +284,12 @@ module _ {T E : Type 0} (list : T → List E) (faults : T → ℕ) (first : T) w
       let b : holds_ticket r.serving v.activity ≤ total (λ (u : V). holds_ticket r.serving u.activity) s.views =
       total_at (λ (u : V). holds_ticket r.serving u.activity) s.views id v at in
       let c = r.tickets r.serving in within_is r.serving r.ticket r.serving (omega arith)) in
-      let few = ticket_small list faults first s r in
+      let few = ticket_small list faults root first s r in
       let here : get_or s.words 1 0 ≡ r.serving = ap (λ (ws : List ℕ). get_or ws 1 0) r.words in
       let now : (get_or s.words 1 0 + 1) % 2 ^ 64 ≡ r.serving + 1 =
       (let b = below.1 in let q : (get_or s.words 1 0 + 1) % 2 ^ 64 ≡ get_or s.words 1 0 + 1 = mod-eq_of_lt (omega arith) in
       q ∙ ap (λ (z : ℕ). z + 1) here) in
-      change list faults first s r id v w at r.log r.ticket (r.serving + 1) (set s.words 1 ((get_or s.words 1 0 + 1) % 2 ^ 64)) (set s.homes 0 (some (Some x)))
+      change list faults root first s r id v w at r.log r.ticket (r.serving + 1) (set s.words 1 ((get_or s.words 1 0 + 1) % 2 ^ 64)) (set s.homes 0 (some (Some x)))
       (ap (λ (ws : List ℕ). set ws 1 ((get_or s.words 1 0 + 1) % 2 ^ 64)) r.words ∙ ap (λ (z : ℕ). r.ticket ∷ z ∷ length r.log ∷ []) now)
       (let b = below.1 in omega arith)
       (prefix_self r.log)
@@ -305,39 +308,39 @@ module _ {T E : Type 0} (list : T → List E) (faults : T → ℕ) (first : T) w
         activity = tt;
         alive = inl (alive_share v (λ idle. absurd (cc (idle, has))) f.alive);
       })
-      (λ j u ne a i m is g. absurd (no_other s id v t n at has out.1 j u ne a i m is))
+      (λ j u ne a i m o is g. absurd (no_other s id v t (faults x) (root x) at has out.1 j u ne a i m o is))
       (inl (
         x,
         ap (λ hs. set hs 0 (some (Some x))) out.0,
         stands
             ∙ mine.1,
-        risen_same list faults first s.views vs' (faults x) same (subst (Up s.views) (sym counts) mine.2),
+        risen_same list faults root first s.views vs' (faults x) (root x) same mine.2,
         nobody,
       ))
 
-  goes_on_at : (slots id : ℕ) (v : V) (t n : ℕ) (x : T) → v.activity ≡ Holding t n → list x ≡ v.seen → faults x ≡ n
+  goes_on_at : (slots id : ℕ) (v : V) (t : ℕ) (x : T) → v.activity ≡ Holding t (faults x) (root x) → list x ≡ v.seen
       → Allows R slots id (v, (0, Some x) ∷ []) 1 (λ m. (m + 1) % 2 ^ 64) (WentOn (step slots 1 1 0 none) (v, (0, Some x) ∷ []))
-  goes_on_at slots id v t n x has stands counts s r _ at _ =
-      (record v { activity = Idle }, gives, tt, next_keeps s r id v t n x at has stands counts, (refl, (r.each id v at).stand))
+  goes_on_at slots id v t x has stands s r _ at _ =
+      (record v { activity = Idle }, gives, tt, next_keeps s r id v t x at has stands, (refl, (r.each id v at).stand))
 
   pub looks : (slots id : ℕ) (me : Me (Option T) V) (t : ℕ) → me.0.activity ≡ Waiting t → me.1 ≡ []
-      → Allows R slots id me 1 (λ n. n) (Looked list faults (step slots 1 0 0 none) me)
-  looks slots id me t waits held = subst (λ (m : Me (Option T) V). Allows R slots id m 1 (λ n. n) (Looked list faults (step slots 1 0 0 none) m))
+      → Allows R slots id me 1 (λ n. n) (Looked list faults root (step slots 1 0 0 none) me)
+  looks slots id me t waits held = subst (λ (m : Me (Option T) V). Allows R slots id m 1 (λ n. n) (Looked list faults root (step slots 1 0 0 none) m))
       (λ i. (me.0, sym held i)) (looks_at slots id me.0 t waits)
 
-  pub notes : (slots id : ℕ) (me : Me (Option T) V) (t n : ℕ) (x : T) (k : ℕ) → me.0.activity ≡ Holding t n → me.1 ≡ (0, Some x) ∷ []
-      → IsPrefix me.0.seen (list x) → n ≤ faults x → length me.0.seen + k ≡ length (list x) → length (list x) < 2 ^ 64
-      → Allows R slots id me 2 (λ m. (m + k) % 2 ^ 64) (Noted list faults (step slots 2 k 0 none) me)
-  notes slots id me t n x k has held seen le len small =
-      subst (λ (m : Me (Option T) V). Allows R slots id m 2 (λ m. (m + k) % 2 ^ 64) (Noted list faults (step slots 2 k 0 none) m)) (λ i. (me.0, sym held i))
-      (notes_at slots id me.0 t n x k has seen le len small)
+  pub notes : (slots id : ℕ) (me : Me (Option T) V) (t n : ℕ) (origin : Root) (x : T) (k : ℕ) → me.0.activity ≡ Holding t n origin
+      → me.1 ≡ (0, Some x) ∷ [] → IsPrefix me.0.seen (list x) → n ≤ faults x → origin ≡ root x → length me.0.seen + k ≡ length (list x) → length (list x) < 2 ^ 64
+      → Allows R slots id me 2 (λ m. (m + k) % 2 ^ 64) (Noted list faults root (step slots 2 k 0 none) me)
+  notes slots id me t n origin x k has held seen le kept len small =
+      subst (λ (m : Me (Option T) V). Allows R slots id m 2 (λ m. (m + k) % 2 ^ 64) (Noted list faults root (step slots 2 k 0 none) m)) (λ i. (me.0, sym held i))
+      (notes_at slots id me.0 t n origin x k has seen le kept len small)
 
-  pub goes_on : (slots id : ℕ) (me : Me (Option T) V) (t n : ℕ) (x : T) → me.0.activity ≡ Holding t n → me.1 ≡ (0, Some x) ∷ [] → list x ≡ me.0.seen
-      → faults x ≡ n
+  pub goes_on : (slots id : ℕ) (me : Me (Option T) V) (t : ℕ) (x : T) → me.0.activity ≡ Holding t (faults x) (root x) → me.1 ≡ (0, Some x) ∷ []
+      → list x ≡ me.0.seen
       → Allows R slots id me 1 (λ m. (m + 1) % 2 ^ 64) (WentOn (step slots 1 1 0 none) me)
-  goes_on slots id me t n x has held stands counts = subst
+  goes_on slots id me t x has held stands = subst
       (λ (m : Me (Option T) V). Allows R slots id m 1 (λ m. (m + 1) % 2 ^ 64) (WentOn (step slots 1 1 0 none) m)) (λ i. (me.0, sym held i))
-      (goes_on_at slots id me.0 t n x has stands counts)
+      (goes_on_at slots id me.0 t x has stands)
 
   -- the pass with the value, as it has been given back to the slot
   pub put_back : (v w : V) (held : List (ℕ × Option T)) (me : Me (Option T) V) (y : T) → w ≡ v → held ≡ (0, None) ∷ [] → me ≡ (w, (0, Some y) ∷ rest held)
@@ -345,34 +348,34 @@ module _ {T E : Type 0} (list : T → List E) (faults : T → ℕ) (first : T) w
   put_back v w held me y a b e = e ∙ (λ i. (a i, (0, Some y) ∷ rest (b i)))
 
   pub notes_from : (slots id : ℕ) (me : Me (Option T) V) (v : V) (t : ℕ) (x y : T) (before after : ℕ)
-      → me ≡ (record v { turns = v.turns + 1; seen = list x; activity = Holding t (faults x) }, (0, Some y) ∷ [])
-      → IsPrefix (list x) (list y) → faults x ≤ faults y → before ≡ length (list x) → after ≡ length (list y) → after < 2 ^ 64
-      → Allows R slots id me 2 (λ m. (m + (after - before)) % 2 ^ 64) (Noted list faults (step slots 2 (after - before) 0 none) me)
-  notes_from slots id me v t x y before after is grows le b a small = let longer : length (list x) ≤ length (list y) = prefix_length (list x) (list y) grows in
+      → me ≡ (record v { turns = v.turns + 1; seen = list x; activity = Holding t (faults x) (root x) }, (0, Some y) ∷ [])
+      → IsPrefix (list x) (list y) → faults x ≤ faults y → root x ≡ root y → before ≡ length (list x) → after ≡ length (list y) → after < 2 ^ 64
+      → Allows R slots id me 2 (λ m. (m + (after - before)) % 2 ^ 64) (Noted list faults root (step slots 2 (after - before) 0 none) me)
+  notes_from slots id me v t x y before after is grows le kept b a small = let longer : length (list x) ≤ length (list y) = prefix_length (list x) (list y) grows in
       let seen : length me.0.seen ≡ length (list x) = ap (λ (m : Me (Option T) V). length m.0.seen) is in
-      notes slots id me t (faults x) y (after - before) (ap (λ (m : Me (Option T) V). m.0.activity) is) (ap (λ (m : Me (Option T) V). m.1) is)
-      (subst (λ (m : Me (Option T) V). IsPrefix m.0.seen (list y)) (sym is) grows) le (omega arith) (omega arith)
+      notes slots id me t (faults x) (root x) y (after - before) (ap (λ (m : Me (Option T) V). m.0.activity) is) (ap (λ (m : Me (Option T) V). m.1) is)
+      (subst (λ (m : Me (Option T) V). IsPrefix m.0.seen (list y)) (sym is) grows) le kept (omega arith) (omega arith)
 
   pub noted_from : (me next : Me (Option T) V) (v : V) (t k slots found : ℕ) (x y : T)
-      → me ≡ (record v { turns = v.turns + 1; seen = list x; activity = Holding t (faults x) }, (0, Some y) ∷ [])
-      → Noted list faults (step slots 2 k 0 none) me found next
-      → next ≡ (record (after_turn v (list x) (list y) (faults x) (faults y)) { activity = Holding t (faults y) }, (0, Some y) ∷ [])
-  noted_from me next v t k slots found x y is told = told t (faults x) y (ap (λ (m : Me (Option T) V). m.0.activity) is) (ap (λ (m : Me (Option T) V). m.1) is)
-      ∙ ap (λ (m : Me (Option T) V). (noted_at list faults t (faults x) m.0 y, m.1)) is
+      → me ≡ (record v { turns = v.turns + 1; seen = list x; activity = Holding t (faults x) (root x) }, (0, Some y) ∷ [])
+      → Noted list faults root (step slots 2 k 0 none) me found next
+      → next ≡ (record (after_turn v (list x) (list y) (faults x) (faults y)) { activity = Holding t (faults y) (root y) }, (0, Some y) ∷ [])
+  noted_from me next v t k slots found x y is told = told t (faults x) (root x) y (ap (λ (m : Me (Option T) V). m.0.activity) is) (ap (λ (m : Me (Option T) V). m.1) is)
+      ∙ ap (λ (m : Me (Option T) V). (noted_at list faults root t (faults x) m.0 y, m.1)) is
 
   pub goes_on_from : (slots id : ℕ) (me : Me (Option T) V) (v : V) (t : ℕ) (x y : T)
-      → me ≡ (record (after_turn v (list x) (list y) (faults x) (faults y)) { activity = Holding t (faults y) }, (0, Some y) ∷ [])
+      → me ≡ (record (after_turn v (list x) (list y) (faults x) (faults y)) { activity = Holding t (faults y) (root y) }, (0, Some y) ∷ [])
       → Allows R slots id me 1 (λ m. (m + 1) % 2 ^ 64) (WentOn (step slots 1 1 0 none) me)
-  goes_on_from slots id me v t x y is = goes_on slots id me t (faults y) y (ap (λ (m : Me (Option T) V). m.0.activity) is)
-      (ap (λ (m : Me (Option T) V). m.1) is) (sym (ap (λ (m : Me (Option T) V). m.0.seen) is)) refl
+  goes_on_from slots id me v t x y is = goes_on slots id me t y (ap (λ (m : Me (Option T) V). m.0.activity) is)
+      (ap (λ (m : Me (Option T) V). m.1) is) (sym (ap (λ (m : Me (Option T) V). m.0.seen) is))
 
   -- after next the pass rests
   pub went_from : (me end : Me (Option T) V) (v : V) (t slots found : ℕ) (x y : T) → v.activity ≡ Idle
-      → me ≡ (record (after_turn v (list x) (list y) (faults x) (faults y)) { activity = Holding t (faults y) }, (0, Some y) ∷ [])
+      → me ≡ (record (after_turn v (list x) (list y) (faults x) (faults y)) { activity = Holding t (faults y) (root y) }, (0, Some y) ∷ [])
       → WentOn (step slots 1 1 0 none) me found end
       → (end ≡ (after_turn v (list x) (list y) (faults x) (faults y), [])) × Every (StandsIn end.0.seen) end.0.mine
   went_from me end v t slots found x y idle is told = (
     told.0 ∙ (ap (λ (m : Me (Option T) V). (record m.0 { activity = Idle }, [])) is
-        ∙ ap (λ (r : Activity E). (record (after_turn v (list x) (list y) (faults x) (faults y)) { activity = r }, [])) (sym idle)),
+        ∙ ap (λ (r : Activity E Root). (record (after_turn v (list x) (list y) (faults x) (faults y)) { activity = r }, [])) (sym idle)),
     subst (λ (m : Me (Option T) V). Every (StandsIn m.0.seen) m.0.mine) (sym told.0) told.1,
   )

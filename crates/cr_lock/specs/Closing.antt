@@ -6,7 +6,7 @@ use Rattle.cr_lock.specs.Turns.{groups_with, marks, rises, groups_of}
 use Rattle.cr_lock.specs.Passes.{Known, Stand}
 
 -- x is the value of a lock that was made with `first`, and p the one pass that is left
-module _ {T E : Type 0} (list : T → List E) (faults : T → ℕ) (first : T) (p : Known E) where
+module _ {T E Root : Type 0} (list : T → List E) (faults : T → ℕ) (root_of : T → Root) (first : T) (p : Known E) where
   pub record Closes (x : T) : Type 0 where
     -- the value stands for what the pass has seen
     pub stands : list x ≡ p.seen
@@ -22,3 +22,5 @@ module _ {T E : Type 0} (list : T → List E) (faults : T → ℕ) (first : T) (
     pub count : faults x ≡ faults first + rises p.mine
     -- so by no less than there are marks, unless it ends at its last value
     pub marks : (faults first + marks p.mine ≤ faults x) ⊎ (last_count ≤ faults x)
+    -- what it remembers of its beginning is what the first one did
+    pub root : root_of x ≡ root_of first

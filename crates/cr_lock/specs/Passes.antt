@@ -22,7 +22,7 @@ pub record Known (E : Type 0) : Type 0 where
   pub mine : List (Turn E)
 
 -- what is shown of a pass's seat
-abbrev pub known_of : {T E : Type 0} → Seat (Option T) (PassState E) → Known E
+abbrev pub known_of : {T E Root : Type 0} → Seat (Option T) (PassState E Root) → Known E
 known_of seat = record {
   lock = seat.table_id;
   share = seat.me.0.share;

@@ -12,29 +12,30 @@ use Rattle.cr_lock.specs.Counts.{last_count, within, total, Every}
 use Rattle.cr_lock.specs.Turns.{InOrder, groups_with, marks, rises, StandsIn}
 use Rattle.cr_lock.specs.PassStates.{spent_state}
 
-module _ {E : Type 0} where
+module _ {E Root : Type 0} where
   -- 1 where the pass holds this ticket
-  abbrev pub holds_ticket : ℕ → Activity E → ℕ
+  abbrev pub holds_ticket : ℕ → Activity E Root → ℕ
   holds_ticket t Idle = 0
   holds_ticket t (Waiting u) = within u (u + 1) t
-  holds_ticket t (Holding u n) = within u (u + 1) t
+  holds_ticket t (Holding u n origin) = within u (u + 1) t
   holds_ticket t (Joined a b m o) = 0
 
   -- 1 where the pass has the value
-  abbrev pub has_value : Activity E → ℕ
+  abbrev pub has_value : Activity E Root → ℕ
   has_value Idle = 0
   has_value (Waiting u) = 0
-  has_value (Holding u n) = 1
+  has_value (Holding u n origin) = 1
   has_value (Joined a b m o) = 0
 
 -- of a state v, where `log` is the history, of which `start` entries were there at first, `serving` the ticket that is
--- served, and n may be the count of faults where `risen n`
-module _ {E : Type 0} (start : ℕ) (log : List E) (serving : ℕ) (risen : ℕ → Type 0) (v : PassState E) where
+-- served, and n may be the count of faults and `origin` the root where `risen n origin`
+module _ {E Root : Type 0} (start : ℕ) (log : List E) (serving : ℕ) (risen : ℕ → Root → Type 0)
+    (v : PassState E Root) where
   -- what the pass is doing agrees with what the table has
-  abbrev pub FitsActivity : Activity E → Type 0
+  abbrev pub FitsActivity : Activity E Root → Type 0
   FitsActivity Idle = Unit {0}
   FitsActivity (Waiting u) = Unit {0}
-  FitsActivity (Holding u n) = (u ≡ serving) × (v.seen ≡ log) × risen n
+  FitsActivity (Holding u n origin) = (u ≡ serving) × (v.seen ≡ log) × risen n origin
   FitsActivity (Joined a b m o) = IsPrefix a log × IsPrefix b log × ((k : ℕ) → groups_with k m + groups_with k o ≤ 1)
 
   -- what the pass knows is so
@@ -51,26 +52,28 @@ module _ {E : Type 0} (start : ℕ) (log : List E) (serving : ℕ) (risen : ℕ 
     -- it has a share and has seen what was there at first, or it was joined to another
     pub alive : ((0 < v.share) × (start ≤ length v.seen)) ⊎ (v ≡ spent_state)
 
-module _ {T E : Type 0} (list : T → List E) (faults : T → ℕ) (first : T) where
-  -- n may be the count of faults
-  pub record Risen (states : List (PassState E)) (n : ℕ) : Type 0 where
+module _ {T E Root : Type 0} (list : T → List E) (faults : T → ℕ) (root : T → Root) (first : T) where
+  -- n may be the count of faults, and `origin` the root
+  pub record Risen (states : List (PassState E Root)) (n : ℕ) (origin : Root) : Type 0 where
     -- it has risen since `first` by what it rose in the turns of all passes
     pub count : n ≡ faults first + total (λ v. rises v.mine) states
     -- so by no less than there are marks, unless it ends at its last value
     pub marks : (faults first + total (λ v. marks v.mine) states ≤ n) ⊎ (last_count ≤ n)
+    -- the root stays
+    pub stays : origin ≡ root first
 
   -- the value is in the slot and stands for the history, and no pass has it
-  abbrev pub Home : List E → State (Option T) (PassState E) → Type 0
+  abbrev pub Home : List E → State (Option T) (PassState E Root) → Type 0
   Home log s =
-      (x : T) × (s.homes ≡ some (Some x) ∷ []) × (list x ≡ log) × Risen s.views (faults x)
+      (x : T) × (s.homes ≡ some (Some x) ∷ []) × (list x ≡ log) × Risen s.views (faults x) (root x)
       × (total (λ v. has_value v.activity) s.views ≡ 0)
 
   -- the value is not in the slot, and one pass has it
-  abbrev pub Away : State (Option T) (PassState E) → Type 0
+  abbrev pub Away : State (Option T) (PassState E Root) → Type 0
   Away s = (s.homes ≡ none ∷ []) × (total (λ v. has_value v.activity) s.views ≡ 1)
 
   -- there is one history, of which each pass has seen a beginning and in which its turns stand
-  pub record OneHistory (s : State (Option T) (PassState E)) : Type 0 where
+  pub record OneHistory (s : State (Option T) (PassState E Root)) : Type 0 where
     pub log : List E
     pub ticket : ℕ
     pub serving : ℕ
@@ -85,6 +88,6 @@ module _ {T E : Type 0} (list : T → List E) (faults : T → ℕ) (first : T) w
     pub drawn : ticket ≤ total (λ v. v.share * v.turns) s.views
     -- each entry behind what was there at first is in one group of one pass
     pub groups : (k : ℕ) → total (λ v. groups_with k v.mine) s.views ≡ within (length (list first)) (length log) k
-    pub each : (j : ℕ) (v : PassState E) → get_elem? s.views j ≡ some v
+    pub each : (j : ℕ) (v : PassState E Root) → get_elem? s.views j ≡ some v
         → FitsLock (length (list first)) log serving (Risen s.views) v
     pub value : Home log s ⊎ Away s

@@ -11,51 +11,52 @@ use Rattle.cr_lock.specs.Counts.{Every}
 use Rattle.cr_lock.specs.Turns.{turn_at, StandsIn, InCommon}
 
 -- a state, and the slots that are out with it
-abbrev pub Holder : Type 0 → Type 0 → Type 0
-Holder T E = Me (Option T) (PassState E)
+abbrev pub Holder : Type 0 → Type 0 → Type 0 → Type 0
+Holder T E Root = Me (Option T) (PassState E Root)
 
-module _ {T E : Type 0} where
+module _ {T E Root : Type 0} where
   -- between turns, with this share and count of turns
-  abbrev pub Rests : Seat (Option T) (PassState E) → ℕ → ℕ → Type 0
+  abbrev pub Rests : Seat (Option T) (PassState E Root) → ℕ → ℕ → Type 0
   Rests seat share turns =
       (seat.me.1 ≡ []) × (seat.me.0.activity ≡ Idle) × (seat.me.0.share ≡ share)
       × (seat.me.0.turns ≡ turns) × (0 < share)
       × Every (StandsIn seat.me.0.seen) seat.me.0.mine
 
-  abbrev pub state : Seat (Option T) (PassState E) → PassState E
+  abbrev pub state : Seat (Option T) (PassState E Root) → PassState E Root
   state seat = seat.me.0
 
   -- draw: it waits with the ticket that it found
-  abbrev pub Drew : Step (Option T) → Holder T E → ℕ → Holder T E → Type 0
+  abbrev pub Drew : Step (Option T) → Holder T E Root → ℕ → Holder T E Root → Type 0
   Drew st m r m' = m' ≡ (record m.0 { turns = m.0.turns + 1; activity = Waiting r }, m.1)
 
-  module _ (list : T → List E) (faults : T → ℕ) where
+  module _ (list : T → List E) (faults : T → ℕ) (root : T → Root) where
     -- look: where its ticket is served, it has the value and has seen what that stands for; else nothing changes
-    abbrev pub Looked : Step (Option T) → Holder T E → ℕ → Holder T E → Type 0
+    abbrev pub Looked : Step (Option T) → Holder T E Root → ℕ → Holder T E Root → Type 0
     Looked st m r m' = (t : ℕ) → m.0.activity ≡ Waiting t
         → (r ≡ t → (x : T) × IsPrefix m.0.seen (list x)
-        × (m' ≡ (record m.0 { seen = list x; activity = Holding t (faults x) }, (0, Some x) ∷ m.1)))
+        × (m' ≡ (record m.0 { seen = list x; activity = Holding t (faults x) (root x) }, (0, Some x) ∷ m.1)))
         × (r ≢ t → m' ≡ m)
 
     -- a state with ticket t that took the value at the count n of faults, and has noted that it stands at x now
-    abbrev pub noted_at : ℕ → ℕ → PassState E → T → PassState E
+    abbrev pub noted_at : ℕ → ℕ → PassState E Root → T → PassState E Root
     noted_at t n v x = record v {
       seen = list x;
       mine = v.mine ++ turn_at (length v.seen) (drop (length v.seen) (list x)) n (faults x) ∷ [];
-      activity = Holding t (faults x);
+      activity = Holding t (faults x) (root x);
     }
 
     -- note: its turns are longer by one
-    abbrev pub Noted : Step (Option T) → Holder T E → ℕ → Holder T E → Type 0
+    abbrev pub Noted : Step (Option T) → Holder T E Root → ℕ → Holder T E Root → Type 0
     Noted st m r m' =
-        (t n : ℕ) (x : T) → m.0.activity ≡ Holding t n → m.1 ≡ (0, Some x) ∷ [] → m' ≡ (noted_at t n m.0 x, m.1)
+        (t n : ℕ) (origin : Root) (x : T) → m.0.activity ≡ Holding t n origin → m.1 ≡ (0, Some x) ∷ []
+        → m' ≡ (noted_at t n m.0 x, m.1)
 
   -- next: it rests, without the value
-  abbrev pub WentOn : Step (Option T) → Holder T E → ℕ → Holder T E → Type 0
+  abbrev pub WentOn : Step (Option T) → Holder T E Root → ℕ → Holder T E Root → Type 0
   WentOn st m r m' = (m' ≡ (record m.0 { activity = Idle }, [])) × Every (StandsIn m.0.seen) m.0.mine
 
   -- look after a join: it rests, and learns what the two had in common
-  abbrev pub LookedAfterJoin : Step (Option T) → Holder T E → ℕ → Holder T E → Type 0
+  abbrev pub LookedAfterJoin : Step (Option T) → Holder T E Root → ℕ → Holder T E Root → Type 0
   LookedAfterJoin st m r m' = (a b : List E) (t u : List (Turn E)) → m.0.activity ≡ Joined a b t u
       → InCommon a b t u × (m.0.share ≤ 64) × Every (StandsIn m.0.seen) m.0.mine
       × (m' ≡ (record m.0 { activity = Idle }, m.1))

@@ -3,7 +3,8 @@
 //! A [`HistoryLock`] owns a value that stands for a list which only grows, its history (see [`Stands`]). Threads
 //! take [turns](HistoryLock::turn) with it, each by a [`Pass`] of its own. A turn says at which place of the
 //! history it was taken and which group of entries it added there, so what a caller proves of one turn on a value
-//! that stands for a list holds at a place of the one history that all threads share.
+//! that stands for a list holds at a place of the one history that all threads share. What a value remembers of its
+//! beginning, its root, no turn changes, so the value that is there at the end has the root of the first one.
 //!
 //! # The gate, the words and the slot
 //!
@@ -26,7 +27,8 @@
 //!    look finds it.
 //! 4. **take**: the slot is exchanged for an empty one. The value leaves home only now, since only the pass whose
 //!    ticket is served may touch the slot.
-//! 5. **act**: what the caller does with the value. It may append to the list and let the count of faults rise.
+//! 5. **act**: what the caller does with the value. It may append to the list and let the count of faults rise, and
+//!    leaves the root as it was.
 //! 6. **give**: the slot is exchanged for the value. It lies at home again before anybody is told of the turn, so
 //!    whoever is served next finds it there.
 //! 7. **note**: `fetch_add` on count, by the number of entries added. This is the one step at which the history

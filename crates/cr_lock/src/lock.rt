@@ -36,7 +36,12 @@ const VALUE: usize = 0;
 const WHOLE: u64 = 64;
 
 /// The words and the slot, as the passes step on them.
-type Board<T> = Shared<Option<T>, PassState<<T as Stands>::Entry>, Snapshot<T>, HistoryRule<T>>;
+type Board<T> = Shared<
+    Option<T>,
+    PassState<<T as Stands>::Entry, <T as Stands>::Root>,
+    Snapshot<T>,
+    HistoryRule<T>,
+>;
 
 /// One value, with which passes take turns.
 ///
@@ -44,7 +49,7 @@ type Board<T> = Shared<Option<T>, PassState<<T as Stands>::Entry>, Snapshot<T>, 
 /// each of them knows is in its [`Pass`]. The crate's page tells a turn step by step.
 #[derive(Drop)]
 pub struct HistoryLock<T: Stands> {
-    table: Table<Option<T>, PassState<T::Entry>, Snapshot<T>, HistoryRule<T>, Global>,
+    table: Table<Option<T>, PassState<T::Entry, T::Root>, Snapshot<T>, HistoryRule<T>, Global>,
     // Where passes wait. Who has it draws a ticket and makes the turn, so each ticket is
     // served as soon as it is drawn.
     gate: Mutex<()>,
@@ -91,7 +96,7 @@ fn one_slot<T>(alloc: Global, value: T) -> Result<Vec<Option<T>, Global>, T>
 fn wait_and_take<T: Stands, R: Wait>(
     rt: &R,
     shared: &Board<T>,
-    seat: &mut Seat<Option<T>, PassState<T::Entry>>,
+    seat: &mut Seat<Option<T>, PassState<T::Entry, T::Root>>,
 ) -> T
     requires own { (seat.old.table_id ≡ shared.now.table_id) × (seat.old.me.1 ≡ []) × (shared.now.table_id.words ≡ 3) }
     requires rests { ((state seat.old).activity ≡ Idle) × (0 < (state seat.old).share)
@@ -100,7 +105,7 @@ fn wait_and_take<T: Stands, R: Wait>(
     ensures state { (t : ℕ) × (state seat.new ≡ record (state seat.old) {
       turns = (state seat.old).turns + 1;
       seen = T.list result;
-      activity = Holding t (T.faults result);
+      activity = Holding t (T.faults result) (T.root result);
     }) }
     ensures seen { IsPrefix (state seat.old).seen (T.list result) }
 {
@@ -160,10 +165,10 @@ impl<T: Stands> HistoryLock<T> {
     /// Waits until it is this pass's turn, calls the act on the value, and gives what the act answers.
     ///
     /// The act is lent a value `x` that stands for a history which begins with what the pass had seen, and leaves a
-    /// value `y`. It may only append to the list, and may not lower the count of faults. What it promises of `x`, `y`
-    /// and its answer holds. The pass has then seen what `y` stands for, and its turns are longer by one: the
-    /// length of the history at `x`, what was added, by how much the count of faults rose, and the mark, set exactly
-    /// where it rose or stands at its last value. Beside what the act takes it takes no memory.
+    /// value `y`. It may only append to the list, may not lower the count of faults, and leaves the root as it was. What
+    /// it promises of `x`, `y` and its answer holds. The pass has then seen what `y` stands for, and its turns are longer
+    /// by one: the length of the history at `x`, what was added, by how much the count of faults rose, and the mark, set
+    /// exactly where it rose or stands at its last value. Beside what the act takes it takes no memory.
     ///
     /// A pass makes fewer than 2^40 turns, so all passes together draw fewer tickets than a word can count.
     ///
@@ -174,7 +179,7 @@ impl<T: Stands> HistoryLock<T> {
         requires few { pass.old.turns < 2 ^ 40 }
         requires takes { (x : T) → IsPrefix pass.old.seen (T.list x) → FnOnceTakesAtMut F.FnOnce act x }
         requires appends { (x y : T) (r : A) → FnOnceReturnsAtMut F.FnOnce act x r y
-            → IsPrefix (T.list x) (T.list y) × (T.faults x ≤ T.faults y) }
+            → IsPrefix (T.list x) (T.list y) × (T.faults x ≤ T.faults y) × (T.root x ≡ T.root y) }
         ensures turn { (x y : T)
             × IsPrefix pass.old.seen (T.list x)
             × IsPrefix (T.list x) (T.list y)
@@ -270,11 +275,12 @@ impl<T: Stands> HistoryLock<T> {
     ///
     /// It stands for what the pass has seen. The groups of the pass's turns, in their order, are what came behind the
     /// first list, each entry once. The count of faults rose by exactly what it rose in the turns, and so by no less
-    /// than there are marks, unless it ends at its last value.
+    /// than there are marks, unless it ends at its last value. The root is that of the value that the lock was made
+    /// with.
     pub fn close(self, pass: Pass<T>) -> T
         requires own { pass.lock ≡ self.lock }
         requires whole { pass.share ≡ 64 }
-        ensures { Closes T.list T.faults self.first pass result }
+        ensures { Closes T.list T.faults T.root self.first pass result }
     {
         let HistoryLock { table, gate: _ } = self;
         let Pass { seat, .. } = pass;

@@ -13,7 +13,7 @@ use std::marker::Model;
 /// A pass that is dropped takes its share along, so the lock can no longer be closed.
 #[derive(Drop)]
 pub struct Pass<T: Stands> {
-    pub(crate) seat: Seat<Option<T>, PassState<T::Entry>>,
+    pub(crate) seat: Seat<Option<T>, PassState<T::Entry, T::Root>>,
     pub(crate) share: u64,
     pub(crate) turns: u64,
 }

@@ -14,7 +14,7 @@ pub struct Turn<E> {
 }
 
 /// What a pass is doing.
-pub enum Activity<E> {
+pub enum Activity<E, R> {
     /// It is between turns.
     Idle,
     /// It has drawn a ticket that isn't served yet, or it hasn't looked since.
@@ -28,6 +28,8 @@ pub enum Activity<E> {
         ticket: u64,
         /// The value's count of faults, as it was when the turn began or, once it has noted the turn, as it is.
         faults: u64,
+        /// What the value remembers of its beginning, which the turn leaves as it was.
+        root: R,
     },
     /// It was just made of two passes, and has not looked yet what the two had in common.
     Joined {
@@ -43,7 +45,7 @@ pub enum Activity<E> {
 }
 
 /// What one pass knows, and what it is doing.
-pub struct PassState<E> {
+pub struct PassState<E, R> {
     /// How many of the 64 parts of the right to the whole history it has.
     pub share: u64,
     /// At least how many turns it has made; after a join the greater count of the two.
@@ -53,5 +55,5 @@ pub struct PassState<E> {
     /// Its turns, in the order of their places.
     pub mine: LinkedList<Turn<E>>,
     /// What it is doing.
-    pub activity: Activity<E>,
+    pub activity: Activity<E, R>,
 }

@@ -1,19 +1,26 @@
 //! What a value under the lock stands for.
 ghost use Rattle.std.specs.Prelude.{◌≡◌, ℕ, List, length};
 
-/// A value that stands for a list, its history, and counts its faults.
+/// A value that stands for a list, its history, counts its faults, and has a root, which is what it remembers of its
+/// beginning.
 ///
-/// Turns may append to the list and let the count rise, and do nothing else to the two:
+/// Turns may append to the list and let the count rise, do nothing else to the two, and leave the root as it was:
 /// [`HistoryLock::turn`](crate::HistoryLock::turn) asks that of what it is given.
 pub trait Stands {
     /// What the list is made of. Contracts alone speak of it; no value of it is made.
     type Entry;
+
+    /// What a value remembers of its beginning. Contracts alone speak of it; no value of it is made.
+    type Root;
 
     // The list that a value stands for.
     ghost list: { Self → List Self.Entry };
 
     // How many faults a value has counted, as a `u64` that stays at its last value.
     ghost faults: { Self → ℕ };
+
+    // What a value remembers of its beginning, which stays.
+    ghost root: { Self → Self.Root };
 
     /// The length of the list. It should cost no walk: each turn asks for it twice.
     fn entries(&self) -> u64

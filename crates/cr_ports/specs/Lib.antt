@@ -1,5 +1,6 @@
 pub mod Count
 pub mod Calls
+pub mod Stopping
 pub mod Stream
 pub mod Clocks
 pub mod Script

@@ -1,5 +1,6 @@
 -- What stands at each path of a shelf, and what a shut does to it.
-use Rattle.std.specs.Prelude.{ℕ, List, [], Bool, is_some, Option, Some, None, cond, String, string_bytes, Vec}
+use Rattle.std.specs.Prelude.{◌≡◌, ◌≢◌, ◌⊎◌, ℕ, List, [], ◌++◌, Bool, IsTrue, is_some, Option, Some, None, cond}
+use Rattle.std.specs.Prelude.{Result, Err, String, string_bytes, Vec, ⊤}
 use Rattle.std.specs.Str.{bytes_eq}
 use Rattle.std.specs.Option.{option_map_or}
 use Rattle.std.specs.declared.alloc.Global.{Global}
@@ -8,15 +9,30 @@ use Rattle.std.specs.Ordering.{is_eq, nat_cmp}
 use Rattle.std.specs.Cmp.Lexicographic.{slice_cmp}
 use Rattle.cr_base.specs.declared.row.Row.{Row}
 use Rattle.cr_ports.specs.Calls.{Listed}
+use Rattle.cr_ports.specs.Stopping.{IsAmong}
+use Rattle.cr_ports.specs.declared.keeper.KeeperError.{KeeperError}
+use Rattle.cr_ports.specs.declared.keeper.KeeperError.TheVariants.{Failed}
 
 -- the rows at each path, once these stand at one of them
 abbrev pub with_rows : (List ℕ → List Row) → List ℕ → List Row → List ℕ → List Row
 with_rows files path rows other = cond (bytes_eq path other) rows (files other)
 
--- the rows at each path, where they are told, once these stand at one of them
-abbrev pub and_file : Option (List ℕ → List Row) → List ℕ → List Row → Option (List ℕ → List Row)
-and_file None path rows = None
-and_file (Some files) path rows = Some (with_rows files path rows)
+-- What stands at a path once a keeper of these rows was shut there, where it was told before: they, or, of keepers that
+-- tell what a stop leaves, they and then whole one group that was tried.
+abbrev pub StandsAfter : Bool → List Row → List (List Row) → Option (List Row) → Option (List Row) → Type 0
+StandsAfter tells_stops kept tried None there = ⊤
+StandsAfter tells_stops kept tried (Some before) there =
+    (there ≡ Some kept)
+    ⊎ (IsTrue tells_stops × ((group : List Row) × IsAmong tried group × (there ≡ Some (kept ++ group))))
+
+-- At each path stands what stood there, once a keeper was to be opened at one of them. Where that failed, of keepers that
+-- tell what a stop leaves, a file may have been left half made there, where there were no rows.
+abbrev pub StaysOpened : {K : Type 0} → Bool → List ℕ → Result K KeeperError → (List ℕ → Option (List Row))
+    → (List ℕ → Option (List Row)) → Type 0
+StaysOpened tells_stops path result old new =
+    ((other : List ℕ) → new other ≡ old other)
+    ⊎ (IsTrue tells_stops × (result ≡ Err Failed) × (old path ≡ Some [])
+    × ((other : List ℕ) → other ≢ path → new other ≡ old other))
 
 -- what a map by path has, as it keeps it
 abbrev pub StoresByPath : Type 0

@@ -1,7 +1,9 @@
 //! A list of rows that only grows.
-ghost use Rattle.std.specs.Prelude.{◌≡◌, ◌<◌, ℕ, List, length, Option, IfOk, IfSome, OnOk, OnErr, slice_get, Some};
+ghost use Rattle.std.specs.Prelude.{◌≡◌, ◌<◌, ◌∷◌, ℕ, Bool, List, length, Option, IfOk, IfSome, OnOk, OnErr, slice_get};
+ghost use Rattle.std.specs.Prelude.{IsTrue, Some, is_some};
 ghost use Rattle.cr_base.specs.declared.row.Row.{Row};
 ghost use Rattle.cr_ports.specs.Keeping.{HasCause, and_rows};
+ghost use Rattle.cr_ports.specs.Stopping.{LeavesOnly, OpensToTold, TriedAfter};
 
 use cr_base::Row;
 
@@ -22,7 +24,27 @@ pub trait Keeper {
     /// How often a call has failed.
     ghost faults: { Self → ℕ };
 
-    /// Keeps all of `added` behind the rows that are there, or none of them.
+    /// Whether it tells what a stop of the machine may leave. The four below speak of a keeper that does.
+    ghost tells_stops: { Bool };
+
+    /// It tells its rows as well.
+    ghost rows_told: { IsTrue tells_stops → (keeper : Self) → IsTrue (is_some (rows keeper)) };
+
+    /// The groups of which after a stop one may be found, whole, behind the rows: their appends failed since the last
+    /// that was kept.
+    ghost tried: { Self → List (List Row) };
+
+    /// The moment, as a number that doesn't fall.
+    ghost moment: { Self → ℕ };
+
+    /// What a stop at some moment from that one on might have left, during a call or between two.
+    ghost left_since: { Self → ℕ → List ℕ → Type 0 };
+
+    /// The rows to which it opens what a stop left.
+    ghost opens: { List ℕ → List Row → Type 0 };
+
+    /// Keeps all of `added` behind the rows that are there, or none of them. What a stop at a moment of the call leaves
+    /// opens to the rows that were there, or to these and then whole one group: `added`, or one that was tried.
     ///
     /// `Failed` comes only where the count of faults rose, or stands at its last value, and
     /// `OutOfMemory` only where it is as it was. Costs at most a copy of each row of `added`; an
@@ -30,9 +52,15 @@ pub trait Keeper {
     fn append_all(&mut self, added: &[Row]) -> Result<(), KeeperError>
         ensures kept { OnOk result (rows self.new ≡ and_rows (rows self.old) added.now) }
         ensures refused { OnErr result (rows self.new ≡ rows self.old) }
+        ensures tried { IsTrue tells_stops → TriedAfter result (tried self.old) added.now (tried self.new) }
+        ensures stops { IsTrue tells_stops → LeavesOnly moment left_since self.old self.new
+            (OpensToTold opens (rows self.old) (added.now ∷ tried self.old)) }
+        ensures between { IsTrue tells_stops → (image : List ℕ) → left_since self.new (moment self.new) image
+            → OpensToTold opens (rows self.new) (tried self.new) image }
         ensures cause { HasCause (faults self.old) (faults self.new) result };
 
-    /// How many rows are kept.
+    /// How many rows are kept. What a stop leaves before the next call opens to the rows, or to these and then whole
+    /// one group that was tried.
     ///
     /// `Failed` comes only where the count of faults rose, or stands at its last value, and
     /// `OutOfMemory` only where it is as it was. Costs no look at a row; an adapter's may wait for
@@ -40,6 +68,9 @@ pub trait Keeper {
     fn len(&mut self) -> Result<u64, KeeperError>
         ensures told { IfOk result (λ n. IfSome (rows self.old) (λ rows. n ≡ length rows)) }
         ensures same { rows self.new ≡ rows self.old }
+        ensures still { IsTrue tells_stops → self.new ≡ self.old }
+        ensures between { IsTrue tells_stops → (image : List ℕ) → left_since self.old (moment self.old) image
+            → OpensToTold opens (rows self.old) (tried self.old) image }
         ensures cause { HasCause (faults self.old) (faults self.new) result };
 
     /// A copy of row number `at`, from 0, which is below the number of rows.
@@ -50,5 +81,6 @@ pub trait Keeper {
         requires { IfSome (rows self.old) (λ rows. at < length rows) }
         ensures told { IfOk result (λ row. IfSome (rows self.old) (λ rows. slice_get rows at ≡ Some row)) }
         ensures same { rows self.new ≡ rows self.old }
+        ensures still { IsTrue tells_stops → self.new ≡ self.old }
         ensures cause { HasCause (faults self.old) (faults self.new) result };
 }

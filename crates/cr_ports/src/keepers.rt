@@ -1,6 +1,6 @@
 //! Keepers in memory, which tell all their rows.
 ghost use Rattle.std.specs.Prelude.{◌≡◌, ◌≢◌, ◌<◌, ◌++◌, ◌↔◌, ℕ, List, [], IfOk, IfSome};
-ghost use Rattle.std.specs.Prelude.{OnOk, OnErr, IsTrue, Some, Result, length, slice_get};
+ghost use Rattle.std.specs.Prelude.{OnOk, OnErr, IsTrue, Some, Result, length, slice_get, false, true};
 ghost use Rattle.cr_base.specs.declared.row.Row.{Row};
 ghost use Rattle.cr_ports.specs.Calls.{Advances, fails};
 ghost use Rattle.cr_ports.specs.Count.{Rises};
@@ -142,6 +142,18 @@ impl Keeper for MemKeeper {
 
     ghost faults = { λ k. k.faults };
 
+    ghost tells_stops = { false };
+
+    ghost rows_told = { λ told keeper i. true };
+
+    ghost tried = { λ _. [] };
+
+    ghost moment = { λ _. 0 };
+
+    ghost left_since = { λ _ _ _. ⊥ };
+
+    ghost opens = { λ _ _. ⊥ };
+
     fn append_all(&mut self, added: &[Row]) -> Result<(), KeeperError>
         ensures kept { OnOk result (Some self.new.rows ≡ and_rows (Some self.old.rows) added.now) }
         ensures refused { OnErr result (Some self.new.rows ≡ Some self.old.rows) }
@@ -223,6 +235,18 @@ impl Keeper for PlainKeeper {
     ghost rows = { λ k. Some k };
 
     ghost faults = { λ _. 0 };
+
+    ghost tells_stops = { false };
+
+    ghost rows_told = { λ told keeper i. true };
+
+    ghost tried = { λ _. [] };
+
+    ghost moment = { λ _. 0 };
+
+    ghost left_since = { λ _ _ _. ⊥ };
+
+    ghost opens = { λ _ _. ⊥ };
 
     fn append_all(&mut self, added: &[Row]) -> Result<(), KeeperError>
         ensures kept { OnOk result (Some self.new ≡ and_rows (Some self.old) added.now) }

@@ -1,9 +1,9 @@
 //! What opens keepers by their paths.
-ghost use Rattle.std.specs.Prelude.{◌≡◌, ℕ, List, Option, Some, IfOk, OnOk, IfSome};
+ghost use Rattle.std.specs.Prelude.{◌≡◌, ◌≢◌, ◌↔◌, [], ℕ, List, Option, Some, IfOk, IsTrue, OnOk, IfSome};
 ghost use Rattle.cr_base.specs.declared.row.Row.{Row};
 ghost use Rattle.cr_ports.specs.Count.{Gains};
 ghost use Rattle.cr_ports.specs.Keeping.{HasCause};
-ghost use Rattle.cr_ports.specs.Shelving.{and_file};
+ghost use Rattle.cr_ports.specs.Shelving.{StandsAfter, StaysOpened};
 
 use crate::keeper::{Keeper, KeeperError};
 
@@ -12,9 +12,8 @@ pub trait Shelf {
     /// What it opens. It may go to another thread.
     type Keeper: Keeper + Send;
 
-    /// The rows at each path, where the shelf tells them; those that a keeper appends stand there
-    /// once it was shut.
-    ghost rows: { Self → Option (List ℕ → List Row) };
+    /// The rows at a path, where the shelf tells them there; those that a keeper appends stand there once it was shut.
+    ghost rows: { Self → List ℕ → Option (List Row) };
 
     /// Of which paths a keeper may be taken back.
     ghost has_opened: { Self → List ℕ → Type 0 };
@@ -22,24 +21,37 @@ pub trait Shelf {
     /// How often a call of the shelf, or of a keeper that was shut, has failed.
     ghost faults: { Self → ℕ };
 
+    /// The moment at which it last opened a keeper, where its keepers tell what a stop may leave.
+    ghost opened_at: { Self → ℕ };
+
+    /// What a stop since then might have left at a path at which it took back a keeper, where they tell that.
+    ghost left: { Self → List ℕ → List ℕ → Type 0 };
+
     /// A keeper of the rows at the path, which has counted no fault. A path at which nothing stands
-    /// has no rows.
+    /// has no rows. At each path stands what stood there, unless it fails while it makes a file.
     ///
     /// `Failed` comes only where the count of faults rose, or stands at its last value, and
     /// `OutOfMemory` only where it is as it was. An adapter may look at all that stands there.
     fn open(&mut self, path: &str) -> Result<Self::Keeper, KeeperError>
         ensures found { IfOk result
-            (λ keeper. IfSome (rows self.old) (λ files. Self.Keeper.rows keeper ≡ Some (files path.now))) }
+            (λ keeper. IfSome (rows self.old path.now) (λ there. Self.Keeper.rows keeper ≡ Some there)) }
         ensures fresh { IfOk result (λ keeper. Self.Keeper.faults keeper ≡ 0) }
         ensures opened { OnOk result (has_opened self.new path.now) }
-        ensures same { rows self.new ≡ rows self.old }
+        ensures begins { IsTrue Self.Keeper.tells_stops → IfOk result
+            (λ keeper. (opened_at self.new ≡ Self.Keeper.moment keeper) × (Self.Keeper.tried keeper ≡ [])) }
+        ensures same { StaysOpened Self.Keeper.tells_stops path.now result (rows self.old) (rows self.new) }
         ensures cause { HasCause (faults self.old) (faults self.new) result };
 
-    /// Takes back a keeper that was opened at this path: its rows then stand there. The count of
+    /// Takes back a keeper that was opened at this path. Its rows then stand there; or these and then whole one group
+    /// that was tried, of keepers that tell what a stop leaves. At each other path stands what stood there. The count of
     /// faults rises by at least the keeper's. Takes no memory.
     fn shut(&mut self, path: &str, keeper: Self::Keeper)
         requires { has_opened self.old path.now }
         ensures kept { IfSome (Self.Keeper.rows keeper)
-            (λ kept. rows self.new ≡ and_file (rows self.old) path.now kept) }
+            (λ kept. StandsAfter Self.Keeper.tells_stops kept (Self.Keeper.tried keeper) (rows self.old path.now)
+            (rows self.new path.now)) }
+        ensures others { (other : List ℕ) → other ≢ path.now → rows self.new other ≡ rows self.old other }
+        ensures stops { IsTrue Self.Keeper.tells_stops → (image : List ℕ)
+            → left self.new path.now image ↔ Self.Keeper.left_since keeper (opened_at self.old) image }
         ensures count { Gains (faults self.old) (Self.Keeper.faults keeper) (faults self.new) };
 }

@@ -1,9 +1,10 @@
 //! A shelf in memory, which tells the rows at all its paths.
-ghost use Rattle.std.specs.Prelude.{◌≡◌, ◌+◌, ◌^◌, ◌-◌, ◌↔◌, min, IfOk, IfSome, OnOk, IsTrue, IsFalse, Some, []};
+ghost use Rattle.std.specs.Prelude.{◌≡◌, ◌≢◌, ◌+◌, ◌^◌, ◌-◌, ◌↔◌, ℕ, List, min, IfOk, IfSome, OnOk, IsTrue, IsFalse};
+ghost use Rattle.std.specs.Prelude.{Some, [], false};
 ghost use Rattle.cr_ports.specs.Calls.{Advances, fails};
 ghost use Rattle.cr_ports.specs.Count.{Gains};
 ghost use Rattle.cr_ports.specs.Keeping.{HasCause, faults_after};
-ghost use Rattle.cr_ports.specs.Shelving.{and_file, files, has_store, with_rows};
+ghost use Rattle.cr_ports.specs.Shelving.{StandsAfter, StaysOpened, files, has_store, with_rows};
 
 use crate::calls::Calls;
 use crate::keeper::KeeperError;
@@ -153,18 +154,23 @@ fn put(stores: &mut BTreeMap<String, Vec<Row>>, path: &str, rows: Vec<Row>)
 impl Shelf for MemShelf {
     type Keeper = MemKeeper;
 
-    ghost rows = { λ s. Some (files s.stores) };
+    ghost rows = { λ s path. Some (files s.stores path) };
 
     ghost has_opened = { λ s path. IsTrue (has_store s.stores path) };
 
     ghost faults = { λ s. s.faults };
 
+    ghost opened_at = { λ _. 0 };
+
+    ghost left = { λ _ _ _. ⊥ };
+
     fn open(&mut self, path: &str) -> Result<MemKeeper, KeeperError>
         ensures found { IfOk result
-            (λ keeper. IfSome (Some (files self.old.stores)) (λ found. Some keeper.rows ≡ Some (found path.now))) }
+            (λ keeper. IfSome (Some (files self.old.stores path.now)) (λ there. Some keeper.rows ≡ Some there)) }
         ensures fresh { IfOk result (λ keeper. keeper.faults ≡ 0) }
         ensures opened { OnOk result (IsTrue (has_store self.new.stores path.now)) }
-        ensures same { Some (files self.new.stores) ≡ Some (files self.old.stores) }
+        ensures same { StaysOpened false path.now result (λ other. Some (files self.old.stores other))
+            (λ other. Some (files self.new.stores other)) }
         ensures cause { HasCause self.old.faults self.new.faults result }
 
         // It fails where this open is listed, and nowhere else.
@@ -177,6 +183,7 @@ impl Shelf for MemShelf {
             × (keeper.reads.made ≡ 0)) }
         ensures lists { (self.new.failing_appends ≡ self.old.failing_appends)
             × (self.new.failing_reads ≡ self.old.failing_reads) }
+        ensures files { files self.new.stores ≡ files self.old.stores }
     {
         if self.opens.begin() {
             self.faults = self.faults.saturating_add(1);
@@ -194,7 +201,10 @@ impl Shelf for MemShelf {
     fn shut(&mut self, path: &str, keeper: MemKeeper)
         requires { IsTrue (has_store self.old.stores path.now) }
         ensures kept { IfSome (Some keeper.rows)
-            (λ kept. Some (files self.new.stores) ≡ and_file (Some (files self.old.stores)) path.now kept) }
+            (λ kept. StandsAfter false kept [] (Some (files self.old.stores path.now))
+            (Some (files self.new.stores path.now))) }
+        ensures others { (other : List ℕ) → other ≢ path.now
+            → Some (files self.new.stores other) ≡ Some (files self.old.stores other) }
         ensures count { Gains self.old.faults keeper.faults self.new.faults }
 
         ensures files { files self.new.stores ≡ with_rows (files self.old.stores) path.now keeper.rows }

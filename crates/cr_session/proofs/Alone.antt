@@ -190,9 +190,9 @@ behind-vain w q p v = record {
     turn = turn_at (length v.seen) (drop (length v.seen) v.seen) v.faults v.faults
 
 -- the one pass of a lock that is closed, which had no turn at first, and whose turns for wishes led to q
-module _ {T : Type 0} (list : T → List Stamped) (faults : T → ℕ) (first x : T) (start q p : KnownPass) (opens : start.seen ≡ list first)
+module _ {T Root : Type 0} (list : T → List Stamped) (faults : T → ℕ) (root : T → Root) (first x : T) (start q p : KnownPass) (opens : start.seen ≡ list first)
     (bare : start.mine ≡ [])
-    (closes : Closes list faults first p x) (behind : StaysBehind q p) (js : List JudgedWish) (r : TakesTurns js start q) where
+    (closes : Closes list faults root first p x) (behind : StaysBehind q p) (js : List JudgedWish) (r : TakesTurns js start q) where
   counts-closed : Counts (lost_count js) (faults first) (faults x)
   counts-closed = record {
     later = (let c = closes.count in omega (arith, c));

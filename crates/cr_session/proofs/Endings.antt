@@ -89,7 +89,7 @@ replayed_whole left ending b w w' c =
     (sym (ledger_stays ending 0 c.came b c.answered c.failed c.judged w'.state w.desk w'.desk c.settled c.ends)) c.turns
 
 -- On the one pass of a lock that is closed, ConnectionInHistory is ConnectionBytes, from the first ledger to the last.
-module _ {T S : Type 0} (list : T → List Stamped) (faults : T → ℕ) (first x : T) (left : S → Option (List ℕ)) (gives : S → S → List ℕ → Type 0)
+module _ {T S Root : Type 0} (list : T → List Stamped) (faults : T → ℕ) (root : T → Root) (first x : T) (left : S → Option (List ℕ)) (gives : S → S → List ℕ → Type 0)
     (ending : Ending)
     (p p' : KnownPass) (source source' : S) (f f' : ℕ) (d d' : Desk) where
   -- the world about the pass, and about the ledger
@@ -99,7 +99,7 @@ module _ {T S : Type 0} (list : T → List Stamped) (faults : T → ℕ) (first 
   abbrev on_ledger : T → S → ℕ → Desk → World Ledger S
   on_ledger x source f d = record { state = record { history = list x; faults = faults x }; source = source; read_faults = f; desk = d }
 
-  pub bytes-closed : p.seen ≡ list first → p.mine ≡ [] → Closes list faults first p' x
+  pub bytes-closed : p.seen ≡ list first → p.mine ≡ [] → Closes list faults root first p' x
       → ConnectionInHistory left gives ending 0 [] (in_history p source f d) (in_history p' source' f' d')
       → ConnectionBytes left gives ending 0 [] (on_ledger first source f d) (on_ledger x source' f' d')
   bytes-closed opens bare closes c =
@@ -113,7 +113,7 @@ module _ {T S : Type 0} (list : T → List Stamped) (faults : T → ℕ) (first 
         answered = c.answered;
         failed = c.failed;
         judged = b;
-        turns = replays-closed list faults first x p c.judged p' opens bare closes behind (c.answered ++ listed c.failed) c.turns;
+        turns = replays-closed list faults root first x p c.judged p' opens bare closes behind (c.answered ++ listed c.failed) c.turns;
         settled = no_turns ending b b refl;
         ends = ends_alike ending 0 ([] ++ c.got) ([] ++ c.got) c.answered c.failed c.judged p' b d d' vain c.ends;
         ended = c.ended;

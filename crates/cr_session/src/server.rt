@@ -40,7 +40,7 @@ impl<'a, R, K: Keeper> Server<'a, R, K> {
     pub fn close(self, pass: Pass<Book<K>>) -> Book<K>
         requires own { pass.lock ≡ self.lock.lock }
         requires whole { pass.share ≡ 64 }
-        ensures { Closes (λ b. b.log) (λ b. K.faults b.keeper) self.entry.lock.first pass result }
+        ensures { Closes (λ b. b.log) (λ b. K.faults b.keeper) (λ b. b.opened) self.entry.lock.first pass result }
     {
         let Server {
             rt: _,

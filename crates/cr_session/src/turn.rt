@@ -63,7 +63,8 @@ pub(crate) fn in_turn<R: Wait, K: Keeper>(
 /// look-up by name; whoever can't be told from nobody is refused alike where a login is wanted.
 pub(crate) fn take_turn<K: Keeper>(book: &mut Book<K>, wish: Wish) -> TurnResult
     requires { IsBoundedWish wish }
-    ensures { Turns result wish (ledger_of K.faults book.old) (ledger_of K.faults book.new) }
+    ensures turns { Turns result wish (ledger_of K.faults book.old) (ledger_of K.faults book.new) }
+    ensures opened { book.new.opened ≡ book.old.opened }
 {
     let caller = caller_of(book, &wish);
     if is_unauthorized(book, &caller, &wish.what) {
@@ -118,8 +119,9 @@ fn judge<K: Keeper>(
     key: Option<RetryKey>,
 ) -> TurnResult
     requires { IsGiven book.old.log (call_of caller.now at key command) }
-    ensures { ChangesBook K.faults result
+    ensures changes { ChangesBook K.faults result
         (as_bulk (decide (view caller.now book.old.log) (call_of caller.now at key command))) book.old book.new }
+    ensures opened { book.new.opened ≡ book.old.opened }
 {
     match book.command(caller, command, at, key) {
         Ok(receipt) => TurnResult::Accepted(receipt),
@@ -138,8 +140,9 @@ fn judge_bulk<K: Keeper>(
     key: Option<RetryKey>,
 ) -> TurnResult
     requires { IsBulkCaller book.old.log caller.now at key rows }
-    ensures { ChangesBook K.faults result
+    ensures changes { ChangesBook K.faults result
         (decide_bulk (view caller.now book.old.log) (bulk_by (maker_of caller.now) at key rows)) book.old book.new }
+    ensures opened { book.new.opened ≡ book.old.opened }
 {
     match caller {
         Some(user) => judge_rows(book, *user, rows, at, key),
@@ -157,8 +160,9 @@ fn judge_rows<K: Keeper>(
     key: Option<RetryKey>,
 ) -> TurnResult
     requires { IsBulkGiven book.old.log (bulk_by user at key rows) }
-    ensures { ChangesBook K.faults result
+    ensures changes { ChangesBook K.faults result
         (decide_bulk (view (Some user) book.old.log) (bulk_by user at key rows)) book.old book.new }
+    ensures opened { book.new.opened ≡ book.old.opened }
 {
     match book.bulk(user, rows, at, key) {
         Ok(count_told) => TurnResult::Accepted(count_told),

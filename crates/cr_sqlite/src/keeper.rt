@@ -1,6 +1,7 @@
 //! A keeper over a connection.
-ghost use Rattle.std.specs.Prelude.{◌≡◌, ℕ, None, false, IfOk, IfErr};
+ghost use Rattle.std.specs.Prelude.{◌≡◌, ℕ, [], None, false, IfOk, IfErr};
 ghost use Rattle.cr_ports.specs.Keeping.{HasCause};
+ghost use Rattle.cr_ports.specs.Stopping.{untold};
 ghost use Rattle.cr_sqlite.specs.Telling.{without_reason};
 
 use crate::cursors::Cursors;
@@ -290,6 +291,18 @@ impl<S: Alter> Keeper for SqliteKeeper<S> {
     ghost rows = { λ _. None };
 
     ghost faults = { λ k. k };
+
+    ghost tells_stops = { false };
+
+    ghost rows_told = { λ told keeper. untold told };
+
+    ghost tried = { λ _. [] };
+
+    ghost moment = { λ _. 0 };
+
+    ghost left_since = { λ _ _ _. ⊥ };
+
+    ghost opens = { λ _ _. ⊥ };
 
     /// One transaction, whose commit waits until the disk has it. Where a sync or the last write fails, each later
     /// call fails as well, and the rows that were refused may be found when the file is opened again.

@@ -182,11 +182,15 @@ impl SqliteShelf {
 impl Shelf for SqliteShelf {
     type Keeper = SqliteKeeper<FileStore<File>>;
 
-    ghost rows = { λ _. None };
+    ghost rows = { λ _ _. None };
 
     ghost has_opened = { λ _ _. ⊤ };
 
     ghost faults = { λ s. s };
+
+    ghost opened_at = { λ _. 0 };
+
+    ghost left = { λ _ _ _. ⊥ };
 
     /// Makes the file where it is missing, and so its log, for the owner alone. A store of version 1 or 2 becomes one
     /// of version 3. All of it is looked at, and a file that isn't taken is left as it is, but for an older version

@@ -1,5 +1,6 @@
 //! A keeper of a journal in a file.
-ghost use Rattle.std.specs.Prelude.{◌≡◌, Some};
+ghost use Rattle.std.specs.Prelude.{◌≡◌, Some, [], false};
+ghost use Rattle.cr_ports.specs.Stopping.{untold};
 
 use cr_base::Row;
 use cr_files::FileDisk;
@@ -65,6 +66,18 @@ impl Keeper for FileJournal {
     ghost rows = { λ k. Some k.rows };
 
     ghost faults = { λ k. k.disk };
+
+    ghost tells_stops = { false };
+
+    ghost rows_told = { λ told keeper. untold told };
+
+    ghost tried = { λ _. [] };
+
+    ghost moment = { λ _. 0 };
+
+    ghost left_since = { λ _ _ _. ⊥ };
+
+    ghost opens = { λ _ _. ⊥ };
 
     /// Where a sync failed, each later call fails as well, and the rows that were refused may be found when the file is
     /// opened again.

@@ -80,11 +80,15 @@ impl FileShelf {
 impl Shelf for FileShelf {
     type Keeper = EitherKeeper<FileJournal, <SqliteShelf as Shelf>::Keeper>;
 
-    ghost rows = { λ _. None };
+    ghost rows = { λ _ _. None };
 
     ghost has_opened = { λ _ _. ⊤ };
 
     ghost faults = { λ s. s };
+
+    ghost opened_at = { λ _. 0 };
+
+    ghost left = { λ _ _ _. ⊥ };
 
     /// Opens the file as a journal where its name ends in `.cj`, and else as a database. Where others may read a file that
     /// is taken, standard error is told so in a line.

@@ -149,11 +149,11 @@ nothing_lost judged b b' r idle = last (nat_lt b'.faults (2 ^ 64 - 1)) refl
     last true e = count (below_last b'.faults e) (nat_lt b.faults b'.faults) refl
     last false e = absurd (idle (λ lt. absurd (not_below b'.faults (2 ^ 64 - 1) e lt)))
 
-pub pipe_answers : {K I : Type 0} (rows : K → Option (List Row)) (faults : K → ℕ) (left : I → Option (List ℕ)) (gives : I → I → List ℕ → Type 0)
+pub pipe_answers : {K I : Type 0} (rows : K → Option (List Row)) (keeps : History → Type 0) (faults : K → ℕ) (left : I → Option (List ℕ)) (gives : I → I → List ℕ → Type 0)
     (opening : History) (ending : Ending) (keeper keeper' : K) (b : List ℕ) (o o' : Outside I)
-    → Pipes rows faults left gives opening ending keeper keeper' o o' → left o.input ≡ Some b → IsFaultless o o' → (Rises (faults keeper) (faults keeper') → ⊥)
+    → Pipes rows keeps faults left gives opening ending keeper keeper' o o' → left o.input ≡ Some b → IsFaultless o o' → (Rises (faults keeper) (faults keeper') → ⊥)
     → (exit_of ending ≡ exits.OutOfMemory) ⊎ AnswersAll opening (exit_of ending) b o o'
-pipe_answers rows faults left gives opening ending keeper keeper' b o o' p told faultless idle =
+pipe_answers rows keeps faults left gives opening ending keeper keeper' b o o' p told faultless idle =
     let text = p.whole b told in
     by text.answered text.failed (replayed_whole left ending b (world o opening (faults keeper)) (world o' p.history (faults keeper')) text)
     (ended ending text.came b text.answered text.failed text.judged b1 (desk o) (desk o') o.read_faults o'.read_faults faultless.read

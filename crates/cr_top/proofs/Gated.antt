@@ -1,7 +1,7 @@
 -- Gates that were opened over a store, and what the exits of serving tell.
 use Rattle.std.proofs.Common.{◌≡◌, ◌≢◌, ◌∙◌, ℕ, ◌*◌, ◌^◌, ◌+◌, ◌≤◌, ◌<◌, ◌⊎◌, inl, inr, List, [], ◌∷◌, length, map, Bool, true, false, Option, Some, None, refl}
 use Rattle.std.proofs.Common.{sym, ap, subst, arith}
-use Rattle.std.specs.Prelude.{All, IfSome, IsFalse, sum, sum_by}
+use Rattle.std.specs.Prelude.{All, IfSome, IsFalse, IsTrue, sum, sum_by}
 use Rattle.std.proofs.lemmas.List.{length-map}
 use Rattle.cr_base.specs.declared.row.Row.{Row}
 use Rattle.cr_base.specs.History.{History}
@@ -10,12 +10,11 @@ use Rattle.cr_lock.specs.Counts.{Every, total}
 use Rattle.cr_ports.specs.Count.{Gains, Rises}
 use Rattle.cr_ports.specs.Doors.{DoorLog, shares}
 use Rattle.cr_ports.specs.Opening.{AsksAtMost}
-use Rattle.cr_ports.specs.Shelving.{and_file}
+use Rattle.cr_ports.specs.Shelving.{StandsAfter}
 use Rattle.cr_ports.specs.Writing.{Outlet}
 use Rattle.cr_ports.proofs.Sharing.{length-shares_below, shares_add_up}
 use Rattle.cr_policy.specs.Legal.{Legal}
 use Rattle.cr_book.specs.Seen.{SeenBook}
-use Rattle.cr_book.specs.Sound.{IsKept}
 use Rattle.cr_session.specs.Replay.{Ledger, ledger_of}
 use Rattle.cr_workers.specs.Connections.{Streams}
 use Rattle.cr_workers.specs.Doors.{SeenDoor, DoorWork, IsWorkedOn, HasFailedDoor, connections_of, door_of}
@@ -26,10 +25,10 @@ use Rattle.cr_top.specs.declared.exit.Exit.{Exit}
 use Rattle.cr_top.specs.declared.exit.Exit.TheVariants as exits
 use Rattle.cr_top.specs.Exits.{exit_of_workers}
 use Rattle.cr_top.specs.Serves.{GatesState, IsNew, AreDoorsTold, OpensAt, TellsEntries, ServesMany, ServesGates, StaysClosed, IsWhyClosed}
-use Rattle.cr_top.specs.Stores.{Files, ShelfState, OpensStore, IsWhyShut}
+use Rattle.cr_top.specs.Stores.{IsWhyShut, Keeping, KeepsOthers, OpensStore, ShelfState}
 use Rattle.cr_top.proofs.Doors.{all-of, are-told, back-works, counts-all, every-seen, failed-counts, map-seen, none-all, total-seen, total-sum}
 use Rattle.cr_top.proofs.Lost.{lost-count}
-use Rattle.cr_top.proofs.Stored.{count-now, last-rows, opens-or-memory, risen, same-rows}
+use Rattle.cr_top.proofs.Stored.{count-now, opens-or-memory, risen, same-rows}
 
 -- ---- doors that were shut
 
@@ -44,15 +43,16 @@ doors-back {I} {O} {C} streams ended doors doors' b b' serves new =
 -- ---- no gate was opened
 
 -- the store of a book that wasn't worked on was shut again
-pub stays-closed : {K I O C : Type 0} (rows : K → Option (List Row)) (faults : K → ℕ) (path listen : List ℕ) (exit : Exit) (book : SeenBook K) (keeper' : K)
-    (s m s' : ShelfState) (g g' : GatesState I O C)
-    → OpensStore rows faults path book s m → keeper' ≡ book.keeper → IfSome (rows keeper') (λ told. s'.files ≡ and_file m.files path told)
+pub stays-closed : {K I O C : Type 0} (tells : Bool) (rows : K → Option (List Row)) (tried : K → List (List Row)) (faults : K → ℕ)
+    (path listen : List ℕ) (exit : Exit) (book : SeenBook K) (keeper' : K) (s m s' : ShelfState) (g g' : GatesState I O C)
+    → OpensStore rows faults path book s m → keeper' ≡ book.keeper → (IsTrue tells → tried keeper' ≡ [])
+    → IfSome (rows keeper') (λ k. StandsAfter tells k (tried keeper') (m.rows path) (s'.rows path)) → KeepsOthers path m s'
     → Gains m.faults (faults keeper') s'.faults
     → IsWhyClosed exit g g' → g.faults ≤ g'.faults → AsksAtMost listen g.asked g'.asked → StaysClosed listen exit s s' g g'
-stays-closed rows faults path listen exit book keeper' s m s' g g' opens same kept gains why later asked = record {
+stays-closed tells rows tried faults path listen exit book keeper' s m s' g g' opens same none kept others gains why later asked = record {
   refused = why;
-  files = same-rows rows faults path book keeper' s m s' opens kept gains same;
-  count = (count-now rows faults path book keeper' s m s' opens kept gains).0;
+  rows = same-rows tells rows tried faults path book keeper' s m s' opens kept others gains same none;
+  count = (count-now tells rows tried faults path book keeper' s m s' opens kept others gains).0;
   gates = later;
   asked = asked;
 }
@@ -76,19 +76,20 @@ few-turns left workers connections doors some most shared =
 
 -- ---- many connections were served
 
-pub serves-many : {K I O C : Type 0} (rows : K → Option (List Row)) (faults : K → ℕ) (path : List ℕ) (streams : Streams I O C) (listen : List ℕ) (workers connections : ℕ)
-    (ended : Worked) (written : Bool) (exit : Exit)
+pub serves-many : {K I O C : Type 0} (tells : Bool) (rows : K → Option (List Row)) (tried : K → List (List Row)) (keeps : Keeping) (faults : K → ℕ)
+    (path : List ℕ) (streams : Streams I O C) (listen : List ℕ) (workers connections : ℕ) (ended : Worked) (written : Bool) (exit : Exit)
     → exit ≡ exit_of_workers ended written → (book book' : SeenBook K) (keeper' : K) (doors doors' : List (SeenDoor I O C)) (o o' : Outlet) (s m s' : ShelfState)
     (g h g' : GatesState I O C) → OpensAt listen g h
-    → OpensStore rows faults path book s m → keeper' ≡ book'.keeper → Legal book'.log → IsKept rows keeper' book'.log
-    → IfSome (rows keeper') (λ told. s'.files ≡ and_file m.files path told) → Gains m.faults (faults keeper') s'.faults
+    → OpensStore rows faults path book s m → keeper' ≡ book'.keeper → Legal book'.log → keeps book.log book'.log s s'
+    → IfSome (rows keeper') (λ k. StandsAfter tells k (tried keeper') (m.rows path) (s'.rows path)) → KeepsOthers path m s'
+    → Gains m.faults (faults keeper') s'.faults
     → map (λ (d : SeenDoor I O C). d.left) doors ≡ shares workers connections → Every IsNew doors
     → ServesHistory streams ended doors doors' (ledger_of faults book) (ledger_of faults book') → TellsEntries written (length book'.log) o o'
     → IfSome g'.logs (λ logs. map (λ (d : SeenDoor I O C). d.log) doors' ≡ map Some logs)
     → Gains h.faults (total (λ (d : SeenDoor I O C). d.faults) doors') g'.faults → g'.asked ≡ h.asked
-    → ServesMany rows path streams listen workers connections exit o o' s s' g g'
-serves-many {K} {I} {O} {C} rows faults path streams listen workers connections ended written exit is book book' keeper' doors doors' o o' s m s' g h g' at opens
-    same legal kept files gains shared new serves line told counted asked = record {
+    → ServesMany keeps path streams listen workers connections exit o o' s s' g g'
+serves-many {K} {I} {O} {C} tells rows tried keeps faults path streams listen workers connections ended written exit is book book' keeper' doors doors' o o' s m s' g h g' at opens
+    same legal so stands others gains shared new serves line told counted asked = record {
       opening = book.log;
       opens = opens.legal;
       found = opens.found;
@@ -107,11 +108,11 @@ serves-many {K} {I} {O} {C} rows faults path streams listen workers connections 
       written = written;
       line = line;
       exit_is = is;
-      kept = last-rows rows faults path book keeper' s m s' opens files gains book'.log kept;
+      leaves = so;
       counted = gained;
       lost = lost-count streams book.log book'.log (connections_of from.works) from.served (faults keeper') s.faults s'.faults from.marked gained;
       asked = asked ∙ at.asked;
-      told = tells g'.logs told;
+      told = doors-told g'.logs told;
       gates = subst (λ (n : ℕ). Gains n (total (λ (d : SeenDoor I O C). d.faults) doors') g'.faults) at.faults counted;
     }
   where
@@ -123,12 +124,12 @@ serves-many {K} {I} {O} {C} rows faults path streams listen workers connections 
         (record { history = book'.log; faults = faults book'.keeper })) opens.fresh serves)
 
     gained : Gains s.faults (faults keeper') s'.faults
-    gained = count-now rows faults path book keeper' s m s' opens files gains
+    gained = count-now tells rows tried faults path book keeper' s m s' opens stands others gains
 
-    tells : (logs : Option (List (DoorLog I O C))) → IfSome logs (λ ls. map (λ (d : SeenDoor I O C). d.log) doors' ≡ map Some ls)
+    doors-told : (logs : Option (List (DoorLog I O C))) → IfSome logs (λ ls. map (λ (d : SeenDoor I O C). d.log) doors' ≡ map Some ls)
         → IfSome logs (λ ls. AreDoorsTold ended from.works ls)
-    tells None t = tt
-    tells (Some logs) t =
+    doors-told None t = tt
+    doors-told (Some logs) t =
         are-told ended from.works logs from.each (subst (λ (ds : List (SeenDoor I O C)). Every IsNew ds) (sym from.before) new)
         (ap (λ (ds : List (SeenDoor I O C)). map (λ (d : SeenDoor I O C). d.log) ds) from.after ∙ t)
 
@@ -177,10 +178,10 @@ ended-by ended written is e = subst EndsServing (sym is ∙ e) (by ended written
     by worked.Done true = tt
     by worked.Done false = tt
 
-module _ {K I O C : Type 0} (rows : K → Option (List Row)) (path : List ℕ) (streams : Streams I O C) (listen : List ℕ) (workers connections : ℕ) (exit : Exit) (o o' : Outlet)
+module _ {I O C : Type 0} (tells_stops : Bool) (keeps : Keeping) (path : List ℕ) (streams : Streams I O C) (listen : List ℕ) (workers connections : ℕ) (exit : Exit) (o o' : Outlet)
     (s s' : ShelfState) (g g' : GatesState I O C) where
   abbrev pub Serves : Type 0
-  Serves = ServesGates rows path streams listen workers connections exit o o' s s' g g'
+  Serves = ServesGates tells_stops keeps path streams listen workers connections exit o o' s s' g g'
 
   -- a door failed, which the gates counted
   door-counted : (ended : Worked) (works : List (DoorWork I O C)) (doors doors' : List (SeenDoor I O C)) → map (λ (w : DoorWork I O C). w.before) works ≡ doors
@@ -264,10 +265,10 @@ module _ {K I O C : Type 0} (rows : K → Option (List Row)) (path : List ℕ) (
   by-ended worked.Done false n line idle none = absurd (idle line.rises)
 
   pub serves-or-memory : Serves → (Rises o.faults o'.faults → ⊥) → (Rises g.faults g'.faults → ⊥) → (Rises s.faults s'.faults → ⊥)
-      → (files : Files) → s.files ≡ Some files → (H : History) → Legal H → rows_of H ≡ files path → (exit ≡ exits.OutOfMemory) ⊎ (exit ≡ exits.Done)
-  serves-or-memory (inl shut) quiet idle still files told H legal spells = inl (opens-or-memory path exit s s' shut.0 still files told H legal spells)
-  serves-or-memory (inr (inl closed)) quiet idle still files told H legal spells = inl (by-closed exit closed.0.refused idle)
-  serves-or-memory (inr (inr m)) quiet idle still files told H legal spells =
+      → (H : History) → Legal H → s.rows path ≡ Some (rows_of H) → (exit ≡ exits.OutOfMemory) ⊎ (exit ≡ exits.Done)
+  serves-or-memory (inl shut) quiet idle still H legal told = inl (opens-or-memory tells_stops path exit s s' shut.0 still H legal told)
+  serves-or-memory (inr (inl closed)) quiet idle still H legal told = inl (by-closed exit closed.0.refused idle)
+  serves-or-memory (inr (inr m)) quiet idle still H legal told =
       subst (λ (x : Exit). (x ≡ exits.OutOfMemory) ⊎ (x ≡ exits.Done)) (sym m.exit_is)
       (by-ended m.ended m.written (length m.history) m.line quiet
       (λ failed. idle (door-counted m.ended m.serves.works m.doors m.doors' m.serves.before m.serves.after m.new m.serves.cause failed m.gates)))

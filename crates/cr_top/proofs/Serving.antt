@@ -26,10 +26,10 @@ none_lost judged b b' first last r =
     let most = counted judged b b' r (omega (arith, last)) in
     omega (arith, first, last, most)
 
-pub serves-from : {K I : Type 0} (rows : K → Option (List Row)) (left : I → Option (List ℕ)) (gives : I → I → List ℕ → Type 0) (opening : History)
+pub serves-from : {K I : Type 0} (rows : K → Option (List Row)) (keeps : History → Type 0) (left : I → Option (List ℕ)) (gives : I → I → List ℕ → Type 0) (opening : History)
     (exit : Exit) (ending : Ending) (keeper keeper' : K) (o o' : Outside I)
-    → exit ≡ exit_of ending → Pipes rows (λ _. 0) left gives opening ending keeper keeper' o o' → ServesPipe left gives opening exit o o'
-serves-from rows left gives opening exit ending keeper keeper' o o' is p =
+    → exit ≡ exit_of ending → Pipes rows keeps (λ _. 0) left gives opening ending keeper keeper' o o' → ServesPipe left gives opening exit o o'
+serves-from rows keeps left gives opening exit ending keeper keeper' o o' is p =
     record {
       ending = ending;
       exit_is = is;
@@ -43,15 +43,16 @@ serves-from rows left gives opening exit ending keeper keeper' o o' is p =
     }
 
 -- the keeper that is handed back is that of the book at the end
-pub pipes-of : {K I : Type 0} (rows : K → Option (List Row)) (faults : K → ℕ) (left : I → Option (List ℕ)) (gives : I → I → List ℕ → Type 0)
+pub pipes-of : {K I : Type 0} (rows : K → Option (List Row)) (keeps : History → Type 0) (faults : K → ℕ) (left : I → Option (List ℕ)) (gives : I → I → List ℕ → Type 0)
     (opening history : History) (ending : Ending) (keeper last keeper' : K) (o o' : Outside I)
-    → keeper' ≡ last → Legal history → IsKept rows keeper' history
+    → keeper' ≡ last → Legal history → IsKept rows keeper' history → keeps history
     → ConnectionBytes left gives ending 0 [] (world o opening (faults keeper)) (world o' history (faults last))
-    → Pipes rows faults left gives opening ending keeper keeper' o o'
-pipes-of {K} {I} rows faults left gives opening history ending keeper last keeper' o o' same legal kept connection = record {
+    → Pipes rows keeps faults left gives opening ending keeper keeper' o o'
+pipes-of {K} {I} rows keeps faults left gives opening history ending keeper last keeper' o o' same legal kept so connection = record {
   history = history;
   legal = legal;
   kept = kept;
+  besides = so;
   connection = again;
   whole = λ b told. whole_text Replays StaysInVain left gives ending b (world o opening (faults keeper)) (world o' history (faults keeper')) again told;
 }
@@ -63,26 +64,26 @@ pipes-of {K} {I} rows faults left gives opening history ending keeper last keepe
     again = subst (λ (n : ℕ). ConnectionBytes left gives ending 0 [] (world o opening (faults keeper)) (world o' history n)) count connection
 
 -- the same where the book was served behind a lock, on its one pass
-pub pipes-locked : {K I : Type 0} (rows : K → Option (List Row)) (faults : K → ℕ) (left : I → Option (List ℕ)) (gives : I → I → List ℕ → Type 0)
+pub pipes-locked : {K I : Type 0} (rows : K → Option (List Row)) (keeps : History → Type 0) (faults : K → ℕ) (left : I → Option (List ℕ)) (gives : I → I → List ℕ → Type 0)
     (ending : Ending) (book first x : SeenBook K) (keeper' : K) (p p' : KnownPass) (o o' : Outside I)
-    → first ≡ book → p.seen ≡ book.log → p.mine ≡ [] → Closes (λ (b : SeenBook K). b.log) (λ (b : SeenBook K). faults b.keeper) first p' x
-    → keeper' ≡ x.keeper → Legal x.log → IsKept rows keeper' x.log
+    → first ≡ book → p.seen ≡ book.log → p.mine ≡ [] → Closes (λ (b : SeenBook K). b.log) (λ (b : SeenBook K). faults b.keeper) (λ (b : SeenBook K). b.opened) first p' x
+    → keeper' ≡ x.keeper → Legal x.log → IsKept rows keeper' x.log → keeps x.log
     → ConnectionInHistory left gives ending 0 [] (record { state = p; source = o.input; read_faults = o.read_faults; desk = desk o })
     (record { state = p'; source = o'.input; read_faults = o'.read_faults; desk = desk o' })
-    → Pipes rows faults left gives book.log ending book.keeper keeper' o o'
-pipes-locked {K} {I} rows faults left gives ending book first x keeper' p p' o o' is opens bare closes same legal kept connection =
-    pipes-of rows faults left gives book.log x.log ending book.keeper x.keeper keeper' o o' same legal kept
-    (bytes-closed (λ (b : SeenBook K). b.log) (λ (b : SeenBook K). faults b.keeper) book x left gives ending p p' o.input o'.input o.read_faults o'.read_faults
+    → Pipes rows keeps faults left gives book.log ending book.keeper keeper' o o'
+pipes-locked {K} {I} rows keeps faults left gives ending book first x keeper' p p' o o' is opens bare closes same legal kept so connection =
+    pipes-of rows keeps faults left gives book.log x.log ending book.keeper x.keeper keeper' o o' same legal kept so
+    (bytes-closed (λ (b : SeenBook K). b.log) (λ (b : SeenBook K). faults b.keeper) (λ (b : SeenBook K). b.opened) book x left gives ending p p' o.input o'.input o.read_faults o'.read_faults
     (desk o) (desk o') opens bare
-    (subst (λ (b : SeenBook K). Closes (λ (b : SeenBook K). b.log) (λ (b : SeenBook K). faults b.keeper) b p' x) is closes) connection)
+    (subst (λ (b : SeenBook K). Closes (λ (b : SeenBook K). b.log) (λ (b : SeenBook K). faults b.keeper) (λ (b : SeenBook K). b.opened) b p' x) is closes) connection)
 
 -- and where memory for the lock was wanting
-pub pipes-unlocked : {K I : Type 0} (rows : K → Option (List Row)) (faults : K → ℕ) (left : I → Option (List ℕ)) (gives : I → I → List ℕ → Type 0)
+pub pipes-unlocked : {K I : Type 0} (rows : K → Option (List Row)) (keeps : History → Type 0) (faults : K → ℕ) (left : I → Option (List ℕ)) (gives : I → I → List ℕ → Type 0)
     (ending : Ending) (book x : SeenBook K) (keeper' : K) (o o' : Outside I)
     → x ≡ book → ending ≡ endings.OutOfMemory → NotesNoMemory None false (desk o) (desk o') → o'.input ≡ o.input → o'.read_faults ≡ o.read_faults
-    → keeper' ≡ x.keeper → Legal x.log → IsKept rows keeper' x.log → Pipes rows faults left gives book.log ending book.keeper keeper' o o'
-pipes-unlocked {K} rows faults left gives ending book x keeper' o o' is out notes input counts same legal kept =
-    pipes-of rows faults left gives book.log x.log ending book.keeper x.keeper keeper' o o' same legal kept
+    → keeper' ≡ x.keeper → Legal x.log → IsKept rows keeper' x.log → keeps x.log → Pipes rows keeps faults left gives book.log ending book.keeper keeper' o o'
+pipes-unlocked {K} rows keeps faults left gives ending book x keeper' o o' is out notes input counts same legal kept so =
+    pipes-of rows keeps faults left gives book.log x.log ending book.keeper x.keeper keeper' o o' same legal kept so
     (subst (λ (e : Ending). ConnectionBytes left gives e 0 [] (world o book.log (faults book.keeper)) (world o' x.log (faults x.keeper))) (sym out)
     (round_unbegun Replays StaysInVain (λ b. refl) left gives 0 (world o book.log (faults book.keeper)) (world o' x.log (faults x.keeper)) input
     (ap (λ (b : SeenBook K). ledger_of faults b) is) notes counts))

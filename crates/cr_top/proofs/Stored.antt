@@ -1,8 +1,10 @@
 -- ShelfState that open, and stores that don't.
-use Rattle.std.proofs.Common.{◌≡◌, ◌∙◌, ◌≤◌, ◌<◌, ◌++◌, ◌⊎◌, inl, inr, ℕ, List, [], ◌∷◌, length, Bool, true, false, cond, Option, Some, None, Err, IfSome, refl}
+use Rattle.std.proofs.Common.{◌≡◌, ◌∙◌, ◌≤◌, ◌<◌, ◌++◌, ◌⊎◌, inl, inr, ℕ, List, [], ◌∷◌, length, Bool, true, false, Option, Some, None, Result, Ok, Err, IfSome, refl}
 use Rattle.std.proofs.Common.{sym, ap, ap₂, subst, arith}
 use Rattle.std.specs.Prelude.{IsTrue, is_some}
 use Rattle.std.proofs.lemmas.Bool.{false≢true}
+use Rattle.std.proofs.Math.Path.{fun_ext}
+use Rattle.std.proofs.lemmas.List.{map-append}
 use Rattle.std.specs.List.{AllByRecursion}
 use Rattle.std.specs.Str.{bytes_eq}
 use Rattle.std.proofs.lemmas.Slice.Eq.{bytes_eq-Decides}
@@ -14,13 +16,13 @@ use Rattle.cr_base.specs.Drawn.{stamped}
 use Rattle.cr_base.specs.HistoryFacts.{number_of}
 use Rattle.cr_base.specs.Lists.{given, last}
 use Rattle.cr_base.specs.History.{History, all_told, number_told}
-use Rattle.cr_base.specs.Rows.{rows_of, IsBoundedEntry}
+use Rattle.cr_base.specs.Rows.{row_of, rows_of, IsBoundedEntry}
 use Rattle.cr_ports.specs.declared.keeper.KeeperError.{KeeperError}
 use Rattle.cr_ports.specs.declared.keeper.KeeperError.TheVariants as refusals
 use Rattle.cr_ports.specs.Count.{Gains, Rises}
-use Rattle.cr_ports.specs.Keeping.{HasCause}
 use Rattle.cr_ports.specs.Writing.{Outlet}
-use Rattle.cr_ports.specs.Shelving.{and_file, with_rows}
+use Rattle.cr_ports.specs.Shelving.{StandsAfter, StaysOpened}
+use Rattle.cr_ports.specs.Stopping.{IsAmong}
 use Rattle.cr_policy.specs.Legal.{Legal}
 use Rattle.cr_book.specs.declared.opening.OpenError.{OpenError}
 use Rattle.cr_book.specs.declared.opening.OpenError.TheVariants as errors
@@ -32,126 +34,176 @@ use Rattle.cr_session.specs.declared.serve.Ending.{Ending}
 use Rattle.cr_session.specs.Serving.{ConnectionBytes, WholeBytes}
 use Rattle.cr_top.specs.declared.exit.Exit.{Exit}
 use Rattle.cr_top.specs.declared.exit.Exit.TheVariants as exits
-use Rattle.cr_top.specs.Exits.{exit_of, exit_of_rows, exit_of_shelf}
+use Rattle.cr_top.specs.Exits.{exit_of, exit_of_rows}
 use Rattle.cr_top.specs.Runs.{Outside, Pipes, world}
-use Rattle.cr_top.specs.Stores.{Files, ShelfState, KeepsFiles, IsBadStore, OpensStore, StaysShut, ServesStore, ViewsStore, TellsView, AnswersView, TellsRows}
-use Rattle.cr_top.specs.Stores.{rows_told_at}
+use Rattle.cr_book.specs.Stopping.{AddsOne, KeepsTold, OpensAmid}
+use Rattle.cr_top.specs.Stores.{AnswersView, BeginsAt, CrashKeepsGroups, IsBadStore, Keeping, KeepsOthers, KeepsRows, KeepsStore, LeavesRows}
+use Rattle.cr_top.specs.Stores.{OpensStore, RowsByPath, ServesStore, ShelfState, StaysShut, TellsRows, TellsView, ViewsStore}
 
 -- ---- what stands at the paths
 
--- nothing changed
-same-files : (s s' : ShelfState) → s'.files ≡ s.files → KeepsFiles s s'
-same-files s s' same = subst (λ (f : Option Files). IfSome s.files (λ files. (path : List ℕ) → rows_told_at f path ≡ Some (files path))) (sym same)
-    (own s.files)
+told-still : (o : Option (List Row)) → IfSome o (λ there. o ≡ Some there)
+told-still None = tt
+told-still (Some there) = refl
+
+-- a keeper of the rows that stood at a path was taken back, with which nothing had been tried in vain
+shut-rows : (tells : Bool) (s s' : ShelfState) (path : List ℕ) (told : Option (List Row)) (tried : List (List Row))
+    → (IsTrue tells → tried ≡ []) → IfSome (s.rows path) (λ there. told ≡ Some there)
+    → IfSome told (λ kept. StandsAfter tells kept tried (s.rows path) (s'.rows path)) → KeepsOthers path s s' → KeepsRows s s'
+shut-rows tells s s' path told tried none found kept others other = at (bytes_eq path other) refl
   where
-    own : (f : Option Files) → IfSome f (λ files. (path : List ℕ) → rows_told_at f path ≡ Some (files path))
-    own None = tt
-    own (Some files) = λ path. refl
+    none-tried : (group : List Row) → IsTrue tells → IsAmong tried group → ⊥
+    none-tried group is among = subst (λ (groups : List (List Row)). IsAmong groups group) (none is) among
 
--- the rows that stood at a path stand there again
-put_back : (files : Files) (path p : List ℕ) → with_rows files path (files path) p ≡ files p
-put_back files path p = at (bytes_eq path p) refl
+    stands : (before there : Option (List Row)) (rows : List Row) → before ≡ Some rows → StandsAfter tells rows tried before there
+        → IfSome before (λ r. there ≡ Some r)
+    stands None there rows is after = tt
+    stands (Some r) there rows is (inl same) = same ∙ sym is
+    stands (Some r) there rows is (inr more) = absurd (none-tried more.1.0 more.0 more.1.1)
+
+    told-there : (before there told : Option (List Row)) → IfSome before (λ r. told ≡ Some r)
+        → IfSome told (λ k. StandsAfter tells k tried before there) → IfSome before (λ r. there ≡ Some r)
+    told-there None there told found kept = tt
+    told-there (Some r) there told found kept =
+        stands (Some r) there r refl (subst (λ (t : Option (List Row)). IfSome t (λ k. StandsAfter tells k tried (Some r) there)) found kept)
+
+    at : (b : Bool) → bytes_eq path other ≡ b → IfSome (s.rows other) (λ there. s'.rows other ≡ Some there)
+    at true is = subst (λ (p : List ℕ). IfSome (s.rows p) (λ there. s'.rows p ≡ Some there)) ((bytes_eq-Decides path other).0 is)
+        (told-there (s.rows path) (s'.rows path) told found kept)
+    at false is = same-rows-at (others other (λ (e : other ≡ path). absurd (false≢true (sym is ∙ (bytes_eq-Decides path other).1 (sym e)))))
+      where
+        same-rows-at : s'.rows other ≡ s.rows other → IfSome (s.rows other) (λ there. s'.rows other ≡ Some there)
+        same-rows-at e = subst (λ (o : Option (List Row)). IfSome (s.rows other) (λ there. o ≡ Some there)) (sym e) (told-still (s.rows other))
+
+-- ---- a store that opens, or doesn't
+
+-- an open that didn't fail leaves all as it was
+pub opened-still : {K : Type 0} (tells : Bool) (path : List ℕ) (keeper : K) (old new : RowsByPath)
+    → StaysOpened tells path (Ok keeper) old new → new ≡ old
+opened-still tells path keeper old new (inl same) = fun_ext same
+opened-still {K} tells path keeper old new (inr made) = absurd (not-both made.1)
   where
-    at : (b : Bool) → bytes_eq path p ≡ b → cond b (files path) (files p) ≡ files p
-    at true is = ap files ((bytes_eq-Decides path p).0 is)
-    at false is = refl
+    not-both : ◌≡◌ {A = Result K KeeperError} (Ok keeper) (Err refusals.Failed) → ⊥
+    not-both is = cc is
 
--- a keeper of the rows that stood at a path was taken back
-shut-files : (s s' : ShelfState) (path : List ℕ) (told : Option (List Row)) → IfSome s.files (λ files. told ≡ Some (files path))
-    → IfSome told (λ kept. s'.files ≡ and_file s.files path kept) → KeepsFiles s s'
-shut-files s s' path told found kept = at s.files told found kept
+mapped : {A B : List Row → Type 0} (o : Option (List Row)) → ((r : List Row) → A r → B r) → IfSome o A → IfSome o B
+mapped None f a = tt
+mapped (Some r) f a = f r a
+
+-- a book was opened over a keeper of the rows at a path
+pub opens-store : {K : Type 0} (rows : K → Option (List Row)) (faults : K → ℕ) (path : List ℕ) (keeper : K) (book : SeenBook K)
+    (s s' : ShelfState) → Legal book.log → IfSome (s.rows path) (λ there. rows keeper ≡ Some there)
+    → IfSome (rows keeper) (λ r. Opens r (Ok book)) → rows book.keeper ≡ rows keeper → faults book.keeper ≡ 0
+    → s'.rows ≡ s.rows → s'.faults ≡ s.faults → OpensStore rows faults path book s s'
+opens-store {K} rows faults path keeper book s s' legal found exact same fresh rows_stay faults_stay = record {
+  legal = legal;
+  found = mapped (s.rows path) (λ r told. (opened r told).1) found;
+  only = mapped (s.rows path) (λ r told. (opened r told).2) found;
+  told = mapped (s.rows path) (λ r told. same ∙ told) found;
+  fresh = fresh;
+  same = (λ i. record { rows = rows_stay i; faults = faults_stay i });
+}
   where
-    at : (f : Option Files) (told : Option (List Row)) → IfSome f (λ files. told ≡ Some (files path)) → IfSome told (λ kept. s'.files ≡ and_file f path kept)
-        → IfSome f (λ files. (p : List ℕ) → rows_told_at s'.files p ≡ Some (files p))
-    at None told found kept = tt
-    at (Some files) told found kept =
-        let is : s'.files ≡ Some (with_rows files path (files path)) =
-        subst (λ (t : Option (List Row)). IfSome t (λ rows. s'.files ≡ and_file (Some files) path rows)) found kept in
-        λ p. ap (λ (f : Option Files). rows_told_at f p) is ∙ ap Some (put_back files path p)
-
--- ---- a store that doesn't open
-
-pub shelf-refuses : (path : List ℕ) (K : Type 0) (error : KeeperError) (s s' : ShelfState) → s'.files ≡ s.files
-    → HasCause {T = K} s.faults s'.faults (Err error)
-    → StaysShut path (exit_of_shelf error) s s'
-shelf-refuses path K refusals.Failed s s' same cause = record { refused = cause.failed refl; files = same-files s s' same; count = cause.later }
-shelf-refuses path K refusals.OutOfMemory s s' same cause = record { refused = tt; files = same-files s s' same; count = cause.later }
+    opened : (r : List Row) → rows keeper ≡ Some r → Opens {K = K} r (Ok book)
+    opened r told = subst (λ (t : Option (List Row)). IfSome t (λ l. Opens {K = K} l (Ok book))) told exact
 
 -- a count rises where it gains what another rose by, from 0 on
 pub risen : (f faults f' : ℕ) → Rises 0 faults → Gains f faults f' → Rises f f'
 risen f faults f' rises gains below = let up = gains.1 below in let some = rises (omega (arith, below, up)) in omega (arith, up, some)
 
 -- what is told of rows that don't open, by the rows that stand there
-explained : {K : Type 0} (path : List ℕ) (files : Option Files) (told : Option (List Row)) (row : ℕ) (found : Row) (keeper : K)
-    → IfSome files (λ f. told ≡ Some (f path))
-    → IfSome told (λ rows. Opens rows (Err (errors.BadStore row found, keeper))) → IfSome files (λ f. IsBadStore (f path) row found.kind)
-explained path None told row found keeper is opens = tt
-explained {K} path (Some files) told row found keeper is opens =
+explained : {K : Type 0} (there : Option (List Row)) (told : Option (List Row)) (row : ℕ) (found : Row) (keeper : K)
+    → IfSome there (λ r. told ≡ Some r)
+    → IfSome told (λ rows. Opens rows (Err (errors.BadStore row found, keeper))) → IfSome there (λ r. IsBadStore r row found.kind)
+explained None told row found keeper is opens = tt
+explained {K} (Some there) told row found keeper is opens =
     let bad = subst (λ (t : Option (List Row)). IfSome t (λ rows. Opens {K = K} rows (Err (errors.BadStore row found, keeper)))) is opens in
     record { found = found; kind_is = refl; bad = bad.0; none = bad.1 }
 
-module _ {K : Type 0} (rows : K → Option (List Row)) (faults : K → ℕ) (path : List ℕ) (s s' : ShelfState) (opened given : K)
-    (found : IfSome s.files (λ files. rows opened ≡ Some (files path))) (fresh : faults opened ≡ 0) (same : rows given ≡ rows opened)
-    (kept : IfSome (rows given) (λ told. s'.files ≡ and_file s.files path told)) (gains : Gains s.faults (faults given) s'.faults) where
-  shut : KeepsFiles s s'
-  shut = shut-files s s' path (rows given) (subst (λ (t : Option (List Row)). IfSome s.files (λ files. t ≡ Some (files path))) (sym same) found) kept
+module _ {K : Type 0} (tells : Bool) (rows : K → Option (List Row)) (tried : K → List (List Row)) (faults : K → ℕ) (path : List ℕ)
+    (s s' : ShelfState) (opened given : K)
+    (found : IfSome (s.rows path) (λ there. rows opened ≡ Some there)) (fresh : faults opened ≡ 0) (same : rows given ≡ rows opened)
+    (none : IsTrue tells → tried given ≡ [])
+    (kept : IfSome (rows given) (λ k. StandsAfter tells k (tried given) (s.rows path) (s'.rows path))) (others : KeepsOthers path s s')
+    (gains : Gains s.faults (faults given) s'.faults) where
+  shut : KeepsRows s s'
+  shut = shut-rows tells s s' path (rows given) (tried given) none
+      (subst (λ (t : Option (List Row)). IfSome (s.rows path) (λ there. t ≡ Some there)) (sym same) found) kept others
 
   pub rows-refuse : (error : OpenError) → IfSome (rows opened) (λ told. Opens told (Err (error, given)))
       → IsCounted {T = Unit {0}} (faults opened) (faults given) (Err error)
-      → StaysShut path (exit_of_rows error) s s'
+      → StaysShut tells path (exit_of_rows error) s s'
   rows-refuse (errors.BadStore row bad) opens cause = record {
-    refused = explained path s.files (rows opened) row bad given found opens;
-    files = shut;
+    refused = explained (s.rows path) (rows opened) row bad given found opens;
+    rows = inl shut;
     count = gains.0;
   }
   rows-refuse errors.KeeperFault opens cause =
       record {
         refused = risen s.faults (faults given) s'.faults (subst (λ (n : ℕ). Rises n (faults given)) fresh (cause.failed refl)) gains;
-        files = shut;
+        rows = inl shut;
         count = gains.0;
       }
-  rows-refuse errors.OutOfMemory opens cause = record { refused = tt; files = shut; count = gains.0 }
+  rows-refuse errors.OutOfMemory opens cause = record { refused = tt; rows = inl shut; count = gains.0 }
 
 -- ---- a store that was served or read
 
--- the rows of the last history stand at the path, where the keeper tells its rows
-kept-rows : {K : Type 0} (rows : K → Option (List Row)) (keeper : K) (files : Option Files) (files' : Option Files) (path : List ℕ) (H : History)
-    → IsKept rows keeper H → IfSome (rows keeper) (λ kept. files' ≡ and_file files path kept) → TellsRows rows → files' ≡ and_file files path (rows_of H)
-kept-rows rows keeper files files' path H is kept tells = at (rows keeper) is kept (tells keeper)
-  where
-    at : (told : Option (List Row)) → IfSome told (λ t. t ≡ rows_of H) → IfSome told (λ t. files' ≡ and_file files path t) → IsTrue (is_some told)
-        → files' ≡ and_file files path (rows_of H)
-    at None is kept there = absurd (false≢true there)
-    at (Some t) is kept there = kept ∙ ap (and_file files path) is
-
 -- the keeper of a book that was opened and worked on was taken back
-module _ {K : Type 0} (rows : K → Option (List Row)) (faults : K → ℕ) (path : List ℕ) (book : SeenBook K) (keeper' : K) (s m s' : ShelfState)
-    (opens : OpensStore rows faults path book s m) (kept : IfSome (rows keeper') (λ told. s'.files ≡ and_file m.files path told))
-    (gains : Gains m.faults (faults keeper') s'.faults) where
-  files-now : IfSome (rows keeper') (λ told. s'.files ≡ and_file s.files path told)
-  files-now = subst (λ (f : Option Files). IfSome (rows keeper') (λ told. s'.files ≡ and_file f path told)) (ap (λ (x : ShelfState). x.files) opens.same) kept
+module _ {K : Type 0} (tells : Bool) (rows : K → Option (List Row)) (tried : K → List (List Row)) (faults : K → ℕ) (path : List ℕ)
+    (book : SeenBook K) (keeper' : K) (s m s' : ShelfState) (opens : OpensStore rows faults path book s m)
+    (kept : IfSome (rows keeper') (λ k. StandsAfter tells k (tried keeper') (m.rows path) (s'.rows path)))
+    (others : KeepsOthers path m s') (gains : Gains m.faults (faults keeper') s'.faults) where
+  rows-now : IfSome (rows keeper') (λ k. StandsAfter tells k (tried keeper') (s.rows path) (s'.rows path))
+  rows-now = subst (λ (x : ShelfState). IfSome (rows keeper') (λ k. StandsAfter tells k (tried keeper') (x.rows path) (s'.rows path))) opens.same kept
+
+  others-now : KeepsOthers path s s'
+  others-now = subst (λ (x : ShelfState). KeepsOthers path x s') opens.same others
 
   pub count-now : Gains s.faults (faults keeper') s'.faults
   count-now = subst (λ (n : ℕ). Gains n (faults keeper') s'.faults) (ap (λ (x : ShelfState). x.faults) opens.same) gains
 
-  -- with the rows of a history, where it has them
-  pub last-rows : (H : History) → IsKept rows keeper' H → TellsRows rows → s'.files ≡ and_file s.files path (rows_of H)
-  last-rows H is = kept-rows rows keeper' s.files s'.files path H is files-now
+  -- with the rows of a history, where it has them, and perhaps a group that was tried
+  pub leaves-rows : (H : History) → IsKept rows keeper' H
+      → (IsTrue tells → (added : List Row) → IsAmong (tried keeper') added
+      → (group : History) × AddsOne H group × (added ≡ rows_of group))
+      → TellsRows rows → LeavesRows tells path H s s'
+  leaves-rows H is follows all =
+      record { there = told-there (rows keeper') is rows-now (all keeper'); others = others-now }
+    where
+      there-after : (before there : Option (List Row)) (r : List Row) → r ≡ rows_of H → StandsAfter tells r (tried keeper') before there
+          → IfSome before (λ _. (there ≡ Some (rows_of H))
+          ⊎ (IsTrue tells × ((group : History) × AddsOne H group × (there ≡ Some (rows_of (H ++ group))))))
+      there-after None there r is after = tt
+      there-after (Some before) there r is (inl same) = inl (same ∙ ap Some is)
+      there-after (Some before) there r is (inr more) =
+          let f = follows more.0 more.1.0 more.1.1 in
+          inr (more.0, (f.0, f.1, more.1.2 ∙ ap Some (ap₂ (λ (xs ys : List Row). xs ++ ys) is f.2 ∙ sym (map-append row_of H f.0))))
+
+      told-there : (told : Option (List Row)) → IfSome told (λ t. t ≡ rows_of H)
+          → IfSome told (λ k. StandsAfter tells k (tried keeper') (s.rows path) (s'.rows path)) → IsTrue (is_some told)
+          → IfSome (s.rows path) (λ _. (s'.rows path ≡ Some (rows_of H))
+          ⊎ (IsTrue tells × ((group : History) × AddsOne H group × (s'.rows path ≡ Some (rows_of (H ++ group))))))
+      told-there None is after there = absurd (false≢true there)
+      told-there (Some t) is after there = there-after (s.rows path) (s'.rows path) t is after
 
   -- as it was opened
-  pub same-rows : keeper' ≡ book.keeper → KeepsFiles s s'
-  same-rows same = shut-files s s' path (rows keeper') (subst (λ (k : K). IfSome s.files (λ files. rows k ≡ Some (files path))) (sym same) opens.told) files-now
+  pub same-rows : keeper' ≡ book.keeper → (IsTrue tells → tried keeper' ≡ []) → KeepsRows s s'
+  same-rows same none = shut-rows tells s s' path (rows keeper') (tried keeper') none
+      (subst (λ (k : K). IfSome (s.rows path) (λ there. rows k ≡ Some there)) (sym same) opens.told) rows-now others-now
 
   -- where the shelf's count didn't rise, the keeper's didn't
   pub no_fault : (Rises s.faults s'.faults → ⊥) → Rises (faults book.keeper) (faults keeper') → ⊥
   no_fault idle rises = idle (risen s.faults (faults keeper') s'.faults (subst (λ (n : ℕ). Rises n (faults keeper')) opens.fresh rises) count-now)
 
-pub serves-store : {K I : Type 0} (rows : K → Option (List Row)) (faults : K → ℕ) (path : List ℕ) (left : I → Option (List ℕ)) (gives : I → I → List ℕ → Type 0)
+pub serves-store : {K I : Type 0} (tells : Bool) (rows : K → Option (List Row)) (tried : K → List (List Row)) (kept-so : History → Type 0)
+    (keeps : Keeping) (faults : K → ℕ) (path : List ℕ) (left : I → Option (List ℕ)) (gives : I → I → List ℕ → Type 0)
     (exit : Exit) (ending : Ending) → exit ≡ exit_of ending → (book : SeenBook K) (keeper' : K) (o o' : Outside I) (s m s' : ShelfState)
-    → OpensStore rows faults path book s m → Pipes rows faults left gives book.log ending book.keeper keeper' o o'
-    → IfSome (rows keeper') (λ told. s'.files ≡ and_file m.files path told) → Gains m.faults (faults keeper') s'.faults
-    → ServesStore rows path left gives exit o o' s s'
-serves-store rows faults path left gives exit ending is book keeper' o o' s m s' opens p kept gains = record {
+    → OpensStore rows faults path book s m → Pipes rows kept-so faults left gives book.log ending book.keeper keeper' o o'
+    → IfSome (rows keeper') (λ k. StandsAfter tells k (tried keeper') (m.rows path) (s'.rows path)) → KeepsOthers path m s'
+    → Gains m.faults (faults keeper') s'.faults
+    → ((history : History) → IsKept rows keeper' history → kept-so history → keeps book.log history s s')
+    → ServesStore keeps path left gives exit o o' s s'
+serves-store tells rows tried kept-so keeps faults path left gives exit ending is book keeper' o o' s m s' opens p kept others gains so = record {
   opening = book.log;
   opens = opens.legal;
   found = opens.found;
@@ -162,47 +214,56 @@ serves-store rows faults path left gives exit ending is book keeper' o o' s m s'
   faults = faults keeper';
   connection = subst (λ (n : ℕ). ConnectionBytes left gives ending 0 [] (world o book.log n) (world o' p.history (faults keeper'))) opens.fresh p.connection;
   whole = λ b told. subst (λ (n : ℕ). WholeBytes left ending b (world o book.log n) (world o' p.history (faults keeper'))) opens.fresh (p.whole b told);
-  kept = last-rows rows faults path book keeper' s m s' opens kept gains p.history p.kept;
-  counted = count-now rows faults path book keeper' s m s' opens kept gains;
+  leaves = so p.history p.kept p.besides;
+  counted = count-now tells rows tried faults path book keeper' s m s' opens kept others gains;
 }
 
 -- the book's history is the one that has the rows
 pub the-history : {K : Type 0} (rows : K → Option (List Row)) (faults : K → ℕ) (path : List ℕ) (book : SeenBook K) (s m : ShelfState)
-    → OpensStore rows faults path book s m → (files : Files) → s.files ≡ Some files → (H : History) → Legal H → rows_of H ≡ files path
+    → OpensStore rows faults path book s m → (H : History) → Legal H → s.rows path ≡ Some (rows_of H)
     → book.log ≡ H
-the-history rows faults path book s m opens files told H legal spells =
-    sym (subst (λ (f : Option Files). IfSome f (λ files. (H : History) → Legal H → rows_of H ≡ files path → H ≡ book.log)) told opens.only H legal spells)
+the-history rows faults path book s m opens H legal told =
+    sym (subst (λ (o : Option (List Row)). IfSome o (λ there. (H : History) → Legal H → rows_of H ≡ there → H ≡ book.log)) told opens.only
+    H legal refl)
 
 -- a store of a legal history's rows opens where nothing fails, or memory runs out
-pub opens-or-memory : (path : List ℕ) (exit : Exit) (s s' : ShelfState) → StaysShut path exit s s' → (Rises s.faults s'.faults → ⊥) → (files : Files)
-    → s.files ≡ Some files → (H : History) → Legal H → rows_of H ≡ files path
+pub opens-or-memory : (tells : Bool) (path : List ℕ) (exit : Exit) (s s' : ShelfState) → StaysShut tells path exit s s'
+    → (Rises s.faults s'.faults → ⊥) → (H : History) → Legal H → s.rows path ≡ Some (rows_of H)
     → exit ≡ exits.OutOfMemory
-opens-or-memory path exits.OutOfMemory s s' shut idle files told H legal spells = refl
-opens-or-memory path exits.KeeperFault s s' shut idle files told H legal spells = absurd (idle shut.refused)
-opens-or-memory path (exits.BadStore row kind) s s' shut idle files told H legal spells =
-    absurd ((subst (λ (f : Option Files). IfSome f (λ files. IsBadStore (files path) row kind)) told shut.refused).none H legal spells)
-opens-or-memory path exits.Done s s' shut idle files told H legal spells = absurd shut.refused
-opens-or-memory path exits.Cut s s' shut idle files told H legal spells = absurd shut.refused
-opens-or-memory path exits.Usage s s' shut idle files told H legal spells = absurd shut.refused
-opens-or-memory path exits.ReadFault s s' shut idle files told H legal spells = absurd shut.refused
-opens-or-memory path exits.WriteFault s s' shut idle files told H legal spells = absurd shut.refused
-opens-or-memory path exits.NoUser s s' shut idle files told H legal spells = absurd shut.refused
-opens-or-memory path exits.ListenFault s s' shut idle files told H legal spells = absurd shut.refused
-opens-or-memory path exits.ClockFault s s' shut idle files told H legal spells = absurd shut.refused
+opens-or-memory tells path exits.OutOfMemory s s' shut idle H legal told = refl
+opens-or-memory tells path exits.KeeperFault s s' shut idle H legal told = absurd (idle shut.refused)
+opens-or-memory tells path (exits.BadStore row kind) s s' shut idle H legal told =
+    absurd ((subst (λ (o : Option (List Row)). IfSome o (λ there. IsBadStore there row kind)) told shut.refused).none H legal refl)
+opens-or-memory tells path exits.Done s s' shut idle H legal told = absurd shut.refused
+opens-or-memory tells path exits.Cut s s' shut idle H legal told = absurd shut.refused
+opens-or-memory tells path exits.Usage s s' shut idle H legal told = absurd shut.refused
+opens-or-memory tells path exits.ReadFault s s' shut idle H legal told = absurd shut.refused
+opens-or-memory tells path exits.WriteFault s s' shut idle H legal told = absurd shut.refused
+opens-or-memory tells path exits.NoUser s s' shut idle H legal told = absurd shut.refused
+opens-or-memory tells path exits.ListenFault s s' shut idle H legal told = absurd shut.refused
+opens-or-memory tells path exits.ClockFault s s' shut idle H legal told = absurd shut.refused
 
 -- the keeper of a book that was read alone was taken back
-pub views-store : {K : Type 0} (rows : K → Option (List Row)) (faults : K → ℕ) (path name : List ℕ) (exit : Exit) (book : SeenBook K) (keeper' : K)
-    (o o' : Outlet) (s m s' : ShelfState)
-    → OpensStore rows faults path book s m → keeper' ≡ book.keeper → TellsView book.log name exit o o'
-    → IfSome (rows keeper') (λ told. s'.files ≡ and_file m.files path told) → Gains m.faults (faults keeper') s'.faults → ViewsStore path name exit o o' s s'
-views-store {K} rows faults path name exit book keeper' o o' s m s' opens same tells kept gains = record {
+pub views-store : {K : Type 0} (tells : Bool) (rows : K → Option (List Row)) (tried : K → List (List Row)) (faults : K → ℕ)
+    (path name : List ℕ) (exit : Exit) (book : SeenBook K) (keeper' : K) (o o' : Outlet) (s m s' : ShelfState)
+    → OpensStore rows faults path book s m → keeper' ≡ book.keeper → (IsTrue tells → tried keeper' ≡ []) → TellsView book.log name exit o o'
+    → IfSome (rows keeper') (λ k. StandsAfter tells k (tried keeper') (m.rows path) (s'.rows path)) → KeepsOthers path m s'
+    → Gains m.faults (faults keeper') s'.faults → ViewsStore path name exit o o' s s'
+views-store tells rows tried faults path name exit book keeper' o o' s m s' opens same none shown kept others gains = record {
   opening = book.log;
   opens = opens.legal;
   found = opens.found;
-  tells = tells;
-  files = same-rows rows faults path book keeper' s m s' opens kept gains same;
-  count = (count-now rows faults path book keeper' s m s' opens kept gains).0;
+  tells = shown;
+  rows = same-rows tells rows tried faults path book keeper' s m s' opens kept others gains same none;
+  count = (count-now tells rows tried faults path book keeper' s m s' opens kept others gains).0;
 }
+
+-- nothing was tried in vain with a keeper that is as it was opened
+pub none-tried : {K : Type 0} (tells : Bool) (rows : K → Option (List Row)) (tried : K → List (List Row)) (moment : K → ℕ) (at : ℕ)
+    (book : SeenBook K) (keeper' : K) → (IsTrue tells → BeginsAt rows tried moment at book) → keeper' ≡ book.keeper
+    → IsTrue tells → tried keeper' ≡ []
+none-tried tells rows tried moment at book keeper' begins same told =
+    let b = begins told in ap tried (same ∙ b.still) ∙ b.none
 
 -- what a view is answered where nothing fails
 pub answers-view : (H : History) (name : List ℕ) (exit : Exit) (o o' : Outlet) → TellsView H name exit o o' → (Rises o.faults o'.faults → ⊥)
@@ -239,3 +300,42 @@ none-named name (s ∷ H) long bounded = ap₂ (λ (xs ys : List ℕ). xs ++ ys)
 -- nobody has registered a name of more bytes than any may have
 pub nobody-has : (name : List ℕ) (H : History) → Legal H → 34 < length name → number_of name H ≡ None
 nobody-has name H legal long = ap last (none-named name H long (legal-bounded H legal))
+
+-- ---- what a stop may have left
+
+-- what a book's keeper keeps since it was opened, its shelf tells once the keeper was shut
+pub groups-kept : {K : Type 0} (tells : Bool) (rows : K → Option (List Row)) (tried : K → List (List Row)) (moment : K → ℕ)
+    (left_since : K → ℕ → List ℕ → Type 0) (opens : List ℕ → List Row → Type 0) (left : List ℕ → Type 0) (at : ℕ) (book : SeenBook K) (keeper' : K)
+    → (IsTrue tells → (k : K) → IsTrue (is_some (rows k)))
+    → (IsTrue tells → BeginsAt rows tried moment at book)
+    → (IsTrue tells → (image : List ℕ) → left image → left_since keeper' at image)
+    → (history : History) → KeepsTold rows tried moment left_since opens tells book.opened keeper' history
+    → CrashKeepsGroups tells opens left book.log history
+groups-kept {K} tells rows tried moment left_since opens left at book keeper' there begins shut history kept told image may =
+    let b = begins told in
+    opened-rows (rows book.opened) (there told book.opened) b.first
+    ((kept told b.none).since image (subst (λ (t : ℕ). left_since keeper' t image) b.at (shut told image may)))
+  where
+    opened-rows : (first : Option (List Row)) → IsTrue (is_some first) → IfSome first (λ r. rows_of book.log ≡ r)
+        → OpensAmid opens first history image → OpensAmid opens (Some (rows_of book.log)) history image
+    opened-rows None none is a = absurd (false≢true none)
+    opened-rows (Some r) some is a = subst (λ (x : List Row). OpensAmid opens (Some x) history image) (sym is) a
+
+-- what a book's keeper keeps, its shelf tells once the keeper was shut
+pub keeps-store : {K : Type 0} (tells : Bool) (rows : K → Option (List Row)) (tried : K → List (List Row)) (moment : K → ℕ)
+    (left_since : K → ℕ → List ℕ → Type 0) (opens : List ℕ → List Row → Type 0) (left : List ℕ → List ℕ → Type 0) (at : ℕ)
+    (faults : K → ℕ) (path : List ℕ) (book : SeenBook K) (keeper' : K) (s m s' : ShelfState)
+    → (IsTrue tells → (k : K) → IsTrue (is_some (rows k)))
+    → (IsTrue tells → BeginsAt rows tried moment at book)
+    → (IsTrue tells → (image : List ℕ) → left path image → left_since keeper' at image)
+    → OpensStore rows faults path book s m
+    → IfSome (rows keeper') (λ k. StandsAfter tells k (tried keeper') (m.rows path) (s'.rows path)) → KeepsOthers path m s'
+    → Gains m.faults (faults keeper') s'.faults
+    → (history : History) → IsKept rows keeper' history → KeepsTold rows tried moment left_since opens tells book.opened keeper' history
+    → KeepsStore rows tells opens left path book.log history s s'
+keeps-store tells rows tried moment left_since opens left at faults path book keeper' s m s' there begins shut opened stands others gains
+    history is kept = record {
+      kept = leaves-rows tells rows tried faults path book keeper' s m s' opened stands others gains history is
+          (λ told. (kept told (begins told).none).tried_follow);
+      stops = groups-kept tells rows tried moment left_since opens (left path) at book keeper' there begins shut history kept;
+    }

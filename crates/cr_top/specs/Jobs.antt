@@ -1,6 +1,5 @@
 -- What a run did, by the job that its words name.
-use Rattle.std.specs.Prelude.{◌≡◌, ◌⊎◌, ℕ, List, [], Option, Some, None}
-use Rattle.cr_base.specs.declared.row.Row.{Row}
+use Rattle.std.specs.Prelude.{◌≡◌, ◌⊎◌, ℕ, Bool, List, [], Option, Some, None}
 use Rattle.cr_base.specs.History.{History}
 use Rattle.cr_base.specs.Rows.{rows_of}
 use Rattle.cr_ports.specs.Count.{Rises}
@@ -13,7 +12,7 @@ use Rattle.cr_top.specs.declared.exit.Exit.{Exit}
 use Rattle.cr_top.specs.declared.exit.Exit.TheVariants as exits
 use Rattle.cr_top.specs.Runs.{Outside, outside_of, ReadsNothing, ServesPipe, TellsDrill, IsFaultless, AnswersAll}
 use Rattle.cr_top.specs.Serves.{GatesState, gates_of, ServesGates}
-use Rattle.cr_top.specs.Stores.{Files, ShelfState, state_of, PipesStore, TellsStore, AnswersView}
+use Rattle.cr_top.specs.Stores.{Keeping, RowsByPath, ShelfState, state_of, PipesStore, TellsStore, AnswersView}
 
 -- all that a run works on: input, output and clock, the stores, and the gates with what their doors' connections are
 pub record Surroundings (I A B D : Type 0) : Type 0 where
@@ -22,13 +21,13 @@ pub record Surroundings (I A B D : Type 0) : Type 0 where
   pub gates : GatesState A B D
 
 abbrev pub around_of : {I O C S G A B D : Type 0} → (I → ℕ) → (O → Option Taken) → (O → ℕ)
-    → (C → Option (List ℕ)) → (C → ℕ) → (S → Option Files) → (S → ℕ)
+    → (C → Option (List ℕ)) → (C → ℕ) → (S → RowsByPath) → (S → ℕ)
     → (G → ℕ) → (G → Option (List (DoorLog A B D))) → (G → Option (List (List ℕ)))
     → I → O → S → G → C → Surroundings I A B D
-around_of read_faults taken write_faults coming clock_faults files shelf_faults gate_faults logs asked
+around_of read_faults taken write_faults coming clock_faults rows shelf_faults gate_faults logs asked
     input out shelf gates clock = record {
       outside = outside_of read_faults taken write_faults coming clock_faults input out clock;
-      stores = state_of files shelf_faults shelf;
+      stores = state_of rows shelf_faults shelf;
       gates = gates_of gate_faults logs asked gates;
     }
 
@@ -48,36 +47,36 @@ pub record IsCounted {I A B D : Type 0} (exit : Exit) (a a' : Surroundings I A B
 -- One connection from the empty history on, or from that of a store on; many connections over a store; the view of a
 -- store; or a drill. The last three read no input and ask no clock but those that doors give, and all but serving leave
 -- the gates alone. A drill has no store.
-abbrev pub DoesJob : {K I A B D : Type 0} → (K → Option (List Row)) → (I → Option (List ℕ))
+abbrev pub DoesJob : {I A B D : Type 0} → Bool → (List ℕ → Keeping) → (I → Option (List ℕ))
     → (I → I → List ℕ → Type 0) → Streams A B D
     → NamedJob → Exit → Surroundings I A B D → Surroundings I A B D → Type 0
-DoesJob rows left gives streams (pipe_job None) exit a a' =
+DoesJob tells_stops keeps left gives streams (pipe_job None) exit a a' =
     ServesPipe left gives [] exit a.outside a'.outside × (a'.stores ≡ a.stores) × (a'.gates ≡ a.gates)
-DoesJob rows left gives streams (pipe_job (Some path)) exit a a' =
-    PipesStore rows path left gives exit a.outside a'.outside a.stores a'.stores × (a'.gates ≡ a.gates)
-DoesJob rows left gives streams (serve_job listen workers connections path) exit a a' =
-    ServesGates rows path streams listen workers connections exit a.outside.output a'.outside.output a.stores
-    a'.stores a.gates a'.gates
+DoesJob tells_stops keeps left gives streams (pipe_job (Some path)) exit a a' =
+    PipesStore tells_stops (keeps path) path left gives exit a.outside a'.outside a.stores a'.stores
+    × (a'.gates ≡ a.gates)
+DoesJob tells_stops keeps left gives streams (serve_job listen workers connections path) exit a a' =
+    ServesGates tells_stops (keeps path) path streams listen workers connections exit a.outside.output
+    a'.outside.output a.stores a'.stores a.gates a'.gates
     × ReadsNothing a.outside a'.outside
-DoesJob rows left gives streams (view_job path name) exit a a' =
-    TellsStore path name exit a.outside.output a'.outside.output a.stores a'.stores
+DoesJob tells_stops keeps left gives streams (view_job path name) exit a a' =
+    TellsStore tells_stops path name exit a.outside.output a'.outside.output a.stores a'.stores
     × ReadsNothing a.outside a'.outside × (a'.gates ≡ a.gates)
-DoesJob rows left gives streams (drill_job seed steps) exit a a' =
+DoesJob tells_stops keeps left gives streams (drill_job seed steps) exit a a' =
     TellsDrill seed steps exit a.outside.output a'.outside.output × (a'.stores ≡ a.stores)
     × ReadsNothing a.outside a'.outside × (a'.gates ≡ a.gates)
 
 -- the same, unless memory ran out before it began
-abbrev pub Does : {K I A B D : Type 0} → (K → Option (List Row)) → (I → Option (List ℕ))
+abbrev pub Does : {I A B D : Type 0} → Bool → (List ℕ → Keeping) → (I → Option (List ℕ))
     → (I → I → List ℕ → Type 0) → Streams A B D
     → NamedJob → Exit → Surroundings I A B D → Surroundings I A B D → Type 0
-Does rows left gives streams job exit a a' = IsUntouched exit a a' ⊎ DoesJob rows left gives streams job exit a a'
+Does tells_stops keeps left gives streams job exit a a' =
+    IsUntouched exit a a' ⊎ DoesJob tells_stops keeps left gives streams job exit a a'
 
 -- a store whose rows are a legal history's, over a shelf of which no call failed
 pub record HasHistory (path : List ℕ) (H : History) (s s' : ShelfState) : Type 0 where
-  pub files : Files
-  pub told : s.files ≡ Some files
   pub legal : Legal H
-  pub spells : rows_of H ≡ files path
+  pub told : s.rows path ≡ Some (rows_of H)
   pub faultless : Rises s.faults s'.faults → ⊥
 
 -- Where nothing fails, all that the input's bytes spell is answered, from the empty history on or from the store's;

@@ -60,13 +60,14 @@ world o H faults = record {
 -- ---- one connection from an opening history on
 
 -- From this history on, whose rows the keeper had, a connection was served to its ending, and the keeper was handed
--- back with the rows of the last history.
-pub record Pipes {K I : Type 0} (rows : K → Option (List Row)) (faults : K → ℕ) (left : I → Option (List ℕ))
-    (gives : I → I → List ℕ → Type 0) (opening : History) (ending : Ending) (keeper keeper' : K)
-    (o o' : Outside I) : Type 0 where
+-- back with the rows of the last history, of which something is so besides.
+pub record Pipes {K I : Type 0} (rows : K → Option (List Row)) (keeps : History → Type 0) (faults : K → ℕ)
+    (left : I → Option (List ℕ)) (gives : I → I → List ℕ → Type 0) (opening : History) (ending : Ending)
+    (keeper keeper' : K) (o o' : Outside I) : Type 0 where
   pub history : History
   pub legal : Legal history
   pub kept : IsKept rows keeper' history
+  pub besides : keeps history
   pub connection : ConnectionBytes left gives ending 0 [] (world o opening (faults keeper))
       (world o' history (faults keeper'))
   pub whole : (b : List ℕ) → left o.input ≡ Some b

@@ -1,7 +1,6 @@
 -- What a run does that serves many connections over a store.
 use Rattle.std.specs.Prelude.{◌≡◌, ◌≢◌, ◌≤◌, ◌⊎◌, ℕ, ◌+◌, List, [], ◌∷◌, ◌++◌, length, map, Bool, true, false}
 use Rattle.std.specs.Prelude.{Option, Some, IfSome}
-use Rattle.cr_base.specs.declared.row.Row.{Row}
 use Rattle.cr_base.specs.History.{History}
 use Rattle.cr_base.specs.Lists.{listed}
 use Rattle.cr_base.specs.Rows.{rows_of}
@@ -10,7 +9,6 @@ use Rattle.cr_lock.specs.Counts.{Every, total}
 use Rattle.cr_ports.specs.Count.{Gains, Rises}
 use Rattle.cr_ports.specs.Doors.{DoorLog, shares, unasked}
 use Rattle.cr_ports.specs.Opening.{AsksAtMost, and_asked}
-use Rattle.cr_ports.specs.Shelving.{and_file}
 use Rattle.cr_ports.specs.Writing.{Outlet, Writes, BreaksOff}
 use Rattle.cr_ports.specs.declared.door.DoorAnswer.TheVariants as answers
 use Rattle.cr_policy.specs.Legal.{Legal}
@@ -23,7 +21,7 @@ use Rattle.cr_workers.specs.declared.worked.Worked.TheVariants as worked
 use Rattle.cr_top.specs.declared.exit.Exit.{Exit}
 use Rattle.cr_top.specs.declared.exit.Exit.TheVariants as exits
 use Rattle.cr_top.specs.Exits.{exit_of_workers}
-use Rattle.cr_top.specs.Stores.{ShelfState, KeepsFiles, StaysShut, TellsRows}
+use Rattle.cr_top.specs.Stores.{Keeping, KeepsRows, ShelfState, StaysShut}
 
 -- gates: their count of faults; what the doors that were shut last did, and at which addresses doors were asked for,
 -- where they tell it
@@ -91,14 +89,14 @@ lost_in streams first last (c ∷ cs) served =
 
 -- The gates were asked to listen at the address, once and at no other. From the history of the rows at the path on
 -- workers served the connections that their doors gave, one door each, and the exit is by how they ended: 0 or 5 where
--- each door gave its share, 7 where one failed, and 9 where memory ran out. The rows at the path are then those of the
--- last history, and the output has the number of its entries.
-pub record ServesMany {K I O C : Type 0} (rows : K → Option (List Row)) (path : List ℕ) (streams : Streams I O C)
-    (listen : List ℕ) (workers connections : ℕ)
-    (exit : Exit) (o o' : Outlet) (s s' : ShelfState) (g g' : GatesState I O C) : Type 0 where
+-- each door gave its share, 7 where one failed, and 9 where memory ran out. The last history is kept, and the output has
+-- the number of its entries.
+pub record ServesMany {I O C : Type 0} (keeps : Keeping) (path : List ℕ) (streams : Streams I O C) (listen : List ℕ)
+    (workers connections : ℕ) (exit : Exit) (o o' : Outlet) (s s' : ShelfState)
+    (g g' : GatesState I O C) : Type 0 where
   pub opening : History
   pub opens : Legal opening
-  pub found : IfSome s.files (λ files. rows_of opening ≡ files path)
+  pub found : IfSome (s.rows path) (λ there. rows_of opening ≡ there)
   -- the doors as they were opened, with their shares of the connections, and as they were shut
   pub doors : List (SeenDoor I O C)
   pub doors' : List (SeenDoor I O C)
@@ -122,7 +120,7 @@ pub record ServesMany {K I O C : Type 0} (rows : K → Option (List Row)) (path 
   pub line : TellsEntries written (length history) o o'
   pub exit_is : exit ≡ exit_of_workers ended written
   -- The store: its count rose by as many at least as wishes were lost, its last value aside.
-  pub kept : TellsRows rows → s'.files ≡ and_file s.files path (rows_of history)
+  pub leaves : keeps opening history s s'
   pub counted : Gains s.faults faults s'.faults
   pub lost : Gains s.faults (lost_in streams opening history (connections_of serves.works) serves.served) s'.faults
   pub asked : g'.asked ≡ and_asked g.asked listen
@@ -143,15 +141,15 @@ IsWhyClosed _ g g' = ⊥
 pub record StaysClosed {I O C : Type 0} (listen : List ℕ) (exit : Exit) (s s' : ShelfState)
     (g g' : GatesState I O C) : Type 0 where
   pub refused : IsWhyClosed exit g g'
-  pub files : KeepsFiles s s'
+  pub rows : KeepsRows s s'
   pub count : s.faults ≤ s'.faults
   pub gates : g.faults ≤ g'.faults
   pub asked : AsksAtMost listen g.asked g'.asked
 
 -- a store that doesn't open leaves the gates unasked; and where no connection was served, nothing is written
-abbrev pub ServesGates : {K I O C : Type 0} → (K → Option (List Row)) → List ℕ → Streams I O C → List ℕ → ℕ → ℕ
-    → Exit → Outlet → Outlet → ShelfState → ShelfState → GatesState I O C → GatesState I O C → Type 0
-ServesGates rows path streams listen workers connections exit o o' s s' g g' =
-    (StaysShut path exit s s' × (o' ≡ o) × (g' ≡ g))
+abbrev pub ServesGates : {I O C : Type 0} → Bool → Keeping → List ℕ → Streams I O C → List ℕ → ℕ → ℕ → Exit
+    → Outlet → Outlet → ShelfState → ShelfState → GatesState I O C → GatesState I O C → Type 0
+ServesGates tells_stops keeps path streams listen workers connections exit o o' s s' g g' =
+    (StaysShut tells_stops path exit s s' × (o' ≡ o) × (g' ≡ g))
     ⊎ ((StaysClosed listen exit s s' g g' × (o' ≡ o))
-    ⊎ ServesMany rows path streams listen workers connections exit o o' s s' g g')
+    ⊎ ServesMany keeps path streams listen workers connections exit o o' s s' g g')

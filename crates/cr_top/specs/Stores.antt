@@ -1,13 +1,11 @@
 -- What a run does with the rows of a store: it opens them as a history, or tells why they don't open, and
 -- leaves the rows of the last history.
-use Rattle.std.specs.Prelude.{◌≡◌, ◌≢◌, ◌≤◌, ◌⊎◌, ℕ, List, [], Option, Some, None, is_some, IfSome, IsTrue}
-use Rattle.std.specs.Option.{option_map}
+use Rattle.std.specs.Prelude.{◌≡◌, ◌≢◌, ◌≤◌, ◌⊎◌, ℕ, Bool, List, [], ◌++◌, Option, Some, None, is_some, IfSome, IsTrue}
 use Rattle.cr_base.specs.declared.row.Row.{Row}
 use Rattle.cr_base.specs.History.{History}
 use Rattle.cr_base.specs.HistoryFacts.{number_of}
 use Rattle.cr_base.specs.Rows.{rows_of}
 use Rattle.cr_ports.specs.Count.{Gains, Rises}
-use Rattle.cr_ports.specs.Shelving.{and_file}
 use Rattle.cr_ports.specs.Writing.{Outlet, Writes, BreaksOff}
 use Rattle.cr_policy.specs.Legal.{Legal}
 use Rattle.cr_policy.specs.View.{view}
@@ -15,6 +13,7 @@ use Rattle.cr_sights.specs.Lines.{lines_text}
 use Rattle.cr_sights.specs.Walks.{StopsShort}
 use Rattle.cr_book.specs.Opening.{IsBadAt}
 use Rattle.cr_book.specs.Seen.{SeenBook}
+use Rattle.cr_book.specs.Stopping.{AddsOne, OpensAmid}
 use Rattle.cr_session.specs.declared.serve.Ending.{Ending}
 use Rattle.cr_session.specs.Serving.{ConnectionBytes, WholeBytes}
 use Rattle.cr_top.specs.declared.exit.Exit.{Exit}
@@ -22,29 +21,29 @@ use Rattle.cr_top.specs.declared.exit.Exit.TheVariants as exits
 use Rattle.cr_top.specs.Exits.{exit_of}
 use Rattle.cr_top.specs.Runs.{Outside, world}
 
--- the rows at each path
-abbrev pub Files : Type 0
-Files = List ℕ → List Row
+-- the rows at each path, where they are told there
+abbrev pub RowsByPath : Type 0
+RowsByPath = List ℕ → Option (List Row)
 
--- a shelf: the rows at each path, where it tells them, and its count of faults
+-- a shelf: the rows at each path, and its count of faults
 pub record ShelfState : Type 0 where
-  pub files : Option Files
+  pub rows : RowsByPath
   pub faults : ℕ
 
-abbrev pub state_of : {S : Type 0} → (S → Option Files) → (S → ℕ) → S → ShelfState
-state_of rows faults shelf = record { files = rows shelf; faults = faults shelf }
-
--- the rows at a path, where they are told
-abbrev pub rows_told_at : Option Files → List ℕ → Option (List Row)
-rows_told_at files path = option_map (λ (f : Files). f path) files
+abbrev pub state_of : {S : Type 0} → (S → RowsByPath) → (S → ℕ) → S → ShelfState
+state_of rows faults shelf = record { rows = rows shelf; faults = faults shelf }
 
 -- every keeper of the shelf's kind tells its rows
 abbrev pub TellsRows : {K : Type 0} → (K → Option (List Row)) → Type 0
 TellsRows {K} rows = (keeper : K) → IsTrue (is_some (rows keeper))
 
--- the rows at every path are as they were, where they are told
-abbrev pub KeepsFiles : ShelfState → ShelfState → Type 0
-KeepsFiles s s' = IfSome s.files (λ files. (path : List ℕ) → rows_told_at s'.files path ≡ Some (files path))
+-- the rows at every path are as they were, where they were told
+abbrev pub KeepsRows : ShelfState → ShelfState → Type 0
+KeepsRows s s' = (path : List ℕ) → IfSome (s.rows path) (λ there. s'.rows path ≡ Some there)
+
+-- the rows at every other path are as they were
+abbrev pub KeepsOthers : List ℕ → ShelfState → ShelfState → Type 0
+KeepsOthers path s s' = (other : List ℕ) → other ≢ path → s'.rows other ≡ s.rows other
 
 -- ---- opening
 
@@ -53,11 +52,20 @@ KeepsFiles s s' = IfSome s.files (λ files. (path : List ℕ) → rows_told_at s
 pub record OpensStore {K : Type 0} (rows : K → Option (List Row)) (faults : K → ℕ) (path : List ℕ) (book : SeenBook K)
     (s s' : ShelfState) : Type 0 where
   pub legal : Legal book.log
-  pub found : IfSome s.files (λ files. rows_of book.log ≡ files path)
-  pub only : IfSome s.files (λ files. (H : History) → Legal H → rows_of H ≡ files path → H ≡ book.log)
-  pub told : IfSome s.files (λ files. rows book.keeper ≡ Some (files path))
+  pub found : IfSome (s.rows path) (λ there. rows_of book.log ≡ there)
+  pub only : IfSome (s.rows path) (λ there. (H : History) → Legal H → rows_of H ≡ there → H ≡ book.log)
+  pub told : IfSome (s.rows path) (λ there. rows book.keeper ≡ Some there)
   pub fresh : faults book.keeper ≡ 0
   pub same : s' ≡ s
+
+-- A book was opened over a keeper that its shelf opened at this moment, and has it still: nothing had been tried with
+-- it in vain, and its rows, where it tells them, are the history's.
+pub record BeginsAt {K : Type 0} (rows : K → Option (List Row)) (tried : K → List (List Row)) (moment : K → ℕ)
+    (opened_at : ℕ) (book : SeenBook K) : Type 0 where
+  pub at : opened_at ≡ moment book.opened
+  pub still : book.keeper ≡ book.opened
+  pub none : tried book.opened ≡ []
+  pub first : IfSome (rows book.opened) (λ told. rows_of book.log ≡ told)
 
 -- the row of this number, of this kind, is the first bad one; so the rows are no legal history's
 pub record IsBadStore (rows : List Row) (row kind : ℕ) : Type 0 where
@@ -70,26 +78,62 @@ pub record IsBadStore (rows : List Row) (row kind : ℕ) : Type 0 where
 -- row is bad; or memory runs out
 abbrev pub IsWhyShut : List ℕ → Exit → ShelfState → ShelfState → Type 0
 IsWhyShut path exits.KeeperFault s s' = Rises s.faults s'.faults
-IsWhyShut path (exits.BadStore row kind) s s' = IfSome s.files (λ files. IsBadStore (files path) row kind)
+IsWhyShut path (exits.BadStore row kind) s s' = IfSome (s.rows path) (λ there. IsBadStore there row kind)
 IsWhyShut path exits.OutOfMemory s s' = Unit {0}
 IsWhyShut path _ s s' = ⊥
 
+-- The rows are as they were. Of a shelf whose keepers tell what a stop leaves, one that failed may have left a file half
+-- made at the path, where there were no rows.
+abbrev pub StaysThere : Bool → List ℕ → Exit → ShelfState → ShelfState → Type 0
+StaysThere tells_stops path exit s s' =
+    KeepsRows s s'
+    ⊎ (IsTrue tells_stops × (exit ≡ exits.KeeperFault) × (s.rows path ≡ Some []) × KeepsOthers path s s')
+
 -- It doesn't open, and the rows are as they were.
-pub record StaysShut (path : List ℕ) (exit : Exit) (s s' : ShelfState) : Type 0 where
+pub record StaysShut (tells_stops : Bool) (path : List ℕ) (exit : Exit) (s s' : ShelfState) : Type 0 where
   pub refused : IsWhyShut path exit s s'
-  pub files : KeepsFiles s s'
+  pub rows : StaysThere tells_stops path exit s s'
   pub count : s.faults ≤ s'.faults
+
+-- ---- what a run leaves
+
+-- The rows of a history stand at the path, where they were told, once its keeper was shut; or, of one that tells what a
+-- stop leaves, these and then those of one command or bulk behind it, whose append failed. At each other path stands
+-- what stood there.
+pub record LeavesRows (tells_stops : Bool) (path : List ℕ) (history : History) (s s' : ShelfState) : Type 0 where
+  pub there : IfSome (s.rows path) (λ before. (s'.rows path ≡ Some (rows_of history))
+      ⊎ (IsTrue tells_stops
+      × ((group : History) × AddsOne history group × (s'.rows path ≡ Some (rows_of (history ++ group))))))
+  pub others : KeepsOthers path s s'
+
+-- Where the keepers tell what a stop of the machine may leave, what one since the store was opened
+-- might have left at the path opens to the rows of the opening history, then of whole groups of the last one, and then
+-- of one command or bulk more at most.
+abbrev pub CrashKeepsGroups : Bool → (List ℕ → List Row → Type 0) → (List ℕ → Type 0) → History → History → Type 0
+CrashKeepsGroups tells opens left opening history =
+    IsTrue tells → (image : List ℕ) → left image → OpensAmid opens (Some (rows_of opening)) history image
+
+-- What a run keeps at a path between these two states of a shelf, from its opening history to its last: the rows, where
+-- the keepers tell theirs; and what a stop may leave, where they tell that.
+pub record KeepsStore {K : Type 0} (rows : K → Option (List Row)) (tells_stops : Bool)
+    (opens : List ℕ → List Row → Type 0) (left : List ℕ → List ℕ → Type 0) (path : List ℕ)
+    (opening history : History) (s s' : ShelfState) : Type 0 where
+  pub kept : TellsRows rows → LeavesRows tells_stops path history s s'
+  pub stops : CrashKeepsGroups tells_stops opens (left path) opening history
+
+-- what a run keeps from an opening history to its last, between two states of a shelf
+abbrev pub Keeping : Type 1
+Keeping = History → History → ShelfState → ShelfState → Type 0
 
 -- ---- one connection over a store
 
--- From the history of the rows at the path on a connection was served to its ending, by which the exit is;
--- the rows there are then those of the last history. The keeper counted so many faults, and the shelf's
--- count rose by as many at least.
-pub record ServesStore {K I : Type 0} (rows : K → Option (List Row)) (path : List ℕ) (left : I → Option (List ℕ))
+-- From the history of the rows at the path on a connection was served to its ending, by which the exit is; the last
+-- history is kept. The keeper counted so many faults, and the shelf's count rose by as many at least.
+pub record ServesStore {I : Type 0} (keeps : Keeping) (path : List ℕ) (left : I → Option (List ℕ))
     (gives : I → I → List ℕ → Type 0) (exit : Exit) (o o' : Outside I) (s s' : ShelfState) : Type 0 where
   pub opening : History
   pub opens : Legal opening
-  pub found : IfSome s.files (λ files. rows_of opening ≡ files path)
+  pub found : IfSome (s.rows path) (λ there. rows_of opening ≡ there)
   pub ending : Ending
   pub exit_is : exit ≡ exit_of ending
   pub history : History
@@ -98,15 +142,14 @@ pub record ServesStore {K I : Type 0} (rows : K → Option (List Row)) (path : L
   pub connection : ConnectionBytes left gives ending 0 [] (world o opening 0) (world o' history faults)
   pub whole : (b : List ℕ) → left o.input ≡ Some b
       → WholeBytes left ending b (world o opening 0) (world o' history faults)
-  pub kept : TellsRows rows → s'.files ≡ and_file s.files path (rows_of history)
+  pub leaves : keeps opening history s s'
   pub counted : Gains s.faults faults s'.faults
 
 -- a store that doesn't open leaves input and output as they were
-abbrev pub PipesStore : {K I : Type 0} → (K → Option (List Row)) → List ℕ → (I → Option (List ℕ))
-    → (I → I → List ℕ → Type 0)
+abbrev pub PipesStore : {I : Type 0} → Bool → Keeping → List ℕ → (I → Option (List ℕ)) → (I → I → List ℕ → Type 0)
     → Exit → Outside I → Outside I → ShelfState → ShelfState → Type 0
-PipesStore rows path left gives exit o o' s s' =
-    (StaysShut path exit s s' × (o' ≡ o)) ⊎ ServesStore rows path left gives exit o o' s s'
+PipesStore tells_stops keeps path left gives exit o o' s s' =
+    (StaysShut tells_stops path exit s s' × (o' ≡ o)) ⊎ ServesStore keeps path left gives exit o o' s s'
 
 -- ---- a view of a store
 
@@ -126,14 +169,15 @@ TellsView H name _ s s' = ⊥
 pub record ViewsStore (path name : List ℕ) (exit : Exit) (o o' : Outlet) (s s' : ShelfState) : Type 0 where
   pub opening : History
   pub opens : Legal opening
-  pub found : IfSome s.files (λ files. rows_of opening ≡ files path)
+  pub found : IfSome (s.rows path) (λ there. rows_of opening ≡ there)
   pub tells : TellsView opening name exit o o'
-  pub files : KeepsFiles s s'
+  pub rows : KeepsRows s s'
   pub count : s.faults ≤ s'.faults
 
 -- a store that doesn't open leaves the output as it was
-abbrev pub TellsStore : List ℕ → List ℕ → Exit → Outlet → Outlet → ShelfState → ShelfState → Type 0
-TellsStore path name exit o o' s s' = (StaysShut path exit s s' × (o' ≡ o)) ⊎ ViewsStore path name exit o o' s s'
+abbrev pub TellsStore : Bool → List ℕ → List ℕ → Exit → Outlet → Outlet → ShelfState → ShelfState → Type 0
+TellsStore tells_stops path name exit o o' s s' =
+    (StaysShut tells_stops path exit s s' × (o' ≡ o)) ⊎ ViewsStore path name exit o o' s s'
 
 -- where nothing fails, a legal history's view is told whole, or nobody there has the name
 abbrev pub AnswersView : History → List ℕ → Exit → Outlet → Outlet → Type 0

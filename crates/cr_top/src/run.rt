@@ -6,6 +6,7 @@ ghost use Rattle.cr_workers.specs.Connections.{streams_of};
 ghost use Rattle.cr_words.specs.Usage.{usage};
 ghost use Rattle.cr_top.specs.Jobs.{AnswersJob, Does, IsCounted, IsUntouched, around_of};
 ghost use Rattle.cr_top.specs.Runs.{TellsUsage};
+ghost use Rattle.cr_top.specs.Stores.{KeepsStore};
 ghost use Rattle.cr_top.specs.Words.{AreFor, AreRefused, PassTest};
 
 use crate::drilled::drill;
@@ -49,7 +50,8 @@ fn do_job<R: Threads + Wait + Sync, I: Source, O: Sink, S: Shelf, G: Gates, C: C
     requires { IsInRange (job_seen job) }
     ensures does { let around = around_of I.faults O.taken O.faults C.coming C.faults S.rows S.faults G.faults G.logs
         G.asked in
-        Does S.Keeper.rows I.left I.read_gives
+        let keeps = KeepsStore S.Keeper.rows S.Keeper.tells_stops S.Keeper.opens (S.left shelf.new) in
+        Does S.Keeper.tells_stops keeps I.left I.read_gives
         (streams_of G.Door.In.left G.Door.In.read_gives G.Door.In.faults G.Door.Out.taken G.Door.Out.faults
         G.Door.Clock.coming G.Door.Clock.faults)
         (job_seen job.entry) result (around input.old out.old shelf.old gates.old clock.old)
@@ -128,7 +130,8 @@ pub fn top<R: Threads + Wait + Sync, I: Source, O: Sink, S: Shelf, G: Gates, C: 
     ensures does { let around = around_of I.faults O.taken O.faults C.coming C.faults S.rows S.faults G.faults G.logs
         G.asked in
         (job : NamedJob) → AreFor words.now job
-        → Does S.Keeper.rows I.left I.read_gives
+        → Does S.Keeper.tells_stops
+        (KeepsStore S.Keeper.rows S.Keeper.tells_stops S.Keeper.opens (S.left shelf.new)) I.left I.read_gives
         (streams_of G.Door.In.left G.Door.In.read_gives G.Door.In.faults G.Door.Out.taken G.Door.Out.faults
         G.Door.Clock.coming G.Door.Clock.faults)
         job result (around input.old out.old shelf.old gates.old clock.old)

@@ -1,5 +1,5 @@
 //! Many connections over a store.
-ghost use Rattle.std.specs.Prelude.{◌≡◌, ◌≢◌, ◌⊎◌, ◌≤◌, ◌*◌, ◌^◌, ℕ, List, length, map, Some, is_ok, IfOk, IfErr};
+ghost use Rattle.std.specs.Prelude.{◌≡◌, ◌≢◌, ◌⊎◌, ◌≤◌, ◌*◌, ◌^◌, ℕ, List, length, map, Some, is_ok, IfOk, IfErr, IsTrue};
 ghost use Rattle.cr_base.specs.History.{History};
 ghost use Rattle.cr_base.specs.Rows.{rows_of};
 ghost use Rattle.cr_policy.specs.Legal.{Legal};
@@ -13,7 +13,7 @@ ghost use Rattle.cr_workers.specs.Doors.{door_of, turns_for};
 ghost use Rattle.cr_top.specs.declared.exit.Exit.{Exit};
 ghost use Rattle.cr_top.specs.Serves.{AreNew, GatesState, IsWhyClosed, OpensAt, ServesGates, ServesMany};
 ghost use Rattle.cr_top.specs.Serves.{TellsEntries, gates_of};
-ghost use Rattle.cr_top.specs.Stores.{Files, OpensStore, ShelfState, state_of};
+ghost use Rattle.cr_top.specs.Stores.{BeginsAt, KeepsStore, OpensStore, ShelfState, state_of};
 
 use crate::exit::{Exit, exit_of_workers};
 use crate::storing::open_store;
@@ -94,10 +94,13 @@ fn serve_open_book<R: Threads + Wait + Sync, S: Shelf, G: Gates, O: Sink>(
     requires open { S.has_opened shelf.old path.now }
     ensures { let outlet = outlet_of O.taken O.faults in let stores = state_of S.rows S.faults in
         let gates_at = gates_of G.faults G.logs G.asked in
+        let keeps = KeepsStore S.Keeper.rows S.Keeper.tells_stops S.Keeper.opens (S.left shelf.new) path.now in
         (s : ShelfState) → OpensStore S.Keeper.rows S.Keeper.faults path.now book s (stores shelf.old)
         → (g : GatesState G.Door.In G.Door.Out G.Door.Clock) → (listen : List ℕ) → OpensAt listen g (gates_at gates.old)
         → (workers connections : ℕ) → map G.Door.left doors.items ≡ shares workers connections
-        → ServesMany S.Keeper.rows path.now
+        → (IsTrue S.Keeper.tells_stops
+        → BeginsAt S.Keeper.rows S.Keeper.tried S.Keeper.moment (S.opened_at shelf.old) book)
+        → ServesMany keeps path.now
         (streams_of G.Door.In.left G.Door.In.read_gives G.Door.In.faults G.Door.Out.taken G.Door.Out.faults
         G.Door.Clock.coming G.Door.Clock.faults)
         listen workers connections result (outlet out.old) (outlet out.new) s (stores shelf.new)
@@ -127,7 +130,8 @@ pub fn serve_store<R: Threads + Wait + Sync, S: Shelf, G: Gates, O: Sink>(
     requires connections { (1 ≤ address.connections) × (address.connections ≤ 65536) }
     ensures serves { let outlet = outlet_of O.taken O.faults in let stores = state_of S.rows S.faults in
         let gates_at = gates_of G.faults G.logs G.asked in
-        ServesGates S.Keeper.rows path.now
+        let keeps = KeepsStore S.Keeper.rows S.Keeper.tells_stops S.Keeper.opens (S.left shelf.new) path.now in
+        ServesGates S.Keeper.tells_stops keeps path.now
         (streams_of G.Door.In.left G.Door.In.read_gives G.Door.In.faults G.Door.Out.taken G.Door.Out.faults
         G.Door.Clock.coming G.Door.Clock.faults)
         address.entry.listen.now address.entry.workers address.entry.connections result
@@ -137,7 +141,7 @@ pub fn serve_store<R: Threads + Wait + Sync, S: Shelf, G: Gates, O: Sink>(
     // Where nothing fails and the rows are a legal history's, each door gives its share, or memory runs out.
     ensures answers { (Rises (O.faults out.old) (O.faults out.new) → ⊥)
         → (Rises (G.faults gates.old) (G.faults gates.new) → ⊥) → (Rises (S.faults shelf.old) (S.faults shelf.new) → ⊥)
-        → (files : Files) → S.rows shelf.old ≡ Some files → (H : History) → Legal H → rows_of H ≡ files path.now
+        → (H : History) → Legal H → S.rows shelf.old path.now ≡ Some (rows_of H)
         → (result ≡ Exit.OutOfMemory) ⊎ (result ≡ Exit.Done) }
     ensures known { result ≢ Exit.Usage }
     ensures unread { result ≢ Exit.ReadFault }

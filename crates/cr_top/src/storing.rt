@@ -1,5 +1,5 @@
 //! Jobs on a store: its rows are opened as a book, worked on, and shut.
-ghost use Rattle.std.specs.Prelude.{◌≡◌, ◌≢◌, ◌⊎◌, ℕ, List, Some, IfErr, IfOk, OnOk};
+ghost use Rattle.std.specs.Prelude.{◌≡◌, ◌≢◌, ◌⊎◌, ℕ, List, Some, IfErr, IfOk, IsTrue, OnOk};
 ghost use Rattle.cr_base.specs.History.{History};
 ghost use Rattle.cr_base.specs.Rows.{rows_of};
 ghost use Rattle.cr_policy.specs.Legal.{Legal};
@@ -7,7 +7,7 @@ ghost use Rattle.cr_ports.specs.Count.{Rises};
 ghost use Rattle.cr_top.specs.declared.exit.Exit.{Exit};
 ghost use Rattle.cr_top.specs.Exits.{exit_of_rows, exit_of_shelf};
 ghost use Rattle.cr_top.specs.Runs.{outside_of, IsFaultless, AnswersAll};
-ghost use Rattle.cr_top.specs.Stores.{Files, OpensStore, PipesStore, StaysShut, state_of};
+ghost use Rattle.cr_top.specs.Stores.{BeginsAt, KeepsStore, OpensStore, PipesStore, StaysShut, state_of};
 
 use crate::exit::{Exit, exit_of};
 use crate::piping::pipe;
@@ -49,9 +49,12 @@ pub(crate) fn open_store<S: Shelf>(
     ensures opened { let stores = state_of S.rows S.faults in
         IfOk result (λ book. OpensStore S.Keeper.rows S.Keeper.faults path.now book
         (stores shelf.old) (stores shelf.new)) }
+    ensures begins { IsTrue S.Keeper.tells_stops → IfOk result
+        (λ book. BeginsAt S.Keeper.rows S.Keeper.tried S.Keeper.moment (S.opened_at shelf.new) book) }
     ensures open { OnOk result (S.has_opened shelf.new path.now) }
     ensures refused { IfErr result
-        (λ exit. StaysShut path.now exit (state_of S.rows S.faults shelf.old) (state_of S.rows S.faults shelf.new)) }
+        (λ exit. StaysShut S.Keeper.tells_stops path.now exit (state_of S.rows S.faults shelf.old)
+        (state_of S.rows S.faults shelf.new)) }
 {
     let keeper = match shelf.open(path) {
         Ok(keeper) => keeper,
@@ -79,8 +82,10 @@ pub fn pipe_store<R: Wait, S: Shelf, I: Source, O: Sink, C: Clock>(
 ) -> Exit
     ensures pipes { let outside = outside_of I.faults O.taken O.faults C.coming C.faults in
         let stores = state_of S.rows S.faults in
-        PipesStore S.Keeper.rows path.now I.left I.read_gives result (outside input.old out.old clock.old)
-        (outside input.new out.new clock.new) (stores shelf.old) (stores shelf.new) }
+        let keeps = KeepsStore S.Keeper.rows S.Keeper.tells_stops S.Keeper.opens (S.left shelf.new) path.now in
+        PipesStore S.Keeper.tells_stops keeps path.now I.left I.read_gives result
+        (outside input.old out.old clock.old) (outside input.new out.new clock.new)
+        (stores shelf.old) (stores shelf.new) }
 
     // Where nothing fails and the rows are a legal history's, all that the input's bytes spell is answered from that
     // history on, or memory runs out.
@@ -88,7 +93,7 @@ pub fn pipe_store<R: Wait, S: Shelf, I: Source, O: Sink, C: Clock>(
         (b : List ℕ) → I.left input.old ≡ Some b
         → IsFaultless (outside input.old out.old clock.old) (outside input.new out.new clock.new)
         → (Rises (S.faults shelf.old) (S.faults shelf.new) → ⊥)
-        → (files : Files) → S.rows shelf.old ≡ Some files → (H : History) → Legal H → rows_of H ≡ files path.now
+        → (H : History) → Legal H → S.rows shelf.old path.now ≡ Some (rows_of H)
         → (result ≡ Exit.OutOfMemory)
         ⊎ AnswersAll H result b (outside input.old out.old clock.old) (outside input.new out.new clock.new) }
 {

@@ -7,7 +7,7 @@ ghost use Rattle.cr_policy.specs.Legal.{Legal};
 ghost use Rattle.cr_ports.specs.Count.{Rises};
 ghost use Rattle.cr_ports.specs.Writing.{outlet_of};
 ghost use Rattle.cr_top.specs.declared.exit.Exit.{Exit};
-ghost use Rattle.cr_top.specs.Stores.{Files, AnswersView, TellsStore, TellsView, state_of};
+ghost use Rattle.cr_top.specs.Stores.{AnswersView, TellsStore, TellsView, state_of};
 
 use crate::exit::Exit;
 use crate::storing::open_store;
@@ -57,13 +57,14 @@ pub fn view_store<S: Shelf, O: Sink>(
     shelf: &mut S,
 ) -> Exit
     ensures views { let outlet = outlet_of O.taken O.faults in let stores = state_of S.rows S.faults in
-        TellsStore path.now name.now result (outlet out.old) (outlet out.new) (stores shelf.old) (stores shelf.new) }
+        TellsStore S.Keeper.tells_stops path.now name.now result (outlet out.old) (outlet out.new)
+        (stores shelf.old) (stores shelf.new) }
 
     // Where nothing fails and the rows are a legal history's, its view is told whole, or nobody has
     // the name; or memory is wanting.
     ensures answers { let outlet = outlet_of O.taken O.faults in
         (Rises (O.faults out.old) (O.faults out.new) → ⊥) → (Rises (S.faults shelf.old) (S.faults shelf.new) → ⊥)
-        → (files : Files) → S.rows shelf.old ≡ Some files → (H : History) → Legal H → rows_of H ≡ files path.now
+        → (H : History) → Legal H → S.rows shelf.old path.now ≡ Some (rows_of H)
         → (result ≡ Exit.OutOfMemory) ⊎ AnswersView H name.now result (outlet out.old) (outlet out.new) }
 {
     match open_store(alloc, path, shelf) {

@@ -41,10 +41,10 @@ history-unasked {I} {O} {C} streams doors b = record {
     none = unasked-connections doors
 
 -- the one pass of a closed lock has the turns of all connections, and the closed value stands for what it has seen
-pub history-closed : {T I O C : Type 0} (list : T → History) (faults : T → ℕ) (streams : Streams I O C) (ended : Worked) (doors doors' : List (SeenDoor I O C))
-    (first last : T) (p₀ p : KnownPass) → p₀.seen ≡ list first → p₀.mine ≡ [] → ServesDoors streams ended doors doors' p₀ p → Closes list faults first p last
+pub history-closed : {T I O C Root : Type 0} (list : T → History) (faults : T → ℕ) (root : T → Root) (streams : Streams I O C) (ended : Worked) (doors doors' : List (SeenDoor I O C))
+    (first last : T) (p₀ p : KnownPass) → p₀.seen ≡ list first → p₀.mine ≡ [] → ServesDoors streams ended doors doors' p₀ p → Closes list faults root first p last
     → ServesHistory streams ended doors doors' (record { history = list first; faults = faults first }) (record { history = list last; faults = faults last })
-history-closed {T} {I} {O} {C} list faults streams ended doors doors' first last p₀ p saw none x closes = record {
+history-closed {T} {I} {O} {C} {Root} list faults root streams ended doors doors' first last p₀ p saw none x closes = record {
   works = x.works;
   before = x.before;
   after = x.after;

@@ -34,7 +34,8 @@ pub fn serve_book<R: Threads + Wait + Sync, K: Keeper + Send, D: Door + Drop + S
     requires at_most { length doors.items ≤ 64 }
     requires few { turns_for (total D.left doors.items) ≤ 2 ^ 40 }
     requires back { Every (λ door. D.is_out door ≡ false) doors.items }
-    ensures { let seen = map (door_of D.left D.is_out D.faults D.log) in
+    ensures opened { result.1.opened ≡ book.opened }
+    ensures serves { let seen = map (door_of D.left D.is_out D.faults D.log) in
         ServesHistory
         (streams_of D.In.left D.In.read_gives D.In.faults D.Out.taken D.Out.faults D.Clock.coming D.Clock.faults)
         result.0 (seen doors.items) (seen result.2.items) (ledger_of K.faults book) (ledger_of K.faults result.1) }

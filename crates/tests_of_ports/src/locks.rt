@@ -20,18 +20,23 @@ struct Act {
     step: u64,
 }
 
-/// The acts of all threads, in order.
+/// The acts of all threads, in order, and for how many they were begun.
 #[derive(Drop)]
 struct Acts {
     log: Vec<Act>,
+    begun_for: u64,
 }
 
 impl Stands for Acts {
     type Entry = Act;
 
+    type Root = u64;
+
     ghost list = { λ a. a.log.items };
 
     ghost faults = { λ _. 0 };
+
+    ghost root = { λ a. a.begun_for };
 
     fn entries(&self) -> u64 {
         self.log.len() as u64
@@ -40,8 +45,9 @@ impl Stands for Acts {
 
 impl Acts {
     fn record(&mut self, act: Act) -> Result<(), AllocError>
-        ensures { MatchResult result (λ _. self.new.log.items ≡ self.old.log.items ++ act ∷ [])
+        ensures log { MatchResult result (λ _. self.new.log.items ≡ self.old.log.items ++ act ∷ [])
             (λ _. self.new.log.items ≡ self.old.log.items) }
+        ensures begun { self.new.begun_for ≡ self.old.begun_for }
     {
         self.log.push(act)?;
         Ok(())
@@ -155,12 +161,14 @@ fn act_in_crowd<R: Threads + Wait + Sync>(
     (lock.join(one, other), first.and(second))
 }
 
-/// The value of a lock that was made with no acts: the groups of the joined pass's turns, in order.
+/// The value of a lock that was made with no acts: the groups of the joined pass's turns, in order. It was begun for as
+/// many as at first.
 fn close_all(lock: HistoryLock<Acts>, pass: Pass<Acts>) -> Acts
     requires own { pass.lock ≡ lock.lock }
     requires whole { pass.share ≡ 64 }
     requires empty { lock.first.log.items ≡ [] }
-    ensures { result.log.items ≡ groups_of pass.mine }
+    ensures acts { result.log.items ≡ groups_of pass.mine }
+    ensures begun { result.begun_for ≡ lock.first.begun_for }
 {
     lock.close(pass)
 }
@@ -187,6 +195,7 @@ fn unused(alloc: Global) -> Result<(HistoryLock<Acts>, Pass<Acts>), AllocError>
 {
     let acts = Acts {
         log: Vec::new(alloc),
+        begun_for: 64,
     };
     match HistoryLock::new(alloc, acts) {
         Ok(made) => Ok(made),
@@ -218,6 +227,7 @@ fn sixty_four_threads_share_one_history(rt: HostRuntime) -> Result<(), Fail> {
     let (lock, pass) = unused(alloc)?;
     let (acts, turns) = act_in_all(&rt, lock, pass)?;
     assert_eq!(rt; turns, TURNS);
+    assert_eq!(rt; acts.begun_for, 64);
     assert_eq!(rt; acts.log.len(), 64 * TURNS as usize);
     let mut steps = [0u64; 64];
     for act in acts.log.iter() {

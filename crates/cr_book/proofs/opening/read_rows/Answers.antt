@@ -19,6 +19,7 @@ pub loop-i-preserved : goal.loop-i-preserved
 loop-i-preserved g c =
     record {
       same = c.in-Ok.ensures.same ∙ c.loop-i.invariant.same;
+      still = λ told. c.in-Ok.ensures.still told ∙ c.loop-i.invariant.still told;
       steady = answered-steady (g.K.Keeper.faults c.loop-i.keeper) (g.K.Keeper.faults c.row.new.self) (Ok c.in-Ok.row) c.in-Ok.row c.in-Ok.ensures.cause refl ∙ c.loop-i.invariant.steady;
       read = read-more (g.K.Keeper.rows c.args.keeper.now) (g.K.Keeper.rows c.loop-i.keeper) c.loop-i.i c.in-Ok.row (rows_of c.loop-i.reading.log ++ c.loop-i.reading.pending) (rows_of c.in-Ok-read.after.log ++ c.in-Ok-read.after.pending)
           c.loop-i.invariant.same c.loop-i.invariant.read c.in-Ok.ensures.told c.in-Ok-read.ensures.ok;

@@ -1,4 +1,4 @@
-use Rattle.std.proofs.Common.{◌≡◌, ◌++◌, take, IfSome}
+use Rattle.std.proofs.Common.{◌≡◌, ◌++◌, take, IfSome, IsTrue}
 use Rattle.cr_base.specs.Rows.{rows_of}
 use Rattle.cr_book.proofs.opening.read_rows.Given as goal
 
@@ -7,6 +7,7 @@ invariant-loop-i g l =
     let rows = g.K.Keeper.rows in
     record {
       same : rows l.keeper ≡ rows l.fn.keeper;
+      still : IsTrue g.K.Keeper.tells_stops → l.keeper ≡ l.fn.keeper;
       steady : g.K.Keeper.faults l.keeper ≡ g.K.Keeper.faults l.fn.keeper;
       read : IfSome (rows l.fn.keeper) (λ told. rows_of l.reading.log ++ l.reading.pending ≡ take l.i told);
     }

@@ -4,7 +4,7 @@ use Rattle.cr_journal.specs.Grammar.{payload}
 use Rattle.cr_journal.specs.Keeping.{OpensTo}
 use Rattle.cr_journal.specs.Standing.{doubted}
 use Rattle.cr_journal.proofs.Keeping.{among_first, kept_still, opens_doubted, opens_wider}
-use Rattle.cr_journal.proofs.Moments.{and_then, weaken}
+use Rattle.cr_ports.proofs.StopLaws.{and_then, weaken}
 use Rattle.cr_journal.proofs.keeper.keep_group.Goals as goal
 
 pub make_ready-requires : goal.make_ready-requires

@@ -4,7 +4,7 @@ use Rattle.cr_journal.specs.Grammar.{payload}
 use Rattle.cr_journal.specs.Keeping.{OpensTo}
 use Rattle.cr_journal.specs.Standing.{doubted}
 use Rattle.cr_journal.proofs.Keeping.{doubt_either, kept_more, kept_same, opens_one}
-use Rattle.cr_journal.proofs.Moments.{weaken}
+use Rattle.cr_ports.proofs.StopLaws.{weaken}
 use Rattle.cr_journal.proofs.keeper.keep_ready.Goals as goal
 
 pub append-requires-clause-stands : goal.append-requires-clause-stands

@@ -1,7 +1,8 @@
 use Rattle.std.proofs.Common.{ℕ, ◌<◌, List, length, ⊎_elim, arith, subst, sym}
 use Rattle.cr_journal.specs.Gates.{SameBut}
 use Rattle.cr_journal.proofs.Bytes.{but_after, holds_but, torn_but}
-use Rattle.cr_journal.proofs.Moments.{goes_on, started}
+use Rattle.cr_ports.proofs.StopLaws.{started}
+use Rattle.cr_journal.proofs.Moments.{goes_on}
 use Rattle.cr_journal.proofs.steps.set_gate.Goals as goal
 
 pub returns-clause-any_moment : goal.returns-clause-any_moment

@@ -6,32 +6,32 @@ use Rattle.cr_session.proofs.TurnLaws.{unauthorized, no_route, wrong_method, bad
 use Rattle.cr_session.proofs.TurnLaws.{may-wish, caller-command, caller-key, caller-bulk, may-query}
 use Rattle.cr_session.proofs.turn.take_turn.Goals as goal
 
-pub returns-then-is_unauthorized : goal.returns-then-is_unauthorized
-returns-then-is_unauthorized g c = unauthorized c.args.wish (ledger_of g.K.Keeper.faults c.args.book.now) _ c.caller_of-caller.ensures
+pub returns-then-is_unauthorized-clause-turns : goal.returns-then-is_unauthorized-clause-turns
+returns-then-is_unauthorized-clause-turns g c = unauthorized c.args.wish (ledger_of g.K.Keeper.faults c.args.book.now) _ c.caller_of-caller.ensures
     (sym c.is_unauthorized.ensures ∙ c.if-is_unauthorized.true)
 
-pub returns-in-NoRoute : goal.returns-in-NoRoute
-returns-in-NoRoute g c =
+pub returns-in-NoRoute-clause-turns : goal.returns-in-NoRoute-clause-turns
+returns-in-NoRoute-clause-turns g c =
     no_route _ _ (ledger_of g.K.Keeper.faults c.args.book.now)
     (may-wish _ c.args.wish _ _ _ c.in-NoRoute.is c.caller_of-caller.ensures c.is_unauthorized.ensures c.if-is_unauthorized.false)
 
-pub returns-in-WrongMethod : goal.returns-in-WrongMethod
-returns-in-WrongMethod g c =
+pub returns-in-WrongMethod-clause-turns : goal.returns-in-WrongMethod-clause-turns
+returns-in-WrongMethod-clause-turns g c =
     wrong_method _ _ (ledger_of g.K.Keeper.faults c.args.book.now) _
     (may-wish _ c.args.wish _ _ _ c.in-WrongMethod.is c.caller_of-caller.ensures c.is_unauthorized.ensures c.if-is_unauthorized.false)
 
-pub returns-in-BadNumber : goal.returns-in-BadNumber
-returns-in-BadNumber g c =
+pub returns-in-BadNumber-clause-turns : goal.returns-in-BadNumber-clause-turns
+returns-in-BadNumber-clause-turns g c =
     bad_number _ _ (ledger_of g.K.Keeper.faults c.args.book.now) _
     (may-wish _ c.args.wish _ _ _ c.in-BadNumber.is c.caller_of-caller.ensures c.is_unauthorized.ensures c.if-is_unauthorized.false)
 
-pub returns-in-BadBody : goal.returns-in-BadBody
-returns-in-BadBody g c =
+pub returns-in-BadBody-clause-turns : goal.returns-in-BadBody-clause-turns
+returns-in-BadBody-clause-turns g c =
     bad_body _ _ (ledger_of g.K.Keeper.faults c.args.book.now) _
     (may-wish _ c.args.wish _ _ _ c.in-BadBody.is c.caller_of-caller.ensures c.is_unauthorized.ensures c.if-is_unauthorized.false)
 
-pub returns-in-BadQuery : goal.returns-in-BadQuery
-returns-in-BadQuery g c =
+pub returns-in-BadQuery-clause-turns : goal.returns-in-BadQuery-clause-turns
+returns-in-BadQuery-clause-turns g c =
     bad_query _ _ (ledger_of g.K.Keeper.faults c.args.book.now) _ _
     (may-wish _ c.args.wish _ _ _ c.in-BadQuery.is c.caller_of-caller.ensures c.is_unauthorized.ensures c.if-is_unauthorized.false)
 
@@ -58,20 +58,20 @@ answer-requires g c =
     may-query _ _ _ _
     (may-wish _ c.args.wish _ _ _ c.in-Query.is c.caller_of-caller.ensures c.is_unauthorized.ensures c.if-is_unauthorized.false)
 
-pub returns-in-Command : goal.returns-in-Command
-returns-in-Command g c =
+pub returns-in-Command-clause-turns : goal.returns-in-Command-clause-turns
+returns-in-Command-clause-turns g c =
     command-turn _ _ _ _ _ (ledger_of g.K.Keeper.faults c.args.book.now) (ledger_of g.K.Keeper.faults c.judge.new.book)
     (may-wish _ c.args.wish _ _ _ c.in-Command.is c.caller_of-caller.ensures c.is_unauthorized.ensures c.if-is_unauthorized.false)
-    c.judge.ensures
+    c.judge.ensures.changes
 
-pub returns-in-Query : goal.returns-in-Query
-returns-in-Query g c =
+pub returns-in-Query-clause-turns : goal.returns-in-Query-clause-turns
+returns-in-Query-clause-turns g c =
     query-turn _ _ _ _ (ledger_of g.K.Keeper.faults c.args.book.now)
     (may-wish _ c.args.wish _ _ _ c.in-Query.is c.caller_of-caller.ensures c.is_unauthorized.ensures c.if-is_unauthorized.false)
     c.answer.ensures
 
-pub returns-in-Bulk : goal.returns-in-Bulk
-returns-in-Bulk g c =
+pub returns-in-Bulk-clause-turns : goal.returns-in-Bulk-clause-turns
+returns-in-Bulk-clause-turns g c =
     bulk-turn _ _ _ _ _ (ledger_of g.K.Keeper.faults c.args.book.now) (ledger_of g.K.Keeper.faults c.judge_bulk.new.book)
     (may-wish _ c.args.wish _ _ _ c.in-Bulk.is c.caller_of-caller.ensures c.is_unauthorized.ensures c.if-is_unauthorized.false)
-    c.judge_bulk.ensures
+    c.judge_bulk.ensures.changes

@@ -17,9 +17,9 @@ returns-in-Some-clause-does g c =
     let o' = outside c.pipe-ending.new.input c.pipe-ending.new.out c.pipe-ending.new.clock in
     let none : c.in-Pipe-None.store ≡ None = rw c.in-Pipe-None.is at c.in-Pipe-None.store-is in
     let seen : job_seen c.args.job ≡ pipe_job None = ap job_seen c.in-Pipe-None.is ∙ ap (λ t. pipe_job (option_map (λ x. x.now) t)) none in
-    does-named _ _ _ _ _ (pipe_job None) _ _ _ seen (
+    does-named _ _ _ _ _ _ (pipe_job None) _ _ _ seen (
       subst (λ (opening : History). ServesPipe g.I.Source.left g.I.Source.read_gives opening c.exit_of.result o o') c.in-Some.ensures
-          (serves-from _ g.I.Source.left g.I.Source.read_gives c.in-Some.book.log c.exit_of.result _ _ _ o o' c.exit_of.ensures c.pipe-ending.ensures.pipes),
+          (serves-from _ _ g.I.Source.left g.I.Source.read_gives c.in-Some.book.log c.exit_of.result _ _ _ o o' c.exit_of.ensures c.pipe-ending.ensures.pipes),
       refl,
       refl,
     )
@@ -51,20 +51,20 @@ returns-in-Pipe-Some-clause-answers g c =
     let seen : job_seen c.args.job ≡ pipe_job (Some c.in-Pipe-Some.path.now) =
     ap job_seen c.in-Pipe-Some.is ∙ ap (λ t. pipe_job (option_map (λ x. x.now) t)) some in
     answers-named _ _ (pipe_job (Some c.in-Pipe-Some.path.now)) _ _ _ seen
-    (λ b left faultless H has. c.pipe_store.ensures.answers b left faultless has.faultless has.files has.told H has.legal has.spells)
+    (λ b left faultless H has. c.pipe_store.ensures.answers b left faultless has.faultless H has.legal has.told)
 
 pub returns-in-Serve-clause-answers : goal.returns-in-Serve-clause-answers
 returns-in-Serve-clause-answers g c =
     let job = serve_job c.in-Serve.listen.now c.in-Serve.workers c.in-Serve.connections c.in-Serve.store.now in
     let seen : job_seen c.args.job ≡ job = ap job_seen c.in-Serve.is in
     answers-named _ _ job _ _ _ seen
-    (λ quiet given H has. c.serve_store.ensures.answers quiet given has.faultless has.files has.told H has.legal has.spells)
+    (λ quiet given H has. c.serve_store.ensures.answers quiet given has.faultless H has.legal has.told)
 
 pub returns-in-View-clause-answers : goal.returns-in-View-clause-answers
 returns-in-View-clause-answers g c =
     let seen : job_seen c.args.job ≡ view_job c.in-View.store.now c.in-View.user.now = ap job_seen c.in-View.is in
     answers-named _ _ (view_job c.in-View.store.now c.in-View.user.now) _ _ _ seen
-    (λ quiet H has. c.view_store.ensures.answers quiet has.faultless has.files has.told H has.legal has.spells)
+    (λ quiet H has. c.view_store.ensures.answers quiet has.faultless H has.legal has.told)
 
 pub returns-in-Drill-clause-answers : goal.returns-in-Drill-clause-answers
 returns-in-Drill-clause-answers g c =

@@ -4,21 +4,25 @@ use Rattle.cr_top.specs.declared.exit.Exit.{Exit}
 use Rattle.cr_top.specs.declared.exit.Exit.TheVariants as exits
 use Rattle.cr_top.specs.Runs.{outside_of, AnswersAll}
 use Rattle.cr_top.specs.Stores.{state_of}
-use Rattle.cr_top.proofs.Stored.{no_fault, serves-store, the-history}
+use Rattle.cr_top.proofs.Stored.{keeps-store, no_fault, serves-store, the-history}
 use Rattle.cr_top.proofs.storing.pipe_store.Goals as goal
 
 pub returns-in-Ok-clause-pipes : goal.returns-in-Ok-clause-pipes
 returns-in-Ok-clause-pipes g c =
     let outside = outside_of g.I.Source.faults g.O.Sink.taken g.O.Sink.faults g.C.Clock.coming g.C.Clock.faults in
     let stores = state_of g.S.Shelf.rows g.S.Shelf.faults in
-    inr (serves-store g.S.Keeper.Keeper.rows g.S.Keeper.Keeper.faults c.args.path.now g.I.Source.left g.I.Source.read_gives c.exit_of.result _
+    let K = g.S.Keeper.Keeper in
+    inr (serves-store K.tells_stops K.rows K.tried _ _ K.faults c.args.path.now g.I.Source.left g.I.Source.read_gives c.exit_of.result _
     c.exit_of.ensures c.in-Ok.book _
     (outside c.args.input.now c.args.out.now c.args.clock.now) (outside c.pipe-ending.new.input c.pipe-ending.new.out c.pipe-ending.new.clock) (stores c.args.shelf.now) (stores c.open_store.new.shelf)
     (stores c.shut.new.self)
-    c.in-Ok.ensures.opened c.pipe-ending.ensures.pipes c.shut.ensures.kept c.shut.ensures.count)
+    c.in-Ok.ensures.opened c.pipe-ending.ensures.pipes c.shut.ensures.kept c.shut.ensures.others c.shut.ensures.count
+    (keeps-store K.tells_stops K.rows K.tried K.moment K.left_since K.opens (g.S.Shelf.left c.shut.new.self) _ K.faults c.args.path.now c.in-Ok.book
+    c.pipe-ending.result.1 (stores c.args.shelf.now) (stores c.open_store.new.shelf) (stores c.shut.new.self) K.rows_told c.in-Ok.ensures.begins
+    (λ told image. (c.shut.ensures.stops told image).0) c.in-Ok.ensures.opened c.shut.ensures.kept c.shut.ensures.others c.shut.ensures.count))
 
 pub returns-in-Ok-clause-answers : goal.returns-in-Ok-clause-answers
-returns-in-Ok-clause-answers g c b left faultless idle files told H legal spells =
+returns-in-Ok-clause-answers g c b left faultless idle H legal told =
     let outside = outside_of g.I.Source.faults g.O.Sink.taken g.O.Sink.faults g.C.Clock.coming g.C.Clock.faults in
     let stores = state_of g.S.Shelf.rows g.S.Shelf.faults in
     let o = outside c.args.input.now c.args.out.now c.args.clock.now in
@@ -26,9 +30,10 @@ returns-in-Ok-clause-answers g c b left faultless idle files told H legal spells
     let s = stores c.args.shelf.now in
     let m = stores c.open_store.new.shelf in
     let s' = stores c.shut.new.self in
-    let same = the-history g.S.Keeper.Keeper.rows g.S.Keeper.Keeper.faults c.args.path.now c.in-Ok.book s m c.in-Ok.ensures.opened files told H legal spells in
+    let K = g.S.Keeper.Keeper in
+    let same = the-history K.rows K.faults c.args.path.now c.in-Ok.book s m c.in-Ok.ensures.opened H legal told in
     subst (λ (opening : History). (c.exit_of.result ≡ exits.OutOfMemory) ⊎ AnswersAll opening c.exit_of.result b o o') same
     (subst (λ (x : Exit). (x ≡ exits.OutOfMemory) ⊎ AnswersAll c.in-Ok.book.log x b o o') (sym c.exit_of.ensures)
     (c.pipe-ending.ensures.answers b left faultless
-    (no_fault g.S.Keeper.Keeper.rows g.S.Keeper.Keeper.faults c.args.path.now c.in-Ok.book _ s m s' c.in-Ok.ensures.opened c.shut.ensures.kept
-    c.shut.ensures.count idle)))
+    (no_fault K.tells_stops K.rows K.tried K.faults c.args.path.now c.in-Ok.book _ s m s' c.in-Ok.ensures.opened c.shut.ensures.kept
+    c.shut.ensures.others c.shut.ensures.count idle)))

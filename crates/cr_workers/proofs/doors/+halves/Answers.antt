@@ -1,9 +1,17 @@
+use borrow.Author.Rules.{rules}
+use denote.Param
+use denote.Param.Send.{IsSend, IsSync, sendable}
 use Rattle.std.proofs.Common.{◌∙◌, map, ap, subst}
+use Rattle.std.proofs.Crossing.{crosses}
+use Rattle.cr_lock.proofs.lock.HistoryLock.TheSendSync as locks
+use Rattle.cr_lock.proofs.pass.Pass.TheSendSync as passes
+use Rattle.cr_log.proofs.log.Log.TheSendSync as logs
 use Rattle.cr_lock.specs.Passes.{larger_half, smaller_half}
 use Rattle.cr_session.specs.Passing.{KnownPass}
 use Rattle.cr_workers.specs.Connections.{streams_of}
 use Rattle.cr_workers.specs.Doors.{door_of, ServesDoors}
 use Rattle.cr_workers.proofs.Halves.{map-append, doors-unasked, doors-both}
+use Rattle.cr_view.proofs.live.Live.TheSendSync as lives
 use Rattle.cr_workers.proofs.doors.+halves.Goals as goal
 
 pub returns-in-Err-clause-serves : goal.returns-in-Err-clause-serves
@@ -29,3 +37,18 @@ returns-clause-serves g t c =
     rw c.and.ensures (rw c.join.ensures.both (rw before (rw after
     (doors-both streams one.2 other.2 (map seen front) (map seen one.1.items) (map seen back)
     (map seen other.1.items) c.args.pass one.0 other.0 first second c.join.ensures.agree))))
+
+-- ---- what may go to another thread: a book may, though it has a snapshot, of which no struct is found out by itself
+
+pub join-one-requires-send-F : goal.join-one-requires-send-F
+join-one-requires-send-F g t c κs within =
+    let r : IsSync (Param.param 0 g.row.R) = search (rules, c.requires-raw) parts 8 in
+    let k : IsSend (Param.param 1 g.row.K) = search (rules, c.requires-raw) parts 8 in
+    let d : IsSend (Param.param 2 g.row.D) = search (rules, c.requires-raw) parts 8 in
+    search (crosses, passes.the_send, locks.the_sync, lives.the_send, logs.the_send, sendable) depth 60 fits 200000
+
+pub join-one-requires-send-A : goal.join-one-requires-send-A
+join-one-requires-send-A g t c κs within =
+    let k : IsSend (Param.param 1 g.row.K) = search (rules, c.requires-raw) parts 8 in
+    let d : IsSend (Param.param 2 g.row.D) = search (rules, c.requires-raw) parts 8 in
+    search (crosses, passes.the_send, lives.the_send, logs.the_send, sendable) depth 60 fits 200000

@@ -51,6 +51,6 @@ returns-in_default-clause-answered g c =
     let same = ap (λ (v : SeenBook g.row.K.Denot). v.log) c.self.view_is in
     or-plans c.answer.result (answer u (view u c.args.self.now.log) q)
     (subst (λ (due : Reply). AnswersAsDue c.answer.result due)
-    (answered-by_view g.K.Keeper.rows c.self.inside.log.entries c.self.inside.live.tables c.self.inside.keeper u q c.self.invariant
+    (answered-by_view g.K.Keeper.rows c.self.inside.log.entries c.self.inside.live.tables c.self.inside.keeper u q c.self.invariant.0
     ∙ ap (λ (h : History). answer u (view u h) q) same)
     c.answer.ensures.answered)

@@ -25,7 +25,7 @@ returns-in-Ok g c =
     let q = queries.Search c.args.search.now c.args.only_count in
     let t = c.self.inside.live.tables in
     let same = ap (λ (v : SeenBook g.row.K.Denot). v.log) c.self.view_is in
-    let due = answered-by_view g.K.Keeper.rows c.self.inside.log.entries t c.self.inside.keeper u q c.self.invariant
+    let due = answered-by_view g.K.Keeper.rows c.self.inside.log.entries t c.self.inside.keeper u q c.self.invariant.0
     ∙ ap (λ (h : History). answer u (view u h) q) same in
     subst (λ (reply : Reply). AnswersAsDue (Ok c.in-Ok.reply) reply) due
     (c.in-Ok.ensures, searched-no_refusal t u c.args.search.now c.args.only_count)
@@ -36,7 +36,7 @@ returns-in-Err g c =
     let q = queries.Search c.args.search.now c.args.only_count in
     let t = c.self.inside.live.tables in
     let same = ap (λ (v : SeenBook g.row.K.Denot). v.log) c.self.view_is in
-    let due = answered-by_view g.K.Keeper.rows c.self.inside.log.entries t c.self.inside.keeper u q c.self.invariant
+    let due = answered-by_view g.K.Keeper.rows c.self.inside.log.entries t c.self.inside.keeper u q c.self.invariant.0
     ∙ ap (λ (h : History). answer u (view u h) q) same in
     subst (λ (reply : Reply). AnswersAsDue (Err errors.OutOfMemory) reply) due
     (searched-no_refusal t u c.args.search.now c.args.only_count)

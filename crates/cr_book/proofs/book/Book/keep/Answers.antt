@@ -1,4 +1,4 @@
-use Rattle.std.proofs.Common.{◌≡◌, ◌∙◌, ◌++◌, List, ap, sym, subst}
+use Rattle.std.proofs.Common.{◌≡◌, ◌∙◌, ◌++◌, List, Ok, Err, ap, sym, subst}
 use Rattle.cr_base.specs.declared.row.Row.{Row}
 use Rattle.cr_base.specs.History.{History}
 use Rattle.cr_base.specs.Rows.{rows_of}
@@ -6,8 +6,12 @@ use Rattle.cr_base.specs.Tables.{Tables, tables_from}
 use Rattle.cr_log.specs.Given.{MayFollow}
 use Rattle.cr_policy.specs.Legal.{Legal}
 use Rattle.cr_ports.specs.Keeping.{and_rows}
+use Rattle.cr_book.specs.declared.book.BookError.TheVariants as errors
+use Rattle.cr_book.specs.Sound.{IsSound}
 use Rattle.cr_book.specs.Seen.{SeenBook}
+use Rattle.cr_book.specs.Stopping.{Adding, AddsOne}
 use Rattle.cr_book.proofs.BookLaws.{sound-step}
+use Rattle.cr_book.proofs.StopLaws.{kept_adds, kept_step, refused_adds, refused_step}
 use Rattle.cr_book.proofs.book.Book.keep.Given.{Over}
 use Rattle.cr_book.proofs.book.Book.keep.Goals as goal
 
@@ -24,13 +28,90 @@ grown g c =
     ∙ ap (λ (h : History). h ++ c.in-Ok-copies_of.entries.items) c.room-2.ensures.same
     ∙ ap (λ (h : History). c.self.inside.log.entries ++ h) (c.in-Ok-copies_of.ensures ∙ c.deref-2.ensures.value)
 
-pub invariant_of-self-2 : goal.invariant_of-self-2
-invariant_of-self-2 g c =
+added-rows : (g : Over) (c : goal.After-drop-rows-2 g) → c.deref-5.result.now ≡ rows_of c.args.group.items
+added-rows g c = c.deref-5.ensures.value ∙ c.in-Ok.ensures ∙ ap rows_of c.deref.ensures.value
+
+sound : (g : Over) (c : goal.After-drop-rows-2 g)
+    → IsSound g.K.Keeper.rows c.append.new.self.entries c.apply_all.new.self.tables c.append_all.new.self
+sound g c =
     let same = ap (λ (v : SeenBook g.row.K.Denot). v.log) c.self.view_is in
     let legal = subst (λ (x : History). Legal x) (ap (λ (h : History). h ++ c.args.group.items) (sym same)) c.requires.legal in
     sound-step g.K.Keeper.rows c.self.inside.log.entries c.append.new.self.entries c.args.group.items c.self.inside.live.tables c.apply_all.new.self.tables c.self.inside.keeper c.append_all.new.self
-    c.self.invariant
+    c.self.invariant.0
     legal
     (grown g c)
     (c.apply_all.ensures.after ∙ ap (λ (t : Tables). tables_from t c.args.group.items) c.room.ensures.same)
-    (c.in-Ok-append_all.ensures.kept ∙ ap (λ (rs : List Row). and_rows (g.K.Keeper.rows c.self.inside.keeper) rs) (c.deref-5.ensures.value ∙ c.in-Ok.ensures ∙ ap rows_of c.deref.ensures.value))
+    (c.in-Ok-append_all.ensures.kept ∙ ap (λ (rs : List Row). and_rows (g.K.Keeper.rows c.self.inside.keeper) rs) (added-rows g c))
+
+pub invariant_of-self-2 : goal.invariant_of-self-2
+invariant_of-self-2 g c =
+    let K = g.K.Keeper in
+    let inside = c.self.inside in
+    let same = ap (λ (v : SeenBook g.row.K.Denot). v.log) c.self.view_is in
+    kept_step K.rows K.tried K.moment K.left_since K.opens K.tells_stops K.rows_told inside.opened.value inside.keeper c.append_all.new.self
+    inside.log.entries c.args.group.items c.deref-5.result.now inside.live.tables (added-rows g c) c.self.invariant
+    (subst (λ (h : History). AddsOne h c.args.group.items) (sym same) c.requires.adds)
+    c.append_all.ensures.stops c.append_all.ensures.between
+    c.append.new.self.entries c.apply_all.new.self.tables (sound g c) (grown g c) c.in-Ok-append_all.ensures.tried
+
+pub invariant_of-self-in-Err-Failed : goal.invariant_of-self-in-Err-Failed
+invariant_of-self-in-Err-Failed g c =
+    let K = g.K.Keeper in
+    let inside = c.self.inside in
+    let same = ap (λ (v : SeenBook g.row.K.Denot). v.log) c.self.view_is in
+    refused_step K.rows K.tried K.moment K.left_since K.opens K.tells_stops K.rows_told inside.opened.value inside.keeper c.append_all.new.self
+    inside.log.entries c.args.group.items c.deref-5.result.now inside.live.tables
+    (c.deref-5.ensures.value ∙ c.in-Ok.ensures ∙ ap rows_of c.deref.ensures.value) c.self.invariant
+    (subst (λ (h : History). AddsOne h c.args.group.items) (sym same) c.requires.adds)
+    c.append_all.ensures.stops c.append_all.ensures.between
+    c.room-2.new.self.entries c.room.new.self.tables c.room-2.ensures.same c.room.ensures.same c.in-Err-Failed.ensures.refused c.in-Err-Failed.ensures.tried
+
+pub invariant_of-self-in-Err-OutOfMemory : goal.invariant_of-self-in-Err-OutOfMemory
+invariant_of-self-in-Err-OutOfMemory g c =
+    let K = g.K.Keeper in
+    let inside = c.self.inside in
+    let same = ap (λ (v : SeenBook g.row.K.Denot). v.log) c.self.view_is in
+    refused_step K.rows K.tried K.moment K.left_since K.opens K.tells_stops K.rows_told inside.opened.value inside.keeper c.append_all.new.self
+    inside.log.entries c.args.group.items c.deref-5.result.now inside.live.tables
+    (c.deref-5.ensures.value ∙ c.in-Ok.ensures ∙ ap rows_of c.deref.ensures.value) c.self.invariant
+    (subst (λ (h : History). AddsOne h c.args.group.items) (sym same) c.requires.adds)
+    c.append_all.ensures.stops c.append_all.ensures.between
+    c.room-2.new.self.entries c.room.new.self.tables c.room-2.ensures.same c.room.ensures.same c.in-Err-OutOfMemory.ensures.refused c.in-Err-OutOfMemory.ensures.tried
+
+pub returns-clause-stops : goal.returns-clause-stops
+returns-clause-stops g c = λ told.
+    let K = g.K.Keeper in
+    let inside = c.self.inside in
+    let same = ap (λ (v : SeenBook g.row.K.Denot). v.log) c.self.view_is in
+    subst (λ (v : SeenBook g.row.K.Denot). Adding K.rows K.tried K.moment K.left_since K.opens (Ok (tt {0})) v.log c.args.group.items v.keeper c.append_all.new.self)
+    c.self.view_is
+    (kept_adds K.rows K.tried K.moment K.left_since K.opens K.tells_stops K.rows_told inside.opened.value inside.keeper c.append_all.new.self
+    inside.log.entries c.args.group.items c.deref-5.result.now inside.live.tables (added-rows g c) c.self.invariant
+    (subst (λ (h : History). AddsOne h c.args.group.items) (sym same) c.requires.adds)
+    c.append_all.ensures.stops c.append_all.ensures.between c.in-Ok-append_all.ensures.tried told)
+
+pub returns-in-Err-Failed-clause-stops : goal.returns-in-Err-Failed-clause-stops
+returns-in-Err-Failed-clause-stops g c = λ told.
+    let K = g.K.Keeper in
+    let inside = c.self.inside in
+    let same = ap (λ (v : SeenBook g.row.K.Denot). v.log) c.self.view_is in
+    subst (λ (v : SeenBook g.row.K.Denot). Adding K.rows K.tried K.moment K.left_since K.opens {T = Unit {0}} (Err errors.KeeperFault) v.log c.args.group.items v.keeper c.append_all.new.self)
+    c.self.view_is
+    (refused_adds K.rows K.tried K.moment K.left_since K.opens K.tells_stops K.rows_told inside.opened.value inside.keeper c.append_all.new.self
+    inside.log.entries c.args.group.items c.deref-5.result.now inside.live.tables
+    (c.deref-5.ensures.value ∙ c.in-Ok.ensures ∙ ap rows_of c.deref.ensures.value) c.self.invariant
+    (subst (λ (h : History). AddsOne h c.args.group.items) (sym same) c.requires.adds)
+    c.append_all.ensures.stops c.append_all.ensures.between errors.KeeperFault c.in-Err-Failed.ensures.tried told)
+
+pub returns-in-Err-OutOfMemory-clause-stops : goal.returns-in-Err-OutOfMemory-clause-stops
+returns-in-Err-OutOfMemory-clause-stops g c = λ told.
+    let K = g.K.Keeper in
+    let inside = c.self.inside in
+    let same = ap (λ (v : SeenBook g.row.K.Denot). v.log) c.self.view_is in
+    subst (λ (v : SeenBook g.row.K.Denot). Adding K.rows K.tried K.moment K.left_since K.opens {T = Unit {0}} (Err errors.OutOfMemory) v.log c.args.group.items v.keeper c.append_all.new.self)
+    c.self.view_is
+    (refused_adds K.rows K.tried K.moment K.left_since K.opens K.tells_stops K.rows_told inside.opened.value inside.keeper c.append_all.new.self
+    inside.log.entries c.args.group.items c.deref-5.result.now inside.live.tables
+    (c.deref-5.ensures.value ∙ c.in-Ok.ensures ∙ ap rows_of c.deref.ensures.value) c.self.invariant
+    (subst (λ (h : History). AddsOne h c.args.group.items) (sym same) c.requires.adds)
+    c.append_all.ensures.stops c.append_all.ensures.between errors.OutOfMemory c.in-Err-OutOfMemory.ensures.tried told)

@@ -1,10 +1,28 @@
+use Rattle.std.proofs.Common.{subst, sym}
+use Rattle.cr_book.specs.Stopping.{StopsWell}
+use Rattle.cr_book.proofs.StopLaws.{opened_well, spelled_kept}
 use Rattle.cr_book.proofs.StoreLaws.{opens-book, opens-not}
 use Rattle.cr_book.proofs.book.Book.open.Goals as goal
 
 pub returns-in-Ok-clause-exact : goal.returns-in-Ok-clause-exact
 returns-in-Ok-clause-exact g c =
-    opens-book (g.K.Keeper.rows c.args.keeper) (record { log = c.in-Ok.log.entries; keeper = c.read_all.new.keeper }) c.in-Ok.ensures.legal.0 c.in-Ok.ensures.spelled
+    opens-book (g.K.Keeper.rows c.args.keeper) (record { log = c.in-Ok.log.entries; keeper = c.read_all.new.keeper; opened = c.args.keeper }) c.in-Ok.ensures.legal.0 c.in-Ok.ensures.spelled
 
 pub returns-in-Err-clause-exact : goal.returns-in-Err-clause-exact
 returns-in-Err-clause-exact g c =
     opens-not (g.K.Keeper.rows c.args.keeper) c.in-Err.error c.read_all.new.keeper c.in-Err.ensures.bad
+
+pub invariant_of-result : goal.invariant_of-result
+invariant_of-result g c =
+    let K = g.K.Keeper in
+    let log = c.in-Ok.log.entries in (
+      record {
+        legal = c.in-Ok.ensures.legal.0;
+        same = c.in-Ok.ensures.legal.1;
+        kept = spelled_kept (K.rows c.args.keeper) (K.rows c.read_all.new.keeper) log c.in-Ok.ensures.same c.in-Ok.ensures.spelled;
+      },
+      λ told.
+          subst (λ (k : g.row.K.Denot). StopsWell K.rows K.tried K.moment K.left_since K.opens k c.read_all.new.keeper log) (sym c.of-opened.ensures)
+          (opened_well K.rows K.tried K.moment K.left_since K.opens c.args.keeper c.read_all.new.keeper log (K.rows_told told c.args.keeper)
+          c.in-Ok.ensures.legal.0 c.in-Ok.ensures.spelled (c.in-Ok.ensures.still told) (c.in-Ok.ensures.between told)),
+    )

@@ -12,6 +12,6 @@ returns g c =
     let book = c.self.inside in
     subst (λ (sights : View). IfOk c.view_len.result (λ n. n ≡ length sights))
     (ap (λ (log : History). sights (reader_in book.live.tables user) [] log) c.entries.ensures
-    ∙ view-by_tables g.K.Keeper.rows book.log.entries book.live.tables book.keeper user c.self.invariant
+    ∙ view-by_tables g.K.Keeper.rows book.log.entries book.live.tables book.keeper user c.self.invariant.0
     ∙ ap (λ (b : SeenBook g.row.K.Denot). view user b.log) c.self.view_is)
     c.view_len.ensures

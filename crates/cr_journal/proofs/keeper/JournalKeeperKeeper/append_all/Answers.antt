@@ -1,8 +1,9 @@
-use Rattle.std.proofs.Common.{◌∷◌}
+use Rattle.std.proofs.Common.{◌∷◌, List, subst, sym}
+use Rattle.cr_base.specs.declared.row.Row.{Row}
 use Rattle.cr_journal.specs.Keeping.{OpensTo}
 use Rattle.cr_journal.specs.Standing.{doubted}
 use Rattle.cr_journal.proofs.Keeping.{among_rest, opens_wider, stops_between}
-use Rattle.cr_journal.proofs.Moments.{started}
+use Rattle.cr_ports.proofs.StopLaws.{started}
 use Rattle.cr_journal.proofs.keeper.JournalKeeperKeeper.append_all.Goals as goal
 
 pub returns-in-Err-clause-any_moment : goal.returns-in-Err-clause-any_moment
@@ -17,3 +18,16 @@ returns-in-Err-clause-any_moment g c = λ told.
     (λ f left. opens_wider rows before (group ∷ before) f (among_rest group before)
     (stops_between g.D.Disk.seen g.D.Disk.may_leave inside.journal rows doubt (c.self.invariant.1 told) f
     (g.met.D.Disk.only_now inside.journal.disk f left))))
+
+pub returns-in-Ok-clause-between : goal.returns-in-Ok-clause-between
+returns-in-Ok-clause-between g c = λ told image left.
+    let k = c.keep_group.new in
+    stops_between g.D.Disk.seen g.D.Disk.may_leave k.journal k.rows.items k.doubt.items (c.keep_group.ensures.keeps told) image
+    (g.met.D.Disk.only_now k.journal.disk image left)
+
+pub returns-in-Err-clause-between : goal.returns-in-Err-clause-between
+returns-in-Err-clause-between g c = λ told image left.
+    let inside = c.self.inside in
+    subst (λ (rows : List Row). OpensTo rows (doubted inside.journal.in_doubt inside.doubt.items) image) (sym c.prepare.ensures.same)
+    (stops_between g.D.Disk.seen g.D.Disk.may_leave inside.journal inside.rows.items inside.doubt.items (c.self.invariant.1 told) image
+    (g.met.D.Disk.only_now inside.journal.disk image left))

@@ -2,7 +2,7 @@ use Rattle.std.proofs.Common.{[], ◌∷◌, inl, refl, ap, length, ◌+◌}
 use Rattle.std.proofs.lemmas.Result.{err_from_is_err_and}
 use Rattle.cr_journal.specs.Gates.{IsKeptOrOneMore}
 use Rattle.cr_journal.proofs.Calls.{staged, still_open, opened_now, shut_still}
-use Rattle.cr_journal.proofs.Moments.{and_then}
+use Rattle.cr_ports.proofs.StopLaws.{and_then}
 use Rattle.cr_journal.proofs.Whole.{not_both, while_shut, while_open}
 use Rattle.cr_journal.proofs.state.Journal.append.Goals as goal
 

@@ -1,7 +1,7 @@
 use Rattle.std.proofs.Common.{inl, refl}
 use Rattle.cr_journal.specs.Gates.{IsKeptOrOneMore}
 use Rattle.cr_journal.specs.Standing.{doubted}
-use Rattle.cr_journal.proofs.Moments.{started}
+use Rattle.cr_ports.proofs.StopLaws.{started}
 use Rattle.cr_journal.proofs.Calls.{shut_opens, closed_again, still_open}
 use Rattle.cr_journal.proofs.Whole.{in_doubt, not_both, while_open}
 use Rattle.cr_journal.proofs.state.Journal.make_ready.Goals as goal

@@ -10,12 +10,12 @@ join_seat-requires g c = let r = c.one.invariant in let o = c.other.invariant in
           ∙ (c.requires.1 ∙ sym (ap (λ l. l.lock) c.self.view_is)),
       o.0,
       omega arith,
-      joins _ _ _ _ _ _ _ r.1 o.1 (omega arith) (omega arith),
+      joins _ _ _ _ _ _ _ _ r.1 o.1 (omega arith) (omega arith),
     )
 
 pub load-requires : goal.load-requires
 load-requires g c = let j = c.join_seat.ensures.2 in let words = c.self.invariant.0 in (
   c.join_seat.ensures.0 ∙ (ap (λ p. p.lock) c.one.view_is ∙ (c.requires.0 ∙ sym (ap (λ l. l.lock) c.self.view_is))),
   omega arith,
-  settles _ _ _ _ _ _ _ _ _ _ (ap (λ m. m.0.activity) j) (ap (λ m. m.1) j ∙ c.one.invariant.0),
+  settles _ _ _ _ _ _ _ _ _ _ _ (ap (λ m. m.0.activity) j) (ap (λ m. m.1) j ∙ c.one.invariant.0),
 )
