@@ -2,3 +2,4 @@ pub mod Disk
 pub mod Past
 pub mod Held
 pub mod Paths
+pub mod Plain

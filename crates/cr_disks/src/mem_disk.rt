@@ -82,7 +82,7 @@ fn overwrite(bytes: &mut [u8], at: usize, piece: &[u8])
 }
 
 /// Puts the piece over what stands at `at` and behind it, and past the end, for which there is room.
-fn put_over(bytes: &mut Vec<u8>, at: usize, piece: &[u8])
+pub(crate) fn put_over(bytes: &mut Vec<u8>, at: usize, piece: &[u8])
     requires inside { at ≤ length bytes.old.items }
     requires room { vec_len bytes.old + length piece.now ≤ vec_capacity bytes.old }
     ensures holds { Holds bytes.old.items at piece.now bytes.new.items }
@@ -95,7 +95,7 @@ fn put_over(bytes: &mut Vec<u8>, at: usize, piece: &[u8])
 }
 
 /// Copies the front of `from` to that of `to`, as much as both have.
-fn copy_front(from: &[u8], to: &mut [u8]) -> usize
+pub(crate) fn copy_front(from: &[u8], to: &mut [u8]) -> usize
     requires from { 0 < length from.now }
     requires to { 0 < length to.old }
     ensures some { (0 < result) × (result ≤ length from.now) × (result ≤ length to.old) }
@@ -107,7 +107,7 @@ fn copy_front(from: &[u8], to: &mut [u8]) -> usize
 }
 
 /// Appends the piece, for which there is room.
-fn append_within(bytes: &mut Vec<u8>, piece: &[u8])
+pub(crate) fn append_within(bytes: &mut Vec<u8>, piece: &[u8])
     requires { vec_len bytes.old + length piece.now ≤ vec_capacity bytes.old }
     ensures items { bytes.new.items ≡ bytes.old.items ++ piece.now }
     ensures len { vec_len bytes.new ≡ vec_len bytes.old + length piece.now }

@@ -1,0 +1,8 @@
+-- A disk in memory that keeps no record.
+use Rattle.std.specs.Prelude.{ℕ, List}
+
+-- its bytes, for how many more it has room, and the faults that it has counted
+pub record PlainHeld : Type 0 where
+  pub bytes : List ℕ
+  pub room : ℕ
+  pub faults : ℕ
