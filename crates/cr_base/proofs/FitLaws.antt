@@ -8,7 +8,7 @@ use Rattle.std.proofs.lemmas.Bool.Decides.{nat_tests}
 use Rattle.std.proofs.lemmas.List.{append-nil, length-map}
 use Rattle.cr_base.specs.History.{FormTold}
 use Rattle.cr_base.specs.declared.command.Command.{Command}
-use Rattle.cr_base.specs.declared.command.Command.TheVariants.{Register, SetPhase, Submit, Revise, Upload, Withdraw, Name, SetMode, SetConflict, Bid, Assign, Unassign, Review, Comment, Tag, Decide, SetDeadline, Dismiss, Invite, Uninvite}
+use Rattle.cr_base.specs.declared.command.Command.TheVariants.{Register, SetPhase, Submit, Revise, Upload, Withdraw, Name, SetMode, SetConflict, Bid, Assign, Unassign, Review, Comment, Tag, Decide, SetDeadline, Dismiss, Invite, Uninvite, Respond}
 use Rattle.cr_base.specs.declared.entry.Account.{Account}
 use Rattle.cr_base.specs.declared.entry.Entry.TheVariants.{Registered, Named}
 use Rattle.cr_base.specs.declared.entry.Stamp.{Stamp}
@@ -19,10 +19,10 @@ use Rattle.cr_base.specs.Accounts.{number_at, lines_of, chair_count}
 use Rattle.cr_base.specs.Calls.{call_by, maker_of}
 use Rattle.cr_base.specs.Checks.{NamedPaper, of_role, register_checks, phase_checks, deadline_checks, submit_checks, revise_checks, upload_checks}
 use Rattle.cr_base.specs.Checks.{name_checks, mode_checks, conflict_checks, bid_checks, assign_checks, unassign_checks, target_is}
-use Rattle.cr_base.specs.Checks.{review_checks, comment_checks, tag_checks, decide_checks, dismiss_checks, invite_checks, uninvite_checks}
+use Rattle.cr_base.specs.Checks.{review_checks, respond_checks, comment_checks, tag_checks, decide_checks, dismiss_checks, invite_checks, uninvite_checks}
 use Rattle.cr_base.specs.Drawn.{Drawn, grouped, registration, registration_drawn, phase_drawn, submission_drawn, revision_drawn, upload_drawn}
 use Rattle.cr_base.specs.Drawn.{withdrawal_drawn, naming_drawn, mode_drawn, conflict_drawn, bid_drawn, assignment_drawn, unassignment_drawn, review_drawn, comment_drawn, tag_drawn, decision_drawn, deadline_drawn}
-use Rattle.cr_base.specs.Drawn.{dismissal_drawn, invitation_drawn, uninvitation_drawn}
+use Rattle.cr_base.specs.Drawn.{dismissal_drawn, invitation_drawn, uninvitation_drawn, response_drawn}
 use Rattle.cr_base.specs.Invites.{is_invited_in}
 use Rattle.cr_base.specs.Judging.{judge_by_role}
 use Rattle.cr_base.specs.Sources.{Facts, own_forms_in, standing_at, facts_of_tables, shown_in_tables, user_among, users_among, role_among, has_paper, paper_named, target_named}
@@ -33,7 +33,7 @@ use Rattle.cr_base.specs.Reviews.{forms_in, is_written_in, written_told}
 use Rattle.cr_base.specs.Seats.{labels_in, ordinal_in}
 use Rattle.cr_base.specs.Stage.{is_late_in}
 use Rattle.cr_base.specs.TagTexts.{is_for_chairs}
-use Rattle.cr_base.specs.Talk.{comments_in, comment_as_told, own_comments_in}
+use Rattle.cr_base.specs.Talk.{comments_in, comment_as_told, own_comments_in, response_in}
 use Rattle.cr_base.specs.Tables.{Tables, FitInTurn}
 use Rattle.cr_base.specs.Ties.{authors_in, AreWithin}
 use Rattle.cr_base.specs.Words.{is_member}
@@ -64,9 +64,9 @@ target-in t target asked h = target_within t.accounts target (sym (ap is_none (r
 
 -- ---- the seat of the user named
 
-pub none-where : (seat : Option ℕ) → is_some seat ≡ false → seat ≡ None
+pub none-where : {A : Type 0} (found : Option A) → is_some found ≡ false → found ≡ None
 none-where None h = refl
-none-where (Some ordinal) h = absurd (true≢false h)
+none-where (Some x) h = absurd (true≢false h)
 
 pub some-where : (seat : Option ℕ) → is_some seat ≡ true → seat ≡ Some (unwrap_or seat 0)
 some-where None h = absurd (true≢false (sym h))
@@ -278,3 +278,11 @@ module _ (t : Tables) (within : AreWithin (paper_count t.papers) t.ties) (stamp 
       (uninvitation_drawn stamp (unwrap_or paper 0) (unwrap_or target 0)) drawn accepted in
       let there = paper_within t.papers.papers paper k.0.0 in
       subst (λ (d : Drawn). FitInTurn t d.group) k.1 (record { accounts = target-in t target _ k.0.1.0; papers = there; ties = tt; seats = tt; reviews = tt; talk = tt }, tt)
+  judged-fits (Respond paper text) drawn accepted =
+      let p : ℕ = unwrap_or paper 0 in
+      let k = judged-Ok
+      (respond_checks (standing_at t (Some maker) paper) (named paper) (is_some (response_in t.talk p)) late)
+      (response_drawn stamp p text) drawn accepted in
+      let there = paper_within t.papers.papers paper k.0.0 in
+      subst (λ (d : Drawn). FitInTurn t d.group) k.1
+      (record { accounts = tt; papers = there; ties = tt; seats = tt; reviews = tt; talk = none-where (response_in t.talk p) k.0.1.1.1.1.1.0 }, tt)

@@ -10,7 +10,7 @@ use Rattle.std.specs.Option.{option_map}
 use Rattle.std.specs.Prelude.{find}
 use Rattle.cr_base.specs.Words.{phases, modes, named_roles, review_kinds, decisions}
 use Rattle.cr_base.specs.Keys.{IsKeyOrNone, last_command_number}
-use Rattle.cr_base.specs.Shapes.{stamp_in, key_in, FitsShape, HasText, InRange, IsAtMost, unused}
+use Rattle.cr_base.specs.Shapes.{stamp_in, key_in, FitsShape, HasText, InRange, IsWithin, IsWithinBut, IsAtMost, unused}
 use Rattle.cr_base.specs.Rows.{kind_number, key_number, key_mark, number_or_zero, numbered_from_one, until_number, until_numbered, shape_of, kind_of, row_of, built, restored, stamped_by}
 use Rattle.cr_base.specs.Rows.{IsBoundedEntry}
 use Rattle.cr_base.specs.declared.entry.EntryKind.{EntryKind}
@@ -24,13 +24,14 @@ use Rattle.cr_base.specs.declared.words.Decision.TheVariants.{Accept, Reject}
 use Rattle.cr_base.specs.declared.words.Kind.{Kind}
 use Rattle.cr_base.specs.declared.words.Kind.TheVariants.{Primary, Secondary, Pc}
 use Rattle.cr_base.specs.declared.words.Phase.{Phase}
-use Rattle.cr_base.specs.declared.words.Phase.TheVariants.{Setup, Submission, Bidding, Reviewing, Discussion, Notification, Closed}
+use Rattle.cr_base.specs.declared.words.Phase.TheVariants.{Setup, Submission, Bidding, Reviewing, Response, Discussion, Notification, Closed}
 use Rattle.cr_base.specs.declared.words.Mode.{Mode}
 use Rattle.cr_base.specs.declared.words.Mode.TheVariants.{Overt, Blind, Anonymous}
 use Rattle.cr_base.specs.declared.words.Role.{Role}
 use Rattle.cr_base.specs.declared.words.Role.TheVariants.{Account, Member, Chair}
 use Rattle.cr_base.specs.declared.retry.RetryKey.{RetryKey}
 use Rattle.cr_base.specs.declared.row.Row.{Row}
+use Rattle.cr_base.specs.declared.shape.Gap.{Gap}
 use Rattle.cr_base.specs.declared.shape.Range.{Range}
 use Rattle.cr_base.specs.declared.shape.Shape.{Shape}
 use Rattle.cr_base.specs.declared.shape.TextKind.{TextKind}
@@ -58,6 +59,7 @@ phase_numbered-number Setup = refl
 phase_numbered-number Submission = refl
 phase_numbered-number Bidding = refl
 phase_numbered-number Reviewing = refl
+phase_numbered-number Response = refl
 phase_numbered-number Discussion = refl
 phase_numbered-number Notification = refl
 phase_numbered-number Closed = refl
@@ -152,8 +154,13 @@ plain_to (Some high) n = cond (high == 0) 0 (cond (high == 1) (cond (n == 1) 1 0
 abbrev plain : Range → ℕ → ℕ
 plain range n = plain_to range.high n
 
+-- a number of the range is between its ends
+within : (gap : Option Gap) (range : Range) (n : ℕ) → IsWithinBut gap range n → IsWithin range n
+within None range n h = h
+within (Some gap) range n h = h.0
+
 plain-is : (range : Range) (n : ℕ) → InRange range n → plain range n ≡ n
-plain-is range n h = by range.high h.1
+plain-is range n h = let ends = within range.gap range n h in by range.high ends.1
   where
     by : (high : Option ℕ) → IsAtMost high n → plain_to high n ≡ n
     by None h = refl

@@ -22,7 +22,7 @@ use Rattle.cr_base.specs.declared.review.ReviewLine.{ReviewLine}
 use Rattle.cr_base.specs.declared.search.Step.{Step}
 use Rattle.cr_base.specs.declared.standing.Standing.{Standing}
 use Rattle.cr_base.specs.Checks.{Check, judged, of_there, page_checks, content_checks, reviews_checks, comments_checks}
-use Rattle.cr_base.specs.Checks.{reads_all_forms}
+use Rattle.cr_base.specs.Checks.{response_checks, reads_all_forms}
 use Rattle.cr_base.specs.Deadlines.{deadlines_told}
 use Rattle.cr_base.specs.Decisions.{is_published}
 use Rattle.cr_base.specs.History.{Upload, BidTold, SeatTold, FormTold, CommentTold}
@@ -30,6 +30,7 @@ use Rattle.cr_base.specs.Labels.{by_labels, most_labels}
 use Rattle.cr_base.specs.Lists.{listed, last, at_some}
 use Rattle.cr_base.specs.Logins.{query_wants_login}
 use Rattle.cr_base.specs.Page.{is_clear_member, is_clear_chair, shows_reviewer, shows_writer, where_told, page_of}
+use Rattle.cr_base.specs.Phases.{authors_read_reviews}
 use Rattle.cr_base.specs.Plans.{planned_papers, planned_members, best_plan, is_too_large, plan_checks, plan_reply}
 use Rattle.cr_base.specs.Reports.{report_checks, report_told}
 use Rattle.cr_base.specs.Searching.{PaperTold, is_found, found_paper}
@@ -95,9 +96,12 @@ query_checks facts shown (queries.Page paper) =
 query_checks facts shown (queries.Content paper) = content_asked facts shown paper None
 query_checks facts shown (queries.Version paper version) = content_asked facts shown paper (Some version)
 query_checks facts shown (queries.Reviews paper) =
-    reviews_checks (facts.standing paper) (of_there (has_paper facts paper))
+    reviews_checks (facts.standing paper) facts.had_response (of_there (has_paper facts paper))
 query_checks facts shown (queries.Comments paper) =
     comments_checks (facts.standing paper) (of_there (has_paper facts paper))
+query_checks facts shown (queries.Response paper) =
+    response_checks (facts.standing paper) (of_there (has_paper facts paper))
+    (is_some (option_and_then shown.response paper))
 query_checks facts shown (queries.Report report) = report_checks facts report
 query_checks facts shown (queries.Plan per_paper load) = plan_asked facts shown per_paper
 
@@ -149,14 +153,19 @@ review_told by accounts named user label form = record {
   version = where_told (not by.author) form.version;
 }
 
--- the reviews that one who stands so to the paper is told: authors the last form of each label; from the discussion on
--- members the forms that are discussed; and before it a reviewer her own, without her name
+-- the form of a label that authors who stand so to the paper are told: from the notification on the last, and before it
+-- the last that was written before the response
+abbrev pub authors_form : Shown → Standing → ℕ → ℕ → Option FormTold
+authors_form shown by p o = if authors_read_reviews by.phase then shown.last_form p o else shown.early_form p o
+
+-- the reviews that one who stands so to the paper is told: authors one form of each label; from the discussion on
+-- members the forms that are discussed; and else a reviewer her own, without her name
 abbrev pub reviews_by : Facts → Shown → ℕ → List ReviewLine
 reviews_by facts shown p =
     let by = facts.standing (Some p) in
     let told = λ (named : Bool) (o : ℕ) (forms : List FormTold).
     map (review_told by facts.accounts named (shown.assigned p o) o) forms in
-    if by.author then by_labels (λ (o : ℕ). told (shows_reviewer by) o (listed (shown.last_form p o))) most_labels
+    if by.author then by_labels (λ (o : ℕ). told (shows_reviewer by) o (listed (authors_form shown by p o))) most_labels
     else (if reads_all_forms by
     then by_labels (λ (o : ℕ). told (shows_reviewer by) o (shown.forms_discussed p o)) most_labels
     else told false (unwrap_or (facts.own_ordinal p) 0) (facts.own_forms p))
@@ -173,6 +182,10 @@ comment_line by accounts comment = record {
 
 abbrev pub comments_by : Facts → Shown → ℕ → List CommentLine
 comments_by facts shown p = map (comment_line (facts.standing (Some p)) facts.accounts) (shown.comments p)
+
+-- what the paper's authors responded
+abbrev pub response_by : Shown → Option ℕ → List ℕ
+response_by shown paper = unwrap_or (option_and_then shown.response paper) []
 
 -- ---- the accepted papers
 
@@ -219,6 +232,11 @@ abbrev pub comments_answered : Reply → List CommentLine
 comments_answered (replies.Comments lines) = lines
 comments_answered _ = []
 
+-- a text is answered
+abbrev pub tells_response : Reply → Bool
+tells_response (replies.Response text) = true
+tells_response _ = false
+
 -- what a caller is told of a paper, as the terms of a search ask
 abbrev pub told_of_paper : Facts → Shown → Option ℕ → ℕ → PaperTold
 told_of_paper facts shown caller p = record {
@@ -229,6 +247,8 @@ told_of_paper facts shown caller p = record {
       (judged (query_checks facts shown (queries.Reviews (Some p))) (replies.Reviews (reviews_by facts shown p))));
   comments = comments_answered (reply_or_rule
       (judged (query_checks facts shown (queries.Comments (Some p))) (replies.Comments (comments_by facts shown p))));
+  responded = tells_response (reply_or_rule
+      (judged (query_checks facts shown (queries.Response (Some p))) (replies.Response (response_by shown (Some p)))));
 }
 
 -- the papers that a search finds, by number, with what it tells of each
@@ -257,6 +277,7 @@ told_by facts shown caller (queries.Version paper version) =
     replies.Content (unwrap_or (content_by facts shown paper (Some version)) [])
 told_by facts shown caller (queries.Reviews paper) = replies.Reviews (reviews_by facts shown (unwrap_or paper 0))
 told_by facts shown caller (queries.Comments paper) = replies.Comments (comments_by facts shown (unwrap_or paper 0))
+told_by facts shown caller (queries.Response paper) = replies.Response (response_by shown paper)
 told_by facts shown caller (queries.Search search only_count) = search_told facts shown caller search only_count
 told_by facts shown caller (queries.Report report) = replies.Report (report_told facts shown report)
 told_by facts shown caller (queries.Plan per_paper load) = plan_reply (best_plan facts shown per_paper load)

@@ -3,7 +3,7 @@
 use Rattle.std.specs.Prelude.{ℕ, ◌≡◌, ◌≤◌, length, IsTrue}
 use Rattle.cr_base.specs.declared.command.Command.{Command}
 use Rattle.cr_base.specs.declared.command.Command.TheVariants.{Register, Submit, Revise, Upload}
-use Rattle.cr_base.specs.declared.command.Command.TheVariants.{Name, Bid, Review, Comment, Tag, SetDeadline}
+use Rattle.cr_base.specs.declared.command.Command.TheVariants.{Name, Bid, Review, Respond, Comment, Tag, SetDeadline}
 use Rattle.cr_base.specs.declared.form.Form.{Form}
 use Rattle.cr_base.specs.Deadlines.{IsDeadlineOrNone}
 use Rattle.cr_base.specs.Phases.{may_have_deadline}
@@ -30,6 +30,7 @@ IsBoundedCommand (Upload paper content) = IsContent content
 IsBoundedCommand (Name user role) = IsTrue (is_member role)
 IsBoundedCommand (Bid paper value) = value ≤ 40
 IsBoundedCommand (Review paper form) = IsForm form
+IsBoundedCommand (Respond paper text) = IsCommentText text
 IsBoundedCommand (Comment paper text) = IsCommentText text
 IsBoundedCommand (Tag paper tag on) = IsTrue (is_tag tag)
 IsBoundedCommand (SetDeadline phase until) = IsTrue (may_have_deadline phase) × IsDeadlineOrNone until

@@ -14,7 +14,8 @@ use Rattle.cr_base.specs.Decisions.{is_published}
 use Rattle.cr_base.specs.Page.{is_admitted}
 use Rattle.cr_base.specs.Phases.{is_from, is_next, mode_may_be_set, accepts_submissions, papers_may_change}
 use Rattle.cr_base.specs.Phases.{authors_have_declared, conflicts_are_final, roles_are_final, committee_works}
-use Rattle.cr_base.specs.Phases.{bids_are_taken, reviews_are_written, comments_are_written, decisions_are_made}
+use Rattle.cr_base.specs.Phases.{bids_are_taken, reviews_are_written, responses_are_written, comments_are_written}
+use Rattle.cr_base.specs.Phases.{decisions_are_made, members_read_responses}
 use Rattle.cr_base.specs.Phases.{members_see_papers, reviewers_read_own, members_read_reviews, members_read_comments}
 use Rattle.cr_base.specs.Phases.{authors_read_reviews, externals_read_own}
 use Rattle.cr_base.specs.Words.{role_number, is_member, is_chair}
@@ -318,6 +319,17 @@ review_checks by paper late =
     ∷ paper.withdrawn breaks rules.Withdrawn
     ∷ []
 
+-- respond: and whether the paper has a response, and whether it is too late
+abbrev pub respond_checks : Standing → NamedPaper → Bool → Bool → List Check
+respond_checks by paper responded late =
+    not paper.there breaks rules.NoPaper
+    ∷ not by.author breaks rules.NotAuthor
+    ∷ not (responses_are_written by.phase) breaks rules.WrongPhase
+    ∷ late breaks rules.Late
+    ∷ paper.withdrawn breaks rules.Withdrawn
+    ∷ responded breaks rules.AlreadyResponded
+    ∷ []
+
 -- comment: and how many comments the caller has written, and whether it is too late
 abbrev pub comment_checks : Standing → NamedPaper → ℕ → Bool → List Check
 comment_checks by paper own late =
@@ -349,8 +361,8 @@ decide_checks by paper =
     ∷ paper.withdrawn breaks rules.Withdrawn
     ∷ []
 
--- all forms that the committee discusses are a member's to read, and her own are a reviewer's: a member's in reviewing,
--- an external's from then on
+-- all forms that the committee discusses are a member's to read, and her own are a reviewer's: a member's before the
+-- discussion, an external's from the reviewing on
 abbrev pub reads_all_forms : Standing → Bool
 reads_all_forms by = is_member by.role && members_read_reviews by.phase
 
@@ -358,12 +370,12 @@ abbrev pub reads_own_forms : Standing → Bool
 reads_own_forms by =
     by.reviewer && (reviewers_read_own by.phase || (by.external && externals_read_own by.phase))
 
--- a paper's reviews: authors from the notification; others are in no conflict with it, and members from the discussion,
--- or review it
-abbrev pub reviews_checks : Standing → NamedPaper → List Check
-reviews_checks by paper =
+-- a paper's reviews: authors from the notification, and before it where the response was opened; others are in no
+-- conflict with it, and members from the discussion, or review it
+abbrev pub reviews_checks : Standing → Bool → NamedPaper → List Check
+reviews_checks by opened paper =
     not paper.there breaks rules.NoPaper
-    ∷ (by.author && not (authors_read_reviews by.phase)) breaks rules.WrongPhase
+    ∷ (by.author && not (authors_read_reviews by.phase || opened)) breaks rules.WrongPhase
     ∷ not (by.author || is_admitted by) breaks rules.NotMember
     ∷ (not by.author && by.conflicted) breaks rules.Conflict
     ∷ not (by.author || reads_all_forms by || reads_own_forms by) breaks rules.WrongPhase
@@ -372,3 +384,14 @@ reviews_checks by paper =
 -- the comments on a paper
 abbrev pub comments_checks : Standing → NamedPaper → List Check
 comments_checks by paper = member_checks by paper ++ not (members_read_comments by.phase) breaks rules.WrongPhase ∷ []
+
+-- what a paper's authors responded: theirs at any time; others are members in no conflict with it, from the discussion
+-- on; and whether there is a response
+abbrev pub response_checks : Standing → NamedPaper → Bool → List Check
+response_checks by paper responded =
+    not paper.there breaks rules.NoPaper
+    ∷ not (by.author || is_member by.role) breaks rules.NotMember
+    ∷ (not by.author && by.conflicted) breaks rules.Conflict
+    ∷ not (by.author || members_read_responses by.phase) breaks rules.WrongPhase
+    ∷ not responded breaks rules.NoResponse
+    ∷ []

@@ -8,7 +8,7 @@ use Rattle.cr_base.specs.declared.deadline.Deadlines.{Deadlines}
 use Rattle.cr_base.specs.declared.deadline.PhaseDeadline.{PhaseDeadline}
 use Rattle.cr_base.specs.declared.words.Phase.{Phase}
 use Rattle.cr_base.specs.declared.words.Phase.TheVariants.{Setup, Submission, Bidding, Reviewing}
-use Rattle.cr_base.specs.declared.words.Phase.TheVariants.{Discussion, Notification, Closed}
+use Rattle.cr_base.specs.declared.words.Phase.TheVariants.{Response, Discussion, Notification, Closed}
 use Rattle.cr_base.specs.Lists.{listed}
 
 -- ---- what a deadline is
@@ -39,7 +39,8 @@ is_past (Some until) at = nat_lt until at
 
 -- no phase has one
 abbrev pub no_deadlines : Deadlines
-no_deadlines = record { submission = None; bidding = None; reviewing = None; discussion = None }
+no_deadlines =
+    record { submission = None; bidding = None; reviewing = None; response = None; discussion = None }
 
 -- the deadline of a phase, where it has one
 abbrev pub deadline_in : Deadlines → Phase → Option ℕ
@@ -47,6 +48,7 @@ deadline_in deadlines Setup = None
 deadline_in deadlines Submission = deadlines.submission
 deadline_in deadlines Bidding = deadlines.bidding
 deadline_in deadlines Reviewing = deadlines.reviewing
+deadline_in deadlines Response = deadlines.response
 deadline_in deadlines Discussion = deadlines.discussion
 deadline_in deadlines Notification = None
 deadline_in deadlines Closed = None
@@ -57,6 +59,7 @@ with_deadline Setup until deadlines = deadlines
 with_deadline Submission until deadlines = record deadlines { submission = until }
 with_deadline Bidding until deadlines = record deadlines { bidding = until }
 with_deadline Reviewing until deadlines = record deadlines { reviewing = until }
+with_deadline Response until deadlines = record deadlines { response = until }
 with_deadline Discussion until deadlines = record deadlines { discussion = until }
 with_deadline Notification until deadlines = deadlines
 with_deadline Closed until deadlines = deadlines
@@ -65,7 +68,7 @@ with_deadline Closed until deadlines = deadlines
 
 -- the phases that may have one, in the order of phases
 abbrev pub deadline_phases : List Phase
-deadline_phases = Submission ∷ Bidding ∷ Reviewing ∷ Discussion ∷ []
+deadline_phases = Submission ∷ Bidding ∷ Reviewing ∷ Response ∷ Discussion ∷ []
 
 -- a phase with its deadline
 abbrev pub phase_deadline : Phase → ℕ → PhaseDeadline

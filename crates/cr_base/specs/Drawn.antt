@@ -6,7 +6,7 @@ use Rattle.cr_base.specs.declared.entry.Entry.TheVariants.{Registered, Named, Ph
 use Rattle.cr_base.specs.declared.entry.Entry.TheVariants.{Coauthor, Revised, Uploaded, Withdrawn, Conflict}
 use Rattle.cr_base.specs.declared.entry.Entry.TheVariants.{Bid, Assigned, Unassigned, Reviewed}
 use Rattle.cr_base.specs.declared.entry.Entry.TheVariants.{Commented, Tagged, Decided, DeadlineSet}
-use Rattle.cr_base.specs.declared.entry.Entry.TheVariants.{Dismissed, Invited, Uninvited}
+use Rattle.cr_base.specs.declared.entry.Entry.TheVariants.{Dismissed, Invited, Uninvited, Responded}
 use Rattle.cr_base.specs.declared.entry.Stamp.{Stamp}
 use Rattle.cr_base.specs.declared.entry.Stamped.{Stamped}
 use Rattle.cr_base.specs.declared.reply.Receipt.{Receipt}
@@ -59,6 +59,7 @@ receipt_of name (DeadlineSet phase until) = receipts.Deadline phase until
 receipt_of name (Dismissed user) = receipts.Named name Account
 receipt_of name (Invited paper user) = receipts.Changed paper
 receipt_of name (Uninvited paper user) = receipts.Changed paper
+receipt_of name (Responded paper text) = receipts.Paper paper
 
 -- what a command draws that adds one entry, and changes nobody's role
 abbrev pub alone : Stamp → Entry → Drawn
@@ -150,3 +151,6 @@ invitation_drawn stamp paper user = alone stamp (Invited paper user)
 
 abbrev pub uninvitation_drawn : Stamp → ℕ → ℕ → Drawn
 uninvitation_drawn stamp paper user = alone stamp (Uninvited paper user)
+
+abbrev pub response_drawn : Stamp → ℕ → List ℕ → Drawn
+response_drawn stamp paper text = alone stamp (Responded paper text)

@@ -8,14 +8,14 @@ use Rattle.cr_base.specs.declared.entry.Entry.TheVariants.{Registered, Named, Ph
 use Rattle.cr_base.specs.declared.entry.Entry.TheVariants.{Coauthor, Revised, Uploaded, Withdrawn, Conflict}
 use Rattle.cr_base.specs.declared.entry.Entry.TheVariants.{Bid, Assigned, Unassigned, Reviewed}
 use Rattle.cr_base.specs.declared.entry.Entry.TheVariants.{Commented, Tagged, Decided, DeadlineSet}
-use Rattle.cr_base.specs.declared.entry.Entry.TheVariants.{Dismissed, Invited, Uninvited}
+use Rattle.cr_base.specs.declared.entry.Entry.TheVariants.{Dismissed, Invited, Uninvited, Responded}
 use Rattle.cr_base.specs.declared.entry.Stamped.{Stamped}
 use Rattle.cr_base.specs.declared.form.Form.{Form}
 use Rattle.cr_base.specs.declared.tag.SetTag.{SetTag}
 use Rattle.cr_base.specs.declared.words.Decision.{Decision}
 use Rattle.cr_base.specs.declared.words.Kind.{Kind}
 use Rattle.cr_base.specs.declared.words.Phase.{Phase}
-use Rattle.cr_base.specs.declared.words.Phase.TheVariants.{Discussion}
+use Rattle.cr_base.specs.declared.words.Phase.TheVariants.{Response, Discussion}
 use Rattle.cr_base.specs.declared.words.Mode.{Mode}
 use Rattle.cr_base.specs.declared.words.Role.{Role}
 use Rattle.cr_base.specs.declared.words.Role.TheVariants.{Account}
@@ -106,6 +106,10 @@ opens first _ = false
 abbrev pub opens_discussion : Stamped → Bool
 opens_discussion e = opens Discussion e.entry
 
+-- whether it opens the response
+abbrev pub opens_response : Stamped → Bool
+opens_response e = opens Response e.entry
+
 -- the paper that it makes
 abbrev pub paper_told : Entry → List ℕ
 paper_told (Submitted paper title abstract) = paper ∷ []
@@ -191,6 +195,11 @@ comment_told p maker _ = []
 abbrev pub own_comment_told : Option ℕ → ℕ → Entry → List ℕ
 own_comment_told u maker (Commented paper n ordinal text) = given (is_number u maker) n
 own_comment_told u maker _ = []
+
+-- what the paper's authors respond
+abbrev pub response_told : ℕ → Entry → List (List ℕ)
+response_told p (Responded paper text) = given (paper == p) text
+response_told p _ = []
 
 -- the tag that it turns on or off at the paper, where `maker` made it
 abbrev pub tag_told : ℕ → ℕ → Entry → List TagTold

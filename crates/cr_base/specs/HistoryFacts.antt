@@ -1,6 +1,6 @@
 -- Facts of a history: what it says of the conference, of its papers, and of a user.
 use Rattle.std.specs.Prelude.{ℕ, Bool, false, not, ◌||◌, ◌&&◌, ◌==◌, List, [], ◌++◌, Option}
-use Rattle.std.specs.Prelude.{length, map, Some, None, is_some, filter, find, fold}
+use Rattle.std.specs.Prelude.{length, map, Some, None, is_some, filter, find, fold, if◌then◌else◌}
 use Rattle.std.specs.List.{flat_map, list_any}
 use Rattle.std.specs.Option.{option_and_then}
 use Rattle.cr_base.specs.declared.entry.Stamped.{Stamped}
@@ -23,9 +23,9 @@ use Rattle.cr_base.specs.History.{all_told_by, phase_told, mode_told, deadline_t
 use Rattle.cr_base.specs.History.{own_paper_told, author_told, conflict_told, declared_told, title_told}
 use Rattle.cr_base.specs.History.{bid_told, ordinal_told, assigned_told, unassigned_told}
 use Rattle.cr_base.specs.History.{FormTold, CommentTold, TagTold, form_told, own_form_told, comment_told}
-use Rattle.cr_base.specs.History.{own_comment_told, tag_told, decision_told, opens_discussion}
+use Rattle.cr_base.specs.History.{own_comment_told, tag_told, decision_told, opens_discussion, opens_response}
 use Rattle.cr_base.specs.History.{abstract_told, upload_told, own_bytes_told, withdrawal_told}
-use Rattle.cr_base.specs.History.{registration_told, role_told, number_told, caller_told, invite_told}
+use Rattle.cr_base.specs.History.{registration_told, role_told, number_told, caller_told, invite_told, response_told}
 
 -- ---- PublicFacts
 
@@ -40,6 +40,10 @@ mode_of H = last_or Blind (all_told mode_told H)
 -- the deadline of a phase that was set last: none where none was, or it was taken away
 abbrev pub deadline_of : Phase → History → Option ℕ
 deadline_of phase H = last_or None (all_told (deadline_told phase) H)
+
+-- the response was opened
+abbrev pub had_response_of : History → Bool
+had_response_of H = list_any opens_response H
 
 -- the last role that the user was named to, where she wasn't dismissed since; else account
 abbrev pub role_of : Option ℕ → History → Role
@@ -142,7 +146,7 @@ assigned_under o seats =
 abbrev pub forms_of : ℕ → ℕ → History → List FormTold
 forms_of p o H = all_told (form_told p o) H
 
--- the last of them, which the paper's authors read
+-- the last of them, which the paper's authors read in the end
 abbrev pub last_form_of : ℕ → ℕ → History → Option FormTold
 last_form_of p o H = last (forms_of p o H)
 
@@ -150,6 +154,11 @@ last_form_of p o H = last (forms_of p o H)
 abbrev pub forms_discussed_of : ℕ → ℕ → History → List FormTold
 forms_discussed_of p o H =
     listed (last (forms_of p o (until opens_discussion H))) ++ forms_of p o (since opens_discussion H)
+
+-- the last that was written before the response was opened, to which the paper's authors respond: none where it never
+-- was
+abbrev pub early_form_of : ℕ → ℕ → History → Option FormTold
+early_form_of p o H = if had_response_of H then last (forms_of p o (until opens_response H)) else None
 
 -- there is one
 abbrev pub is_written : ℕ → ℕ → History → Bool
@@ -168,6 +177,10 @@ comments_of p H = all_told_by (comment_told p) H
 -- how many comments the user has written
 abbrev pub own_comments_of : Option ℕ → History → ℕ
 own_comments_of u H = length (all_told_by (own_comment_told u) H)
+
+-- what the paper's authors responded
+abbrev pub response_of : ℕ → History → Option (List ℕ)
+response_of p H = last (all_told (response_told p) H)
 
 -- what these turnings leave on
 abbrev pub tags_left : List TagTold → List SetTag

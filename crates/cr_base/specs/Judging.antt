@@ -8,7 +8,7 @@ use Rattle.cr_base.specs.declared.command.Command.{Command}
 use Rattle.cr_base.specs.declared.command.Command.TheVariants.{Register, SetPhase, Submit, Revise, Upload, Withdraw}
 use Rattle.cr_base.specs.declared.command.Command.TheVariants.{Name, SetMode, SetConflict, Bid, Assign, Unassign}
 use Rattle.cr_base.specs.declared.command.Command.TheVariants.{Review, Comment, Tag, Decide, SetDeadline}
-use Rattle.cr_base.specs.declared.command.Command.TheVariants.{Dismiss, Invite, Uninvite}
+use Rattle.cr_base.specs.declared.command.Command.TheVariants.{Dismiss, Invite, Uninvite, Respond}
 use Rattle.cr_base.specs.declared.entry.Stamp.{Stamp}
 use Rattle.cr_base.specs.declared.form.Form.{Form}
 use Rattle.cr_base.specs.declared.reply.Rule.{Rule}
@@ -19,13 +19,13 @@ use Rattle.cr_base.specs.Calls.{stamp_of}
 use Rattle.cr_base.specs.Checks.{judged, of_role, register_checks, phase_checks, deadline_checks}
 use Rattle.cr_base.specs.Checks.{submit_checks, revise_checks, upload_checks}
 use Rattle.cr_base.specs.Checks.{name_checks, mode_checks, conflict_checks, bid_checks, assign_checks, unassign_checks}
-use Rattle.cr_base.specs.Checks.{review_checks, comment_checks, tag_checks, decide_checks}
+use Rattle.cr_base.specs.Checks.{review_checks, respond_checks, comment_checks, tag_checks, decide_checks}
 use Rattle.cr_base.specs.Checks.{dismiss_checks, invite_checks, uninvite_checks}
 use Rattle.cr_base.specs.Drawn.{Drawn, registration_drawn, phase_drawn, submission_drawn, revision_drawn, upload_drawn}
 use Rattle.cr_base.specs.Drawn.{withdrawal_drawn, naming_drawn, mode_drawn, conflict_drawn}
 use Rattle.cr_base.specs.Drawn.{bid_drawn, assignment_drawn, unassignment_drawn}
 use Rattle.cr_base.specs.Drawn.{review_drawn, comment_drawn, tag_drawn, decision_drawn, deadline_drawn}
-use Rattle.cr_base.specs.Drawn.{dismissal_drawn, invitation_drawn, uninvitation_drawn}
+use Rattle.cr_base.specs.Drawn.{dismissal_drawn, invitation_drawn, uninvitation_drawn, response_drawn}
 use Rattle.cr_base.specs.Lists.{listed, at_some}
 use Rattle.cr_base.specs.Sources.{Facts, Shown, number_in, user_among, users_among, role_among}
 use Rattle.cr_base.specs.Sources.{paper_named, target_named, is_late, facts_of_tables, shown_in_tables}
@@ -96,13 +96,21 @@ uninvitation_judged facts shown stamp paper target =
     (target_named facts shown (Some stamp.maker) paper target) (at_some (shown.invited target) paper))
     (uninvitation_drawn stamp (unwrap_or paper 0) (unwrap_or target 0))
 
--- reviewing a paper, commenting on it, and turning a tag of it on or off
+-- reviewing a paper, responding to its reviews, commenting on it, and turning a tag of it on or off
 abbrev pub review_judged : Facts → Shown → Stamp → Option ℕ → Form → Result Drawn Rule
 review_judged facts shown stamp paper form =
     let p = unwrap_or paper 0 in
     judged
     (review_checks (facts.standing paper) (paper_named facts shown paper) (is_late facts stamp.at))
     (review_drawn stamp p (unwrap_or (facts.own_ordinal p) 0) (length (facts.own_forms p) + 1) form)
+
+abbrev pub response_judged : Facts → Shown → Stamp → Option ℕ → List ℕ → Result Drawn Rule
+response_judged facts shown stamp paper text =
+    let p = unwrap_or paper 0 in
+    judged
+    (respond_checks (facts.standing paper) (paper_named facts shown paper) (is_some (shown.response p))
+    (is_late facts stamp.at))
+    (response_drawn stamp p text)
 
 abbrev pub comment_judged : Facts → Shown → Stamp → Option ℕ → List ℕ → Result Drawn Rule
 comment_judged facts shown stamp paper text =
@@ -169,6 +177,7 @@ judge_by facts shown stamp (Invite paper name) =
     invitation_judged facts shown stamp paper (user_among facts.accounts name)
 judge_by facts shown stamp (Uninvite paper name) =
     uninvitation_judged facts shown stamp paper (user_among facts.accounts name)
+judge_by facts shown stamp (Respond paper text) = response_judged facts shown stamp paper text
 
 -- RoleAnswer of a command: the same by checks on the tables
 abbrev pub judge_by_role : Tables → Call → Result Drawn Rule

@@ -41,6 +41,8 @@ ask_wants_login asks.Review = true
 ask_wants_login asks.Reviews = true
 ask_wants_login asks.Comment = true
 ask_wants_login asks.Comments = true
+ask_wants_login asks.Respond = true
+ask_wants_login asks.Response = true
 ask_wants_login asks.Tag = true
 ask_wants_login asks.Untag = true
 ask_wants_login asks.Decide = true
@@ -84,6 +86,7 @@ command_ask (commands.SetDeadline phase until) = asks.SetDeadline
 command_ask (commands.Dismiss user) = asks.Dismiss
 command_ask (commands.Invite paper user) = asks.Invite
 command_ask (commands.Uninvite paper user) = asks.Uninvite
+command_ask (commands.Respond paper text) = asks.Respond
 
 abbrev pub report_ask : Report → Ask
 report_ask reports.Papers = asks.PapersReport
@@ -103,6 +106,7 @@ query_ask (queries.Content paper) = asks.Content
 query_ask (queries.Version paper version) = asks.Version
 query_ask (queries.Reviews paper) = asks.Reviews
 query_ask (queries.Comments paper) = asks.Comments
+query_ask (queries.Response paper) = asks.Response
 query_ask (queries.Search search only_count) = asks.Search
 query_ask (queries.Report report) = report_ask report
 query_ask (queries.Plan per_paper load) = asks.Plan

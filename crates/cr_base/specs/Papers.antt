@@ -6,7 +6,7 @@ use Rattle.std.specs.Option.{option_map, option_map_or}
 use Rattle.cr_base.specs.declared.entry.Entry.{Entry}
 use Rattle.cr_base.specs.declared.entry.Entry.TheVariants.{Submitted, Coauthor, Revised, Uploaded, Withdrawn, Conflict}
 use Rattle.cr_base.specs.declared.entry.Entry.TheVariants.{Bid, Assigned, Unassigned, Reviewed}
-use Rattle.cr_base.specs.declared.entry.Entry.TheVariants.{Commented, Tagged, Decided, Invited, Uninvited}
+use Rattle.cr_base.specs.declared.entry.Entry.TheVariants.{Commented, Tagged, Decided, Invited, Uninvited, Responded}
 use Rattle.cr_base.specs.declared.filed.Filed.{Filed}
 use Rattle.cr_base.specs.declared.paper.Paper.{Paper}
 use Rattle.cr_base.specs.Filed.{filed, with_filed, filed_of}
@@ -130,4 +130,5 @@ PapersFit state maker (Tagged paper tag on) = IsPaper state paper
 PapersFit state maker (Decided paper decision) = IsPaper state paper
 PapersFit state maker (Invited paper user) = IsPaper state paper
 PapersFit state maker (Uninvited paper user) = IsPaper state paper
+PapersFit state maker (Responded paper text) = IsPaper state paper
 PapersFit state maker _ = Unit {0}

@@ -1,21 +1,22 @@
 -- The order of phases, and what each opens and ends: a name for each, which everything else goes by (CoCon's phases:
--- a conference moves forward only; the HotCRP manual for what is done and seen in them).
+-- a conference moves forward only; the HotCRP manual for what is done and seen in them, and for the authors' response).
 use Rattle.std.specs.Prelude.{ℕ, Bool, not, ◌&&◌, ◌||◌, ◌==◌, ◌+◌, nat_le}
 use Rattle.cr_base.specs.declared.words.Phase.{Phase}
 use Rattle.cr_base.specs.declared.words.Phase.TheVariants.{Setup, Submission, Bidding, Reviewing}
-use Rattle.cr_base.specs.declared.words.Phase.TheVariants.{Discussion, Notification, Closed}
+use Rattle.cr_base.specs.declared.words.Phase.TheVariants.{Response, Discussion, Notification, Closed}
 
 -- ---- the order
 
--- the rank of a phase in the order
+-- the rank of a phase in the order, which is no number of rows: those count phases as they came into the server
 abbrev pub phase_rank : Phase → ℕ
 phase_rank Setup = 0
 phase_rank Submission = 1
 phase_rank Bidding = 2
 phase_rank Reviewing = 3
-phase_rank Discussion = 4
-phase_rank Notification = 5
-phase_rank Closed = 6
+phase_rank Response = 4
+phase_rank Discussion = 5
+phase_rank Notification = 6
+phase_rank Closed = 7
 
 -- the second phase is the first, or a later one
 abbrev pub is_from : Phase → Phase → Bool
@@ -25,9 +26,13 @@ is_from first phase = nat_le (phase_rank first) (phase_rank phase)
 abbrev pub is_phase : Phase → Phase → Bool
 is_phase phase other = phase_rank phase == phase_rank other
 
--- the second phase follows the first
+-- the response is skipped: a conference moves on from the reviewing to the discussion
+abbrev pub skips_response : Phase → Phase → Bool
+skips_response phase next = is_phase phase Reviewing && is_phase next Discussion
+
+-- the second phase may follow the first: it is the one behind it in the order, or the response between them is skipped
 abbrev pub is_next : Phase → Phase → Bool
-is_next phase next = phase_rank next == phase_rank phase + 1
+is_next phase next = phase_rank next == phase_rank phase + 1 || skips_response phase next
 
 -- ---- what is done
 
@@ -55,12 +60,12 @@ authors_have_declared phase = is_from Bidding phase
 abbrev pub conflicts_are_final : Phase → Bool
 conflicts_are_final phase = is_from Notification phase
 
--- nobody is named a member or a chair any more
+-- nobody is named a member or a chair, or dismissed, any more
 abbrev pub roles_are_final : Phase → Bool
 roles_are_final phase = is_from Notification phase
 
--- the committee works on the papers: chairs take conflicts back, assign and unassign reviewers and send bulks, and
--- members tag
+-- the committee works on the papers: chairs take conflicts back, assign and unassign reviewers, invite externals and
+-- take that back, and send bulks; and members tag
 abbrev pub committee_works : Phase → Bool
 committee_works phase = is_from Bidding phase && not (is_from Notification phase)
 
@@ -72,6 +77,10 @@ bids_are_taken phase = is_phase phase Bidding
 abbrev pub reviews_are_written : Phase → Bool
 reviews_are_written phase = is_phase phase Reviewing || is_phase phase Discussion
 
+-- authors respond to the reviews of their papers
+abbrev pub responses_are_written : Phase → Bool
+responses_are_written phase = is_phase phase Response
+
 -- members comment on papers
 abbrev pub comments_are_written : Phase → Bool
 comments_are_written phase = is_phase phase Discussion
@@ -82,11 +91,12 @@ decisions_are_made phase = is_phase phase Discussion
 
 -- ---- what the committee sees
 
--- members see the papers: titles and what is withdrawn, and without a conflict abstracts and contents
+-- members and externals see the papers: titles and what is withdrawn, and without a conflict abstracts and contents;
+-- externals nothing of those that they are in conflict with
 abbrev pub members_see_papers : Phase → Bool
 members_see_papers phase = is_from Bidding phase
 
--- chairs, and members where the mode lets them, see who wrote a paper
+-- chairs, and members and externals where the mode lets them, see who wrote a paper
 abbrev pub committee_sees_authors : Phase → Bool
 committee_sees_authors phase = is_from Bidding phase
 
@@ -116,7 +126,7 @@ members_see_reviewers phase = is_from Discussion phase
 
 -- a reviewer reads her own forms, and nobody else's yet
 abbrev pub reviewers_read_own : Phase → Bool
-reviewers_read_own phase = is_phase phase Reviewing
+reviewers_read_own phase = is_from Reviewing phase && not (is_from Discussion phase)
 
 -- an external who reviews a paper reads her own forms, and never another's
 abbrev pub externals_read_own : Phase → Bool
@@ -130,13 +140,21 @@ members_read_reviews phase = is_from Discussion phase
 abbrev pub members_read_comments : Phase → Bool
 members_read_comments phase = is_from Discussion phase
 
+-- members read what authors responded
+abbrev pub members_read_responses : Phase → Bool
+members_read_responses phase = is_from Discussion phase
+
 -- members read what was decided
 abbrev pub members_read_decisions : Phase → Bool
 members_read_decisions phase = is_from Discussion phase
 
 -- ---- what authors and everyone are told
 
--- authors read the reviews of their papers
+-- authors read of each label the last form that was written before the response, to which they respond
+abbrev pub authors_read_early_reviews : Phase → Bool
+authors_read_early_reviews phase = is_from Response phase
+
+-- authors read the reviews of their papers as they are in the end
 abbrev pub authors_read_reviews : Phase → Bool
 authors_read_reviews phase = is_from Notification phase
 

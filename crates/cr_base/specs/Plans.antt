@@ -1,5 +1,5 @@
--- Plans of assignments: so many more members for each paper and at most so many papers for each member, by what they bid
--- (paper assignment by preferences, as HotCRP's manual has it; which papers and members, and the text, are the
+-- Plans of assignments: so many more members for each paper and at most so many papers for each member, by what they
+-- bid (paper assignment by preferences, as HotCRP's manual has it; which papers and members, and the text, are the
 -- server's own). The plan told is defined over all plans that there are; nobody makes them all.
 use Rattle.std.specs.Prelude.{ℕ, Bool, not, ◌||◌, ◌&&◌, ◌+◌, ◌*◌, ◌==◌, nat_le, nat_lt, List, [], ◌∷◌, ◌++◌}
 use Rattle.std.specs.Prelude.{map, filter, find, count_by, decimal, codes, Option, Some, None, is_some, if◌then◌else◌}

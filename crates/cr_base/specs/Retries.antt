@@ -51,7 +51,8 @@ kept_of (Some user) H number = kept_call (accounts_of H) (kept_under user number
 abbrev pub repeated_receipt : Bool → KeptCall → Receipt
 repeated_receipt is_bulk kept = if is_bulk then receipts.Rows kept.entries else kept.receipt
 
--- what a command comes to: it repeats one that was accepted, and has this receipt; or it was judged
+-- what a command comes to: it repeats one that was accepted, and has this receipt; or it has this judgement, which is a
+-- refusal where its number is used
 pub data Outcome (E : Type 0) : Type 0 where
   Repeats : Receipt → Outcome E
   Judged : Result Drawn E → Outcome E

@@ -1,12 +1,14 @@
 -- The table of reviews: the forms that reviewers have written (the HotCRP manual's review form, with two texts),
 -- each with the phase in which it was.
-use Rattle.std.specs.Prelude.{ℕ, Bool, not, ◌≡◌, ◌+◌, ◌==◌, List, [], ◌++◌, length, map, filter, Option}
+use Rattle.std.specs.Prelude.{ℕ, Bool, not, ◌≡◌, ◌+◌, ◌==◌, List, [], ◌++◌, length, map, filter, Option, None}
+use Rattle.std.specs.Prelude.{if◌then◌else◌}
+use Rattle.std.specs.Option.{option_map}
 use Rattle.cr_base.specs.declared.entry.Entry.{Entry}
 use Rattle.cr_base.specs.declared.entry.Entry.TheVariants.{PhaseSet, Reviewed}
 use Rattle.cr_base.specs.declared.filed.Filed.{Filed}
 use Rattle.cr_base.specs.declared.review.WrittenForm.{WrittenForm}
 use Rattle.cr_base.specs.declared.words.Phase.{Phase}
-use Rattle.cr_base.specs.declared.words.Phase.TheVariants.{Setup, Discussion}
+use Rattle.cr_base.specs.declared.words.Phase.TheVariants.{Setup, Response, Discussion}
 use Rattle.cr_base.specs.Filed.{filed, with_filed, filed_of}
 use Rattle.cr_base.specs.History.{FormTold, whole_form}
 use Rattle.cr_base.specs.Lists.{is_nothing, last, listed}
@@ -62,6 +64,11 @@ written_told w = whole_form w.version w.form
 abbrev pub forms_discussed_in : ReviewsState → ℕ → ℕ → List FormTold
 forms_discussed_in reviews p o =
     map written_told (listed (last_form_before reviews p o Discussion) ++ forms_from reviews p o Discussion)
+
+-- the last that was written before the response, where the response was opened
+abbrev pub early_form_in : Bool → ReviewsState → ℕ → ℕ → Option FormTold
+early_form_in opened reviews p o =
+    if opened then option_map written_told (last_form_before reviews p o Response) else None
 
 -- ---- which entry may come next
 

@@ -8,7 +8,7 @@ use Rattle.cr_base.specs.declared.entry.Entry.TheVariants.{Registered, Named, Ph
 use Rattle.cr_base.specs.declared.entry.Entry.TheVariants.{Coauthor, Revised, Uploaded, Withdrawn, Conflict}
 use Rattle.cr_base.specs.declared.entry.Entry.TheVariants.{Bid, Assigned, Unassigned, Reviewed}
 use Rattle.cr_base.specs.declared.entry.Entry.TheVariants.{Commented, Tagged, Decided, DeadlineSet}
-use Rattle.cr_base.specs.declared.entry.Entry.TheVariants.{Dismissed, Invited, Uninvited}
+use Rattle.cr_base.specs.declared.entry.Entry.TheVariants.{Dismissed, Invited, Uninvited, Responded}
 use Rattle.cr_base.specs.declared.entry.Stamped.{Stamped}
 use Rattle.cr_base.specs.declared.retry.RetryKey.{RetryKey}
 use Rattle.cr_base.specs.declared.row.OldVersion.{OldVersion}
@@ -55,6 +55,7 @@ kind_number kind.DeadlineSet = 18
 kind_number kind.Dismissed = 19
 kind_number kind.Invited = 20
 kind_number kind.Uninvited = 21
+kind_number kind.Responded = 22
 
 -- the word for the kind: its name in lower case
 abbrev pub kind_name : EntryKind → List ℕ
@@ -79,6 +80,7 @@ kind_name kind.DeadlineSet = codes "deadlineset"
 kind_name kind.Dismissed = codes "dismissed"
 kind_name kind.Invited = codes "invited"
 kind_name kind.Uninvited = codes "uninvited"
+kind_name kind.Responded = codes "responded"
 
 -- the fields of each kind, a line a kind
 abbrev pub shape_of : EntryKind → Shape
@@ -105,6 +107,7 @@ shape_of kind.DeadlineSet = shape deadline_phase_range some_deadline_range unuse
 shape_of kind.Dismissed = shape user_range unused unused Nothing Nothing
 shape_of kind.Invited = shape paper_range user_range unused Nothing Nothing
 shape_of kind.Uninvited = shape paper_range user_range unused Nothing Nothing
+shape_of kind.Responded = shape paper_range unused unused CommentText Nothing
 
 -- the kind of an entry
 abbrev pub kind_of : Entry → EntryKind
@@ -129,6 +132,7 @@ kind_of (DeadlineSet phase until) = kind.DeadlineSet
 kind_of (Dismissed user) = kind.Dismissed
 kind_of (Invited paper user) = kind.Invited
 kind_of (Uninvited paper user) = kind.Uninvited
+kind_of (Responded paper text) = kind.Responded
 
 -- what a row tells of an entry beside its kind, its stamp and whether another follows
 pub record Fields : Type 0 where
@@ -205,6 +209,7 @@ fields_of (DeadlineSet phase until) = fields (phase_number phase) (until_number 
 fields_of (Dismissed user) = fields user 0 0 [] []
 fields_of (Invited paper user) = fields paper user 0 [] []
 fields_of (Uninvited paper user) = fields paper user 0 [] []
+fields_of (Responded paper text) = fields paper 0 0 text []
 
 -- the row of an entry
 abbrev pub row_of : Stamped → Row
@@ -266,6 +271,7 @@ built kind.DeadlineSet r =
 built kind.Dismissed r = Some (Dismissed r.n1)
 built kind.Invited r = Some (Invited r.n1 r.n2)
 built kind.Uninvited r = Some (Uninvited r.n1 r.n2)
+built kind.Responded r = Some (Responded r.n1 r.b1)
 
 -- an entry with the stamp that a row's fields spell, and whether the row says that another follows
 abbrev pub stamped_by : Row → Entry → Stamped

@@ -43,13 +43,15 @@ contains value (c ∷ text) = begins_alike value (c ∷ text) || contains value 
 -- ---- terms
 
 -- what the caller is told of a paper, as terms ask: its page; whether it is accepted, and she is in conflict with it;
--- and what she is answered where she asks for its reviews and its comments, nothing where a rule is broken
+-- what she is answered where she asks for its reviews and its comments, nothing where a rule is broken; and whether she
+-- is answered its authors' response
 pub record PaperTold : Type 0 where
   pub page : Page
   pub accepted : Bool
   pub conflicted : Bool
   pub reviews : List ReviewLine
   pub comments : List CommentLine
+  pub responded : Bool
 
 -- a text that is there has the value
 abbrev pub text_has : List ℕ → Option (List ℕ) → Bool
@@ -85,6 +87,7 @@ has_feature features.Content told =
     option_map_or (λ (versions : List ℕ). not (is_nothing versions)) told.page.versions false
 has_feature features.Review told = not (is_nothing told.reviews)
 has_feature features.Comment told = not (is_nothing told.comments)
+has_feature features.Response told = told.responded
 has_feature features.Decision told = option_map_or (λ (d : Option Decision). is_some d) told.page.decision false
 has_feature features.Conflict told = told.conflicted
 has_feature features.Mine told = is_some told.page.label

@@ -1,6 +1,8 @@
 -- What may stand in the fields of a row: ranges of numbers and grammars of bytes, which are the server's own
 -- (docs/STORE.md).
-use Rattle.std.specs.Prelude.{ℕ, ◌≡◌, ◌≤◌, ◌==◌, List, [], length, Option, Some, None, IsTrue, if◌then◌else◌}
+use Rattle.std.specs.Prelude.{ℕ, Bool, ◌≡◌, ◌≤◌, ◌==◌, ◌&&◌, nat_le, List, [], length, Option, Some, None}
+use Rattle.std.specs.Prelude.{IsTrue, IsFalse, if◌then◌else◌}
+use Rattle.cr_base.specs.declared.shape.Gap.{Gap}
 use Rattle.cr_base.specs.declared.shape.Range.{Range}
 use Rattle.cr_base.specs.declared.shape.Shape.{Shape}
 use Rattle.cr_base.specs.declared.shape.TextKind.{TextKind}
@@ -16,7 +18,7 @@ use Rattle.cr_base.specs.TagTexts.{is_tag}
 use Rattle.cr_base.specs.Texts.{IsName, IsTitle, IsAbstract, IsContent, IsReviewText, IsCommentText}
 
 abbrev pub range : ℕ → ℕ → Range
-range low high = record { low = low; high = Some high }
+range low high = record { low = low; high = Some high; gap = None }
 
 -- the numbers of users
 abbrev pub user_range : Range
@@ -26,9 +28,9 @@ user_range = range 1 9999
 abbrev pub paper_range : Range
 paper_range = range 1 9999
 
--- setup to closed
+-- setup to closed, and the response
 abbrev pub phase_range : Range
-phase_range = range 0 6
+phase_range = range 0 7
 
 -- open, blind and anonymous
 abbrev pub mode_range : Range
@@ -44,7 +46,7 @@ role_range = range 1 2
 
 -- the numbers of a paper's versions: from 1, with no greatest
 abbrev pub version_range : Range
-version_range = record { low = 1; high = None }
+version_range = record { low = 1; high = None; gap = None }
 
 -- bids, each plus 20: -20 to 20
 abbrev pub bid_range : Range
@@ -70,9 +72,9 @@ grade_range = range 1 5
 abbrev pub decision_range : Range
 decision_range = range 1 2
 
--- submission to discussion
+-- submission to discussion, and the response, whose number comes behind those of notification and closed
 abbrev pub deadline_phase_range : Range
-deadline_phase_range = range 1 4
+deadline_phase_range = record { low = 1; high = Some 7; gap = Some (record { first = 5; last = 6 }) }
 
 -- deadlines, and 0 where there is none
 abbrev pub some_deadline_range : Range
@@ -98,8 +100,20 @@ abbrev pub IsAtMost : Option ℕ → ℕ → Type 0
 IsAtMost None n = Unit {0}
 IsAtMost (Some high) n = n ≤ high
 
+-- it is between both ends of the range
+abbrev pub IsWithin : Range → ℕ → Type 0
+IsWithin r n = (r.low ≤ n) × IsAtMost r.high n
+
+abbrev pub is_in_gap : Gap → ℕ → Bool
+is_in_gap gap n = nat_le gap.first n && nat_le n gap.last
+
+-- and it isn't in the gap, where there is one
+abbrev pub IsWithinBut : Option Gap → Range → ℕ → Type 0
+IsWithinBut None r n = IsWithin r n
+IsWithinBut (Some gap) r n = IsWithin r n × IsFalse (is_in_gap gap n)
+
 abbrev pub InRange : Range → ℕ → Type 0
-InRange r n = (r.low ≤ n) × IsAtMost r.high n
+InRange r n = IsWithinBut r.gap r n
 
 -- the bytes that a field may hold
 abbrev pub HasText : TextKind → List ℕ → Type 0

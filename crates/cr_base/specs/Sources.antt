@@ -25,10 +25,11 @@ use Rattle.cr_base.specs.HistoryFacts.{assigned_under}
 use Rattle.cr_base.specs.Papers.{paper_numbers, title_at, abstract_at}
 use Rattle.cr_base.specs.Papers.{is_withdrawn_at, uploads_at, own_count, own_bytes}
 use Rattle.cr_base.specs.Tables.{Tables}
-use Rattle.cr_base.specs.Reviews.{last_form_in, forms_in, forms_discussed_in, is_written_in, written_told}
+use Rattle.cr_base.specs.Reviews.{last_form_in, early_form_in, forms_in, forms_discussed_in}
+use Rattle.cr_base.specs.Reviews.{is_written_in, written_told}
 use Rattle.cr_base.specs.Seats.{labels_in, reviewers_in, ordinal_in, seats_in}
 use Rattle.cr_base.specs.Tags.{tags_in}
-use Rattle.cr_base.specs.Talk.{comments_in, comment_as_told, own_comments_in}
+use Rattle.cr_base.specs.Talk.{comments_in, comment_as_told, own_comments_in, response_in}
 use Rattle.cr_base.specs.Words.{is_member}
 use Rattle.cr_base.specs.Ties.{authors_in, is_author_in, is_conflicted_in, bid_in, bids_in}
 
@@ -36,7 +37,7 @@ use Rattle.cr_base.specs.Ties.{authors_in, is_author_in, is_conflicted_in, bid_i
 -- who has registered; the papers;
 -- how many of them are the caller's, and how many bytes she has uploaded; her last bid on each, the ordinal
 -- under which she reviews it, and the forms that she has written of it, in order; how many comments she has
--- written; which papers are accepted; and until when what a phase opens may be done
+-- written; which papers are accepted; until when what a phase opens may be done; and whether the response was opened
 pub record Facts : Type 0 where
   pub standing : Option ℕ → Standing
   pub accounts : List AccountLine
@@ -49,13 +50,15 @@ pub record Facts : Type 0 where
   pub own_comments : ℕ
   pub accepted : ℕ → Bool
   pub deadline : Phase → Option ℕ
+  pub had_response : Bool
 
 -- what pages, contents and some rules tell of a paper beside the standing: its texts, its authors, who is declared in
 -- conflict with it, and whom its authors declared, both by user number; what was uploaded to it, in order; whether it
 -- is withdrawn; the last bids on it, by user number; its reviewers, by label, under which ordinal a user reviews it,
--- how many labels were given, and to whom each; whether a user is invited to it; of each label the last form, the
--- forms that the committee discusses, and whether there is one; the comments on it, by number; its tags that are for
--- a user, who may be a chair, by their bytes; and the last decision on it
+-- how many labels were given, and to whom each; whether a user is invited to it; of each label the last form, the last
+-- before the response, the forms that the committee discusses, and whether there is one; the comments on it, by number;
+-- what its authors responded; its tags that are for a user, who may be a chair, by their bytes; and the last decision
+-- on it
 pub record Shown : Type 0 where
   pub title : ℕ → Option (List ℕ)
   pub abstract_ : ℕ → Option (List ℕ)
@@ -71,9 +74,11 @@ pub record Shown : Type 0 where
   pub assigned : ℕ → ℕ → Option ℕ
   pub invited : Option ℕ → ℕ → Bool
   pub last_form : ℕ → ℕ → Option FormTold
+  pub early_form : ℕ → ℕ → Option FormTold
   pub forms_discussed : ℕ → ℕ → List FormTold
   pub written : ℕ → ℕ → Bool
   pub comments : ℕ → List CommentTold
+  pub response : ℕ → Option (List ℕ)
   pub tags : Option ℕ → Bool → ℕ → List (List ℕ)
   pub decision : ℕ → Option Decision
 
@@ -115,6 +120,7 @@ facts_of_tables t u = record {
   own_comments = own_comments_in t.talk u;
   accepted = is_accepted_in t;
   deadline = deadline_in t.stage.deadlines;
+  had_response = t.stage.had_response;
 }
 
 abbrev pub shown_in_tables : Tables → Shown
@@ -133,9 +139,11 @@ shown_in_tables t = record {
   assigned = λ p o. assigned_under o (seats_in t.seats p);
   invited = is_invited_in t.invites;
   last_form = λ p o. option_map written_told (last_form_in t.reviews p o);
+  early_form = early_form_in t.stage.had_response t.reviews;
   forms_discussed = forms_discussed_in t.reviews;
   written = is_written_in t.reviews;
   comments = λ p. map comment_as_told (comments_in t.talk p);
+  response = response_in t.talk;
   tags = tags_in t.tags;
   decision = decision_in t.decisions;
 }

@@ -15,7 +15,8 @@ use Rattle.cr_base.specs.Talk.{TalkState, no_talk, talk_after, TalkFit}
 use Rattle.cr_base.specs.Ties.{TiesState, no_ties, ties_after, TiesFit}
 
 -- the tables: the stage, the accounts by user number, the papers, who is tied to them, who reviews them, who is
--- invited to review them, what was written in reviews and in comments, the tags that are on, and the decisions
+-- invited to review them, what was written in reviews, in comments and in responses, the tags that are on, and the
+-- decisions
 pub record Tables : Type 0 where
   pub stage : StageState
   pub accounts : List Account

@@ -56,7 +56,7 @@ pub record IsReviewText (text : List ℕ) : Type 0 where
   pub few : length text ≤ 20000
   pub utf8 : IsTrue (is_utf8 text)
 
--- a comment: UTF-8, 1 to 10,000 bytes
+-- a comment, and an authors' response: UTF-8, 1 to 10,000 bytes
 pub record IsCommentText (text : List ℕ) : Type 0 where
   pub some : 1 ≤ length text
   pub few : length text ≤ 10000

@@ -6,7 +6,7 @@ use Rattle.std.specs.Prelude.{None, find, codes, ◌==◌, ◌+◌, ◌-◌, nat
 use Rattle.std.specs.Str.{bytes_eq}
 use Rattle.cr_base.specs.declared.words.Phase.{Phase}
 use Rattle.cr_base.specs.declared.words.Phase.TheVariants.{Setup, Submission, Bidding, Reviewing}
-use Rattle.cr_base.specs.declared.words.Phase.TheVariants.{Discussion, Notification, Closed}
+use Rattle.cr_base.specs.declared.words.Phase.TheVariants.{Response, Discussion, Notification, Closed}
 use Rattle.cr_base.specs.declared.words.Mode.{Mode}
 use Rattle.cr_base.specs.declared.words.Mode.TheVariants.{Overt, Blind, Anonymous}
 use Rattle.cr_base.specs.declared.words.Kind.{Kind}
@@ -24,19 +24,20 @@ phase_name Setup = codes "setup"
 phase_name Submission = codes "submission"
 phase_name Bidding = codes "bidding"
 phase_name Reviewing = codes "reviewing"
+phase_name Response = codes "response"
 phase_name Discussion = codes "discussion"
 phase_name Notification = codes "notification"
 phase_name Closed = codes "closed"
 
--- the phases
+-- the phases, in their order
 abbrev pub phases : List Phase
-phases = Setup ∷ Submission ∷ Bidding ∷ Reviewing ∷ Discussion ∷ Notification ∷ Closed ∷ []
+phases = Setup ∷ Submission ∷ Bidding ∷ Reviewing ∷ Response ∷ Discussion ∷ Notification ∷ Closed ∷ []
 
 -- the phase of a word
 abbrev pub phase_named : List ℕ → Option Phase
 phase_named name = find (λ phase. bytes_eq name (phase_name phase)) phases
 
--- a phase by its number in rows, which doesn't say which phase comes first
+-- a phase by its number in rows, which doesn't say which phase comes first: the response came into the server last
 abbrev pub phase_number : Phase → ℕ
 phase_number Setup = 0
 phase_number Submission = 1
@@ -45,6 +46,7 @@ phase_number Reviewing = 3
 phase_number Discussion = 4
 phase_number Notification = 5
 phase_number Closed = 6
+phase_number Response = 7
 
 -- the phase of a number in rows
 abbrev pub phase_numbered : ℕ → Option Phase
@@ -76,7 +78,7 @@ mode_number Anonymous = 2
 abbrev pub mode_numbered : ℕ → Option Mode
 mode_numbered n = find (λ mode. n == mode_number mode) modes
 
--- members other than chairs don't see who wrote
+-- externals, and members other than chairs, don't see who wrote
 abbrev pub is_anonymous : Mode → Bool
 is_anonymous Overt = false
 is_anonymous Blind = false

@@ -57,6 +57,10 @@ pub enum Ask {
     Comments,
     /// One more comment on a paper: POST of `/papers/{p}/comments`.
     Comment,
+    /// What a paper's authors responded: GET or HEAD of `/papers/{p}/response`.
+    Response,
+    /// That they respond: PUT of `/papers/{p}/response`.
+    Respond,
     /// A tag on a paper: PUT of `/papers/{p}/tags/{t}`.
     Tag,
     /// That a tag is on a paper no longer: DELETE of `/papers/{p}/tags/{t}`.
@@ -87,8 +91,8 @@ pub enum Ask {
 
 impl Ask {
     /// Whether it is a registered user's, so that nobody is answered `unauthorized`: every command but a registration,
-    /// a bulk, a paper's page, content, reviews and comments, searches, reports, plans, and what the caller is to the
-    /// conference. Page and content of a published paper want none, which only the history tells.
+    /// a bulk, a paper's page, content, reviews, response and comments, searches, reports, plans, and what the caller
+    /// is to the conference. Page and content of a published paper want none, which only the history tells.
     pub fn wants_login(self) -> bool
         ensures { result ≡ ask_wants_login self }
     {
@@ -100,9 +104,10 @@ impl Ask {
             Ask::Submit | Ask::Revise | Ask::Upload | Ask::Withdraw => true,
             Ask::Bid | Ask::Assign | Ask::Unassign => true,
             Ask::Dismiss | Ask::Invite | Ask::Uninvite => true,
-            Ask::Review | Ask::Comment | Ask::Tag | Ask::Untag | Ask::Decide => true,
+            Ask::Review | Ask::Respond | Ask::Comment => true,
+            Ask::Tag | Ask::Untag | Ask::Decide => true,
             Ask::Me | Ask::Page | Ask::Content | Ask::Version => true,
-            Ask::Reviews | Ask::Comments | Ask::Search => true,
+            Ask::Reviews | Ask::Response | Ask::Comments | Ask::Search => true,
             Ask::Bulk | Ask::PapersReport | Ask::ScoresReport | Ask::LoadReport => true,
             Ask::DecisionsReport | Ask::Letter | Ask::Plan => true,
         }

@@ -114,6 +114,13 @@ pub enum Command {
         /// What she writes.
         form: Form,
     },
+    /// The authors of a paper, of whom the caller is one, respond to its reviews.
+    Respond {
+        /// The paper told; None where what was told is no number of a paper.
+        paper: Option<PaperNo>,
+        /// What they write: UTF-8, 1 to 10,000 bytes.
+        text: Text,
+    },
     /// The caller comments on a paper.
     Comment {
         /// The paper told; None where what was told is no number of a paper.
@@ -139,7 +146,7 @@ pub enum Command {
     },
     /// A phase has another deadline, or none any more.
     SetDeadline {
-        /// The phase told: submission, bidding, reviewing or discussion.
+        /// The phase told: submission, bidding, reviewing, response or discussion.
         phase: Phase,
         /// Until when what the phase opens may be done; None where it is to have no deadline.
         until: Option<Deadline>,
@@ -218,6 +225,11 @@ pub enum Query {
         /// The paper told; None where what was told is no number of a paper.
         paper: Option<PaperNo>,
     },
+    /// What a paper's authors responded to its reviews.
+    Response {
+        /// The paper told; None where what was told is no number of a paper.
+        paper: Option<PaperNo>,
+    },
     /// The papers of which a search holds, among those whose title the caller is told.
     Search {
         /// The search.
@@ -266,6 +278,7 @@ impl Command {
             Command::Dismiss { .. } => Ask::Dismiss,
             Command::Invite { .. } => Ask::Invite,
             Command::Uninvite { .. } => Ask::Uninvite,
+            Command::Respond { .. } => Ask::Respond,
         }
     }
 
@@ -293,6 +306,7 @@ impl Query {
             Query::Version { .. } => Ask::Version,
             Query::Reviews { .. } => Ask::Reviews,
             Query::Comments { .. } => Ask::Comments,
+            Query::Response { .. } => Ask::Response,
             Query::Search { .. } => Ask::Search,
             Query::Report { report } => report.ask(),
             Query::Plan { .. } => Ask::Plan,

@@ -68,6 +68,8 @@ pub struct Deadlines {
     pub bidding: Option<Deadline>,
     /// That of reviewing.
     pub reviewing: Option<Deadline>,
+    /// That of the response.
+    pub response: Option<Deadline>,
     /// That of the discussion.
     pub discussion: Option<Deadline>,
 }
@@ -81,6 +83,7 @@ impl Deadlines {
             submission: None,
             bidding: None,
             reviewing: None,
+            response: None,
             discussion: None,
         }
     }
@@ -94,6 +97,7 @@ impl Deadlines {
             Phase::Submission => self.submission,
             Phase::Bidding => self.bidding,
             Phase::Reviewing => self.reviewing,
+            Phase::Response => self.response,
             Phase::Discussion => self.discussion,
             Phase::Notification => None,
             Phase::Closed => None,
@@ -109,6 +113,7 @@ impl Deadlines {
             Phase::Submission => self.submission = until,
             Phase::Bidding => self.bidding = until,
             Phase::Reviewing => self.reviewing = until,
+            Phase::Response => self.response = until,
             Phase::Discussion => self.discussion = until,
             Phase::Notification => {}
             Phase::Closed => {}

@@ -161,7 +161,7 @@ pub enum Entry {
     },
     /// A phase has another deadline from here on, or none. The last such entry on a phase counts.
     DeadlineSet {
-        /// The phase: submission, bidding, reviewing or discussion.
+        /// The phase: submission, bidding, reviewing, response or discussion.
         phase: Phase,
         /// Until when what the phase opens may be done; None where it has no deadline any more.
         until: Option<Deadline>,
@@ -184,6 +184,13 @@ pub enum Entry {
         paper: PaperNo,
         /// Whose invitation it was.
         user: UserNo,
+    },
+    /// A paper's authors have responded to its reviews, which they do once.
+    Responded {
+        /// The paper.
+        paper: PaperNo,
+        /// What they wrote: UTF-8, 1 to 10,000 bytes.
+        text: Text,
     },
 }
 
@@ -232,6 +239,8 @@ pub enum EntryKind {
     Invited,
     /// An [`Entry::Uninvited`].
     Uninvited,
+    /// An [`Entry::Responded`].
+    Responded,
 }
 
 /// What a command's entries have alike, beside what each says: who gave it, when, and by which number.
@@ -295,6 +304,7 @@ impl Entry {
             Entry::Dismissed { .. } => EntryKind::Dismissed,
             Entry::Invited { .. } => EntryKind::Invited,
             Entry::Uninvited { .. } => EntryKind::Uninvited,
+            Entry::Responded { .. } => EntryKind::Responded,
         }
     }
 
@@ -424,6 +434,10 @@ impl Entry {
             Entry::Uninvited { paper, user } => Ok(Entry::Uninvited {
                 paper: *paper,
                 user: *user,
+            }),
+            Entry::Responded { paper, text } => Ok(Entry::Responded {
+                paper: *paper,
+                text: text.copy()?,
             }),
         }
     }

@@ -1,7 +1,7 @@
 //! The order of phases, and what each opens and ends.
 ghost use Rattle.std.specs.Prelude.{◌≡◌, ◌≤◌};
 ghost use Rattle.cr_base.specs.Decisions.{is_published};
-ghost use Rattle.cr_base.specs.Phases.{phase_rank, is_from, is_phase, is_next};
+ghost use Rattle.cr_base.specs.Phases.{phase_rank, is_from, is_phase, skips_response, is_next};
 ghost use Rattle.cr_base.specs.Phases.{may_have_deadline, mode_may_be_set, accepts_submissions, papers_may_change};
 ghost use Rattle.cr_base.specs.Phases.{authors_have_declared, conflicts_are_final, roles_are_final};
 ghost use Rattle.cr_base.specs.Phases.{committee_works, bids_are_taken, reviews_are_written};
@@ -9,7 +9,8 @@ ghost use Rattle.cr_base.specs.Phases.{comments_are_written, decisions_are_made,
 ghost use Rattle.cr_base.specs.Phases.{committee_sees_authors, chairs_see_conflicts, members_see_own_bids};
 ghost use Rattle.cr_base.specs.Phases.{chairs_see_bids, committee_sees_tags, chairs_see_reviewers};
 ghost use Rattle.cr_base.specs.Phases.{members_see_reviewers, reviewers_read_own, externals_read_own};
-ghost use Rattle.cr_base.specs.Phases.{members_read_reviews};
+ghost use Rattle.cr_base.specs.Phases.{members_read_reviews, responses_are_written, members_read_responses};
+ghost use Rattle.cr_base.specs.Phases.{authors_read_early_reviews};
 ghost use Rattle.cr_base.specs.Phases.{members_read_comments, members_read_decisions, authors_read_reviews};
 ghost use Rattle.cr_base.specs.Phases.{authors_see_reviewers, authors_read_decisions, letters_are_sent};
 ghost use Rattle.cr_base.specs.Phases.{papers_may_be_accepted, papers_are_published};
@@ -21,16 +22,17 @@ impl Phase {
     /// Its rank in the order of phases, from 0.
     fn rank(self) -> u64
         ensures value { result ≡ phase_rank self }
-        ensures low { result ≤ 6 }
+        ensures low { result ≤ 7 }
     {
         match self {
             Phase::Setup => 0,
             Phase::Submission => 1,
             Phase::Bidding => 2,
             Phase::Reviewing => 3,
-            Phase::Discussion => 4,
-            Phase::Notification => 5,
-            Phase::Closed => 6,
+            Phase::Response => 4,
+            Phase::Discussion => 5,
+            Phase::Notification => 6,
+            Phase::Closed => 7,
         }
     }
 
@@ -48,11 +50,19 @@ impl Phase {
         first.rank() <= self.rank()
     }
 
-    /// Whether the phase told follows this one.
+    /// Whether the phase told may follow this one: it is the next in the order, or the discussion where this is the
+    /// reviewing, so that the response between them is skipped.
     pub fn is_before(self, next: Phase) -> bool
         ensures { result ≡ is_next self next }
     {
-        next.rank() == self.rank() + 1
+        next.rank() == self.rank() + 1 || self.skips_response(next)
+    }
+
+    /// Whether the response is skipped where the phase told follows this one.
+    fn skips_response(self, next: Phase) -> bool
+        ensures { result ≡ skips_response self next }
+    {
+        self.is(Phase::Reviewing) && next.is(Phase::Discussion)
     }
 }
 
@@ -100,15 +110,15 @@ impl Phase {
         self.is_from(Phase::Notification)
     }
 
-    /// Whether nobody is named a member or a chair any more.
+    /// Whether nobody is named a member or a chair, or dismissed, any more.
     pub fn roles_are_final(self) -> bool
         ensures { result ≡ roles_are_final self }
     {
         self.is_from(Phase::Notification)
     }
 
-    /// Whether the committee works on the papers: chairs take conflicts back, assign and unassign reviewers
-    /// and send bulks, and members tag.
+    /// Whether the committee works on the papers: chairs take conflicts back, assign and unassign reviewers, invite
+    /// externals and take that back, and send bulks; and members tag.
     pub fn committee_works(self) -> bool
         ensures { result ≡ committee_works self }
     {
@@ -129,6 +139,13 @@ impl Phase {
         self.is(Phase::Reviewing) || self.is(Phase::Discussion)
     }
 
+    /// Whether authors respond to the reviews of their papers.
+    pub fn responses_are_written(self) -> bool
+        ensures { result ≡ responses_are_written self }
+    {
+        self.is(Phase::Response)
+    }
+
     /// Whether members comment on papers.
     pub fn comments_are_written(self) -> bool
         ensures { result ≡ comments_are_written self }
@@ -146,15 +163,15 @@ impl Phase {
 
 /// What the committee sees.
 impl Phase {
-    /// Whether members see the papers: titles and what is withdrawn, and without a conflict abstracts and
-    /// contents.
+    /// Whether members and externals see the papers: titles and what is withdrawn, and without a conflict abstracts
+    /// and contents; externals nothing of those that they are in conflict with.
     pub fn members_see_papers(self) -> bool
         ensures { result ≡ members_see_papers self }
     {
         self.is_from(Phase::Bidding)
     }
 
-    /// Whether chairs, and members where the mode lets them, see who wrote a paper.
+    /// Whether chairs, and members and externals where the mode lets them, see who wrote a paper.
     pub fn committee_sees_authors(self) -> bool
         ensures { result ≡ committee_sees_authors self }
     {
@@ -207,7 +224,7 @@ impl Phase {
     pub fn reviewers_read_own(self) -> bool
         ensures { result ≡ reviewers_read_own self }
     {
-        self.is(Phase::Reviewing)
+        self.is_from(Phase::Reviewing) && !self.is_from(Phase::Discussion)
     }
 
     /// Whether an external who reviews a paper reads her own forms, and never another's.
@@ -231,6 +248,13 @@ impl Phase {
         self.is_from(Phase::Discussion)
     }
 
+    /// Whether members read what authors responded.
+    pub fn members_read_responses(self) -> bool
+        ensures { result ≡ members_read_responses self }
+    {
+        self.is_from(Phase::Discussion)
+    }
+
     /// Whether members read what was decided.
     pub fn members_read_decisions(self) -> bool
         ensures { result ≡ members_read_decisions self }
@@ -241,7 +265,14 @@ impl Phase {
 
 /// What authors and everyone are told.
 impl Phase {
-    /// Whether authors read the reviews of their papers.
+    /// Whether authors read of each label the last form that was written before the response, to which they respond.
+    pub fn authors_read_early_reviews(self) -> bool
+        ensures { result ≡ authors_read_early_reviews self }
+    {
+        self.is_from(Phase::Response)
+    }
+
+    /// Whether authors read the reviews of their papers as they are in the end.
     pub fn authors_read_reviews(self) -> bool
         ensures { result ≡ authors_read_reviews self }
     {

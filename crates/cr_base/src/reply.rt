@@ -10,7 +10,7 @@ use crate::me::Me;
 use crate::numbers::{Ordinal, PaperNo, UserNo};
 use crate::page::Page;
 use crate::review::ReviewLines;
-use crate::texts::{Blob, Short};
+use crate::texts::{Blob, Short, Text};
 use crate::words::{Mode, Phase, Role};
 
 /// A rule of the conference, broken by a command or a query.
@@ -42,8 +42,8 @@ pub enum Rule {
     /// conflict with it or takes that back, an external of the paper.
     NotAMember,
     /// The caller is no member of the committee, and bids, declares a conflict of her own, comments, tags, or asks for
-    /// comments; or she is no external of the paper either, and reviews it; or no author besides, and asks for its
-    /// reviews, or for its page or its content where it isn't accepted or published.
+    /// comments; or she is no author of the paper either, and asks for its response; or no external of it, and reviews
+    /// it; or neither, and asks for its reviews, or for its page or its content where it isn't accepted or published.
     NotMember,
     /// The caller is in conflict with the paper.
     Conflict,
@@ -91,6 +91,10 @@ pub enum Rule {
     NotInvited,
     /// The user named reviews the paper, and so stays invited to it.
     StillAssigned,
+    /// The paper's authors have responded to its reviews.
+    AlreadyResponded,
+    /// The paper's authors haven't responded to its reviews.
+    NoResponse,
 }
 
 /// What an accepted command is answered.
@@ -106,7 +110,7 @@ pub enum Receipt {
         /// The phase.
         phase: Phase,
     },
-    /// The paper submitted.
+    /// The paper submitted, or the one whose authors responded.
     Paper {
         /// Its number.
         paper: PaperNo,
@@ -221,6 +225,8 @@ pub enum Reply {
     Reviews(ReviewLines),
     /// The answer to `Query::Comments`.
     Comments(CommentLines),
+    /// The answer to `Query::Response`.
+    Response(Text),
     /// The answer to `Query::Search`: the papers that it finds.
     Found(FoundPapers),
     /// The answer to `Query::Search` where their number alone is asked for.

@@ -54,6 +54,7 @@ impl EntryKind {
             EntryKind::Dismissed => 19,
             EntryKind::Invited => 20,
             EntryKind::Uninvited => 21,
+            EntryKind::Responded => 22,
         }
     }
 
@@ -85,6 +86,7 @@ impl EntryKind {
             19 => Some(EntryKind::Dismissed),
             20 => Some(EntryKind::Invited),
             21 => Some(EntryKind::Uninvited),
+            22 => Some(EntryKind::Responded),
             _ => None,
         }
     }
@@ -115,6 +117,7 @@ impl EntryKind {
             EntryKind::Dismissed => "dismissed",
             EntryKind::Invited => "invited",
             EntryKind::Uninvited => "uninvited",
+            EntryKind::Responded => "responded",
         }
     }
 
@@ -167,6 +170,13 @@ impl EntryKind {
             EntryKind::Decided => Shape::of_numbers(PAPERS, DECISIONS, UNUSED),
             EntryKind::DeadlineSet => Shape::of_numbers(DEADLINE_PHASES, SOME_DEADLINES, UNUSED),
             EntryKind::Dismissed => Shape::of_numbers(USERS, UNUSED, UNUSED),
+            EntryKind::Responded => Shape::of(
+                PAPERS,
+                UNUSED,
+                UNUSED,
+                TextKind::CommentText,
+                TextKind::Nothing,
+            ),
         }
     }
 }
@@ -261,6 +271,7 @@ impl Entry {
             Entry::Dismissed { user } => RowNumbers::of(user.number(), 0, 0),
             Entry::Invited { paper, user } => RowNumbers::of(paper.number(), user.number(), 0),
             Entry::Uninvited { paper, user } => RowNumbers::of(paper.number(), user.number(), 0),
+            Entry::Responded { paper, .. } => RowNumbers::of(paper.number(), 0, 0),
         }
     }
 
@@ -285,6 +296,7 @@ impl Entry {
             Entry::Uploaded { content, .. } => RowBytes::of_blob(content),
             Entry::Reviewed { form, .. } => RowBytes::of_texts(&form.to_authors, &form.to_pc),
             Entry::Commented { text, .. } => RowBytes::of_text(text),
+            Entry::Responded { text, .. } => RowBytes::of_text(text),
             Entry::Tagged { tag, .. } => RowBytes::of_slice(alloc, tag.as_slice()),
             Entry::Named { .. }
             | Entry::PhaseSet { .. }
@@ -618,6 +630,10 @@ fn entry_from(kind: EntryKind, row: &Row) -> Result<Option<Entry>, AllocError>
         EntryKind::Uninvited => Ok(Some(Entry::Uninvited {
             paper: PaperNo::new(row.n1),
             user: UserNo::new(row.n2),
+        })),
+        EntryKind::Responded => Ok(Some(Entry::Responded {
+            paper: PaperNo::new(row.n1),
+            text: Text::from_blob(&row.b1)?,
         })),
     }
 }

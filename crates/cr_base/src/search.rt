@@ -27,6 +27,8 @@ pub enum Feature {
     Review,
     /// A comment.
     Comment,
+    /// Its authors' response.
+    Response,
     /// A decision.
     Decision,
     /// The caller's conflict.

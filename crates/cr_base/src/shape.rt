@@ -1,6 +1,7 @@
 //! What may stand in the fields of a row: ranges of numbers and grammars of bytes.
 ghost use Rattle.std.specs.Prelude.{◌≡◌, ◌↔◌, [], IsTrue};
-ghost use Rattle.cr_base.specs.Shapes.{FitsShape, FitsStamp, stamp_in, key_in, HasText, InRange, IsAtMost};
+ghost use Rattle.cr_base.specs.Shapes.{FitsShape, FitsStamp, stamp_in, key_in, HasText};
+ghost use Rattle.cr_base.specs.Shapes.{InRange, IsAtMost, IsWithin, is_in_gap};
 ghost use Rattle.cr_base.specs.Keys.{IsKeyOrNone};
 
 use crate::bid::HIGHEST_RAISED;
@@ -12,6 +13,15 @@ use crate::row::Row;
 use crate::tag::is_tag;
 use crate::texts::{is_abstract, is_comment, is_content, is_name, is_review_text, is_title};
 
+/// Numbers that a field may not hold, both ends among them.
+#[derive(Clone, Copy)]
+pub struct Gap {
+    /// The first.
+    pub first: u64,
+    /// The last.
+    pub last: u64,
+}
+
 /// The numbers that a field may hold, both ends among them.
 #[derive(Clone, Copy)]
 pub struct Range {
@@ -19,6 +29,8 @@ pub struct Range {
     pub low: u64,
     /// The greatest, where there is one.
     pub high: Option<u64>,
+    /// Those between that it may not hold, where there are some.
+    pub gap: Option<Gap>,
 }
 
 /// The bytes that a field may hold.
@@ -66,83 +78,103 @@ pub struct Shape {
 pub(crate) const USERS: Range = Range {
     low: 1,
     high: Some(LAST_NUMBER),
+    gap: None,
 };
 
 pub(crate) const PAPERS: Range = Range {
     low: 1,
     high: Some(LAST_NUMBER),
+    gap: None,
 };
 
 pub(crate) const PHASES: Range = Range {
     low: 0,
-    high: Some(6),
+    high: Some(7),
+    gap: None,
 };
 
 pub(crate) const MODES: Range = Range {
     low: 0,
     high: Some(2),
+    gap: None,
 };
 
 pub(crate) const ROLES: Range = Range {
     low: 1,
     high: Some(2),
+    gap: None,
 };
 
-pub(crate) const VERSIONS: Range = Range { low: 1, high: None };
+pub(crate) const VERSIONS: Range = Range {
+    low: 1,
+    high: None,
+    gap: None,
+};
 
 /// Bids, each plus 20.
 pub(crate) const BIDS: Range = Range {
     low: 0,
     high: Some(HIGHEST_RAISED),
+    gap: None,
 };
 
 pub(crate) const KINDS: Range = Range {
     low: 1,
     high: Some(3),
+    gap: None,
 };
 
 pub(crate) const ORDINALS: Range = Range {
     low: 1,
     high: Some(MOST_LABELS),
+    gap: None,
 };
 
 /// Ordinals, and 0 where there is none.
 pub(crate) const SOME_ORDINALS: Range = Range {
     low: 0,
     high: Some(MOST_LABELS),
+    gap: None,
 };
 
 /// Scores and confidences.
 pub(crate) const GRADES: Range = Range {
     low: 1,
     high: Some(HIGHEST_GRADE),
+    gap: None,
 };
 
 pub(crate) const DECISIONS: Range = Range {
     low: 1,
     high: Some(2),
+    gap: None,
 };
 
-/// The phases that may have a deadline.
+/// The phases that may have a deadline: submission to discussion, and the response behind notification and closed,
+/// which may have none.
 pub(crate) const DEADLINE_PHASES: Range = Range {
     low: 1,
-    high: Some(4),
+    high: Some(7),
+    gap: Some(Gap { first: 5, last: 6 }),
 };
 
 /// Deadlines, and 0 where there is none.
 pub(crate) const SOME_DEADLINES: Range = Range {
     low: 0,
     high: Some(LAST_DEADLINE),
+    gap: None,
 };
 
 pub(crate) const BIT: Range = Range {
     low: 0,
     high: Some(1),
+    gap: None,
 };
 
 pub(crate) const UNUSED: Range = Range {
     low: 0,
     high: Some(0),
+    gap: None,
 };
 
 /// Whether a number is no more than the greatest, where there is one.
@@ -155,11 +187,29 @@ fn is_at_most(high: Option<u64>, number: u64) -> bool
     }
 }
 
+impl Gap {
+    fn holds(self, number: u64) -> bool
+        ensures { result ≡ is_in_gap self number }
+    {
+        self.first <= number && number <= self.last
+    }
+}
+
 impl Range {
+    /// Whether a number is between both ends.
+    fn spans(self, number: u64) -> bool
+        ensures { IsTrue result ↔ IsWithin self number }
+    {
+        self.low <= number && is_at_most(self.high, number)
+    }
+
     fn holds(self, number: u64) -> bool
         ensures { IsTrue result ↔ InRange self number }
     {
-        self.low <= number && is_at_most(self.high, number)
+        match self.gap {
+            None => self.spans(number),
+            Some(gap) => self.spans(number) && !gap.holds(number),
+        }
     }
 }
 

@@ -73,8 +73,8 @@ impl Standing {
         self.role.is_member() && self.phase.members_read_reviews()
     }
 
-    /// Whether she reads her own forms of the paper's reviews, in no conflict with it: a member who reviews it in
-    /// reviewing, an external who does from then on.
+    /// Whether she reads her own forms of the paper's reviews, in no conflict with it: a member who reviews it from the
+    /// reviewing until the discussion, an external who does from the reviewing on.
     pub fn reads_own_forms(&self) -> bool
         ensures { result ≡ reads_own_forms self.now }
     {

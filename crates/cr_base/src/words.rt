@@ -6,8 +6,8 @@ ghost use Rattle.cr_base.specs.Words.{review_kind_name, review_kind_named, revie
 ghost use Rattle.cr_base.specs.Words.{decision_name, decision_named, decision_number, decision_numbered};
 ghost use Rattle.cr_base.specs.Words.{role_name, role_named, role_number, role_numbered, is_member, is_chair};
 
-/// A phase of the conference (CoCon's phases). A conference starts in setup, and moves on to the next
-/// phase only.
+/// A phase of the conference (CoCon's phases, and the HotCRP manual's response). A conference starts in setup, and
+/// moves on to the next phase only; from the reviewing to the response or to the discussion.
 #[derive(Clone, Copy, PartialEq, Eq)]
 pub enum Phase {
     /// Accounts register; nothing can be submitted yet.
@@ -18,6 +18,8 @@ pub enum Phase {
     Bidding,
     /// Reviews are written.
     Reviewing,
+    /// Authors see the reviews that there are, and respond. A conference may skip it.
+    Response,
     /// The committee sees the reviews, and decides.
     Discussion,
     /// Authors see what was decided.
@@ -80,6 +82,7 @@ impl Phase {
             Phase::Submission => "submission",
             Phase::Bidding => "bidding",
             Phase::Reviewing => "reviewing",
+            Phase::Response => "response",
             Phase::Discussion => "discussion",
             Phase::Notification => "notification",
             Phase::Closed => "closed",
@@ -95,6 +98,7 @@ impl Phase {
             "submission" => Some(Phase::Submission),
             "bidding" => Some(Phase::Bidding),
             "reviewing" => Some(Phase::Reviewing),
+            "response" => Some(Phase::Response),
             "discussion" => Some(Phase::Discussion),
             "notification" => Some(Phase::Notification),
             "closed" => Some(Phase::Closed),
@@ -102,7 +106,7 @@ impl Phase {
         }
     }
 
-    /// Its number in rows, 0 for setup to 6 for closed. It doesn't say which phase comes first.
+    /// Its number in rows, 0 for setup to 6 for closed, and 7 for the response. It doesn't say which phase comes first.
     pub fn number(self) -> u64
         ensures { result ≡ phase_number self }
     {
@@ -114,6 +118,7 @@ impl Phase {
             Phase::Discussion => 4,
             Phase::Notification => 5,
             Phase::Closed => 6,
+            Phase::Response => 7,
         }
     }
 
@@ -129,6 +134,7 @@ impl Phase {
             4 => Some(Phase::Discussion),
             5 => Some(Phase::Notification),
             6 => Some(Phase::Closed),
+            7 => Some(Phase::Response),
             _ => None,
         }
     }
@@ -182,7 +188,7 @@ impl Mode {
         }
     }
 
-    /// Whether members other than chairs don't see who wrote.
+    /// Whether externals, and members other than chairs, don't see who wrote.
     pub fn is_anonymous(self) -> bool
         ensures { result ≡ is_anonymous self }
     {

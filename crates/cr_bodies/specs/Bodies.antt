@@ -64,6 +64,9 @@ command_in asks.Review paper d = do
   to_pc ← review_text_under (codes "to_pc") d
   Some (commands.Review paper
       (record { score = score; confidence = confidence; to_authors = to_authors; to_pc = to_pc }))
+command_in asks.Respond paper d = do
+  text ← comment_under (codes "text") d
+  Some (commands.Respond paper text)
 command_in asks.Comment paper d = do
   text ← comment_under (codes "text") d
   Some (commands.Comment paper text)
@@ -83,6 +86,7 @@ command_in asks.Version paper d = None
 command_in asks.Unassign paper d = None
 command_in asks.Uninvite paper d = None
 command_in asks.Reviews paper d = None
+command_in asks.Response paper d = None
 command_in asks.Comments paper d = None
 command_in asks.Tag paper d = None
 command_in asks.Untag paper d = None

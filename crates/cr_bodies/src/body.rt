@@ -151,6 +151,16 @@ fn review(alloc: Global, paper: Option<PaperNo>, body: &Value) -> Result<Command
     })
 }
 
+/// The response that a JSON value tells.
+fn response(alloc: Global, paper: Option<PaperNo>, body: &Value) -> Result<Command, DecodeError>
+    ensures told { Decodes result (command_in_text Ask.Respond paper (view body.now)) }
+    ensures bounded { IfOk result IsBoundedCommand }
+{
+    let text = tested(body, "text", Grammar::CommentText)?;
+    let text = Text::from_str(alloc, text)?;
+    Ok(Command::Respond { paper, text })
+}
+
 /// The comment that a JSON value tells.
 fn comment(alloc: Global, paper: Option<PaperNo>, body: &Value) -> Result<Command, DecodeError>
     ensures told { Decodes result (command_in_text Ask.Comment paper (view body.now)) }
@@ -191,6 +201,7 @@ fn command_in(
         Ask::Assign => assignment(paper, body),
         Ask::Invite => invitation(paper, body),
         Ask::Review => review(alloc, paper, body),
+        Ask::Respond => response(alloc, paper, body),
         Ask::Comment => comment(alloc, paper, body),
         Ask::Decide => {
             let decision = decision(body, "decision")?;
@@ -200,7 +211,7 @@ fn command_in(
         Ask::Deadlines | Ask::Me | Ask::Search | Ask::Withdraw => Err(DecodeError::Malformed),
         Ask::Content | Ask::Upload | Ask::Version | Ask::Tag => Err(DecodeError::Malformed),
         Ask::Unassign | Ask::Reviews | Ask::Comments | Ask::Untag => Err(DecodeError::Malformed),
-        Ask::Dismiss | Ask::Uninvite => Err(DecodeError::Malformed),
+        Ask::Dismiss | Ask::Uninvite | Ask::Response => Err(DecodeError::Malformed),
         Ask::Bulk | Ask::PapersReport | Ask::ScoresReport => Err(DecodeError::Malformed),
         Ask::LoadReport | Ask::DecisionsReport | Ask::Letter | Ask::Plan => Err(
             DecodeError::Malformed,

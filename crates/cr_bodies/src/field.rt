@@ -34,7 +34,7 @@ pub(crate) enum Grammar {
     Abstract,
     /// A text of a review: at most 20,000 bytes of UTF-8.
     ReviewText,
-    /// A comment: 1 to 10,000 bytes of UTF-8.
+    /// A comment or a response: 1 to 10,000 bytes of UTF-8.
     CommentText,
 }
 

@@ -51,6 +51,7 @@ asker-there h caller (queries.Content paper) other may = tt
 asker-there h caller (queries.Version paper version) other may = tt
 asker-there h caller (queries.Reviews paper) other may = tt
 asker-there h caller (queries.Comments paper) other may = tt
+asker-there h caller (queries.Response paper) other may = tt
 asker-there h None queries.Me other may = cc
 asker-there h (Some u) queries.Me other may = refl
 asker-there h caller (queries.Search search only_count) other may = absurd (other.search search only_count refl)

@@ -46,6 +46,7 @@ giver-logged t authors maker (entries.DeadlineSet phase until) = by-user maker (
 giver-logged t authors maker (entries.Dismissed user) = by-user maker (command_told t authors (entries.Dismissed user))
 giver-logged t authors maker (entries.Invited paper user) = by-user maker (command_told t authors (entries.Invited paper user))
 giver-logged t authors maker (entries.Uninvited paper user) = by-user maker (command_told t authors (entries.Uninvited paper user))
+giver-logged t authors maker (entries.Responded paper text) = by-user maker (command_told t authors (entries.Responded paper text))
 
 -- and so has a call
 abbrev Logged : Option Call → Type 0

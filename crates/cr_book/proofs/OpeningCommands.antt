@@ -13,12 +13,12 @@ use Rattle.cr_base.specs.declared.command.Command.{Command}
 use Rattle.cr_base.specs.declared.command.Command.TheVariants as commands
 use Rattle.cr_base.specs.declared.command.Command.TheVariants.{Register, SetPhase, Submit, Revise, Upload, Withdraw, Name, SetMode, SetConflict}
 use Rattle.cr_base.specs.declared.command.Command.TheVariants.{Assign, Unassign, Review, Comment, Tag, Decide, SetDeadline}
-use Rattle.cr_base.specs.declared.command.Command.TheVariants.{Dismiss, Invite, Uninvite}
+use Rattle.cr_base.specs.declared.command.Command.TheVariants.{Dismiss, Invite, Uninvite, Respond}
 use Rattle.cr_base.specs.declared.entry.Entry.{Entry}
 use Rattle.cr_base.specs.declared.entry.Entry.TheVariants as entries
 use Rattle.cr_base.specs.declared.entry.Entry.TheVariants.{Registered, Named, PhaseSet, ModeSet, Submitted, Revised, Uploaded, Withdrawn, Conflict}
 use Rattle.cr_base.specs.declared.entry.Entry.TheVariants.{Assigned, Unassigned, Reviewed, Commented, Tagged, Decided, DeadlineSet}
-use Rattle.cr_base.specs.declared.entry.Entry.TheVariants.{Dismissed, Invited, Uninvited}
+use Rattle.cr_base.specs.declared.entry.Entry.TheVariants.{Dismissed, Invited, Uninvited, Responded}
 use Rattle.cr_base.specs.declared.entry.Stamp.{Stamp}
 use Rattle.cr_base.specs.declared.entry.Stamped.{Stamped}
 use Rattle.cr_base.specs.declared.form.Form.{Form}
@@ -32,7 +32,7 @@ use Rattle.cr_base.specs.declared.target.Target.{Target}
 use Rattle.cr_base.specs.declared.words.Decision.{Decision}
 use Rattle.cr_base.specs.declared.words.Mode.{Mode}
 use Rattle.cr_base.specs.declared.words.Phase.{Phase}
-use Rattle.cr_base.specs.declared.words.Phase.TheVariants.{Setup, Submission, Bidding, Reviewing, Discussion, Notification, Closed}
+use Rattle.cr_base.specs.declared.words.Phase.TheVariants.{Setup, Submission, Bidding, Reviewing, Response, Discussion, Notification, Closed}
 use Rattle.cr_base.specs.declared.words.Role.{Role}
 use Rattle.cr_base.specs.declared.words.Role.TheVariants as roles
 use Rattle.cr_base.specs.Accounts.{chair_count, lines_of}
@@ -43,7 +43,7 @@ use Rattle.cr_base.specs.History.{History, Registration, all_told, registration_
 use Rattle.cr_base.specs.Judging.{judge_by_role}
 use Rattle.cr_base.specs.Calls.{call_by, stamp_of}
 use Rattle.cr_base.specs.Drawn.{Drawn, besides, stamped, grouped, registration_drawn, phase_drawn, submission_drawn, revision_drawn, upload_drawn, withdrawal_drawn, naming_drawn, mode_drawn}
-use Rattle.cr_base.specs.Drawn.{bid_drawn, review_drawn, comment_drawn, decision_drawn, deadline_drawn}
+use Rattle.cr_base.specs.Drawn.{bid_drawn, review_drawn, comment_drawn, response_drawn, decision_drawn, deadline_drawn}
 use Rattle.cr_base.specs.Drawn.{dismissal_drawn, invitation_drawn, uninvitation_drawn}
 use Rattle.cr_base.specs.Invites.{is_invited_in}
 use Rattle.cr_base.specs.Lists.{at_some, is_nothing, listed}
@@ -52,9 +52,9 @@ use Rattle.cr_base.specs.Papers.{own_bytes, uploads_at}
 use Rattle.cr_base.specs.Seats.{ordinal_in}
 use Rattle.cr_base.specs.Sources.{Facts, is_late, number_in, paper_named, role_among, shown_in_tables, users_among, facts_of_tables, standing_at}
 use Rattle.cr_base.specs.Sources.{own_forms_in, target_named, user_among}
-use Rattle.cr_base.specs.Talk.{comments_in, comment_as_told, own_comments_in}
+use Rattle.cr_base.specs.Talk.{comments_in, comment_as_told, own_comments_in, response_in}
 use Rattle.cr_base.specs.Checks.{Check, NamedPaper, judged, of_role, register_checks, phase_checks, submit_checks, revise_checks, upload_checks, name_checks, mode_checks}
-use Rattle.cr_base.specs.Checks.{bid_checks, review_checks, comment_checks, decide_checks, deadline_checks}
+use Rattle.cr_base.specs.Checks.{bid_checks, review_checks, comment_checks, respond_checks, decide_checks, deadline_checks}
 use Rattle.cr_base.specs.Checks.{dismiss_checks, invite_checks, uninvite_checks}
 use Rattle.cr_base.specs.Texts.{IsTitle, IsAbstract}
 use Rattle.cr_base.proofs.CheckLaws.{NoneBroken, judged-Ok, judged-none}
@@ -66,7 +66,7 @@ use Rattle.cr_book.proofs.OpeningLegal.{MayAdd}
 use Rattle.cr_base.specs.Rows.{rows_of, until_number, IsBoundedEntry}
 use Rattle.cr_base.specs.Deadlines.{last_deadline, IsDeadline, IsDeadlineOrNone}
 use Rattle.cr_base.specs.Phases.{may_have_deadline}
-use Rattle.cr_base.specs.Shapes.{FitsStamp}
+use Rattle.cr_base.specs.Shapes.{FitsStamp, InRange, deadline_phase_range}
 use Rattle.cr_base.specs.Tables.{Tables, tables_of}
 use Rattle.cr_base.specs.Words.{phase_number, role_number, is_member}
 use Rattle.cr_base.proofs.AccountLaws.{number_in-lines_of}
@@ -429,6 +429,12 @@ module _ (t : Tables) (rows : List Row) (drawn : Drawn) (begins : take (length r
         n : ℕ → ℕ
         n p = length (map comment_as_told (comments_in t.talk p)) + 1
 
+    response-told : (paper : Option ℕ) (text : List ℕ) → judge_by_role t (call_by stamp (Respond paper text)) ≡ Ok drawn → ToldByRows t rows drawn
+    response-told paper text =
+        paper-told paper (λ paper. Respond paper text) (λ p. Responded p text)
+        (λ p. respond_checks (standing p) (named_paper (Some p)) (is_some (response_in t.talk p)) late)
+        (λ p. response_drawn stamp p text) refl (λ p. (refl, refl, refl))
+
     decision-told : (paper : Option ℕ) (decision : Decision) → judge_by_role t (call_by stamp (Decide paper decision)) ≡ Ok drawn → ToldByRows t rows drawn
     decision-told paper decision =
         paper-told paper (λ paper. Decide paper decision) (λ p. Decided p decision) (λ p. decide_checks (standing p) (named_paper (Some p)))
@@ -501,6 +507,7 @@ accepted-told H call drawn r behind legal allowed accepted begins bounded =
         row-told t rows drawn begins (stamp user) (registered user is) (Unassign paper name) tt judges
     by (Some user) (Review paper form) is within key judges = review-told t rows drawn begins (stamp user) (registered user is) paper form judges
     by (Some user) (Comment paper text) is within key judges = comment-told t rows drawn begins (stamp user) (registered user is) paper text judges
+    by (Some user) (Respond paper text) is within key judges = response-told t rows drawn begins (stamp user) (registered user is) paper text judges
     by (Some user) (Tag paper tag on) is within key judges =
         let made = subst (λ (login : Bool). CallsAs H login (Some user)) (tags-login paper tag on) is in
         row-told t rows drawn begins (stamp user) (registered user made) (Tag paper tag on) tt judges
@@ -536,14 +543,15 @@ member_named roles.Member h = refl
 member_named roles.Chair h = refl
 
 -- a phase whose number a deadline's row may have is one that may have a deadline
-phase_numbered-may : (phase : Phase) → 1 ≤ phase_number phase → phase_number phase ≤ 4 → may_have_deadline phase ≡ true
-phase_numbered-may Setup low high = absurd (omega (arith, low))
-phase_numbered-may Submission low high = refl
-phase_numbered-may Bidding low high = refl
-phase_numbered-may Reviewing low high = refl
-phase_numbered-may Discussion low high = refl
-phase_numbered-may Notification low high = absurd (omega (arith, high))
-phase_numbered-may Closed low high = absurd (omega (arith, high))
+phase_numbered-may : (phase : Phase) → InRange deadline_phase_range (phase_number phase) → may_have_deadline phase ≡ true
+phase_numbered-may Setup within = let low = within.0.0 in absurd (omega (arith, low))
+phase_numbered-may Submission within = refl
+phase_numbered-may Bidding within = refl
+phase_numbered-may Reviewing within = refl
+phase_numbered-may Response within = refl
+phase_numbered-may Discussion within = refl
+phase_numbered-may Notification within = absurd (true≢false within.1)
+phase_numbered-may Closed within = absurd (true≢false within.1)
 
 -- and a deadline whose number it may have is within the bounds of one
 until_numbered-within : (until : Option ℕ) → until_number until ≤ last_deadline → IsDeadlineOrNone until
@@ -608,7 +616,7 @@ module _ (H : History) (legal : Legal H) where
   user-allowed authors stamp more (ModeSet to) command bounded may made told = same-allowed stamp may (SetMode to) command told made tt
   user-allowed authors stamp more (DeadlineSet phase until) command bounded may made told =
       same-allowed stamp may (SetDeadline phase until) command told made
-      (phase_numbered-may phase bounded.n1.0 bounded.n1.1, until_numbered-within until bounded.n2.1)
+      (phase_numbered-may phase bounded.n1, until_numbered-within until bounded.n2.1)
   user-allowed authors stamp more (Submitted paper title abstract) command bounded may made told =
       submission-allowed stamp may title abstract authors command bounded.b1 bounded.b2 made told
   user-allowed authors stamp more (Revised paper title abstract) command bounded may made told =
@@ -624,6 +632,8 @@ module _ (H : History) (legal : Legal H) where
       same-allowed stamp may (Review (Some paper) form) command told made within
   user-allowed authors stamp more (Commented paper n ordinal text) command bounded may made told =
       same-allowed stamp may (Comment (Some paper) text) command told made bounded.b1
+  user-allowed authors stamp more (Responded paper text) command bounded may made told =
+      same-allowed stamp may (Respond (Some paper) text) command told made bounded.b1
   user-allowed authors stamp more (Tagged paper tag on) command bounded may made told =
       let caller = subst (λ (login : Bool). CallsAs H login (Some stamp.maker)) (sym (tags-login (Some paper) tag on)) made in
       same-allowed stamp may (Tag (Some paper) tag on) command told caller bounded.b1

@@ -11,6 +11,7 @@ use Rattle.cr_policy.specs.Triggers.{Reader, reader}
 use Rattle.cr_policy.specs.View.{sights, view}
 use Rattle.cr_policy.proofs.LegalLaws.{Legal-fits}
 use Rattle.cr_history.proofs.DecisionAgreement.{is_accepted-tables}
+use Rattle.cr_history.proofs.StageAgreement.{had_response-tables}
 use Rattle.cr_history.proofs.TableAgreement.{standing_of-tables}
 use Rattle.cr_sights.specs.Readers.{reader_in}
 use Rattle.cr_book.specs.Sound.{IsSound}
@@ -30,6 +31,7 @@ module _ (H : History) (legal : Legal H) where
     external = λ p. ap (λ (s : Standing). s.external) (same u (Some p)) i;
     wrote = λ v p. ap (λ (s : Standing). s.author) (same (Some v) (Some p)) i;
     accepted = λ p. is_accepted-tables p H (Legal-fits H legal) i;
+    had_response = had_response-tables H i;
   }
 
 -- what a book's tables and entries show a user is her view of its history

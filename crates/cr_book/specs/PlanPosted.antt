@@ -19,8 +19,8 @@ abbrev pub AreSpelt : Option (List BulkRow) → (List BulkRow → Type 0) → Ty
 AreSpelt None holds = ⊥
 AreSpelt (Some rows) holds = holds rows
 
--- PlanPosted: on a legal history, the text that a user who has registered is told as a plan spells rows that are accepted
--- as a bulk of hers, at every moment, with a number or without
+-- PlanPosted: on a legal history, the text that a user who has registered is told as a plan spells rows that are
+-- accepted as a bulk of hers, at every moment, with a number or without
 abbrev pub PlanPosted : Type 0
 PlanPosted =
     (user at : ℕ) (key : Option RetryKey) (H : History) (per_paper load : ℕ) (text : List ℕ) → Legal H

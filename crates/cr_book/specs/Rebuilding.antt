@@ -13,7 +13,7 @@ use Rattle.cr_base.specs.declared.entry.Entry.TheVariants.{Registered, Named, Ph
 use Rattle.cr_base.specs.declared.entry.Entry.TheVariants.{Revised, Uploaded, Withdrawn}
 use Rattle.cr_base.specs.declared.entry.Entry.TheVariants.{Conflict, Bid, Assigned, Unassigned}
 use Rattle.cr_base.specs.declared.entry.Entry.TheVariants.{Reviewed, Commented, Tagged, Decided, DeadlineSet}
-use Rattle.cr_base.specs.declared.entry.Entry.TheVariants.{Dismissed, Invited, Uninvited}
+use Rattle.cr_base.specs.declared.entry.Entry.TheVariants.{Dismissed, Invited, Uninvited, Responded}
 use Rattle.cr_base.specs.declared.entry.Stamped.{Stamped}
 use Rattle.cr_base.specs.declared.retry.RetryKey.{RetryKey}
 use Rattle.cr_base.specs.declared.row.Row.{Row}
@@ -100,6 +100,7 @@ paper_command_told t (Withdrawn paper) = Some (commands.Withdraw (Some paper))
 paper_command_told t (Bid paper value) = Some (commands.Bid (Some paper) value)
 paper_command_told t (Reviewed paper ordinal version form) = Some (commands.Review (Some paper) form)
 paper_command_told t (Commented paper n ordinal text) = Some (commands.Comment (Some paper) text)
+paper_command_told t (Responded paper text) = Some (commands.Respond (Some paper) text)
 paper_command_told t (Tagged paper tag on) = Some (commands.Tag (Some paper) tag on)
 paper_command_told t (Decided paper decision) = Some (commands.Decide (Some paper) decision)
 paper_command_told t e = target_command_told t e

@@ -13,8 +13,8 @@ pub record AddsOne (H group : History) : Type 0 where
   pub allowed : IsMoveAllowed H move
   pub adds : moved H move ≡ H ++ group
 
--- What was left opens to the rows of a legal history, or to these and then whole the group of one command or bulk behind
--- it. That history goes on from the rows that were opened, where they are told, and is a beginning of the log.
+-- What was left opens to the rows of a legal history, or to these and then whole the group of one command or bulk
+-- behind it. That history goes on from the rows that were opened, where they are told, and is a beginning of the log.
 pub record OpensAmid (opens : List ℕ → List Row → Type 0) (opened : Option (List Row)) (log : History)
     (image : List ℕ) : Type 0 where
   pub history : History

@@ -123,8 +123,9 @@ impl<K: Keeper> Book<K> {
     /// Gives the keeper back, which keeps the rows of the history; takes no memory.
     ///
     /// What a stop of the machine since the opening might have left opens to the rows of a history that goes on from
-    /// the one that was opened and is a beginning of the last one, or to these and then whole the group of one command or
-    /// bulk more: that is so where the keeper tells it, and had tried nothing in vain when the book was opened.
+    /// the one that was opened and is a beginning of the last one, or to these and then whole the group of one
+    /// command or bulk more: that is so where the keeper tells it, and had tried nothing in vain when the book was
+    /// opened.
     pub fn close(self) -> K
         ensures same { result ≡ self.keeper }
         ensures kept { IsKept K.rows result self.log }

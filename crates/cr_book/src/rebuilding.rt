@@ -121,6 +121,10 @@ fn paper_command_of(live: &Live, first: Entry) -> Option<Command>
             paper: Some(paper),
             text,
         }),
+        Entry::Responded { paper, text } => Some(Command::Respond {
+            paper: Some(paper),
+            text,
+        }),
         Entry::Tagged { paper, tag, on } => Some(Command::Tag {
             paper: Some(paper),
             tag,

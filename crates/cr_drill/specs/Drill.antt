@@ -39,7 +39,7 @@ is_accepted H call = is_ok (judge (view call.caller H) call)
 
 -- ---- phases
 
--- those to which a conference moves on, in their order
+-- those to which a drill's conference moves on, in their order: it skips the response
 abbrev pub later_phases : List Phase
 later_phases = Submission ∷ Bidding ∷ Reviewing ∷ Discussion ∷ Notification ∷ Closed ∷ []
 
@@ -140,7 +140,7 @@ every_kind =
     ∷ kinds.Uploaded ∷ kinds.Withdrawn ∷ kinds.Conflict ∷ kinds.Bid ∷ kinds.Assigned
     ∷ kinds.Unassigned ∷ kinds.Reviewed
     ∷ kinds.Commented ∷ kinds.Tagged ∷ kinds.Decided ∷ kinds.DeadlineSet
-    ∷ kinds.Dismissed ∷ kinds.Invited ∷ kinds.Uninvited ∷ []
+    ∷ kinds.Dismissed ∷ kinds.Invited ∷ kinds.Uninvited ∷ kinds.Responded ∷ []
 
 -- a word and a number behind it
 abbrev pub counted : List ℕ → ℕ → List ℕ

@@ -14,7 +14,7 @@ use itoa::Buffer;
 use std::alloc::{AllocError, Global};
 
 /// The kinds of entries in the order of their numbers.
-const EVERY_KIND: [EntryKind; 21] = [
+const EVERY_KIND: [EntryKind; 22] = [
     EntryKind::Registered,
     EntryKind::Named,
     EntryKind::PhaseSet,
@@ -36,6 +36,7 @@ const EVERY_KIND: [EntryKind; 21] = [
     EntryKind::Dismissed,
     EntryKind::Invited,
     EntryKind::Uninvited,
+    EntryKind::Responded,
 ];
 
 /// Appends a piece; an error only for lack of memory.

@@ -31,7 +31,7 @@ const FIRST_MEMBER: u64 = 3;
 
 const MEMBERS: u64 = 4;
 
-/// The phases to which a conference moves on, in their order.
+/// The phases to which a drill's conference moves on, in their order: it skips the response.
 const LATER_PHASES: [Phase; 6] = [
     Phase::Submission,
     Phase::Bidding,

@@ -1,8 +1,8 @@
 -- Which forms the committee discusses, and which are a user's own, is what the tables have, in histories that keep the invariants.
 use Rattle.std.proofs.Common.{ℕ, Bool, true, false, cond, ◌≡◌, ◌+◌, List, [], ◌∷◌, ◌++◌, append_assoc, append-nil, eqb, refl, sym, ap, subst, ◌∙◌}
 use Rattle.std.proofs.Common.{◌&&◌, arith, Option, Some, None}
-use Rattle.std.specs.Prelude.{not, nat_le, map, filter}
-use Rattle.std.specs.List.{flat_map}
+use Rattle.std.specs.Prelude.{not, nat_le, map, filter, ◌||◌}
+use Rattle.std.specs.List.{flat_map, list_any}
 use Rattle.std.proofs.lemmas.Bool.{eqb-true, eq-eqb, false≢true}
 use Rattle.std.proofs.lemmas.Bool.Decides.{nat_tests}
 use Rattle.std.proofs.lemmas.List.{map-append}
@@ -12,12 +12,12 @@ use Rattle.cr_base.specs.declared.entry.Entry.TheVariants.{PhaseSet, Reviewed}
 use Rattle.cr_base.specs.declared.entry.Stamped.{Stamped}
 use Rattle.cr_base.specs.declared.review.WrittenForm.{WrittenForm}
 use Rattle.cr_base.specs.declared.words.Phase.{Phase}
-use Rattle.cr_base.specs.declared.words.Phase.TheVariants.{Discussion}
-use Rattle.cr_base.specs.History.{History, FormTold, form_told, own_form_told, whole_form, opens, opens_discussion}
-use Rattle.cr_base.specs.HistoryFacts.{ordinal_of, forms_of, forms_discussed_of, own_forms_of}
+use Rattle.cr_base.specs.declared.words.Phase.TheVariants.{Response, Discussion}
+use Rattle.cr_base.specs.History.{History, FormTold, form_told, own_form_told, whole_form, opens, opens_discussion, opens_response}
+use Rattle.cr_base.specs.HistoryFacts.{ordinal_of, forms_of, forms_discussed_of, own_forms_of, early_form_of, had_response_of}
 use Rattle.cr_base.specs.Lists.{given, is_number, last, listed, until, since}
 use Rattle.cr_base.specs.Phases.{phase_rank, is_from, is_next}
-use Rattle.cr_base.specs.Reviews.{ReviewsState, reviews_after, forms_in, forms_discussed_in, written_told}
+use Rattle.cr_base.specs.Reviews.{ReviewsState, reviews_after, forms_in, forms_discussed_in, early_form_in, written_told}
 use Rattle.cr_base.specs.Seats.{ordinal_in}
 use Rattle.cr_base.specs.Sources.{own_forms_in}
 use Rattle.cr_base.specs.Tables.{Tables, no_tables, tables_after, tables_from, tables_of, FitInTurn}
@@ -31,6 +31,7 @@ use Rattle.cr_history.proofs.Grouped.{all-alike}
 use Rattle.cr_history.proofs.ListCuts.{AllByRecursion-map}
 use Rattle.cr_history.proofs.ReviewAgreement.{forms_when, forms_when-after, forms_of-tables, phase_of-reviews}
 use Rattle.cr_history.proofs.SeatAgreement.{in_order-tables, ordinal_of-tables}
+use Rattle.cr_history.proofs.StageAgreement.{had_response-tables}
 use Rattle.cr_history.proofs.TableAgreement.{tables_of-append}
 
 -- ---- phases go on
@@ -56,36 +57,81 @@ goes_on before (s ∷ after) kept = (
     on (PhaseSet phase) h = subst (λ (now : Phase). is_next now phase ≡ true) (phase_of-reviews before) h
     on e h = tt
 
--- the discussion, or a later phase, is left for no earlier one; it begins where it is opened; and it doesn't, where nothing opens it
-stays_late : (reviews : ReviewsState) (e : Entry) → IsOn reviews.phase e → is_from Discussion reviews.phase ≡ true
-    → is_from Discussion (reviews_after reviews e).phase ≡ true
-stays_late reviews (PhaseSet phase) on late = by (phase_rank reviews.phase) (phase_rank phase) on late
-  where
-    by : (m n : ℕ) → eqb n (m + 1) ≡ true → nat_le 4 m ≡ true → nat_le 4 n ≡ true
-    by m n on late = grind (arith, nat_tests, on, late)
-stays_late reviews e on late = late
+-- a phase, or one behind it, is left for no earlier one, nor opened again; and it begins where it is opened
+module _ (first : Phase) where
+  stays_late : (reviews : ReviewsState) (e : Entry) → IsOn reviews.phase e → is_from first reviews.phase ≡ true
+      → is_from first (reviews_after reviews e).phase ≡ true
+  stays_late reviews (PhaseSet phase) on late = by (phase_rank first) (phase_rank reviews.phase) (phase_rank phase) on late
+    where
+      by : (k m n : ℕ) → (eqb n (m + 1) || (eqb m 3 && eqb n 5)) ≡ true → nat_le k m ≡ true → nat_le k n ≡ true
+      by k m n on late = grind (arith, nat_tests, on, late)
+  stays_late reviews e on late = late
 
-opened_late : (reviews : ReviewsState) (e : Entry) → opens Discussion e ≡ true → is_from Discussion (reviews_after reviews e).phase ≡ true
-opened_late reviews (PhaseSet phase) opened = by (phase_rank phase) opened
-  where
-    by : (n : ℕ) → eqb n 4 ≡ true → nat_le 4 n ≡ true
-    by n opened = grind (arith, nat_tests, opened)
-opened_late reviews e opened = absurd (false≢true opened)
+  never_again : (reviews : ReviewsState) (e : Entry) → IsOn reviews.phase e → is_from first reviews.phase ≡ true → opens first e ≡ false
+  never_again reviews (PhaseSet phase) on late = by (phase_rank first) (phase_rank reviews.phase) (phase_rank phase) on late
+    where
+      by : (k m n : ℕ) → (eqb n (m + 1) || (eqb m 3 && eqb n 5)) ≡ true → nat_le k m ≡ true → eqb n k ≡ false
+      by k m n on late = grind (arith, nat_tests, on, late)
+  never_again reviews e on late = refl
 
+  opened_late : (reviews : ReviewsState) (e : Entry) → opens first e ≡ true → is_from first (reviews_after reviews e).phase ≡ true
+  opened_late reviews (PhaseSet phase) opened = by (phase_rank first) (phase_rank phase) opened
+    where
+      by : (k n : ℕ) → eqb n k ≡ true → nat_le k n ≡ true
+      by k n opened = grind (arith, nat_tests, opened)
+  opened_late reviews e opened = absurd (false≢true opened)
+
+  -- so nothing opens it from then on
+  abbrev opens_first : Stamped → Bool
+  opens_first s = opens first s.entry
+
+  none_opens : (reviews : ReviewsState) (H : History) → GoesOn reviews H → is_from first reviews.phase ≡ true → list_any opens_first H ≡ false
+  none_opens reviews [] on late = refl
+  none_opens reviews (s ∷ H) on late =
+      ap (λ (b : Bool). b || list_any opens_first H) (never_again reviews s.entry on.0 late)
+      ∙ none_opens (reviews_after reviews s.entry) H on.1 (stays_late reviews s.entry on.0 late)
+
+-- the discussion doesn't begin where nothing opens it
 stays_early : (reviews : ReviewsState) (e : Entry) → IsOn reviews.phase e → opens Discussion e ≡ false → is_from Discussion reviews.phase ≡ false
     → is_from Discussion (reviews_after reviews e).phase ≡ false
 stays_early reviews (PhaseSet phase) on closed early = by (phase_rank reviews.phase) (phase_rank phase) on closed early
   where
-    by : (m n : ℕ) → eqb n (m + 1) ≡ true → eqb n 4 ≡ false → nat_le 4 m ≡ false → nat_le 4 n ≡ false
+    by : (m n : ℕ) → (eqb n (m + 1) || (eqb m 3 && eqb n 5)) ≡ true → eqb n 5 ≡ false → nat_le 5 m ≡ false → nat_le 5 n ≡ false
     by m n on closed early = grind (arith, nat_tests, on, closed, early)
 stays_early reviews e on closed early = early
 
+-- the phase begins where it is opened alone
+abbrev AreOpened : Phase → ReviewsState → History → Type 0
+AreOpened first reviews [] = Unit {0}
+AreOpened first reviews (s ∷ H) =
+    opens first s.entry ≡ false
+    → (is_from first (reviews_after reviews s.entry).phase ≡ false) × AreOpened first (reviews_after reviews s.entry) H
+
+-- the discussion does always, and each phase that is opened
+discussion_opened : (reviews : ReviewsState) (H : History) → GoesOn reviews H → is_from Discussion reviews.phase ≡ false → AreOpened Discussion reviews H
+discussion_opened reviews [] on early = tt
+discussion_opened reviews (s ∷ H) on early = λ closed.
+    let still = stays_early reviews s.entry on.0 closed early in
+    (still, discussion_opened (reviews_after reviews s.entry) H on.1 still)
+
+are_opened : (first : Phase) (reviews : ReviewsState) (H : History) → GoesOn reviews H → list_any (opens_first first) H ≡ true → AreOpened first reviews H
+are_opened first reviews [] on opened = tt
+are_opened first reviews (s ∷ H) on opened = λ closed.
+    let later : list_any (opens_first first) H ≡ true = ap (λ (b : Bool). b || list_any (opens_first first) H) (sym closed) ∙ opened in
+    by (is_from first (reviews_after reviews s.entry).phase) refl later (are_opened first (reviews_after reviews s.entry) H on.1 later)
+  where
+    by : (late : Bool) → is_from first (reviews_after reviews s.entry).phase ≡ late → list_any (opens_first first) H ≡ true
+        → AreOpened first (reviews_after reviews s.entry) H
+        → (is_from first (reviews_after reviews s.entry).phase ≡ false) × AreOpened first (reviews_after reviews s.entry) H
+    by true late later opens_later = absurd (false≢true (sym (none_opens first (reviews_after reviews s.entry) H on.1 late) ∙ later))
+    by false early later opens_later = (early, opens_later)
+
 -- ---- forms by their phases
 
--- what opens the discussion is no form
-opening-silent : (p o : ℕ) (e : Entry) → opens Discussion e ≡ true → form_told p o e ≡ []
-opening-silent p o (Reviewed paper ordinal version form) opened = absurd (false≢true opened)
-opening-silent p o e opened = refl
+-- what opens a phase is no form
+opening-silent : (first : Phase) (p o : ℕ) (e : Entry) → opens first e ≡ true → form_told p o e ≡ []
+opening-silent first p o (Reviewed paper ordinal version form) opened = absurd (false≢true opened)
+opening-silent first p o e opened = refl
 
 joined : (c : Bool) (fs xs ys : List FormTold) → fs ++ cond c xs [] ++ cond c ys [] ≡ fs ++ cond c (xs ++ ys) []
 joined true fs xs ys = append_assoc fs xs ys
@@ -95,51 +141,52 @@ none_more : (c : Bool) (fs : List FormTold) → fs ≡ fs ++ cond c [] []
 none_more true fs = sym (append-nil fs)
 none_more false fs = sym (append-nil fs)
 
--- those from the discussion on, or those before it, or both: as it is said of whether it had begun
-module _ (among : Bool → Bool) (p o : ℕ) where
+-- those from a phase on, or those before it, or both: as it is said of whether it had begun
+module _ (first : Phase) (among : Bool → Bool) (p o : ℕ) where
   abbrev had : Tables → List FormTold
-  had t = forms_when (λ (phase : Phase). among (is_from Discussion phase)) t.reviews p o
+  had t = forms_when (λ (phase : Phase). among (is_from first phase)) t.reviews p o
 
   -- one more of them
-  one : (t : Tables) (s : Stamped) (late : Bool) → is_from Discussion t.reviews.phase ≡ late
+  one : (t : Tables) (s : Stamped) (late : Bool) → is_from first t.reviews.phase ≡ late
       → had (tables_after t s) ≡ had t ++ cond (among late) (form_told p o s.entry) []
   one t s late is =
-      forms_when-after (λ (phase : Phase). among (is_from Discussion phase)) p o t.reviews s.entry
+      forms_when-after (λ (phase : Phase). among (is_from first phase)) p o t.reviews s.entry
       ∙ ap (λ b. had t ++ cond (among b) (form_told p o s.entry) []) is
 
-  late-forms : (t : Tables) (H : History) → GoesOn t.reviews H → is_from Discussion t.reviews.phase ≡ true
+  late-forms : (t : Tables) (H : History) → GoesOn t.reviews H → is_from first t.reviews.phase ≡ true
       → had (tables_from t H) ≡ had t ++ cond (among true) (forms_of p o H) []
   late-forms t [] on late = none_more (among true) (had t)
   late-forms t (s ∷ H) on late =
-      late-forms (tables_after t s) H on.1 (stays_late t.reviews s.entry on.0 late)
+      late-forms (tables_after t s) H on.1 (stays_late first t.reviews s.entry on.0 late)
       ∙ ap (λ (fs : List FormTold). fs ++ cond (among true) (forms_of p o H) []) (one t s true late)
       ∙ joined (among true) (had t) (form_told p o s.entry) (forms_of p o H)
 
-  early-forms : (t : Tables) (H : History) → GoesOn t.reviews H → is_from Discussion t.reviews.phase ≡ false
+  early-forms : (t : Tables) (H : History) → GoesOn t.reviews H → AreOpened first t.reviews H → is_from first t.reviews.phase ≡ false
       → had (tables_from t H)
-      ≡ had t ++ cond (among false) (forms_of p o (until opens_discussion H)) [] ++ cond (among true) (forms_of p o (since opens_discussion H)) []
-  early-forms t [] on early = none_more (among false) (had t) ∙ none_more (among true) (had t ++ cond (among false) [] [])
-  early-forms t (s ∷ H) on early = by (opens Discussion s.entry) refl (λ early. early-forms (tables_after t s) H on.1 early)
+      ≡ had t ++ cond (among false) (forms_of p o (until (opens_first first) H)) [] ++ cond (among true) (forms_of p o (since (opens_first first) H)) []
+  early-forms t [] on opened early = none_more (among false) (had t) ∙ none_more (among true) (had t ++ cond (among false) [] [])
+  early-forms t (s ∷ H) on opened early =
+      by (opens first s.entry) refl (λ closed. let held = opened closed in early-forms (tables_after t s) H on.1 held.1 held.0)
     where
       before : History
-      before = until opens_discussion H
+      before = until (opens_first first) H
 
       behind : History
-      behind = since opens_discussion H
+      behind = since (opens_first first) H
 
       rest : List FormTold → List FormTold
       rest fs = fs ++ cond (among false) (forms_of p o before) [] ++ cond (among true) (forms_of p o behind) []
 
-      by : (b : Bool) → opens Discussion s.entry ≡ b
-          → (is_from Discussion (reviews_after t.reviews s.entry).phase ≡ false → had (tables_from (tables_after t s) H) ≡ rest (had (tables_after t s)))
+      by : (b : Bool) → opens first s.entry ≡ b
+          → (opens first s.entry ≡ false → had (tables_from (tables_after t s) H) ≡ rest (had (tables_after t s)))
           → had (tables_from (tables_after t s) H)
           ≡ had t ++ cond (among false) (forms_of p o (cond b [] (s ∷ before))) [] ++ cond (among true) (forms_of p o (cond b H behind)) []
-      by true opened later =
-          late-forms (tables_after t s) H on.1 (opened_late t.reviews s.entry opened)
+      by true opens-here later =
+          late-forms (tables_after t s) H on.1 (opened_late first t.reviews s.entry opens-here)
           ∙ ap (λ (fs : List FormTold). fs ++ cond (among true) (forms_of p o H) [])
-          (one t s false early ∙ ap (λ (fs : List FormTold). had t ++ cond (among false) fs []) (opening-silent p o s.entry opened))
+          (one t s false early ∙ ap (λ (fs : List FormTold). had t ++ cond (among false) fs []) (opening-silent first p o s.entry opens-here))
       by false closed later =
-          later (stays_early t.reviews s.entry on.0 closed early)
+          later closed
           ∙ ap rest (one t s false early)
           ∙ ap (λ (fs : List FormTold). fs ++ cond (among true) (forms_of p o behind) [])
           (joined (among false) (had t) (form_told p o s.entry) (forms_of p o before))
@@ -148,14 +195,17 @@ module _ (among : Bool → Bool) (p o : ℕ) where
 
 forms_discussed_of-tables : (p o : ℕ) (H : History) → InTurn IsInOrder [] H → forms_discussed_of p o H ≡ forms_discussed_in (tables_of H).reviews p o
 forms_discussed_of-tables p o H kept =
-    ap (λ (fs : List FormTold). listed (last fs) ++ late) (sym (append-nil early) ∙ sym (early-forms not p o no_tables H on refl))
-    ∙ ap (λ (fs : List FormTold). listed (last (map written_told before)) ++ fs) (sym (early-forms (λ b. b) p o no_tables H on refl))
+    ap (λ (fs : List FormTold). listed (last fs) ++ late) (sym (append-nil early) ∙ sym (early-forms Discussion not p o no_tables H on opened refl))
+    ∙ ap (λ (fs : List FormTold). listed (last (map written_told before)) ++ fs) (sym (early-forms Discussion (λ b. b) p o no_tables H on opened refl))
     ∙ ap (λ (fs : List FormTold). fs ++ map written_told from)
     (ap listed (last_from-map written_told None before) ∙ listed-map written_told (last before))
     ∙ sym (map-append written_told (listed (last before)) from)
   where
     on : GoesOn (tables_of []).reviews H
     on = goes_on [] H kept
+
+    opened : AreOpened Discussion (tables_of []).reviews H
+    opened = discussion_opened (tables_of []).reviews H on refl
 
     early : List FormTold
     early = forms_of p o (until opens_discussion H)
@@ -168,6 +218,29 @@ forms_discussed_of-tables p o H kept =
 
     from : List WrittenForm
     from = filter (λ (w : WrittenForm). is_from Discussion w.phase) (forms_in (tables_of H).reviews p o)
+
+-- ---- forms to which authors respond
+
+early_form_of-tables : (p o : ℕ) (H : History) → InTurn IsInOrder [] H
+    → early_form_of p o H ≡ early_form_in (tables_of H).stage.had_response (tables_of H).reviews p o
+early_form_of-tables p o H kept =
+    by (had_response_of H) refl ∙ ap (λ (opened : Bool). early_form_in opened (tables_of H).reviews p o) (had_response-tables H)
+  where
+    on : GoesOn (tables_of []).reviews H
+    on = goes_on [] H kept
+
+    early : List FormTold
+    early = forms_of p o (until opens_response H)
+
+    before : List WrittenForm
+    before = filter (λ (w : WrittenForm). not (is_from Response w.phase)) (forms_in (tables_of H).reviews p o)
+
+    by : (opened : Bool) → had_response_of H ≡ opened → cond opened (last early) None ≡ early_form_in opened (tables_of H).reviews p o
+    by true is =
+        ap (λ (fs : List FormTold). last fs)
+        (sym (append-nil early) ∙ sym (early-forms Response not p o no_tables H on (are_opened Response (tables_of []).reviews H on is) refl))
+        ∙ last_from-map written_told None before
+    by false is = refl
 
 -- ---- forms of a user's own
 
@@ -234,10 +307,11 @@ module _ (H : History) (fits : FitInTurn no_tables H) (u : Option ℕ) (p : ℕ)
       by None = each-silent (λ (s : Stamped). []) (λ s. refl) H
       by (Some o) = sym (append-nil (forms_of p o H))
 
--- ---- both
+-- ---- all
 
 pub forms_tell : FormsTell
 forms_tell H kept = record {
   discussed = λ p o. forms_discussed_of-tables p o H kept.in_order;
+  early = λ p o. early_form_of-tables p o H kept.in_order;
   own = λ u p. own_forms_of-tables H kept.fits u p kept.stay;
 }

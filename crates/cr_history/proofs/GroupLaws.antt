@@ -11,13 +11,13 @@ use Rattle.cr_base.specs.declared.entry.Account.{Account}
 use Rattle.cr_base.specs.declared.entry.Entry.{Entry}
 use Rattle.cr_base.specs.declared.entry.Entry.TheVariants.{Registered, Named, PhaseSet, ModeSet, Submitted, Coauthor, Revised, Uploaded, Withdrawn}
 use Rattle.cr_base.specs.declared.entry.Entry.TheVariants.{Conflict, Bid, Assigned, Unassigned, Reviewed, Commented, Tagged, Decided, DeadlineSet}
-use Rattle.cr_base.specs.declared.entry.Entry.TheVariants.{Dismissed, Invited, Uninvited}
+use Rattle.cr_base.specs.declared.entry.Entry.TheVariants.{Dismissed, Invited, Uninvited, Responded}
 use Rattle.cr_base.specs.declared.entry.Stamp.{Stamp}
 use Rattle.cr_base.specs.declared.entry.Stamped.{Stamped}
 use Rattle.cr_base.specs.declared.reply.AccountLine.{AccountLine}
 use Rattle.cr_base.specs.declared.retry.RetryKey.{RetryKey}
 use Rattle.cr_base.specs.declared.words.Phase.{Phase}
-use Rattle.cr_base.specs.declared.words.Phase.TheVariants.{Setup, Submission, Bidding, Reviewing, Discussion, Notification, Closed}
+use Rattle.cr_base.specs.declared.words.Phase.TheVariants.{Setup, Submission, Bidding, Reviewing, Response, Discussion, Notification, Closed}
 use Rattle.cr_base.specs.declared.words.Mode.{Mode}
 use Rattle.cr_base.specs.declared.words.Mode.TheVariants.{Overt, Blind, Anonymous}
 use Rattle.cr_base.specs.declared.words.Role.{Role}
@@ -124,6 +124,7 @@ module _ (H : History) (fits : FitInTurn no_tables H) where
   fits-about stamp more (Dismissed user) fit = registered-within user fit.accounts.0 fit.accounts.1
   fits-about stamp more (Invited paper user) fit = (submitted-within paper fit.papers.0 fit.papers.1, registered-within user fit.accounts.0 fit.accounts.1)
   fits-about stamp more (Uninvited paper user) fit = (submitted-within paper fit.papers.0 fit.papers.1, registered-within user fit.accounts.0 fit.accounts.1)
+  fits-about stamp more (Responded paper text) fit = submitted-within paper fit.papers.0 fit.papers.1
   fits-about stamp more e fit = tt
 
 -- ---- numbers of fields
@@ -136,11 +137,12 @@ bit_few : (b : Bool) → cond b 1 0 ≤ 1
 bit_few true = omega arith
 bit_few false = omega arith
 
-phase_number-few : (phase : Phase) → phase_number phase ≤ 6
+phase_number-few : (phase : Phase) → phase_number phase ≤ 7
 phase_number-few Setup = omega arith
 phase_number-few Submission = omega arith
 phase_number-few Bidding = omega arith
 phase_number-few Reviewing = omega arith
+phase_number-few Response = omega arith
 phase_number-few Discussion = omega arith
 phase_number-few Notification = omega arith
 phase_number-few Closed = omega arith
@@ -176,10 +178,11 @@ label-few (Some o) drawn = let there = drawn o refl in by (eqb o 0) refl there.0
 
 -- the phase of a deadline
 deadline_phase-few : (phase : Phase) → may_have_deadline phase ≡ true → InRange deadline_phase_range (phase_number phase)
-deadline_phase-few Submission h = (omega arith, omega arith)
-deadline_phase-few Bidding h = (omega arith, omega arith)
-deadline_phase-few Reviewing h = (omega arith, omega arith)
-deadline_phase-few Discussion h = (omega arith, omega arith)
+deadline_phase-few Submission h = ((omega arith, omega arith), refl)
+deadline_phase-few Bidding h = ((omega arith, omega arith), refl)
+deadline_phase-few Reviewing h = ((omega arith, omega arith), refl)
+deadline_phase-few Response h = ((omega arith, omega arith), refl)
+deadline_phase-few Discussion h = ((omega arith, omega arith), refl)
 deadline_phase-few phase h = absurd (true≢false (sym h))
 
 -- a deadline that may be none
@@ -350,6 +353,8 @@ module _ (H : History) (fits : FitInTurn no_tables H) where
       record { n1 = paper_numbered paper fit.papers; n2 = account_numbered user fit.accounts; n3 = zero_in; n4 = zero_in; n5 = zero_in; b1 = refl; b2 = refl }
   told-in stamp more (Uninvited paper user) ruled fit =
       record { n1 = paper_numbered paper fit.papers; n2 = account_numbered user fit.accounts; n3 = zero_in; n4 = zero_in; n5 = zero_in; b1 = refl; b2 = refl }
+  told-in stamp more (Responded paper text) ruled fit =
+      record { n1 = paper_numbered paper fit.papers; n2 = zero_in; n3 = zero_in; n4 = zero_in; n5 = zero_in; b1 = ruled.texts; b2 = refl }
 
   -- who makes it has a number that a row can hold, the new user too
   made-in : (stamp : Stamp) (more : Bool) (e : Entry) → IsMadeByUser H stamp.maker e → Fits (tables_of H) (stamped stamp more e) → InRange user_range stamp.maker

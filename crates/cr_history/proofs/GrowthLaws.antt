@@ -11,23 +11,24 @@ use Rattle.cr_history.proofs.ConflictAgreement.{is_conflict_on-tables, declared_
 use Rattle.cr_history.proofs.DecisionAgreement.{decision_of-tables, is_accepted-tables}
 use Rattle.cr_history.proofs.GroupLaws.{grown-bounded}
 use Rattle.cr_history.proofs.InOrder.{in_order-append, whole-added}
-use Rattle.cr_history.proofs.InTime.{in_time-nil, in_time-append, discussed-append}
+use Rattle.cr_history.proofs.InTime.{in_time-nil, in_time-append, discussed-append, responded-nil, responded-append}
 use Rattle.cr_history.proofs.InviteAgreement.{is_invited-tables}
 use Rattle.cr_history.proofs.LineAgreement.{accounts_of-tables}
 use Rattle.cr_history.proofs.NumberAgreement.{number_of-tables, caller_of-tables}
 use Rattle.cr_history.proofs.PaperAgreement.{papers_of-tables, own_papers_of-tables, own_bytes_of-tables, title_of-tables, abstract_of-tables, uploads_of-tables, is_withdrawn-tables, authors_of-tables}
 use Rattle.cr_history.proofs.ReviewAgreement.{forms_of-tables}
 use Rattle.cr_history.proofs.SeatAgreement.{ordinal_of-tables, seats_of-tables, labels-tables, reviewers_of-tables}
-use Rattle.cr_history.proofs.StageAgreement.{deadline_of-tables}
+use Rattle.cr_history.proofs.StageAgreement.{deadline_of-tables, had_response-tables}
 use Rattle.cr_history.proofs.Staying.{stay-append}
 use Rattle.cr_history.proofs.TagAgreement.{tags_of-tables}
-use Rattle.cr_history.proofs.TalkAgreement.{comments_of-tables, own_comments_of-tables}
+use Rattle.cr_history.proofs.TalkAgreement.{comments_of-tables, own_comments_of-tables, response_of-tables}
 use Rattle.cr_history.proofs.TableAgreement.{FitInTurn-append, standing_of-tables}
 
 pub tables_tell : TablesTell
 tables_tell H fits first = record {
   standing = λ u paper. standing_of-tables u paper H fits;
   deadline = λ phase. deadline_of-tables phase H;
+  had_response = had_response-tables H;
   accounts = accounts_of-tables H fits;
   number = λ name. number_of-tables name H fits;
   caller = λ name digest. caller_of-tables name digest H fits;
@@ -50,6 +51,7 @@ tables_tell H fits first = record {
   forms = λ p o. forms_of-tables p o H;
   comments = λ p. comments_of-tables p H;
   own_comments = λ u. own_comments_of-tables u H;
+  response = λ p. response_of-tables p H;
   tags = λ p. tags_of-tables p H;
   decision = λ p. decision_of-tables p H;
   accepted = λ p. is_accepted-tables p H fits;
@@ -57,7 +59,7 @@ tables_tell H fits first = record {
 
 pub growth_keeps : GrowthKeeps
 growth_keeps = record {
-  first = record { bounded = All-nil IsBoundedEntry; spelled = λ k d within. restored-row_of _ (All-nil IsBoundedEntry k d within); fits = tt; in_order = tt; declared_in_time = in_time-nil; discussed = refl; stay = All-nil _ };
+  first = record { bounded = All-nil IsBoundedEntry; spelled = λ k d within. restored-row_of _ (All-nil IsBoundedEntry k d within); fits = tt; in_order = tt; declared_in_time = in_time-nil; discussed = refl; responded = responded-nil; stay = All-nil _ };
   more = λ H g kept grows fits.
       let all : All IsBoundedEntry (H ++ g) = All-append IsBoundedEntry H g kept.bounded (grown-bounded H kept.fits g grows fits) in
       record {
@@ -67,6 +69,7 @@ growth_keeps = record {
         in_order = in_order-append H g kept.fits grows fits kept.in_order;
         declared_in_time = in_time-append H g grows kept.declared_in_time;
         discussed = discussed-append H g grows kept.discussed;
+        responded = responded-append H g grows kept.responded;
         stay = stay-append H g grows kept.stay;
       };
   whole = whole-added;

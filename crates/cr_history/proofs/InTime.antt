@@ -2,7 +2,7 @@
 use Rattle.std.proofs.Common.{◌≡◌, ℕ, Bool, true, false, cond, List, [], ◌∷◌, ◌++◌, refl, sym, ap, ◌∙◌, subst, ◌||◌, ◌&&◌, Option, Some, eqb, arith, ◌+◌}
 use Rattle.std.specs.Prelude.{not, nat_le}
 use Rattle.std.specs.List.{AllByRecursion, list_any}
-use Rattle.std.proofs.lemmas.Bool.{eqb-true, false≢true}
+use Rattle.std.proofs.lemmas.Bool.{false≢true}
 use Rattle.std.proofs.lemmas.Bool.Decides.{nat_tests}
 use Rattle.std.proofs.lemmas.List.Concat.{flat_map-append}
 use Rattle.std.proofs.lemmas.List.Folds.{list_any-append}
@@ -11,14 +11,14 @@ use Rattle.cr_base.specs.declared.entry.Entry.TheVariants.{PhaseSet, Submitted, 
 use Rattle.cr_base.specs.declared.entry.Stamp.{Stamp}
 use Rattle.cr_base.specs.declared.entry.Stamped.{Stamped}
 use Rattle.cr_base.specs.declared.words.Phase.{Phase}
-use Rattle.cr_base.specs.declared.words.Phase.TheVariants.{Setup, Submission, Bidding, Reviewing, Discussion, Notification, Closed}
+use Rattle.cr_base.specs.declared.words.Phase.TheVariants.{Setup, Submission, Bidding, Reviewing, Response, Discussion, Notification, Closed}
 use Rattle.cr_base.specs.Lists.{last_or, is_number, until, since}
 use Rattle.cr_base.specs.History.{History, all_told, opens, phase_told, author_told}
 use Rattle.cr_base.specs.HistoryFacts.{phase_of, authors_of, is_author}
-use Rattle.cr_base.specs.Phases.{phase_rank, is_from, is_phase, authors_have_declared}
+use Rattle.cr_base.specs.Phases.{phase_rank, is_from, is_next, is_phase, authors_have_declared}
 use Rattle.cr_base.specs.Drawn.{stamped, submission}
 use Rattle.cr_history.proofs.Folds.{last_or-append}
-use Rattle.cr_history.specs.Invariants.{is_opening, ByAuthor, ByHerselfOrOther, Early, Late, DeclaresInTime, IsDiscussedInTime, IsInPhase, IsByRight}
+use Rattle.cr_history.specs.Invariants.{is_opening, ByAuthor, ByHerselfOrOther, Early, Late, DeclaresInTime, IsDiscussedInTime, IsRespondedInTime, IsInPhase, IsByRight}
 use Rattle.cr_history.proofs.ListCuts.{AllByRecursion-append, AllByRecursion-map, AllByRecursion-until, until-none, since-none, until-append, since-append, until-before, since-before}
 use Rattle.cr_history.specs.Groups.{IsRuled, Adds, single, submitted, first_user, Grows, adds, goes_on}
 use Rattle.cr_history.proofs.Grouped.{grouped-each, submission-each, all-silent}
@@ -50,11 +50,11 @@ added-allowed H g (first_user stamp name digest bounds is texts) = (tt, (tt, tt)
 
 -- a group moves the phase on and does nothing else, or leaves the phase
 data Moves (H : History) : History → Type 0 where
-  moved : (stamp : Stamp) (more : Bool) (to : Phase) → phase_rank to ≡ phase_rank (phase_of H) + 1 → Moves H (stamped stamp more (PhaseSet to) ∷ [])
+  moved : (stamp : Stamp) (more : Bool) (to : Phase) → is_next (phase_of H) to ≡ true → Moves H (stamped stamp more (PhaseSet to) ∷ [])
   stayed : (g : History) → all_told phase_told g ≡ [] → Moves H g
 
 ruled-moves : (H : History) (stamp : Stamp) (more : Bool) (e : Entry) → IsRuled H stamp.maker e → Moves H (stamped stamp more e ∷ [])
-ruled-moves H stamp more (PhaseSet to) ruled = moved stamp more to (eqb-true (phase_rank to) (phase_rank (phase_of H) + 1) ruled.phase)
+ruled-moves H stamp more (PhaseSet to) ruled = moved stamp more to ruled.phase
 ruled-moves H stamp more e ruled = stayed _ refl
 
 added-moves : (H g : History) → Adds H g → Moves H g
@@ -116,6 +116,7 @@ not_both Setup h k = false≢true h
 not_both Submission h k = false≢true k
 not_both Bidding h k = false≢true h
 not_both Reviewing h k = false≢true h
+not_both Response h k = false≢true h
 not_both Discussion h k = false≢true h
 not_both Notification h k = false≢true h
 not_both Closed h k = false≢true h
@@ -184,21 +185,22 @@ module _ (first : Phase) where
       by false = refl
   group_since H g (stayed k h) = since-none opens_first g (no_opening g h)
 
-  still_open : (k m n : ℕ) → n ≡ m + 1 → nat_le k m ≡ true → true ≡ nat_le k n
+  still_open : (k m n : ℕ) → (eqb n (m + 1) || (eqb m 3 && eqb n 5)) ≡ true → nat_le k m ≡ true → true ≡ nat_le k n
   still_open k m n e h = grind (arith, nat_tests, e, h)
 
-  opens_now : (k m n : ℕ) → n ≡ m + 1 → nat_le k m ≡ false → (eqb n k || false) ≡ nat_le k n
-  opens_now k m n e h = grind (arith, nat_tests, e, h)
+  -- the response, whose rank is 4, is the one that may be skipped
+  opens_now : (k m n : ℕ) → eqb k 4 ≡ false → (eqb n (m + 1) || (eqb m 3 && eqb n 5)) ≡ true → nat_le k m ≡ false → (eqb n k || false) ≡ nat_le k n
+  opens_now k m n other e h = grind (arith, nat_tests, other, e, h)
 
-  in_time-after : (H g : History) → Moves H g → IsOpenedInTime H → IsOpenedInTime (H ++ g)
-  in_time-after H g moves kept = list_any-append opens_first H g ∙ by H g moves (list_any opens_first H) (sym kept)
+  in_time-after : eqb (phase_rank first) 4 ≡ false → (H g : History) → Moves H g → IsOpenedInTime H → IsOpenedInTime (H ++ g)
+  in_time-after other H g moves kept = list_any-append opens_first H g ∙ by H g moves (list_any opens_first H) (sym kept)
     where
       by : (H g : History) → Moves H g → (opened : Bool) → is_from first (phase_of H) ≡ opened
           → (opened || list_any opens_first g) ≡ is_from first (phase_of (H ++ g))
       by H g (moved stamp more to e) true h =
           still_open (phase_rank first) (phase_rank (phase_of H)) (phase_rank to) e h ∙ ap (is_from first) (sym (phase_moves H stamp more to))
       by H g (moved stamp more to e) false h =
-          opens_now (phase_rank first) (phase_rank (phase_of H)) (phase_rank to) e h ∙ ap (is_from first) (sym (phase_moves H stamp more to))
+          opens_now (phase_rank first) (phase_rank (phase_of H)) (phase_rank to) other e h ∙ ap (is_from first) (sym (phase_moves H stamp more to))
       by H g (stayed k e) true h = sym (ap (is_from first) (phase_stays H g e) ∙ h)
       by H g (stayed k e) false h = no_opening g e ∙ sym (ap (is_from first) (phase_stays H g e) ∙ h)
 
@@ -227,7 +229,7 @@ in_time-append H g grows kept = by (list_any is_opening H) refl
               (AllByRecursion-append (Late (H ++ g)) (since is_opening H) g
               (AllByRecursion-map (Late H) (Late (H ++ g)) more (since is_opening H) kept.late)
               (AllByRecursion-map (Allowed H) (Late (H ++ g)) (λ e k. more e (late-new H begun e.stamp.maker e.entry k)) g entries));
-          begun = in_time-after Bidding H g moves kept.begun;
+          begun = in_time-after Bidding refl H g moves kept.begun;
         }
     by false h =
         let soon : is_from Bidding (phase_of H) ≡ false = sym kept.begun ∙ h in
@@ -238,9 +240,29 @@ in_time-append H g grows kept = by (list_any is_opening H) refl
               (AllByRecursion-until (Early (H ++ g)) is_opening g
               (AllByRecursion-map (Allowed H) (Early (H ++ g)) (λ e k. early-more H g e.stamp.maker e.entry (early-new H soon e.stamp.maker e.entry k)) g entries)));
           late = subst (AllByRecursion (Late (H ++ g))) (sym (since-append is_opening H g h ∙ group_since Bidding H g moves)) tt;
-          begun = in_time-after Bidding H g moves kept.begun;
+          begun = in_time-after Bidding refl H g moves kept.begun;
         }
 
 -- and the discussion is opened in time
 pub discussed-append : (H g : History) → Grows H g → IsDiscussedInTime H → IsDiscussedInTime (H ++ g)
-discussed-append H g grows kept = in_time-after Discussion H g (grown-moves H g grows) kept
+discussed-append H g grows kept = in_time-after Discussion refl H g (grown-moves H g grows) kept
+
+-- the response is opened in time, where it is
+pub responded-nil : IsRespondedInTime []
+responded-nil h = absurd (false≢true h)
+
+pub responded-append : (H g : History) → Grows H g → IsRespondedInTime H → IsRespondedInTime (H ++ g)
+responded-append H g grows kept opened =
+    by g (grown-moves H g grows) (list_any (opens_first Response) H) refl (sym (list_any-append (opens_first Response) H g) ∙ opened)
+  where
+    from_it : (n : ℕ) → (eqb n 4 || false) ≡ true → nat_le 4 n ≡ true
+    from_it n h = grind (arith, nat_tests, h)
+
+    by : (g : History) → Moves H g → (before : Bool) → list_any (opens_first Response) H ≡ before
+        → (before || list_any (opens_first Response) g) ≡ true → is_from Response (phase_of (H ++ g)) ≡ true
+    by g (moved stamp more to e) true is h =
+        ap (is_from Response) (phase_moves H stamp more to)
+        ∙ sym (still_open Response (phase_rank Response) (phase_rank (phase_of H)) (phase_rank to) e (kept is))
+    by g (moved stamp more to e) false is h = ap (is_from Response) (phase_moves H stamp more to) ∙ from_it (phase_rank to) h
+    by g (stayed k e) true is h = ap (is_from Response) (phase_stays H g e) ∙ kept is
+    by g (stayed k e) false is h = absurd (false≢true (sym (no_opening Response g e) ∙ h))

@@ -9,11 +9,11 @@ use Rattle.std.proofs.lemmas.Bool.{eqb-true, eq-eqb, leb-false, true≢false, an
 use Rattle.cr_base.specs.declared.command.Command.{Command}
 use Rattle.cr_base.specs.declared.command.Command.TheVariants.{Register, SetPhase, Submit, Revise, Upload, Withdraw, Name, SetMode, SetConflict}
 use Rattle.cr_base.specs.declared.command.Command.TheVariants.{Bid, Assign, Unassign, Review, Comment, Tag, Decide, SetDeadline}
-use Rattle.cr_base.specs.declared.command.Command.TheVariants.{Dismiss, Invite, Uninvite}
+use Rattle.cr_base.specs.declared.command.Command.TheVariants.{Dismiss, Invite, Uninvite, Respond}
 use Rattle.cr_base.specs.declared.entry.Entry.TheVariants as entries
 use Rattle.cr_base.specs.declared.entry.Stamp.{Stamp}
 use Rattle.cr_base.specs.declared.entry.Entry.TheVariants.{Registered, Named, PhaseSet, ModeSet, Revised, Uploaded, Withdrawn, Conflict, Assigned, Unassigned}
-use Rattle.cr_base.specs.declared.entry.Entry.TheVariants.{Reviewed, Commented, Tagged, Decided, DeadlineSet, Dismissed, Invited, Uninvited}
+use Rattle.cr_base.specs.declared.entry.Entry.TheVariants.{Reviewed, Commented, Tagged, Decided, DeadlineSet, Dismissed, Invited, Uninvited, Responded}
 use Rattle.cr_base.specs.declared.form.Form.{Form}
 use Rattle.cr_base.specs.declared.reply.AccountLine.{AccountLine}
 use Rattle.cr_base.specs.declared.standing.Standing.{Standing}
@@ -21,29 +21,29 @@ use Rattle.cr_base.specs.declared.target.Target.{Target}
 use Rattle.cr_base.specs.declared.words.Decision.{Decision}
 use Rattle.cr_base.specs.declared.words.Kind.{Kind}
 use Rattle.cr_base.specs.declared.words.Phase.{Phase}
-use Rattle.cr_base.specs.declared.words.Phase.TheVariants.{Setup, Submission, Bidding, Reviewing, Discussion, Notification, Closed}
+use Rattle.cr_base.specs.declared.words.Phase.TheVariants.{Setup, Submission, Bidding, Reviewing, Response, Discussion, Notification, Closed}
 use Rattle.cr_base.specs.declared.words.Role.{Role}
 use Rattle.cr_base.specs.declared.words.Role.TheVariants.{Account, Chair}
 use Rattle.cr_base.specs.Lists.{at_some, is_number, listed}
 use Rattle.cr_base.specs.History.{History, Registration, all_told, registration_told}
 use Rattle.cr_base.specs.HistoryFacts.{phase_of, deadline_of, role_of, accounts_of, papers_of, own_papers_of, own_bytes_of}
-use Rattle.cr_base.specs.HistoryFacts.{is_external, is_invited}
+use Rattle.cr_base.specs.HistoryFacts.{is_external, is_invited, had_response_of}
 use Rattle.cr_base.specs.HistoryFacts.{is_author, is_conflicted, bid_of, ordinal_of, seats_of, is_written, own_forms_of, own_comments_of, is_accepted, standing_of}
 use Rattle.cr_base.specs.Accounts.{chair_count}
 use Rattle.cr_base.specs.Page.{gets_conflicts, is_admitted}
-use Rattle.cr_base.specs.Phases.{is_from, is_next, mode_may_be_set, accepts_submissions, authors_have_declared, conflicts_are_final, committee_works, bids_are_taken, reviews_are_written, comments_are_written, decisions_are_made}
+use Rattle.cr_base.specs.Phases.{is_from, is_next, mode_may_be_set, accepts_submissions, authors_have_declared, conflicts_are_final, committee_works, bids_are_taken, reviews_are_written, responses_are_written, comments_are_written, decisions_are_made}
 use Rattle.cr_base.specs.Words.{role_number, is_member, is_chair}
 use Rattle.cr_base.specs.Bounds.{IsForm, IsBoundedCommand}
 use Rattle.cr_base.specs.TagTexts.{is_tag, is_for_chairs}
 use Rattle.cr_base.specs.Texts.{IsName, IsCommentText}
 use Rattle.cr_base.specs.Checks.{Check, of_role, target_role, register_checks, phase_checks, deadline_checks, submit_checks, revise_checks, upload_checks, name_checks, mode_checks}
 use Rattle.cr_base.specs.Checks.{chair_checks, conflict_case, conflict_checks, bid_checks, assign_checks, unassign_checks}
-use Rattle.cr_base.specs.Checks.{review_checks, comment_checks, tag_checks, decide_checks}
+use Rattle.cr_base.specs.Checks.{review_checks, respond_checks, comment_checks, tag_checks, decide_checks}
 use Rattle.cr_base.specs.Checks.{dismiss_checks, invite_checks, uninvite_checks}
 use Rattle.cr_base.specs.Drawn.{Drawn, grouped, registration_drawn, phase_drawn, submission_drawn, revision_drawn, upload_drawn}
 use Rattle.cr_base.specs.Drawn.{withdrawal_drawn, naming_drawn, mode_drawn, conflict_drawn, bid_drawn, assignment_drawn, unassignment_drawn}
 use Rattle.cr_base.specs.Drawn.{review_drawn, comment_drawn, tag_drawn, decision_drawn, deadline_drawn}
-use Rattle.cr_base.specs.Drawn.{dismissal_drawn, invitation_drawn, uninvitation_drawn}
+use Rattle.cr_base.specs.Drawn.{dismissal_drawn, invitation_drawn, uninvitation_drawn, response_drawn}
 use Rattle.cr_base.specs.Judging.{judge_by}
 use Rattle.cr_base.specs.Sources.{Facts, Shown, number_in, user_among, users_among, role_among, paper_named, target_named, is_late}
 use Rattle.cr_base.proofs.CheckLaws.{NoneBroken, judged-Ok}
@@ -68,6 +68,7 @@ facts_of u H = record {
   own_comments = own_comments_of u H;
   accepted = λ p. is_accepted p H;
   deadline = λ phase. deadline_of phase H;
+  had_response = had_response_of H;
 }
 
 -- a user named, if there is one, has registered, and her role is the one that the history tells
@@ -140,6 +141,7 @@ not_final Setup h = refl
 not_final Submission h = refl
 not_final Bidding h = absurd (true≢false h)
 not_final Reviewing h = absurd (true≢false h)
+not_final Response h = absurd (true≢false h)
 not_final Discussion h = absurd (true≢false h)
 not_final Notification h = absurd (true≢false h)
 not_final Closed h = absurd (true≢false h)
@@ -647,3 +649,17 @@ module _ (H : History) (stamp : Stamp) (shown : Shown) (bounds : IsBoundedStamp 
       (uninvitation_drawn stamp (unwrap_or paper 0) (unwrap_or target 0)) drawn accepted in
       subst (λ (d : Drawn). Adds H d.group) k.1
       (single stamp (Uninvited (unwrap_or paper 0) (unwrap_or target 0)) bounds registered tt (uninvited-ruled paper target k.0))
+  command-adds (Respond paper text) drawn bounded accepted =
+      let p : ℕ = unwrap_or paper 0 in
+      let k = judged-Ok (respond_checks (standing_of (Some maker) paper H) (paper_named facts shown paper) (is_some (shown.response p)) late)
+      (response_drawn stamp p text) drawn accepted in
+      subst (λ (d : Drawn). Adds H d.group) k.1
+      (single stamp (Responded p text) bounds registered tt (record {
+        phase = not-false (responses_are_written (phase_of H)) k.0.1.1.0;
+        chair = tt;
+        role = tt;
+        member = tt;
+        right = author-named H maker paper k.0.1.0;
+        seat = tt;
+        texts = bounded;
+      }))

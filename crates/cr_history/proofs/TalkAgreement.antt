@@ -1,18 +1,18 @@
--- The comments that a history tells are those that the table of comments has.
+-- The comments and the responses that a history tells are those that the table of comments has.
 use Rattle.std.proofs.Common.{ℕ, Bool, true, false, ◌≡◌, ◌+◌, List, ◌++◌, length, length-append, append_assoc, append-nil}
 use Rattle.std.proofs.Common.{eqb, refl, sym, ap, ◌∙◌, arith, Option, Some, None}
 use Rattle.std.specs.Prelude.{map}
 use Rattle.std.proofs.lemmas.List.{map-append}
 use Rattle.cr_base.specs.declared.comment.Comment.{Comment}
 use Rattle.cr_base.specs.declared.entry.Entry.{Entry}
-use Rattle.cr_base.specs.declared.entry.Entry.TheVariants.{Commented}
+use Rattle.cr_base.specs.declared.entry.Entry.TheVariants.{Commented, Responded}
 use Rattle.cr_base.specs.declared.entry.Stamped.{Stamped}
-use Rattle.cr_base.specs.Filed.{filed}
-use Rattle.cr_base.specs.History.{History, CommentTold, comment_told, own_comment_told}
-use Rattle.cr_base.specs.HistoryFacts.{comments_of, own_comments_of}
-use Rattle.cr_base.specs.Lists.{given}
+use Rattle.cr_base.specs.Filed.{filed, filed_of}
+use Rattle.cr_base.specs.History.{History, CommentTold, comment_told, own_comment_told, response_told}
+use Rattle.cr_base.specs.HistoryFacts.{comments_of, own_comments_of, response_of}
+use Rattle.cr_base.specs.Lists.{given, last}
 use Rattle.cr_base.specs.Tables.{Tables, no_tables, tables_of}
-use Rattle.cr_base.specs.Talk.{TalkState, talk_after, comments_in, comment_as_told, own_comments_in}
+use Rattle.cr_base.specs.Talk.{TalkState, talk_after, comments_in, comment_as_told, own_comments_in, response_in}
 use Rattle.cr_base.proofs.FiledLaws.{filed_of-with_filed}
 use Rattle.cr_base.proofs.ListLaws.{turned}
 use Rattle.cr_history.proofs.CountAgreement.{sum_at, sum-with_one, sum-tables}
@@ -44,6 +44,21 @@ comments_of-tables p H =
     (λ t s rest.
     sym (append_assoc (map comment_as_told (comments_in t.talk p)) (comment_told p s.stamp.maker s.entry) rest)
     ∙ ap (λ (cs : List CommentTold). cs ++ rest) (comments-entry p t.talk s.stamp.maker s.entry)) no_tables H
+
+-- ---- what a paper's authors responded
+
+responses-entry : (p : ℕ) (talk : TalkState) (maker : ℕ) (e : Entry)
+    → filed_of p talk.responses ++ response_told p e ≡ filed_of p (talk_after talk maker e).responses
+responses-entry p talk maker (Responded paper text) =
+    ap (λ b. filed_of p talk.responses ++ given b text) (turned paper p) ∙ sym (filed_of-with_filed p (filed paper text) talk.responses)
+responses-entry p talk maker e = append-nil (filed_of p talk.responses)
+
+-- what they responded is what the table has
+pub response_of-tables : (p : ℕ) (H : History) → response_of p H ≡ response_in (tables_of H).talk p
+response_of-tables p H = ap last (told-always ◌++◌ append-nil (λ (t : Tables). filed_of p t.talk.responses) (λ (s : Stamped). response_told p s.entry)
+    (λ t s rest.
+    sym (append_assoc (filed_of p t.talk.responses) (response_told p s.entry) rest)
+    ∙ ap (λ (rs : List (List ℕ)). rs ++ rest) (responses-entry p t.talk s.stamp.maker s.entry)) no_tables H)
 
 -- ---- how many comments the user has written
 

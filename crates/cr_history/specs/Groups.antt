@@ -4,7 +4,7 @@ use Rattle.std.specs.List.{AllByRecursion}
 use Rattle.cr_base.specs.declared.entry.Entry.{Entry}
 use Rattle.cr_base.specs.declared.entry.Entry.TheVariants.{Registered, Named, Submitted}
 use Rattle.cr_base.specs.declared.entry.Entry.TheVariants.{Coauthor, Revised, Uploaded, Bid}
-use Rattle.cr_base.specs.declared.entry.Entry.TheVariants.{Reviewed, Commented, Tagged, DeadlineSet}
+use Rattle.cr_base.specs.declared.entry.Entry.TheVariants.{Reviewed, Responded, Commented, Tagged, DeadlineSet}
 use Rattle.cr_base.specs.declared.entry.Stamp.{Stamp}
 use Rattle.cr_base.specs.declared.words.Role.TheVariants.{Chair}
 use Rattle.cr_base.specs.History.{History}
@@ -28,6 +28,7 @@ HasTexts (Revised paper title abstract) = IsTitle title × IsAbstract abstract
 HasTexts (Uploaded paper version content) = IsContent content
 HasTexts (Bid paper value) = value ≤ 40
 HasTexts (Reviewed paper ordinal version form) = IsForm form
+HasTexts (Responded paper text) = IsCommentText text
 HasTexts (Commented paper n ordinal text) = IsCommentText text
 HasTexts (Tagged paper tag on) = IsTrue (is_tag tag)
 HasTexts (DeadlineSet phase until) = IsDeadlineOrNone until

@@ -7,20 +7,21 @@ use Rattle.cr_base.specs.declared.entry.Entry.TheVariants.{Registered, Named, Ph
 use Rattle.cr_base.specs.declared.entry.Entry.TheVariants.{Coauthor, Revised, Uploaded, Withdrawn, Conflict}
 use Rattle.cr_base.specs.declared.entry.Entry.TheVariants.{Bid, Assigned, Unassigned, Reviewed}
 use Rattle.cr_base.specs.declared.entry.Entry.TheVariants.{Commented, Tagged, Decided, DeadlineSet}
-use Rattle.cr_base.specs.declared.entry.Entry.TheVariants.{Dismissed, Invited, Uninvited}
+use Rattle.cr_base.specs.declared.entry.Entry.TheVariants.{Dismissed, Invited, Uninvited, Responded}
 use Rattle.cr_base.specs.declared.entry.Stamped.{Stamped}
-use Rattle.cr_base.specs.declared.words.Phase.TheVariants.{Bidding, Discussion}
+use Rattle.cr_base.specs.declared.words.Phase.TheVariants.{Bidding, Response, Discussion}
 use Rattle.cr_base.specs.Accounts.{chair_count}
 use Rattle.cr_base.specs.HistoryFacts.{phase_of, role_of, accounts_of, papers_of, uploads_of}
 use Rattle.cr_base.specs.HistoryFacts.{number_of, is_author, is_conflicted, is_invited, is_external, ordinal_of}
-use Rattle.cr_base.specs.HistoryFacts.{seats_of}
+use Rattle.cr_base.specs.HistoryFacts.{seats_of, had_response_of}
 use Rattle.cr_base.specs.HistoryFacts.{forms_of, is_written, comments_of}
 use Rattle.cr_base.specs.History.{History, Registration, all_told, registration_told, opens, opens_discussion}
 use Rattle.cr_base.specs.Lists.{until, since}
 use Rattle.cr_base.specs.Phases.{is_from, is_next, mode_may_be_set, accepts_submissions, papers_may_change}
 use Rattle.cr_base.specs.Phases.{may_have_deadline}
 use Rattle.cr_base.specs.Phases.{authors_have_declared, conflicts_are_final, roles_are_final, committee_works}
-use Rattle.cr_base.specs.Phases.{bids_are_taken, reviews_are_written, comments_are_written, decisions_are_made}
+use Rattle.cr_base.specs.Phases.{bids_are_taken, reviews_are_written, responses_are_written, comments_are_written}
+use Rattle.cr_base.specs.Phases.{decisions_are_made}
 use Rattle.cr_base.specs.Rows.{kind_of, row_of, restored, IsBoundedEntry}
 use Rattle.cr_base.specs.Tables.{no_tables, FitInTurn}
 use Rattle.cr_base.specs.TagTexts.{is_for_chairs}
@@ -55,6 +56,7 @@ IsMadeByUser H maker (DeadlineSet phase until) = IsRegistered H maker
 IsMadeByUser H maker (Dismissed user) = IsRegistered H maker
 IsMadeByUser H maker (Invited paper user) = IsRegistered H maker
 IsMadeByUser H maker (Uninvited paper user) = IsRegistered H maker
+IsMadeByUser H maker (Responded paper text) = IsRegistered H maker
 
 -- of the entries that commands add, the first user's registration has another of its command behind it; a submission,
 -- its co-authors and the entries of a bulk may have one
@@ -107,14 +109,15 @@ IsAboutThose H (Decided paper decision) = IsSubmitted H paper
 IsAboutThose H (Dismissed user) = IsRegistered H user
 IsAboutThose H (Invited paper user) = IsSubmitted H paper × IsRegistered H user
 IsAboutThose H (Uninvited paper user) = IsSubmitted H paper × IsRegistered H user
+IsAboutThose H (Responded paper text) = IsSubmitted H paper
 IsAboutThose H _ = Unit {0}
 
--- the phase goes on by one; the mode is set in setup; papers are submitted, changed and withdrawn in submission; from
--- the notification on nobody is named a member or a chair or dismissed, and no conflict is turned on or off; bids are
--- told in bidding; reviewers are assigned and unassigned, externals invited and no longer, and tags turned on and
--- off, from bidding to discussion; forms are written in reviewing and in the discussion, and comments in the
--- discussion, where the committee decides too; and deadlines are set of the current phase, and of later ones, where
--- the phase may have one
+-- the phase goes on to a next one; the mode is set in setup; papers are submitted, changed and withdrawn in submission;
+-- from the notification on nobody is named a member or a chair or dismissed, and no conflict is turned on or off; bids
+-- are told in bidding; reviewers are assigned and unassigned, externals invited and no longer, and tags turned on and
+-- off, from bidding to discussion; forms are written in reviewing and in the discussion, responses in the response,
+-- and comments in the discussion, where the committee decides too; and deadlines are set of the current phase, and of
+-- later ones, where the phase may have one
 abbrev pub IsInPhase : History → Entry → Type 0
 IsInPhase H (Registered user name digest) = Unit {0}
 IsInPhase H (Named user role) = IsFalse (roles_are_final (phase_of H))
@@ -137,6 +140,7 @@ IsInPhase H (DeadlineSet phase until) = IsTrue (is_from (phase_of H) phase) × I
 IsInPhase H (Dismissed user) = IsFalse (roles_are_final (phase_of H))
 IsInPhase H (Invited paper user) = IsTrue (committee_works (phase_of H))
 IsInPhase H (Uninvited paper user) = IsTrue (committee_works (phase_of H))
+IsInPhase H (Responded paper text) = IsTrue (responses_are_written (phase_of H))
 
 -- chairs set the phase, the mode and deadlines, name members and chairs and dismiss them, assign and unassign
 -- reviewers, invite externals and take that back, and decide; the first user alone is named otherwise, as she
@@ -190,9 +194,9 @@ is_clear_member_of H maker paper = is_member (role_of (Some maker) H) && not (is
 abbrev pub is_clear_of_paper : History → ℕ → ℕ → Bool
 is_clear_of_paper H maker paper = is_of_paper H maker paper && not (is_conflicted (Some maker) paper H)
 
--- and a paper's authors alone name its co-authors, revise it, upload its content and withdraw it; members in no
--- conflict with it bid on it, comment on it and tag it, chairs alone with tags for chairs; they and its externals in
--- none review it; and chairs in none assign and unassign its reviewers, invite externals and take that back, and
+-- and a paper's authors alone name its co-authors, revise it, upload its content, withdraw it and respond; members in
+-- no conflict with it bid on it, comment on it and tag it, chairs alone with tags for chairs; they and its externals
+-- in none review it; and chairs in none assign and unassign its reviewers, invite externals and take that back, and
 -- decide on it
 abbrev pub IsByRight : History → ℕ → Entry → Type 0
 IsByRight H maker (Coauthor paper user) = IsTrue (is_author (Some maker) paper H)
@@ -210,6 +214,7 @@ IsByRight H maker (Tagged paper tag on) =
 IsByRight H maker (Decided paper decision) = IsFalse (is_conflicted (Some maker) paper H)
 IsByRight H maker (Invited paper user) = IsFalse (is_conflicted (Some maker) paper H)
 IsByRight H maker (Uninvited paper user) = IsFalse (is_conflicted (Some maker) paper H)
+IsByRight H maker (Responded paper text) = IsTrue (is_author (Some maker) paper H)
 IsByRight H maker _ = Unit {0}
 
 -- whoever is assigned is in no conflict with the paper and doesn't review it, and it has a label left; whoever is
@@ -300,6 +305,10 @@ pub record DeclaresInTime (H : History) : Type 0 where
 abbrev pub IsDiscussedInTime : History → Type 0
 IsDiscussedInTime H = list_any opens_discussion H ≡ is_from Discussion (phase_of H)
 
+-- the response was opened at most where it is that phase or a later one: a conference may skip it
+abbrev pub IsRespondedInTime : History → Type 0
+IsRespondedInTime H = IsTrue (had_response_of H) → IsTrue (is_from Response (phase_of H))
+
 -- of a form: who wrote it reviews the paper under that label at the end of the history
 abbrev pub IsHeld : History → ℕ → Entry → Type 0
 IsHeld H maker (Reviewed paper ordinal version form) = ordinal_of (Some maker) paper H ≡ Some ordinal
@@ -317,8 +326,8 @@ IsSpelled e = restored (kind_of e.entry) (row_of e) ≡ Some e
 
 -- what every legal history keeps, and what of a bulk's entries stands behind one. Each entry is within its bounds, so
 -- that its row spells it; it fits the tables of what stands before it; and it is in order there. Conflicts are
--- declared in time, the discussion is opened once, and whoever has written a form stays a reviewer. That no command's
--- entries are cut off, too, is said apart (`IsWhole`)
+-- declared in time, the discussion is opened once, the response is opened in time, and whoever has written a form stays
+-- a reviewer. That no command's entries are cut off, too, is said apart (`IsWhole`)
 pub record Invariants (H : History) : Type 0 where
   pub bounded : All IsBoundedEntry H
   pub spelled : All IsSpelled H
@@ -326,4 +335,5 @@ pub record Invariants (H : History) : Type 0 where
   pub in_order : InTurn IsInOrder [] H
   pub declared_in_time : DeclaresInTime H
   pub discussed : IsDiscussedInTime H
+  pub responded : IsRespondedInTime H
   pub stay : ReviewersStay H

@@ -6,7 +6,8 @@ use Rattle.cr_base.specs.declared.words.Phase.{Phase}
 use Rattle.cr_base.specs.HistoryFacts.{standing_of, deadline_of, accounts_of, number_of, caller_of}
 use Rattle.cr_base.specs.HistoryFacts.{papers_of, own_papers_of, own_bytes_of}
 use Rattle.cr_base.specs.HistoryFacts.{bid_of, ordinal_of, seats_of, reviewers_of, forms_of}
-use Rattle.cr_base.specs.HistoryFacts.{forms_discussed_of, own_forms_of, comments_of, own_comments_of, tags_of}
+use Rattle.cr_base.specs.HistoryFacts.{forms_discussed_of, early_form_of, own_forms_of, comments_of, own_comments_of}
+use Rattle.cr_base.specs.HistoryFacts.{tags_of, response_of, had_response_of}
 use Rattle.cr_base.specs.HistoryFacts.{title_of, abstract_of, uploads_of, is_withdrawn, decision_of}
 use Rattle.cr_base.specs.HistoryFacts.{is_accepted, authors_of, is_conflict_on, is_invited, declared_by_authors}
 use Rattle.cr_base.specs.declared.entry.Stamped.{Stamped}
@@ -14,7 +15,7 @@ use Rattle.cr_base.specs.History.{History}
 use Rattle.cr_base.specs.Deadlines.{deadline_in}
 use Rattle.cr_base.specs.Decisions.{decision_in}
 use Rattle.cr_base.specs.Filed.{filed_of}
-use Rattle.cr_base.specs.Reviews.{forms_in, forms_discussed_in, written_told}
+use Rattle.cr_base.specs.Reviews.{forms_in, forms_discussed_in, early_form_in, written_told}
 use Rattle.cr_base.specs.Sources.{standing_at, own_forms_in, is_accepted_in}
 use Rattle.cr_base.specs.Invites.{is_invited_in}
 use Rattle.cr_base.specs.Pairs.{has_pair}
@@ -22,7 +23,7 @@ use Rattle.cr_base.specs.Papers.{paper_numbers, own_count, own_bytes, title_at}
 use Rattle.cr_base.specs.Papers.{abstract_at, uploads_at, is_withdrawn_at}
 use Rattle.cr_base.specs.Tables.{no_tables, tables_of, FitInTurn}
 use Rattle.cr_base.specs.Seats.{labels_in, reviewers_in, ordinal_in, seats_in}
-use Rattle.cr_base.specs.Talk.{comments_in, comment_as_told, own_comments_in}
+use Rattle.cr_base.specs.Talk.{comments_in, comment_as_told, own_comments_in, response_in}
 use Rattle.cr_base.specs.Ties.{pair_of, authors_in, is_conflict_on_in, bid_in}
 use Rattle.cr_history.specs.Groups.{Adds, Grows}
 use Rattle.cr_history.specs.Invariants.{Invariants, InTurn, ComesFirst, IsWhole}
@@ -31,6 +32,7 @@ use Rattle.cr_history.specs.Invariants.{Invariants, InTurn, ComesFirst, IsWhole}
 pub record AreTold (H : History) : Type 0 where
   pub standing : (u paper : Option ℕ) → standing_of u paper H ≡ standing_at (tables_of H) u paper
   pub deadline : (phase : Phase) → deadline_of phase H ≡ deadline_in (tables_of H).stage.deadlines phase
+  pub had_response : had_response_of H ≡ (tables_of H).stage.had_response
   pub accounts : accounts_of H ≡ lines_of (tables_of H).accounts
   pub number : (name : List ℕ) → number_of name H ≡ number_at (tables_of H).accounts name
   pub caller : (name digest : List ℕ) → caller_of name digest H ≡ caller_at (tables_of H).accounts name digest
@@ -53,6 +55,7 @@ pub record AreTold (H : History) : Type 0 where
   pub invited : (u : Option ℕ) (p : ℕ) → is_invited u p H ≡ is_invited_in (tables_of H).invites u p
   pub forms : (p o : ℕ) → forms_of p o H ≡ map written_told (forms_in (tables_of H).reviews p o)
   pub comments : (p : ℕ) → comments_of p H ≡ map comment_as_told (comments_in (tables_of H).talk p)
+  pub response : (p : ℕ) → response_of p H ≡ response_in (tables_of H).talk p
   pub own_comments : (u : Option ℕ) → own_comments_of u H ≡ own_comments_in (tables_of H).talk u
   pub tags : (p : ℕ) → tags_of p H ≡ filed_of p (tables_of H).tags
   pub decision : (p : ℕ) → decision_of p H ≡ decision_in (tables_of H).decisions p
@@ -65,10 +68,12 @@ TablesTell =
     (H : History) → FitInTurn no_tables H
     → InTurn (λ (before : History) (e : Stamped). ComesFirst before e.entry) [] H → AreTold H
 
--- which forms the committee discusses, and which are a user's own, is what the tables have, where phases only go on
--- and whoever has written a form stays a reviewer
+-- which forms the committee discusses, which authors respond to, and which are a user's own, is what the tables have,
+-- where phases only go on and whoever has written a form stays a reviewer
 pub record AreFormsTold (H : History) : Type 0 where
   pub discussed : (p o : ℕ) → forms_discussed_of p o H ≡ forms_discussed_in (tables_of H).reviews p o
+  pub early : (p o : ℕ)
+      → early_form_of p o H ≡ early_form_in (tables_of H).stage.had_response (tables_of H).reviews p o
   pub own : (u : Option ℕ) (p : ℕ) → own_forms_of u p H ≡ own_forms_in (tables_of H) u p
 
 -- FormsTell: so it is of what keeps the invariants

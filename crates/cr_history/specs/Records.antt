@@ -5,7 +5,7 @@ use Rattle.std.specs.Prelude.{ℕ, Bool, false, ◌==◌, ◌+◌, length, filte
 use Rattle.cr_base.specs.declared.entry.Entry.{Entry}
 use Rattle.cr_base.specs.declared.entry.Entry.TheVariants.{Submitted, Coauthor, Revised, Uploaded, Withdrawn, Conflict}
 use Rattle.cr_base.specs.declared.entry.Entry.TheVariants.{Bid, Assigned, Unassigned, Reviewed}
-use Rattle.cr_base.specs.declared.entry.Entry.TheVariants.{Commented, Tagged, Decided, Invited, Uninvited}
+use Rattle.cr_base.specs.declared.entry.Entry.TheVariants.{Commented, Tagged, Decided, Invited, Uninvited, Responded}
 use Rattle.cr_base.specs.declared.entry.Stamped.{Stamped}
 use Rattle.cr_base.specs.declared.pairs.Order.TheVariants.{ByPaper}
 use Rattle.cr_base.specs.Filed.{filed_of}
@@ -34,6 +34,7 @@ is_on p (Tagged paper tag on) = p == paper
 is_on p (Decided paper decision) = p == paper
 is_on p (Invited paper user) = p == paper
 is_on p (Uninvited paper user) = p == paper
+is_on p (Responded paper text) = p == paper
 is_on p _ = false
 
 -- how many of the history's are

@@ -18,13 +18,14 @@ ghost use Rattle.cr_history.specs.Records.{entries_on, records_on, records_decla
 /// how many of the papers, and how many uploaded bytes, are a user's own; whose conflict with a paper is on, and whom
 /// its authors declared; each user's last bid on it; its reviewers, under which ordinal a user reviews it, and how
 /// many labels were given, and to whom; the forms under each label; the comments on a paper, and how many a user has
-/// written; a paper's tags; the last decision on it, and which papers are accepted.
+/// written; what a paper's authors responded; its tags; the last decision on it, and which papers are accepted; until
+/// when what a phase opens may be done, and whether the response was opened.
 pub fn law_tables()
     ensures { TablesTell }
 {}
 
-/// The tables tell which forms of a label the committee discusses, and which forms of a paper a user has
-/// written, where the history keeps the invariants: phases go on one by one, and whoever has written a form
+/// The tables tell which forms of a label the committee discusses, to which one authors respond, and which forms of a
+/// paper a user has written, where the history keeps the invariants: phases only go on, and whoever has written a form
 /// stays a reviewer under its label.
 pub fn law_forms()
     ensures { FormsTell }
@@ -38,10 +39,10 @@ pub fn law_growth()
 {}
 
 /// The tables keep no more records of a paper than any history has entries on it: its authors, the conflicts with it
-/// that are on, its seats, the last bids on it, its forms, its uploads and its tags, all together (the rows of a paper
-/// in HotCRP's schema). So it is too with whom its authors declared in the place of the conflicts that are on.
-/// Whatever reads each of these once reads no more of them than there are entries on this paper, however many there
-/// are on others. Comments aren't among them.
+/// that are on, its seats, who is invited to review it, the last bids on it, its forms, its uploads and its tags, all
+/// together (the rows of a paper in HotCRP's schema). So it is too with whom its authors declared in the place of the
+/// conflicts that are on. Whatever reads each of these once reads no more of them than there are entries on this paper,
+/// however many there are on others. Comments aren't among them, nor is the response.
 pub fn law_records()
     ensures kept { (p : ℕ) (H : History) → records_on p (tables_of H) ≤ entries_on p H }
     ensures declared { (p : ℕ) (H : History) → records_declared p (tables_of H) ≤ entries_on p H }

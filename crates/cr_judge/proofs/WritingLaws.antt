@@ -1,30 +1,66 @@
--- What members write on a paper, by reads of the tables.
+-- What is written on a paper, by reads of the tables.
 use Rattle.std.proofs.Common.{ℕ, Bool, true, false, ◌≡◌, ◌+◌, length, refl, sym, ap, ◌∙◌, Option, Some, None, Result, Ok}
 use Rattle.std.specs.Prelude.{IsSome, List, is_some, map, not, unwrap_or}
 use Rattle.std.specs.Option.{option_and_then}
 use Rattle.std.proofs.lemmas.Bool.{true≢false}
 use Rattle.std.proofs.lemmas.List.{length-map}
-use Rattle.cr_base.specs.declared.command.Command.TheVariants.{Review, Comment}
+use Rattle.cr_base.specs.declared.command.Command.TheVariants.{Review, Respond, Comment}
 use Rattle.cr_base.specs.declared.entry.Stamp.{Stamp}
 use Rattle.cr_base.specs.declared.form.Form.{Form}
 use Rattle.cr_base.specs.declared.reply.Rule.{Rule}
 use Rattle.cr_base.specs.declared.standing.Standing.{Standing}
 use Rattle.cr_base.specs.Calls.{call_by}
-use Rattle.cr_base.specs.Checks.{NamedPaper, judged, review_checks, comment_checks}
-use Rattle.cr_base.specs.Drawn.{Drawn, review_drawn, comment_drawn}
+use Rattle.cr_base.specs.Checks.{NamedPaper, judged, review_checks, respond_checks, comment_checks}
+use Rattle.cr_base.specs.Drawn.{Drawn, review_drawn, response_drawn, comment_drawn}
 use Rattle.cr_base.specs.Judging.{judge_by_role}
+use Rattle.cr_base.specs.Lists.{at_some}
+use Rattle.cr_base.specs.Papers.{is_withdrawn_at}
 use Rattle.cr_base.specs.Reviews.{ReviewsState}
 use Rattle.cr_base.specs.Seats.{ordinal_in}
 use Rattle.cr_base.specs.Sources.{own_forms_in, standing_at}
 use Rattle.cr_base.specs.Stage.{is_late_in}
 use Rattle.cr_base.specs.Tables.{Tables}
-use Rattle.cr_base.specs.Talk.{TalkState, comments_in, comment_as_told, own_comments_in}
+use Rattle.cr_base.specs.Talk.{TalkState, comments_in, comment_as_told, own_comments_in, response_in}
 use Rattle.cr_base.proofs.CheckLaws.{judged-Ok}
 use Rattle.cr_reviews.specs.Under.{forms_by}
-use Rattle.cr_view.proofs.JudgeLaws.{made_of}
+use Rattle.cr_view.proofs.JudgeLaws.{made_of, judged-made}
 use Rattle.cr_judge.specs.declared.named.Named.{Named}
 use Rattle.cr_judge.specs.Named.{there_in, named_at}
-use Rattle.cr_judge.proofs.NamedLaws.{numbered-drawn}
+use Rattle.cr_judge.proofs.NamedLaws.{numbered-drawn, there-judged}
+
+-- a response: that one of the paper was given is asked of its number
+pub response-drawn : (t : Tables) (stamp : Stamp) (paper : Option ℕ) (named : Named) → named ≡ named_at t stamp.maker (there_in t.papers paper)
+    → (text : List ℕ) (late : Bool) → late ≡ is_late_in t.stage stamp.at → (seen : TalkState) → seen ≡ t.talk → (r : Result (Unit {0}) Rule)
+    → r ≡ judged (respond_checks named.by (record { there = is_some named.paper; withdrawn = named.withdrawn })
+    (is_some (response_in seen (unwrap_or named.paper 0))) late) tt
+    → made_of (λ (done : Unit {0}). response_drawn stamp (unwrap_or named.paper 0) text) r ≡ judge_by_role t (call_by stamp (Respond paper text))
+response-drawn t stamp paper named given text late when seen same r judges =
+    judged-made (respond_checks named.by told (responded named.paper) past) (λ (done : Unit {0}). made named.paper) tt r
+    (judges
+    ∙ ap (λ (b : Bool). judged (respond_checks named.by told (is_some (response_in seen (unwrap_or named.paper 0))) b) tt) when
+    ∙ ap (λ (x : TalkState). judged (respond_checks named.by told (is_some (response_in x (unwrap_or named.paper 0))) past) tt) same)
+    ∙ ap (λ (n : Named). judged (respond_checks n.by (record { there = is_some n.paper; withdrawn = n.withdrawn }) (responded n.paper) past) (made n.paper)) given
+    ∙ there-judged t.papers asked due refl (λ (at : Option ℕ). refl) (λ (p : ℕ). refl) paper
+  where
+    told : NamedPaper
+    told = record { there = is_some named.paper; withdrawn = named.withdrawn }
+
+    past : Bool
+    past = is_late_in t.stage stamp.at
+
+    responded : Option ℕ → Bool
+    responded at = is_some (response_in t.talk (unwrap_or at 0))
+
+    made : Option ℕ → Drawn
+    made at = response_drawn stamp (unwrap_or at 0) text
+
+    due : Bool → Option ℕ → Result Drawn Rule
+    due there at =
+        judged (respond_checks (standing_at t (Some stamp.maker) at) (record { there = there; withdrawn = at_some (is_withdrawn_at t.papers) at }) (responded at) past)
+        (made at)
+
+    asked : Option ℕ → Result Drawn Rule
+    asked at = due (is_some at) at
 
 module _ (t : Tables) (stamp : Stamp) (paper : Option ℕ) (named : Named) (given : named ≡ named_at t stamp.maker (there_in t.papers paper))
     (ordinal : Option ℕ) (held : ordinal ≡ option_and_then (ordinal_in t.seats (Some stamp.maker)) named.paper) where

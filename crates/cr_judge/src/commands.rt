@@ -14,7 +14,7 @@ use crate::assigning::{assignment, bid, conflict, invitation, unassignment, unin
 use crate::coauthors::coauthors;
 use crate::effect::{Effect, Rest, alone, alone_or_rule};
 use crate::named::{held, is_late, user_of};
-use crate::writing::{comment, decision, review, tag};
+use crate::writing::{comment, decision, response, review, tag};
 use cr_base::{
     Blob, Call, Command, Deadline, Digest, Entry, Mode, Moment, PaperNo, Phase, RetryKey, Role,
     Rule, Short, Stamp, Text, ToldNames, UserNo,
@@ -109,6 +109,7 @@ fn user_effect_of(live: &Live, stamp: &Stamp, command: Command) -> Result<Effect
             alone_or_rule(stamp, unassignment(live, stamp, &paper, &user, &[]))
         }
         Command::Review { paper, form } => review(live, stamp, &paper, form),
+        Command::Respond { paper, text } => response(live, stamp, &paper, text),
         Command::Comment { paper, text } => comment(live, stamp, &paper, text),
         Command::Tag {
             paper,

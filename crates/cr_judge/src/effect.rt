@@ -182,6 +182,7 @@ fn receipt_with(first: &Entry, name: &Option<Short>) -> Receipt
         },
         Entry::Invited { paper, .. } => Receipt::Changed { paper: *paper },
         Entry::Uninvited { paper, .. } => Receipt::Changed { paper: *paper },
+        Entry::Responded { paper, .. } => Receipt::Paper { paper: *paper },
     }
 }
 

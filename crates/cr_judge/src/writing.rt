@@ -1,4 +1,5 @@
-//! What is judged of what members write on a paper, reviews, comments and tags, and of what is decided of it.
+//! What is judged of what is written on a paper, reviews, what authors respond to them, comments and tags, and of what
+//! is decided of it.
 ghost use Rattle.std.specs.Prelude.{◌≡◌};
 ghost use Rattle.cr_base.specs.Calls.{call_by};
 ghost use Rattle.cr_base.specs.Judging.{judge_by_role};
@@ -38,6 +39,23 @@ pub(crate) fn review(
             form,
         },
     ))
+}
+
+pub(crate) fn response(
+    live: &Live,
+    stamp: &Stamp,
+    paper: &Option<PaperNo>,
+    text: Text,
+) -> Result<Effect, Rule>
+    ensures { drawn_or_rule live.now.tables.accounts result
+        ≡ judge_by_role live.now.tables (call_by stamp.now (commands.Respond paper.now text)) }
+{
+    let named = named_paper(live, stamp.maker, paper, &[]);
+    let late = is_late(live, stamp);
+    live.comment_table()
+        .judge_respond(&named.by, &named.paper, named.withdrawn, late)?;
+    let paper = held(&named.paper);
+    Ok(alone(stamp, Entry::Responded { paper, text }))
 }
 
 pub(crate) fn comment(

@@ -190,7 +190,7 @@ fn write_step(took: &io::Result<usize>, len: usize) -> WriteStep
 /// What a client sends. Each request has 60 seconds to come whole, from the first read behind the last answer on; but
 /// where that read finds nothing for 5 seconds, it fails, as one does past the 60. So a client that keeps its
 /// connection and asks nothing holds its worker for 5 seconds. A connection's first request has the 60. A span may
-/// take a second more than is said.
+/// take some seconds more than is said.
 ///
 /// Contracts see the count of faults.
 #[derive(Drop)]

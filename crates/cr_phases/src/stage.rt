@@ -1,10 +1,12 @@
 //! The phase, the mode and the deadlines of a history.
-ghost use Rattle.std.specs.Prelude.{◌≡◌, ◌∷◌, [], not};
+ghost use Rattle.std.specs.Prelude.{◌≡◌, ◌∷◌, [], not, ◌||◌};
 ghost use Rattle.cr_base.specs.Checks.{judged, ◌breaks◌, phase_checks, deadline_checks, mode_checks};
 ghost use Rattle.cr_base.specs.Deadlines.{deadline_in, with_deadline};
+ghost use Rattle.cr_base.specs.Phases.{is_phase};
 ghost use Rattle.cr_base.specs.Words.{is_chair};
 ghost use Rattle.cr_base.specs.Stage.{first_stage, stage_after, is_late_in};
 ghost use Rattle.cr_base.specs.Steps.{Takes};
+ghost use Rattle.cr_base.specs.declared.words.Phase.TheVariants.{Response};
 
 use cr_base::{
     Deadline, Deadlines, Entry, Kept, Mode, Moment, Phase, Rule, Stamped, Standing, Steps,
@@ -12,15 +14,16 @@ use cr_base::{
 use std::marker::Model;
 use std::sync::ledger::Ledger;
 
-/// The phase and the mode of the conference, and the deadlines of its phases. Of fixed size: no call takes memory, and
-/// none fails for want of it.
+/// The phase and the mode of the conference, the deadlines of its phases, and whether the response was opened. Of fixed
+/// size: no call takes memory, and none fails for want of it.
 ///
-/// Contracts see all three.
+/// Contracts see all four.
 #[derive(Drop)]
 pub struct Stage {
     phase: Kept<Phase>,
     mode: Kept<Mode>,
     deadlines: Kept<Deadlines>,
+    had_response: Kept<bool>,
 }
 
 impl Model for Stage {
@@ -28,7 +31,12 @@ impl Model for Stage {
 
     ghost Value = { StageState };
 
-    ghost view = { λ s. record { phase = s.phase; mode = s.mode; deadlines = s.deadlines } };
+    ghost view = { λ s. record {
+      phase = s.phase;
+      mode = s.mode;
+      deadlines = s.deadlines;
+      had_response = s.had_response;
+    } };
 }
 
 /// `NotChair` where the caller is no chair.
@@ -42,7 +50,7 @@ fn chairs_only(by: &Standing) -> Result<(), Rule>
 }
 
 impl Stage {
-    /// The stage of the empty history: setup, the mode is blind, and no phase has a deadline.
+    /// The stage of the empty history: setup, the mode is blind, no phase has a deadline, and no response was opened.
     pub fn new() -> Stage
         ensures { result ≡ first_stage }
     {
@@ -50,6 +58,7 @@ impl Stage {
             phase: Kept::new(Phase::Setup),
             mode: Kept::new(Mode::Blind),
             deadlines: Kept::new(Deadlines::none()),
+            had_response: Kept::new(false),
         }
     }
 
@@ -76,6 +85,13 @@ impl Stage {
         self.deadlines.get(&mut Steps::uncounted()).of(phase)
     }
 
+    /// Whether the response was opened: a conference may have skipped it.
+    pub fn had_response(&self) -> bool
+        ensures { result ≡ self.now.had_response }
+    {
+        *self.had_response.get(&mut Steps::uncounted())
+    }
+
     /// Whether it is too late, at that moment, for what the phase opens: the phase that the conference is in has a
     /// deadline, and the moment is later. At the very second of the deadline it isn't.
     pub fn is_late(&self, at: Moment) -> bool
@@ -87,9 +103,9 @@ impl Stage {
         }
     }
 
-    /// Whether the caller may set this phase, or the first broken rule: `NotChair` where she is no
-    /// chair, else `WrongPhase` where the phase doesn't follow the one that the conference is in.
-    /// `by` is her standing, where no paper is named.
+    /// Whether the caller may set this phase, or the first broken rule: `NotChair` where she is no chair, else
+    /// `WrongPhase` where the phase may not follow the one that the conference is in: from the reviewing both the
+    /// response and the discussion may. `by` is her standing, where no paper is named.
     pub fn judge_phase(&self, by: &Standing, to: Phase) -> Result<(), Rule>
         ensures { result ≡ judged (phase_checks by.now self.now.phase to) tt }
     {
@@ -130,10 +146,23 @@ impl Stage {
         ensures { self.new ≡ stage_after self.old stamped.now.entry }
     {
         match &stamped.entry {
-            Entry::PhaseSet { phase } => self.phase.set(*phase),
+            Entry::PhaseSet { phase } => self.set_phase(*phase),
             Entry::ModeSet { mode } => self.mode.set(*mode),
             Entry::DeadlineSet { phase, until } => self.set_deadline(*phase, *until),
             _ => {}
+        }
+    }
+
+    /// Another phase; where it is the response, that was opened.
+    fn set_phase(&mut self, phase: Phase)
+        ensures { self.new ≡ record self.old {
+          phase = phase;
+          had_response = is_phase phase Response || self.old.had_response;
+        } }
+    {
+        self.phase.set(phase);
+        if phase.is(Phase::Response) {
+            self.had_response.set(true);
         }
     }
 

@@ -40,7 +40,7 @@ use Rattle.cr_policy.proofs.JudgeAgreement.{judge-tables}
 use Rattle.cr_policy.proofs.PageTells.{authors-seen, conflicts-seen}
 use Rattle.cr_policy.proofs.ReviewerTells.{invited-seen_by_chair, seat-seen_by_chair, labels-seen}
 use Rattle.cr_policy.proofs.ReviewTells.{own_forms-seen, written-seen}
-use Rattle.cr_policy.proofs.StandingLaws.{standing_from_view, deadline-seen, accounts-seen, papers-seen, own_papers-seen, own_bytes-seen, own_bid-seen, seat-seen, own_comments-seen}
+use Rattle.cr_policy.proofs.StandingLaws.{standing_from_view, deadline-seen, had_response-seen, accounts-seen, papers-seen, own_papers-seen, own_bytes-seen, own_bid-seen, seat-seen, own_comments-seen}
 
 -- ---- what a history that keeps the invariants tells
 
@@ -69,6 +69,7 @@ facts-seen u H = λ i. record {
   own_comments = own_comments-seen u H i;
   accepted = λ p. accepted-seen u p H i;
   deadline = λ phase. deadline-seen u phase H i;
+  had_response = had_response-seen u H i;
 }
 
 -- and to a clear chair, from the bidding on, who is in conflict with a paper, who reviews it, how many labels were given, and under which

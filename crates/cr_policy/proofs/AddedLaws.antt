@@ -30,14 +30,14 @@ use Rattle.cr_base.specs.Accounts.{chair_count}
 use Rattle.cr_base.specs.Checks.{Check, NamedPaper, target_is, register_checks, phase_checks, deadline_checks, mode_checks, submit_checks, revise_checks, upload_checks}
 use Rattle.cr_base.specs.Calls.{stamp_by, stamp_of, call_of}
 use Rattle.cr_base.specs.Checks.{of_role, name_checks, conflict_checks, bid_checks, assign_checks, unassign_checks, judged}
-use Rattle.cr_base.specs.Checks.{review_checks, comment_checks, tag_checks, decide_checks}
+use Rattle.cr_base.specs.Checks.{review_checks, respond_checks, comment_checks, tag_checks, decide_checks}
 use Rattle.cr_base.specs.Checks.{dismiss_checks, invite_checks, uninvite_checks}
 use Rattle.cr_base.specs.Drawn.{Drawn, grouped, registration, besides, submission, submission_drawn, naming_drawn, conflict_drawn, assignment_drawn}
 use Rattle.cr_base.specs.Drawn.{unassignment_drawn, review_drawn, dismissal_drawn, invitation_drawn, uninvitation_drawn}
 use Rattle.cr_base.specs.Drawn.{registration_drawn}
 use Rattle.cr_base.specs.History.{History, FormTold}
 use Rattle.cr_base.specs.HistoryFacts.{standing_of, phase_of, accounts_of, papers_of, number_of, ordinal_of, seats_of, forms_of, own_forms_of}
-use Rattle.cr_base.specs.HistoryFacts.{own_papers_of, own_bytes_of, own_comments_of, is_invited, is_written}
+use Rattle.cr_base.specs.HistoryFacts.{own_papers_of, own_bytes_of, own_comments_of, is_invited, is_written, response_of}
 use Rattle.cr_base.specs.Judging.{name_judged, conflict_judged, assignment_judged, unassignment_judged}
 use Rattle.cr_base.specs.Judging.{dismissal_judged, invitation_judged, uninvitation_judged}
 use Rattle.cr_base.specs.Lists.{listed, given, at_some, is_number, is_nothing}
@@ -258,6 +258,12 @@ module _ (w : ℕ) (H : History) (legal : Legal H) (m : ℕ) (key : Option Retry
   bids None value drawn accepted = refused rules.NoPaper drawn (judged-by u H legal m key (commands.Bid None value) drawn accepted)
   bids (Some p) value drawn accepted =
       one (commands.Bid (Some p) value) drawn (bid_checks (by p) (named p) late) (entries.Bid p value) (receipts.Bid value) refl accepted
+
+  responses : (paper : Option ℕ) (text : List ℕ) (drawn : Drawn) → Accepted (commands.Respond paper text) drawn → Adds (commands.Respond paper text) drawn
+  responses None text drawn accepted = refused rules.NoPaper drawn (judged-by u H legal m key (commands.Respond None text) drawn accepted)
+  responses (Some p) text drawn accepted =
+      one (commands.Respond (Some p) text) drawn (respond_checks (by p) (named p) (is_some (response_of p H)) late) (entries.Responded p text) (receipts.Paper p) refl
+      accepted
 
   comments : (paper : Option ℕ) (text : List ℕ) (drawn : Drawn) → Accepted (commands.Comment paper text) drawn → Adds (commands.Comment paper text) drawn
   comments None text drawn accepted = refused rules.NoPaper drawn (judged-by u H legal m key (commands.Comment None text) drawn accepted)
@@ -480,6 +486,7 @@ adds_as_said H call drawn = by call.caller call.command
     by (Some w) (commands.Invite paper name) legal calls accepted = invitations w H legal call.at call.key paper name drawn accepted
     by (Some w) (commands.Uninvite paper name) legal calls accepted = uninvitations w H legal call.at call.key paper name drawn accepted
     by (Some w) (commands.Review paper form) legal calls accepted = reviewed w H legal call.at call.key paper form drawn accepted
+    by (Some w) (commands.Respond paper text) legal calls accepted = responses w H legal call.at call.key paper text drawn accepted
     by (Some w) (commands.Comment paper text) legal calls accepted = comments w H legal call.at call.key paper text drawn accepted
     by (Some w) (commands.Tag paper tag on) legal calls accepted = tags w H legal call.at call.key paper tag on drawn accepted
     by (Some w) (commands.Decide paper decision) legal calls accepted = decisions w H legal call.at call.key paper decision drawn accepted

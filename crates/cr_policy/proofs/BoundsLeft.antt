@@ -5,7 +5,7 @@ use Rattle.std.proofs.lemmas.Bool.{eqb-true, or_parts, or_from, and_parts, false
 use Rattle.cr_base.specs.declared.entry.Entry.{Entry}
 use Rattle.cr_base.specs.declared.entry.Entry.TheVariants.{Registered, Submitted, Coauthor, Revised, Uploaded, Withdrawn, Conflict}
 use Rattle.cr_base.specs.declared.entry.Entry.TheVariants.{Bid, Assigned, Unassigned, Reviewed, Commented, Tagged, Decided}
-use Rattle.cr_base.specs.declared.entry.Entry.TheVariants.{Invited, Uninvited}
+use Rattle.cr_base.specs.declared.entry.Entry.TheVariants.{Invited, Uninvited, Responded}
 use Rattle.cr_base.specs.declared.entry.EntryKind.TheVariants as kinds
 use Rattle.cr_base.specs.declared.entry.Stamp.{Stamp}
 use Rattle.cr_base.specs.declared.entry.Stamped.{Stamped}
@@ -14,7 +14,7 @@ use Rattle.cr_base.specs.History.{History}
 use Rattle.cr_base.specs.HistoryFacts.{mode_of, phase_of, role_of, is_author}
 use Rattle.cr_policy.specs.Sighting.{Sighting, blank}
 use Rattle.cr_policy.specs.ViewFacts.{is_user}
-use Rattle.cr_policy.specs.ShownTo.{chairs_committee, is_past_reviewing, is_past_discussion}
+use Rattle.cr_policy.specs.ShownTo.{chairs_committee, is_past_writing, is_past_reviewing, is_past_discussion, is_responded_to}
 use Rattle.cr_policy.specs.ShownTo.{hides_authors, hides_reviewers, names_reviewers, serves, is_eligible, oversees, administers, discusses, is_answered}
 use Rattle.cr_policy.specs.ShownTo.{is_in_programme, appears, is_decided_again, learns_outcome, is_announced}
 use Rattle.cr_policy.specs.ShownTo.{is_replaced, is_superseded, is_reviewed, is_discussed, is_party, is_told, where_known, paper_for, reviewer_for}
@@ -72,14 +72,18 @@ party-left n own l told = grind (arith, told)
 
 -- of forms none is told but their makers and those who administer the paper, and these read nothing of them; of comments and tags none
 -- but their makers
-form-left : (own h past k l n a d r : Bool) → h ≡ false → a ≡ false → ((own || ((h && past) && k)) || (l && n) || ((a && d) && r)) ≡ true → (own || l) ≡ true
-form-left own h past k l n a d r hh ha told = grind (arith, hh, ha, told)
+form-left : (own h past k l n a w c d r : Bool) → h ≡ false → a ≡ false
+    → ((own || ((h && past) && k)) || (l && n) || (((a && w) && c) || ((a && d) && r))) ≡ true → (own || l) ≡ true
+form-left own h past k l n a w c d r hh ha told = grind (arith, hh, ha, told)
 
 pub form-unread : (h past k : Bool) → h ≡ false → ((h && past) && k) ≡ false
 form-unread h past k hh = grind (arith, hh)
 
-review-unread : (h past k a d r : Bool) → h ≡ false → a ≡ false → (((h && past) && k) || ((a && d) && r)) ≡ false
-review-unread h past k a d r hh ha = grind (arith, hh, ha)
+review-unread : (h past k a w c d r : Bool) → h ≡ false → a ≡ false → (((h && past) && k) || (((a && w) && c) || ((a && d) && r))) ≡ false
+review-unread h past k a w c d r hh ha = grind (arith, hh, ha)
+
+pub response-own : (own a h past : Bool) → a ≡ false → h ≡ false → ((own || a) || (h && past)) ≡ true → own ≡ true
+response-own own a h past ha hh told = grind (arith, ha, hh, told)
 
 pub comment-own : (own h past : Bool) → h ≡ false → (own || (h && past)) ≡ true → own ≡ true
 comment-own own h past hh told = grind (arith, hh, told)
@@ -182,16 +186,16 @@ module _ (u : Option ℕ) (H : History) (paper : ℕ) (wrote : is_author u paper
     form_known own = own || (discusses u paper H && is_discussed paper ordinal before later)
 
     abbrev review_known : Bool → Bool
-    review_known own = form_known own || learns_form u H later paper ordinal
+    review_known own = form_known own || learns_form u H before later paper ordinal
 
     abbrev done_known : Bool → Bool
     done_known led = led && not (is_reviewed paper ordinal before)
 
-    pub left-form : (own : Bool) → (form_known own || done_known (administers u paper H) || learns_form u H later paper ordinal) ≡ true → (own || administers u paper H) ≡ true
+    pub left-form : (own : Bool) → (form_known own || done_known (administers u paper H) || learns_form u H before later paper ordinal) ≡ true → (own || administers u paper H) ≡ true
     left-form own told =
         form-left own (is_eligible u paper H) (is_past_reviewing (phase_of H)) (is_discussed paper ordinal before later) (administers u paper H)
-        (not (is_reviewed paper ordinal before)) (is_author u paper H) (is_past_discussion (phase_of H)) (not (is_reviewed paper ordinal later))
-        handled wrote told
+        (not (is_reviewed paper ordinal before)) (is_author u paper H) (is_past_writing (phase_of H)) (is_responded_to paper ordinal before later)
+        (is_past_discussion (phase_of H)) (not (is_reviewed paper ordinal later)) handled wrote told
 
     form-own : {A : Type 0} (own : Bool) (x : A) → where_known (form_known own) x ≡ cond own (where_known (form_known own) x) None
     form-own own x =
@@ -202,7 +206,7 @@ module _ (u : Option ℕ) (H : History) (paper : ℕ) (wrote : is_author u paper
     review-own own x =
         known-alone (review_known own) own x (λ other. ap review_known other
         ∙ review-unread (is_eligible u paper H) (is_past_reviewing (phase_of H)) (is_discussed paper ordinal before later) (is_author u paper H)
-        (is_past_discussion (phase_of H)) (not (is_reviewed paper ordinal later)) handled wrote)
+        (is_past_writing (phase_of H)) (is_responded_to paper ordinal before later) (is_past_discussion (phase_of H)) (not (is_reviewed paper ordinal later)) handled wrote)
 
     done-led : (led : Bool) → where_known (done_known led) true ≡ cond led (where_known (done_known led) true) None
     done-led led = known-alone (done_known led) led true (ap done_known)
@@ -331,6 +335,10 @@ module _ (u : Option ℕ) (H : History) where
       key = key-left stamp i;
       by = known-not _ stamp.maker (form-unread (is_eligible u paper H) (is_past_reviewing (phase_of H)) (knows_writers u H) handled) i;
     },
+  )
+  left-one before later stamp (Responded paper text) writes told = λ wrote handled away. (
+    response-own (is_number u stamp.maker) (is_author u paper H) (is_eligible u paper H) (is_past_reviewing (phase_of H)) wrote handled told,
+    λ i. record (shown_to u H before later stamp (Responded paper text)) { at = moment-left stamp i; key = key-left stamp i },
   )
   left-one before later stamp (Tagged paper tag on) writes told = λ wrote handled away. (
     tag-own (is_number u stamp.maker) (is_committees tag) (is_chairs tag) (is_eligible u paper H) (chairs_committee (role_of u H)) handled told,

@@ -1,190 +1,51 @@
 -- What an entry shows, part by part, is what the bounds give: one lemma a part.
-use Rattle.std.proofs.Common.{◌≡◌, ℕ, Bool, true, false, List, [], ◌∷◌, ◌++◌, eqb, refl, sym, ap, ◌∙◌, arith, ◌||◌, ◌&&◌, Option, Some, None}
+use Rattle.std.proofs.Common.{◌≡◌, ℕ, Bool, true, false, List, [], ◌∷◌, ◌++◌, refl, sym, ap, ◌∙◌, arith, ◌||◌, ◌&&◌, Option, Some}
 use Rattle.std.specs.Prelude.{not, unwrap_or}
 use Rattle.std.specs.List.{list_any}
-use Rattle.std.proofs.lemmas.Bool.{true≢false, false≢true, and_right}
 use Rattle.std.proofs.Math.Bool.{or-false}
 use Rattle.cr_base.specs.declared.entry.Entry.{Entry}
-use Rattle.cr_base.specs.declared.entry.Entry.TheVariants.{Registered, Withdrawn, Submitted, Coauthor, Revised, Uploaded, Conflict, Bid, Assigned, Unassigned, PhaseSet}
+use Rattle.cr_base.specs.declared.entry.Entry.TheVariants.{Registered, Withdrawn, Submitted, Coauthor, Revised, Uploaded, Conflict, Bid, Assigned, Unassigned}
 use Rattle.cr_base.specs.declared.entry.Entry.TheVariants.{Invited, Uninvited}
-use Rattle.cr_base.specs.declared.entry.Entry.TheVariants.{Reviewed, Commented, Tagged, Decided}
+use Rattle.cr_base.specs.declared.entry.Entry.TheVariants.{Reviewed, Commented, Tagged, Decided, Responded}
 use Rattle.cr_base.specs.declared.entry.Stamp.{Stamp}
-use Rattle.cr_base.specs.declared.entry.Stamped.{Stamped}
 use Rattle.cr_base.specs.declared.form.Form.{Form}
-use Rattle.cr_base.specs.declared.words.Decision.{Decision}
-use Rattle.cr_base.specs.declared.words.Decision.TheVariants.{Accept, Reject}
-use Rattle.cr_base.specs.declared.words.Phase.{Phase}
-use Rattle.cr_base.specs.declared.words.Phase.TheVariants.{Setup, Submission, Bidding, Reviewing, Discussion, Notification, Closed}
-use Rattle.cr_base.specs.declared.words.Mode.{Mode}
-use Rattle.cr_base.specs.declared.words.Mode.TheVariants.{Overt, Blind, Anonymous}
-use Rattle.cr_base.specs.declared.words.Role.{Role}
-use Rattle.cr_base.specs.declared.words.Role.TheVariants.{Account, Member, Chair}
+use Rattle.cr_base.specs.declared.words.Phase.TheVariants.{Bidding, Response, Discussion, Notification, Closed}
 use Rattle.cr_base.specs.Decisions.{is_published}
-use Rattle.cr_base.specs.Lists.{given, is_nothing, is_number, until}
+use Rattle.cr_base.specs.Lists.{is_number, until}
 use Rattle.cr_base.specs.Drawn.{stamped}
-use Rattle.cr_base.specs.History.{History, all_told, opens, opens_discussion, title_told, upload_told, form_told, decision_told, whole_form}
+use Rattle.cr_base.specs.History.{History, opens_response, title_told, decision_told}
 use Rattle.cr_base.specs.HistoryFacts.{phase_of, mode_of, role_of, is_author, is_conflicted, is_external, is_invited, is_withdrawn, decision_of, is_accepted}
-use Rattle.cr_base.specs.Phases.{is_from, is_phase}
+use Rattle.cr_base.specs.HistoryFacts.{had_response_of}
+use Rattle.cr_base.specs.Phases.{is_from}
 use Rattle.cr_base.specs.TagTexts.{is_for_all, is_for_chairs}
-use Rattle.cr_base.specs.Words.{is_anonymous, is_overt, is_member, is_chair, is_accept}
+use Rattle.cr_base.specs.Words.{is_anonymous, is_overt, is_member, is_chair}
 use Rattle.cr_policy.specs.Sighting.{Sighting, where_shown}
 use Rattle.cr_policy.specs.Part as part
 use Rattle.cr_policy.specs.Part.{own_parts}
 use Rattle.cr_policy.specs.Triggers.{Reader, reader, Around, none_in, TriggerRow, ◌see◌, position_of, user_named, seat_rows, rows, applies_any, shows}
 use Rattle.cr_policy.specs.View.{is_seen, joined}
-use Rattle.cr_policy.specs.ShownTo.{is_on_committee, chairs_committee, is_past_submission, is_past_reviewing, is_past_discussion, is_over}
-use Rattle.cr_policy.specs.ShownTo.{takes, is_in_programme, appears, decides, is_decided_again, reads_decision, learns_outcome, is_announced}
-use Rattle.cr_policy.specs.ShownTo.{hides_authors, hides_reviewers, names_reviewers, serves, is_eligible, oversees, administers, discusses, is_answered}
-use Rattle.cr_policy.specs.ShownTo.{is_notified, knows_writers, is_discussion, begins_discussion, gives_form, is_reviewed, is_discussed}
-use Rattle.cr_policy.specs.ShownTo.{reads_form, learns_form, counts_form, reads_review, is_committees, is_chairs}
-use Rattle.cr_policy.specs.ShownTo.{gives_texts, is_replaced, gives_content, is_superseded, owns, is_party, is_told, where_known}
+use Rattle.cr_policy.specs.ShownTo.{is_on_committee, is_past_submission}
+use Rattle.cr_policy.specs.ShownTo.{takes, is_in_programme, appears, is_decided_again, reads_decision, learns_outcome, is_announced}
+use Rattle.cr_policy.specs.ShownTo.{hides_reviewers, names_reviewers, serves, is_eligible, oversees, administers, discusses, is_answered}
+use Rattle.cr_policy.specs.ShownTo.{is_heard, is_responded_to}
+use Rattle.cr_policy.specs.ShownTo.{is_notified, knows_writers, is_reviewed, is_discussed}
+use Rattle.cr_policy.specs.ShownTo.{reads_form, learns_form, counts_form, reads_review}
+use Rattle.cr_policy.specs.ShownTo.{is_replaced, owns, is_party, is_told, where_known}
 use Rattle.cr_policy.specs.ShownTo.{kind_for, mark_for, moment_for, key_for, paper_for, reviewer_for, user_for, name_for, digest_for, role_for, phase_for, until_for, mode_for, maker_for}
 use Rattle.cr_policy.specs.ShownTo.{title_for, abstract_for, version_for, content_for, switch_for, value_for, review_kind_for, ordinal_for}
 use Rattle.cr_policy.specs.ShownTo.{score_for, confidence_for, to_authors_for, to_pc_for, done_for, n_for, text_for, tag_for, decision_for, outcome_for, accepted_for}
 use Rattle.cr_policy.specs.ShownTo.{has_before_her, reads_visiting}
-
--- ---- the words of the table, and those of the bounds
-
-member-committee : (role : Role) → is_member role ≡ is_on_committee role
-member-committee Account = refl
-member-committee Member = refl
-member-committee Chair = refl
-
-chair-leads : (role : Role) → is_chair role ≡ chairs_committee role
-chair-leads Account = refl
-chair-leads Member = refl
-chair-leads Chair = refl
-
--- a chair is on the committee
-chair-committee : (role : Role) → (is_on_committee role && is_chair role) ≡ is_chair role
-chair-committee Account = refl
-chair-committee Member = refl
-chair-committee Chair = refl
-
--- phases: what the bidding, the discussion, the notification and the end begin, and that the first three come in this order
-pub record PhaseWords (phase : Phase) : Type 0 where
-  pub bidding : is_from Bidding phase ≡ is_past_submission phase
-  pub discussion : is_from Discussion phase ≡ is_past_reviewing phase
-  pub notification : is_from Notification phase ≡ is_past_discussion phase
-  pub closed : is_from Closed phase ≡ is_over phase
-  pub discussion_later : (is_past_submission phase && is_past_reviewing phase) ≡ is_past_reviewing phase
-  pub notification_later : (is_past_reviewing phase && is_past_discussion phase) ≡ is_past_discussion phase
-
-pub phase-words : (phase : Phase) → PhaseWords phase
-phase-words Setup = record { bidding = refl; discussion = refl; notification = refl; closed = refl; discussion_later = refl; notification_later = refl }
-phase-words Submission = record { bidding = refl; discussion = refl; notification = refl; closed = refl; discussion_later = refl; notification_later = refl }
-phase-words Bidding = record { bidding = refl; discussion = refl; notification = refl; closed = refl; discussion_later = refl; notification_later = refl }
-phase-words Reviewing = record { bidding = refl; discussion = refl; notification = refl; closed = refl; discussion_later = refl; notification_later = refl }
-phase-words Discussion = record { bidding = refl; discussion = refl; notification = refl; closed = refl; discussion_later = refl; notification_later = refl }
-phase-words Notification = record { bidding = refl; discussion = refl; notification = refl; closed = refl; discussion_later = refl; notification_later = refl }
-phase-words Closed = record { bidding = refl; discussion = refl; notification = refl; closed = refl; discussion_later = refl; notification_later = refl }
-
--- decisions: what is taken
-accept-takes : (decision : Option Decision) → is_accept decision ≡ takes decision
-accept-takes None = refl
-accept-takes (Some Accept) = refl
-accept-takes (Some Reject) = refl
-
--- modes: what is hidden from members, what authors are named, and that no mode has both
-pub record ModeWords (mode : Mode) : Type 0 where
-  pub authors : is_anonymous mode ≡ hides_authors mode
-  pub reviewers : is_anonymous mode ≡ hides_reviewers mode
-  pub named : is_overt mode ≡ names_reviewers mode
-  pub never_both : (hides_reviewers mode && names_reviewers mode) ≡ false
-
-pub mode-words : (mode : Mode) → ModeWords mode
-mode-words Overt = record { authors = refl; reviewers = refl; named = refl; never_both = refl }
-mode-words Blind = record { authors = refl; reviewers = refl; named = refl; never_both = refl }
-mode-words Anonymous = record { authors = refl; reviewers = refl; named = refl; never_both = refl }
-
--- whom a tag is for
-for-committee : (tag : List ℕ) → is_for_all tag ≡ is_committees tag
-for-committee [] = refl
-for-committee (a ∷ tag) = refl
-
-pub for-chairs : (tag : List ℕ) → is_for_chairs tag ≡ is_chairs tag
-for-chairs [] = refl
-for-chairs (a ∷ []) = and_right (eqb a 126) false refl
-for-chairs (a ∷ b ∷ tag) = refl
-
--- entries that tell nothing of a series are those of which none gives a paper anything of it
-append-nothing : {A : Type 0} (xs ys : List A) (gives later : Bool) → is_nothing xs ≡ not gives → is_nothing ys ≡ not later → is_nothing (xs ++ ys)
-    ≡ not (gives || later)
-append-nothing [] ys true later h rest = absurd (true≢false h)
-append-nothing [] ys false later h rest = rest
-append-nothing (x ∷ xs) ys true later h rest = refl
-append-nothing (x ∷ xs) ys false later h rest = absurd (false≢true h)
-
-none-told : {A : Type 0} (told : Entry → List A) (gives : Entry → Bool) → ((e : Entry) → is_nothing (told e) ≡ not (gives e)) → (H : History)
-    → none_in told H ≡ not (list_any (λ (e : Stamped). gives e.entry) H)
-none-told told gives one [] = refl
-none-told told gives one (e ∷ H) =
-    append-nothing (told e.entry) (all_told told H) (gives e.entry) (list_any (λ (e : Stamped). gives e.entry) H) (one e.entry) (none-told told gives one H)
-
-given-nothing : {A : Type 0} (b : Bool) (x : A) → is_nothing (given b x) ≡ not b
-given-nothing true x = refl
-given-nothing false x = refl
-
-none_in-replaced : (p : ℕ) (H : History) → none_in (title_told p) H ≡ not (is_replaced p H)
-none_in-replaced p H = none-told (title_told p) (gives_texts p) one H
-  where
-    one : (e : Entry) → is_nothing (title_told p e) ≡ not (gives_texts p e)
-    one (Submitted paper title abstract) = given-nothing (eqb paper p) title
-    one (Revised paper title abstract) = given-nothing (eqb paper p) title
-    one e = refl
-
-none_in-superseded : (p : ℕ) (H : History) → none_in (upload_told p) H ≡ not (is_superseded p H)
-none_in-superseded p H = none-told (upload_told p) (gives_content p) one H
-  where
-    one : (e : Entry) → is_nothing (upload_told p e) ≡ not (gives_content p e)
-    one (Uploaded paper version content) = given-nothing (eqb paper p) (record { version = version; content = content })
-    one e = refl
-
-none_in-reviewed : (p o : ℕ) (H : History) → none_in (form_told p o) H ≡ not (is_reviewed p o H)
-none_in-reviewed p o H = none-told (form_told p o) (gives_form p o) one H
-  where
-    one : (e : Entry) → is_nothing (form_told p o e) ≡ not (gives_form p o e)
-    one (Reviewed paper ordinal version form) = given-nothing (eqb paper p && eqb ordinal o) (whole_form version form)
-    one e = refl
-
-none_in-decided : (p : ℕ) (H : History) → none_in (decision_told p) H ≡ not (is_decided_again p H)
-none_in-decided p H = none-told (decision_told p) (decides p) one H
-  where
-    one : (e : Entry) → is_nothing (decision_told p e) ≡ not (decides p e)
-    one (Decided paper decision) = given-nothing (eqb paper p) decision
-    one e = refl
-
--- what opens the discussion begins it, and so a form stands as the table says
-phase-discussion : (phase : Phase) → is_phase phase Discussion ≡ is_discussion phase
-phase-discussion Setup = refl
-phase-discussion Submission = refl
-phase-discussion Bidding = refl
-phase-discussion Reviewing = refl
-phase-discussion Discussion = refl
-phase-discussion Notification = refl
-phase-discussion Closed = refl
-
-opens-begins : (e : Entry) → opens Discussion e ≡ begins_discussion e
-opens-begins (PhaseSet phase) = phase-discussion phase
-opens-begins e = refl
-
-abbrev begins : Stamped → Bool
-begins e = begins_discussion e.entry
-
-discussion-tests : opens_discussion ≡ begins
-discussion-tests = λ i e. opens-begins e.entry i
-
-discussed-same : (p o : ℕ) (before later : History)
-    → ((not (list_any opens_discussion before) && none_in (form_told p o) (until opens_discussion later)) || list_any opens_discussion before)
-    ≡ is_discussed p o before later
-discussed-same p o before later =
-    ap (λ (test : Stamped → Bool). (not (list_any test before) && none_in (form_told p o) (until test later)) || list_any test before) discussion-tests
-    ∙ by (list_any begins before) _ _ (none_in-reviewed p o (until begins later))
-  where
-    by : (begun none reviewed : Bool) → none ≡ not reviewed → ((not begun && none) || begun) ≡ (begun || not reviewed)
-    by begun none reviewed h = grind (arith, h)
+use Rattle.cr_policy.proofs.BoundsWords.{member-committee, chair-leads, chair-committee, phase-words, accept-takes, mode-words, for-committee}
+use Rattle.cr_policy.proofs.BoundsWords.{for-chairs, none_in-replaced, none_in-superseded, none_in-reviewed, none_in-decided, discussed-same}
+use Rattle.cr_policy.proofs.BoundsWords.{responded-same}
 
 -- ---- one entry
+
+-- the table asks of a form whether the response was opened at all: it was, before it or behind it
+abbrev pub IsWithin : History → Around → Entry → Type 0
+IsWithin H at (Reviewed paper ordinal version form) =
+    had_response_of H ≡ (list_any opens_response at.before || list_any opens_response at.after)
+IsWithin H at e = Unit {0}
 
 -- the reader is an author of the paper that she makes by this entry
 abbrev pub IsWriters : Option ℕ → History → ℕ → Entry → Type 0
@@ -252,15 +113,20 @@ seat-ordinal : (n c m f a own l d r : Bool) → c ≡ l → (m && f) ≡ d → a
 seat-ordinal n c m f a own l d r hl hd hr = grind (arith, hl, hd, hr)
 
 -- a form: who is told of it, who reads all of it, what is for authors, and that it is there. `c` is that it is counted, `d` that it is
--- discussed, `l` that it is learnt
-form-seen : (c d l own c' d' l' : Bool) → c ≡ c' → d ≡ d' → l ≡ l' → (c || (d || (l || (own || false)))) ≡ ((own || d') || c' || l')
-form-seen c d l own c' d' l' hc hd hl = grind (arith, hc, hd, hl)
+-- discussed, `h` that authors respond to it, `l` that it is the last that they learn
+form-seen : (c d h l own c' d' h' l' : Bool) → c ≡ c' → d ≡ d' → h ≡ h' → l ≡ l'
+    → (c || (d || (h || (l || (own || false))))) ≡ ((own || d') || c' || (h' || l'))
+form-seen c d h l own c' d' h' l' hc hd hh hl = grind (arith, hc, hd, hh, hl)
 
 whole-shown : (d own d' : Bool) → d ≡ d' → (d || (own || false)) ≡ (own || d')
 whole-shown d own d' hd = grind (arith, hd)
 
-form-review : (d l own d' l' : Bool) → d ≡ d' → l ≡ l' → (d || (l || (own || false))) ≡ ((own || d') || l')
-form-review d l own d' l' hd hl = grind (arith, hd, hl)
+form-review : (d h l own d' h' l' : Bool) → d ≡ d' → h ≡ h' → l ≡ l' → (d || (h || (l || (own || false)))) ≡ ((own || d') || (h' || l'))
+form-review d h l own d' h' l' hd hh hl = grind (arith, hd, hh, hl)
+
+-- a response: who is told of it. `d` is that the reader discusses the paper
+response-seen : (a d own d' : Bool) → d ≡ d' → (a || (d || (own || false))) ≡ ((own || a) || d')
+response-seen a d own d' hd = grind (arith, hd)
 
 -- a comment: who is told of it, who of its writer, and who of her label. `d` is that the reader discusses the paper, `w` that she is
 -- told who comments
@@ -278,6 +144,9 @@ tag-seen all chairs m c f own all' chairs' h o ha hc hh ho = grind (arith, ha, h
 -- a decision: who is told of it. `d` is that the reader discusses the paper, `l` that she learns its outcome, `k` that it is announced
 decision-seen : (d l k own d' l' k' : Bool) → d ≡ d' → l ≡ l' → k ≡ k' → (d || (l || (k || (own || false)))) ≡ ((own || d') || l' || k')
 decision-seen d l k own d' l' k' hd hl hk = grind (arith, hd, hl, hk)
+
+decision-read : (d l own d' l' : Bool) → d ≡ d' → l ≡ l' → (d || (l || (own || false))) ≡ ((own || d') || l')
+decision-read d l own d' l' hd hl = grind (arith, hd, hl)
 
 module _ (u : Option ℕ) (H : History) (at : Around) (stamp : Stamp) (more : Bool) where
   abbrev r : Reader
@@ -411,7 +280,7 @@ module _ (u : Option ℕ) (H : History) (at : Around) (stamp : Stamp) (more : Bo
     reviewed = Reviewed paper ordinal version form
 
     -- the tests of the rows: it is the first and she administers the paper; it is among those that are discussed, and she discusses the
-    -- paper; it is the last, and she is notified
+    -- paper; it is the one to which authors respond, and she is heard; it is the last, and she is notified
     abbrev counted : Bool
     counted = (position_of at reviewed).first && (is_chair (role_of u H) && not (is_conflicted u paper H))
 
@@ -419,6 +288,10 @@ module _ (u : Option ℕ) (H : History) (at : Around) (stamp : Stamp) (more : Bo
     is_read =
         ((position_of at reviewed).last_before_discussion || (position_of at reviewed).from_discussion)
         && ((is_member (role_of u H) && not (is_conflicted u paper H)) && is_from Discussion (phase_of H))
+
+    abbrev early : Bool
+    early =
+        (position_of at reviewed).last_before_response && had_response_of H && is_author u paper H && is_from Response (phase_of H)
 
     abbrev learnt : Bool
     learnt = (position_of at reviewed).last && is_author u paper H && is_from Notification (phase_of H)
@@ -435,21 +308,31 @@ module _ (u : Option ℕ) (H : History) (at : Around) (stamp : Stamp) (more : Bo
         by : (k k' d d' : Bool) → k ≡ k' → d ≡ d' → (k && d) ≡ (d' && k')
         by k k' d d' hk hd = grind (arith, hk, hd)
 
-    learnt-same : learnt ≡ learns_form u H at.after paper ordinal
+    early-same : IsWithin H at reviewed → early ≡ (is_heard u paper H && is_responded_to paper ordinal at.before at.after)
+    early-same within =
+        by _ (had_response_of H) (is_author u paper H) _ _ _ (responded-same paper ordinal at.before at.after (had_response_of H) within)
+        (phase-words (phase_of H)).response
+      where
+        by : (n had a f f' k : Bool) → (n && had) ≡ k → f ≡ f' → (n && had && a && f) ≡ ((a && f') && k)
+        by n had a f f' k hk hf = grind (arith, hk, hf)
+
+    learnt-same : learnt ≡ (is_notified u paper H && not (is_reviewed paper ordinal at.after))
     learnt-same = by _ _ (is_author u paper H) (is_from Notification (phase_of H)) _ (none_in-reviewed paper ordinal at.after) (notified-same paper)
       where
         by : (n n' a f l : Bool) → n ≡ n' → (a && f) ≡ l → (n && a && f) ≡ (l && n')
         by n n' a f l hn hl = grind (arith, hn, hl)
 
-    review-seen : applies_any (rows_to reviewed)
-        ≡ (reads_form u H at.before at.after stamp.maker paper ordinal || counts_form u H at.before paper ordinal || learns_form u H at.after paper ordinal)
-    review-seen = form-seen counted is_read learnt (is_number u stamp.maker) _ _ _ counted-same read-same learnt-same
+    pub review-seen : IsWithin H at reviewed → applies_any (rows_to reviewed)
+        ≡ (reads_form u H at.before at.after stamp.maker paper ordinal || counts_form u H at.before paper ordinal
+        || learns_form u H at.before at.after paper ordinal)
+    review-seen within = form-seen counted is_read early learnt (is_number u stamp.maker) _ _ _ _ counted-same read-same (early-same within) learnt-same
 
-    form-read : (is_read || (is_number u stamp.maker || false)) ≡ reads_form u H at.before at.after stamp.maker paper ordinal
+    pub form-read : (is_read || (is_number u stamp.maker || false)) ≡ reads_form u H at.before at.after stamp.maker paper ordinal
     form-read = whole-shown is_read (is_number u stamp.maker) _ read-same
 
-    review-read : (is_read || (learnt || (is_number u stamp.maker || false))) ≡ reads_review u H at.before at.after stamp.maker paper ordinal
-    review-read = form-review is_read learnt (is_number u stamp.maker) _ _ read-same learnt-same
+    pub review-read : IsWithin H at reviewed
+        → (is_read || (early || (learnt || (is_number u stamp.maker || false)))) ≡ reads_review u H at.before at.after stamp.maker paper ordinal
+    review-read within = form-review is_read early learnt (is_number u stamp.maker) _ _ _ read-same (early-same within) learnt-same
 
   -- ---- who is told of a comment, and what of it
 
@@ -506,39 +389,41 @@ module _ (u : Option ℕ) (H : History) (at : Around) (stamp : Stamp) (more : Bo
 
     verdict-read : (discussing paper || (told_outcome || (is_number u stamp.maker || false)))
         ≡ (reads_decision u H stamp.maker paper || learns_outcome u H at.after paper)
-    verdict-read = form-review (discussing paper) told_outcome (is_number u stamp.maker) _ _ (discusses-same paper) outcome-same
+    verdict-read = decision-read (discussing paper) told_outcome (is_number u stamp.maker) _ _ (discusses-same paper) outcome-same
 
   -- ---- part by part
 
-  pub seen-told : (e : Entry) → is_seen r at (stamped stamp more e) ≡ is_told u H at.before at.after stamp.maker e
-  seen-told (Registered user name digest) = refl
-  seen-told (Coauthor paper user) =
+  pub seen-told : (e : Entry) → IsWithin H at e → is_seen r at (stamped stamp more e) ≡ is_told u H at.before at.after stamp.maker e
+  seen-told (Registered user name digest) within = refl
+  seen-told (Coauthor paper user) within =
       coauthor-seen (is_author u paper H) (is_chair (role_of u H) && not (is_conflicted u paper H))
       (reading paper) (is_anonymous (mode_of H)) (is_from Bidding (phase_of H)) (is_accepted paper H)
       (is_number u stamp.maker) _ _ _ _ (oversees-same paper) (before-same paper) (mode-words (mode_of H)).authors (programme-same paper)
-  seen-told (Revised paper title abstract) =
+  seen-told (Revised paper title abstract) within =
       revision-seen (is_author u paper H) _ (is_member (role_of u H)) (is_from Bidding (phase_of H)) (is_conflicted u paper H) (outside paper)
       (is_accepted paper H) (is_from Closed (phase_of H)) (is_number u stamp.maker) _ _ _ _ (none_in-replaced paper at.after) serves-same
       (visiting-same paper) (programme-same paper)
-  seen-told (Uploaded paper version content) =
+  seen-told (Uploaded paper version content) within =
       text-known (is_author u paper H) _ (reading paper) (is_from Bidding (phase_of H))
       (is_published (phase_of H) (is_accepted paper H)) (is_number u stamp.maker) _ _ _
       (none_in-superseded paper at.after) (before-same paper) (appears-same paper)
-  seen-told (Withdrawn paper) =
+  seen-told (Withdrawn paper) within =
       withdrawal-seen (is_author u paper H) (is_member (role_of u H)) (outside paper) (is_from Bidding (phase_of H)) (is_number u stamp.maker) _ _
       serves-same (visiting-same paper)
-  seen-told (Invited paper user) = invitation-seen (is_number u user) _ (is_number u stamp.maker) _ (administers-same paper)
-  seen-told (Uninvited paper user) = invitation-seen (is_number u user) _ (is_number u stamp.maker) _ (administers-same paper)
-  seen-told (Assigned paper user review_kind ordinal) = assignment-seen paper user
-  seen-told (Unassigned paper user ordinal) = assignment-seen paper user
-  seen-told (Reviewed paper ordinal version form) = review-seen paper ordinal version form
-  seen-told (Commented paper n ordinal text) = comment-seen (discussing paper) (shows_names paper) (is_number u stamp.maker) _ (discusses-same paper)
-  seen-told (Tagged paper tag on) =
+  seen-told (Invited paper user) within = invitation-seen (is_number u user) _ (is_number u stamp.maker) _ (administers-same paper)
+  seen-told (Uninvited paper user) within = invitation-seen (is_number u user) _ (is_number u stamp.maker) _ (administers-same paper)
+  seen-told (Assigned paper user review_kind ordinal) within = assignment-seen paper user
+  seen-told (Unassigned paper user ordinal) within = assignment-seen paper user
+  seen-told (Reviewed paper ordinal version form) within = review-seen paper ordinal version form within
+  seen-told (Commented paper n ordinal text) within = comment-seen (discussing paper) (shows_names paper) (is_number u stamp.maker) _ (discusses-same paper)
+  seen-told (Tagged paper tag on) within =
       tag-seen (is_for_all tag) (is_for_chairs tag) (is_member (role_of u H) && not (is_conflicted u paper H))
       (is_chair (role_of u H) && not (is_conflicted u paper H)) (is_from Bidding (phase_of H)) (is_number u stamp.maker) _ _ _ _
       (for-committee tag) (for-chairs tag) (is_eligible-same paper) (oversees-same paper)
-  seen-told (Decided paper decision) = verdict-seen paper
-  seen-told e =
+  seen-told (Decided paper decision) within = verdict-seen paper
+  seen-told (Responded paper text) within =
+      response-seen (is_author u paper H) (discussing paper) (is_number u stamp.maker) _ (discusses-same paper)
+  seen-told e within =
       let chair = chair-leads (role_of u H) in
       let on_it = chair-committee (role_of u H) in
       let member = member-committee (role_of u H) in
@@ -574,12 +459,12 @@ module _ (u : Option ℕ) (H : History) (at : Around) (stamp : Stamp) (more : Bo
   key-one e = known-same _ (is_number u stamp.maker) stamp.key (or-false (is_number u stamp.maker))
 
   pub user-one : (e : Entry) → is_told u H at.before at.after stamp.maker e ≡ true → (seen e).user ≡ user_for u H at.before at.after stamp e
-  user-one (Coauthor paper user) told = ap (λ b. where_known b user) (seen-told (Coauthor paper user) ∙ told)
-  user-one (Conflict paper user on) told = ap (λ b. where_known b user) (seen-told (Conflict paper user on) ∙ told)
+  user-one (Coauthor paper user) told = ap (λ b. where_known b user) (seen-told (Coauthor paper user) tt ∙ told)
+  user-one (Conflict paper user on) told = ap (λ b. where_known b user) (seen-told (Conflict paper user on) tt ∙ told)
   user-one (Assigned paper user review_kind ordinal) told = reviewer-shown paper user
   user-one (Unassigned paper user ordinal) told = reviewer-shown paper user
-  user-one (Invited paper user) told = ap (λ b. where_known b user) (seen-told (Invited paper user) ∙ told)
-  user-one (Uninvited paper user) told = ap (λ b. where_known b user) (seen-told (Uninvited paper user) ∙ told)
+  user-one (Invited paper user) told = ap (λ b. where_known b user) (seen-told (Invited paper user) tt ∙ told)
+  user-one (Uninvited paper user) told = ap (λ b. where_known b user) (seen-told (Uninvited paper user) tt ∙ told)
   user-one e told = refl
 
   pub digest-one : (e : Entry) → (seen e).digest ≡ digest_for u H at.before at.after stamp e
@@ -587,8 +472,8 @@ module _ (u : Option ℕ) (H : History) (at : Around) (stamp : Stamp) (more : Bo
   digest-one e = refl
 
   pub switch-one : (e : Entry) → is_told u H at.before at.after stamp.maker e ≡ true → (seen e).on ≡ switch_for u H at.before at.after stamp e
-  switch-one (Conflict paper user on) told = ap (λ b. where_known b on) (seen-told (Conflict paper user on) ∙ told)
-  switch-one (Tagged paper tag on) told = ap (λ b. where_known b on) (seen-told (Tagged paper tag on) ∙ told)
+  switch-one (Conflict paper user on) told = ap (λ b. where_known b on) (seen-told (Conflict paper user on) tt ∙ told)
+  switch-one (Tagged paper tag on) told = ap (λ b. where_known b on) (seen-told (Tagged paper tag on) tt ∙ told)
   switch-one e told = refl
 
   pub maker-one : (e : Entry) → (seen e).by ≡ maker_for u H at.before at.after stamp e
@@ -657,45 +542,45 @@ module _ (u : Option ℕ) (H : History) (at : Around) (stamp : Stamp) (more : Bo
 
   -- the number and the content of a version are shown to all who are told of the upload
   pub version-one : (e : Entry) → (seen e).version ≡ version_for u H at.before at.after stamp e
-  version-one (Uploaded paper version content) = known-same _ _ version (seen-told (Uploaded paper version content))
+  version-one (Uploaded paper version content) = known-same _ _ version (seen-told (Uploaded paper version content) tt)
   version-one (Reviewed paper ordinal version form) = known-same _ _ version (form-read paper ordinal version form)
   version-one e = refl
 
   pub content-one : (e : Entry) → (seen e).content ≡ content_for u H at.before at.after stamp e
-  content-one (Uploaded paper version content) = known-same _ _ content (seen-told (Uploaded paper version content))
+  content-one (Uploaded paper version content) = known-same _ _ content (seen-told (Uploaded paper version content) tt)
   content-one e = refl
 
   -- a bid, and the ordinal of a label, are shown to all who are told of the entry; what a reviewer is to the paper to those who
   -- are told all of it, or discuss the paper
   pub value-one : (e : Entry) → is_told u H at.before at.after stamp.maker e ≡ true → (seen e).value ≡ value_for u H at.before at.after stamp e
-  value-one (Bid paper value) told = ap (λ b. where_known b value) (seen-told (Bid paper value) ∙ told)
+  value-one (Bid paper value) told = ap (λ b. where_known b value) (seen-told (Bid paper value) tt ∙ told)
   value-one e told = refl
 
   pub seat-one : (e : Entry) → (seen e).review_kind ≡ review_kind_for u H at.before at.after stamp e
   seat-one (Assigned paper user review_kind ordinal) = known-same _ _ review_kind (kind-shown paper user)
   seat-one e = refl
 
-  pub ordinal-one : (e : Entry) → is_told u H at.before at.after stamp.maker e ≡ true → (seen e).ordinal ≡ ordinal_for u H at.before at.after stamp e
-  ordinal-one (Assigned paper user review_kind ordinal) told = ap (λ b. where_known b ordinal) (label-shown paper user ∙ told)
-  ordinal-one (Unassigned paper user ordinal) told = ap (λ b. where_known b ordinal) (label-shown paper user ∙ told)
-  ordinal-one (Reviewed paper ordinal version form) told = ap (λ b. where_known b ordinal) (review-seen paper ordinal version form ∙ told)
-  ordinal-one (Commented paper n ordinal text) told =
+  pub ordinal-one : (e : Entry) → IsWithin H at e → is_told u H at.before at.after stamp.maker e ≡ true → (seen e).ordinal ≡ ordinal_for u H at.before at.after stamp e
+  ordinal-one (Assigned paper user review_kind ordinal) within told = ap (λ b. where_known b ordinal) (label-shown paper user ∙ told)
+  ordinal-one (Unassigned paper user ordinal) within told = ap (λ b. where_known b ordinal) (label-shown paper user ∙ told)
+  ordinal-one (Reviewed paper ordinal version form) within told = ap (λ b. where_known b ordinal) (review-seen paper ordinal version form within ∙ told)
+  ordinal-one (Commented paper n ordinal text) within told =
       known-same _ _ (unwrap_or ordinal 0) (comment-label (discussing paper) (shows_names paper) (is_number u stamp.maker) _ _ (label-same paper))
-  ordinal-one e told = refl
+  ordinal-one e within told = refl
 
   -- of a form its grades and the text to the authors are shown to those who read or learn it, the text to the committee to those
   -- who read it, and the mark to those who count it
-  pub score-one : (e : Entry) → (seen e).score ≡ score_for u H at.before at.after stamp e
-  score-one (Reviewed paper ordinal version form) = known-same _ _ form.score (review-read paper ordinal version form)
-  score-one e = refl
+  pub score-one : (e : Entry) → IsWithin H at e → (seen e).score ≡ score_for u H at.before at.after stamp e
+  score-one (Reviewed paper ordinal version form) within = known-same _ _ form.score (review-read paper ordinal version form within)
+  score-one e within = refl
 
-  pub confidence-one : (e : Entry) → (seen e).confidence ≡ confidence_for u H at.before at.after stamp e
-  confidence-one (Reviewed paper ordinal version form) = known-same _ _ form.confidence (review-read paper ordinal version form)
-  confidence-one e = refl
+  pub confidence-one : (e : Entry) → IsWithin H at e → (seen e).confidence ≡ confidence_for u H at.before at.after stamp e
+  confidence-one (Reviewed paper ordinal version form) within = known-same _ _ form.confidence (review-read paper ordinal version form within)
+  confidence-one e within = refl
 
-  pub to_authors-one : (e : Entry) → (seen e).to_authors ≡ to_authors_for u H at.before at.after stamp e
-  to_authors-one (Reviewed paper ordinal version form) = known-same _ _ form.to_authors (review-read paper ordinal version form)
-  to_authors-one e = refl
+  pub to_authors-one : (e : Entry) → IsWithin H at e → (seen e).to_authors ≡ to_authors_for u H at.before at.after stamp e
+  to_authors-one (Reviewed paper ordinal version form) within = known-same _ _ form.to_authors (review-read paper ordinal version form within)
+  to_authors-one e within = refl
 
   pub to_pc-one : (e : Entry) → (seen e).to_pc ≡ to_pc_for u H at.before at.after stamp e
   to_pc-one (Reviewed paper ordinal version form) = known-same _ _ form.to_pc (form-read paper ordinal version form)
@@ -713,10 +598,11 @@ module _ (u : Option ℕ) (H : History) (at : Around) (stamp : Stamp) (more : Bo
   pub comment-one : (e : Entry) → is_told u H at.before at.after stamp.maker e ≡ true → (seen e).text ≡ text_for u H at.before at.after stamp e
   comment-one (Commented paper n ordinal text) told =
       ap (λ b. where_known b text) (whole-shown (discussing paper) (is_number u stamp.maker) _ (discusses-same paper) ∙ told)
+  comment-one (Responded paper text) told = ap (λ b. where_known b text) (seen-told (Responded paper text) tt ∙ told)
   comment-one e told = refl
 
   pub tag-one : (e : Entry) → is_told u H at.before at.after stamp.maker e ≡ true → (seen e).tag ≡ tag_for u H at.before at.after stamp e
-  tag-one (Tagged paper tag on) told = ap (λ b. where_known b tag) (seen-told (Tagged paper tag on) ∙ told)
+  tag-one (Tagged paper tag on) told = ap (λ b. where_known b tag) (seen-told (Tagged paper tag on) tt ∙ told)
   tag-one e told = refl
 
   -- a decision is shown to those who read it or learn the outcome, and each mark to those whom it is for

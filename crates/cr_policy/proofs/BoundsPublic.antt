@@ -6,7 +6,7 @@ use Rattle.std.proofs.lemmas.Bool.{eqb-true, or_parts, or_from, true≢false}
 use Rattle.cr_base.specs.declared.entry.Entry.{Entry}
 use Rattle.cr_base.specs.declared.entry.Entry.TheVariants.{Registered, Named, Submitted, Coauthor, Revised, Uploaded, Withdrawn, Conflict}
 use Rattle.cr_base.specs.declared.entry.Entry.TheVariants.{Bid, Assigned, Unassigned, Reviewed, Commented, Tagged, Decided}
-use Rattle.cr_base.specs.declared.entry.Entry.TheVariants.{Dismissed, Invited, Uninvited}
+use Rattle.cr_base.specs.declared.entry.Entry.TheVariants.{Dismissed, Invited, Uninvited, Responded}
 use Rattle.cr_base.specs.declared.entry.EntryKind.TheVariants as kinds
 use Rattle.cr_base.specs.declared.entry.Stamp.{Stamp}
 use Rattle.cr_base.specs.declared.entry.Stamped.{Stamped}
@@ -26,7 +26,7 @@ use Rattle.cr_policy.specs.ShownTo.{is_committees, is_chairs, visits, reads_visi
 use Rattle.cr_policy.specs.ViewBounds.{IsPublicIn, names_her, is_reviewing, AccountsShown, IsStranger, StrangersShown, NobodyShown}
 use Rattle.cr_policy.proofs.BoundsWalk.{shown_to, all-view, each-view}
 use Rattle.cr_policy.proofs.Walk.{list_any-nobody}
-use Rattle.cr_policy.proofs.BoundsLeft.{user-known, known-not, comment-own, tag-own, bid-own, title_known, text_known}
+use Rattle.cr_policy.proofs.BoundsLeft.{user-known, known-not, comment-own, response-own, tag-own, bid-own, title_known, text_known}
 use Rattle.cr_policy.proofs.BoundsLeft.{maker-left, title-left, text-left, left-coauthor, left-revision, left-upload, left-withdrawal}
 use Rattle.cr_policy.proofs.BoundsLeft.{left-form, decision-told, announced-in, verdict-unknown, outcome-unknown}
 
@@ -52,6 +52,7 @@ IsUntold (Invited paper user) = ⊥
 IsUntold (Uninvited paper user) = ⊥
 IsUntold (Reviewed paper ordinal version form) = ⊥
 IsUntold (Commented paper n ordinal text) = ⊥
+IsUntold (Responded paper text) = ⊥
 IsUntold (Tagged paper tag on) = ⊥
 IsUntold _ = Unit {0}
 
@@ -111,6 +112,9 @@ module _ (u : Option ℕ) (H : History) (serving : serves u H ≡ false) where
       unreviewed own chair clear o c led = grind (arith, o, c, led)
   untold-one before later stamp (Commented paper n ordinal text) unnamed wrote told other =
       hers other (comment-own (is_number u stamp.maker) (is_eligible u paper H) (is_past_reviewing (phase_of H)) (unhandled paper) told)
+  untold-one before later stamp (Responded paper text) unnamed wrote told other =
+      hers other
+      (response-own (is_number u stamp.maker) (is_author u paper H) (is_eligible u paper H) (is_past_reviewing (phase_of H)) wrote (unhandled paper) told)
   untold-one before later stamp (Tagged paper tag on) unnamed wrote told other =
       hers other
       (tag-own (is_number u stamp.maker) (is_committees tag) (is_chairs tag) (is_eligible u paper H) (chairs_committee (role_of u H)) (unhandled paper) told)
@@ -231,6 +235,8 @@ module _ (u : Option ℕ) (H : History) (serving : serves u H ≡ false) where
       untold-one u H serving before later stamp (Reviewed paper ordinal version form) unnamed far.wrote told other
   public-one before later stamp (Commented paper n ordinal text) unnamed far told other =
       untold-one u H serving before later stamp (Commented paper n ordinal text) unnamed far.wrote told other
+  public-one before later stamp (Responded paper text) unnamed far told other =
+      untold-one u H serving before later stamp (Responded paper text) unnamed far.wrote told other
   public-one before later stamp (Tagged paper tag on) unnamed far told other =
       untold-one u H serving before later stamp (Tagged paper tag on) unnamed far.wrote told other
   public-one before later stamp (Decided paper decision) unnamed far told other =

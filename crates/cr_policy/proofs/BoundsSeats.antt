@@ -15,7 +15,7 @@ use Rattle.cr_policy.specs.ViewFacts.{is_user, is_kind}
 use Rattle.cr_policy.specs.ShownTo.{is_past_reviewing, is_past_discussion, hides_reviewers, names_reviewers, is_eligible, oversees, administers, discusses, is_answered}
 use Rattle.cr_policy.specs.ShownTo.{is_party, is_told, reviewer_for}
 use Rattle.cr_policy.specs.ViewBounds.{is_of_other, BidsAreOwn, ReviewersFromAuthors, ReviewersEarly, ReviewersUnnamed}
-use Rattle.cr_policy.proofs.BoundsParts.{phase-words, mode-words}
+use Rattle.cr_policy.proofs.BoundsWords.{phase-words, mode-words}
 use Rattle.cr_policy.proofs.BoundsWalk.{shown_to, each-view}
 use Rattle.cr_policy.proofs.BoundsLeft.{known-not, user-known}
 

@@ -5,7 +5,7 @@ use Rattle.std.proofs.lemmas.Bool.{eqb-true, or_parts, false≢true}
 use Rattle.cr_base.specs.declared.entry.Entry.{Entry}
 use Rattle.cr_base.specs.declared.entry.Entry.TheVariants.{Submitted, Coauthor, Revised, Uploaded, Withdrawn, Conflict}
 use Rattle.cr_base.specs.declared.entry.Entry.TheVariants.{Bid, Assigned, Unassigned, Invited, Uninvited}
-use Rattle.cr_base.specs.declared.entry.Entry.TheVariants.{Reviewed, Commented, Tagged, Decided}
+use Rattle.cr_base.specs.declared.entry.Entry.TheVariants.{Reviewed, Commented, Tagged, Decided, Responded}
 use Rattle.cr_base.specs.declared.entry.Stamp.{Stamp}
 use Rattle.cr_base.specs.Lists.{is_number}
 use Rattle.cr_base.specs.History.{History}
@@ -149,6 +149,8 @@ module _ (u : Option ℕ) (H : History) where
       (unwritten paper reads)
   visitor-one before later stamp (Commented paper n ordinal text) told = λ reads other.
       untold-other paper reads before later stamp (Commented paper n ordinal text) told other (unwritten paper reads)
+  visitor-one before later stamp (Responded paper text) told = λ reads other.
+      untold-other paper reads before later stamp (Responded paper text) told other (unwritten paper reads)
   visitor-one before later stamp (Tagged paper tag on) told = λ reads other.
       untold-other paper reads before later stamp (Tagged paper tag on) told other (unwritten paper reads)
   visitor-one before later stamp e told = tt

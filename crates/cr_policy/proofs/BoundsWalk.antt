@@ -8,12 +8,12 @@ use Rattle.std.proofs.lemmas.List.Concat.{flat_map-append}
 use Rattle.std.proofs.lemmas.List.Elements.{All-nil, All-cons, All-append, All-same}
 use Rattle.std.proofs.lemmas.List.Folds.{list_any-append}
 use Rattle.cr_base.specs.declared.entry.Entry.{Entry}
-use Rattle.cr_base.specs.declared.entry.Entry.TheVariants.{Submitted}
+use Rattle.cr_base.specs.declared.entry.Entry.TheVariants.{Submitted, Reviewed}
 use Rattle.cr_base.specs.declared.entry.Stamp.{Stamp}
 use Rattle.cr_base.specs.declared.entry.Stamped.{Stamped}
 use Rattle.cr_base.specs.Lists.{given, is_number}
 use Rattle.cr_base.specs.Drawn.{stamped}
-use Rattle.cr_base.specs.History.{History, author_told}
+use Rattle.cr_base.specs.History.{History, author_told, opens_response}
 use Rattle.cr_base.specs.HistoryFacts.{authors_of, is_author}
 use Rattle.cr_policy.specs.Sighting.{Sighting}
 use Rattle.cr_policy.specs.Triggers.{reader, Around}
@@ -25,7 +25,7 @@ use Rattle.cr_policy.specs.ViewBounds.{EntriesShown, MarksShown, MomentsShown, K
 use Rattle.cr_policy.specs.ViewBounds.{MakersShown, TitlesShown, AbstractsShown, VersionsShown, ContentsShown, SwitchesShown, ValuesShown}
 use Rattle.cr_policy.specs.ViewBounds.{SeatsShown, OrdinalsShown, ScoresShown, ConfidencesShown, TextsToAuthorsShown, TextsToPcShown, DoneShown}
 use Rattle.cr_policy.specs.ViewBounds.{NumbersShown, CommentsShown, TagsShown, DecisionsShown, OutcomesShown, AcceptedShown}
-use Rattle.cr_policy.proofs.BoundsParts.{IsWriters, seen-told, shown-one, mark-one, moment-one, key-one, user-one, digest-one, maker-one, title-one, abstract-one, version-one}
+use Rattle.cr_policy.proofs.BoundsParts.{IsWriters, IsWithin, seen-told, shown-one, mark-one, moment-one, key-one, user-one, digest-one, maker-one, title-one, abstract-one, version-one}
 use Rattle.cr_policy.proofs.BoundsParts.{content-one, switch-one, value-one, seat-one, ordinal-one, score-one, confidence-one, to_authors-one}
 use Rattle.cr_policy.proofs.BoundsParts.{to_pc-one, done-one, n-one, comment-one, tag-one, decision-one, outcome-one, accepted-one}
 
@@ -77,8 +77,8 @@ module _ (u : Option ℕ) (H : History) where
       by false h = refl
 
   joined-one : (at : Around) (stamp : Stamp) (more : Bool) (e : Entry) → IsWriters u H stamp.maker e → is_told u H at.before at.after stamp.maker e ≡ true
-      → joined (reader u H) at (stamped stamp more e) ≡ shown_to u H at.before at.after stamp e
-  joined-one at stamp more e writes told = λ i. record {
+      → IsWithin H at e → joined (reader u H) at (stamped stamp more e) ≡ shown_to u H at.before at.after stamp e
+  joined-one at stamp more e writes told within = λ i. record {
     kind = (shown-one u H at stamp more e).kind i;
     mine = mark-one u H at stamp more e i;
     paper = (shown-one u H at stamp more e).paper i;
@@ -96,10 +96,10 @@ module _ (u : Option ℕ) (H : History) where
     on = switch-one u H at stamp more e told i;
     value = value-one u H at stamp more e told i;
     review_kind = seat-one u H at stamp more e i;
-    ordinal = ordinal-one u H at stamp more e told i;
-    score = score-one u H at stamp more e i;
-    confidence = confidence-one u H at stamp more e i;
-    to_authors = to_authors-one u H at stamp more e i;
+    ordinal = ordinal-one u H at stamp more e within told i;
+    score = score-one u H at stamp more e within i;
+    confidence = confidence-one u H at stamp more e within i;
+    to_authors = to_authors-one u H at stamp more e within i;
     to_pc = to_pc-one u H at stamp more e i;
     done = done-one u H at stamp more e i;
     n = n-one u H at stamp more e told i;
@@ -113,12 +113,12 @@ module _ (u : Option ℕ) (H : History) where
     until = (shown-one u H at stamp more e).until i;
   }
 
-  sight-one : (at : Around) (stamp : Stamp) (more : Bool) (e : Entry) → IsWriters u H stamp.maker e → sight (reader u H) at (stamped stamp more e)
+  sight-one : (at : Around) (stamp : Stamp) (more : Bool) (e : Entry) → IsWriters u H stamp.maker e → IsWithin H at e → sight (reader u H) at (stamped stamp more e)
       ≡ given (is_told u H at.before at.after stamp.maker e) (shown_to u H at.before at.after stamp e)
-  sight-one at stamp more e writes =
+  sight-one at stamp more e writes within =
       given-same (is_seen (reader u H) at (stamped stamp more e)) (is_told u H at.before at.after stamp.maker e)
       (joined (reader u H) at (stamped stamp more e)) (shown_to u H at.before at.after stamp e)
-      (seen-told u H at stamp more e) (joined-one at stamp more e writes)
+      (seen-told u H at stamp more e within) (λ told. joined-one at stamp more e writes told within)
 
   -- ---- the entries of a history
 
@@ -138,6 +138,13 @@ module _ (u : Option ℕ) (H : History) where
       or-true false = refl
   writes-one before stamp more e after whole = tt
 
+  -- and all of the history but the entry stands around it
+  pub within-one : (before : History) (stamp : Stamp) (more : Bool) (e : Entry) (after : History) → before ++ (stamped stamp more e ∷ after) ≡ H
+      → IsWithin H (record { before = before; after = after }) e
+  within-one before stamp more (Reviewed paper ordinal version form) after whole =
+      ap (list_any opens_response) (sym whole) ∙ list_any-append opens_response before (stamped stamp more (Reviewed paper ordinal version form) ∷ after)
+  within-one before stamp more e after whole = tt
+
   abbrev pub Writes : Stamped → Type 0
   Writes e = IsWriters u H e.stamp.maker e.entry
 
@@ -149,15 +156,17 @@ module _ (u : Option ℕ) (H : History) where
   pub writers-all : AllByRecursion Writes H
   writers-all = writes-all [] H refl
 
-  sights-told : (before after : History) → AllByRecursion Writes after → sights (reader u H) before after ≡ each_told u H (shown_to u H) before after
-  sights-told before [] writes = refl
-  sights-told before (e ∷ after) writes =
-      ap (λ xs. xs ++ sights (reader u H) (before ++ e ∷ []) after) (sight-one (record { before = before; after = after }) e.stamp e.more e.entry writes.0)
+  pub sights-told : (before after : History) → before ++ after ≡ H → sights (reader u H) before after ≡ each_told u H (shown_to u H) before after
+  sights-told before [] whole = refl
+  sights-told before (e ∷ after) whole =
+      ap (λ xs. xs ++ sights (reader u H) (before ++ e ∷ []) after)
+      (sight-one (record { before = before; after = after }) e.stamp e.more e.entry (writes-one before e.stamp e.more e.entry after whole)
+      (within-one before e.stamp e.more e.entry after whole))
       ∙ ap (λ ys. given (is_told u H before after e.stamp.maker e.entry) (shown_to u H before after e.stamp e.entry) ++ ys)
-      (sights-told (before ++ e ∷ []) after writes.1)
+      (sights-told (before ++ e ∷ []) after (append_assoc before (e ∷ []) after ∙ whole))
 
   pub view-told : view u H ≡ each_told u H (shown_to u H) [] H
-  view-told = sights-told [] H writers-all
+  view-told = sights-told [] H refl
 
   -- ---- a part of them
 
@@ -199,6 +208,26 @@ module _
 
     pub all-view : AllByRecursion Q H → All P (view u H)
     all-view h = All-same P (view u H) (each_told u H (shown_to u H) [] H) (view-told u H) (all-told [] H h)
+
+-- the same, by where the entry stands in the history
+module _
+    (u : Option ℕ) (H : History) (P : Sighting → Type 0)
+    (each : (before later : History) (stamp : Stamp) (more : Bool) (e : Entry) → before ++ (stamped stamp more e ∷ later) ≡ H
+    → is_told u H before later stamp.maker e ≡ true → P (shown_to u H before later stamp e))
+  where
+    all-placed : (before G : History) → before ++ G ≡ H → All P (each_told u H (shown_to u H) before G)
+    all-placed before [] whole = All-nil P
+    all-placed before (e ∷ G) whole =
+        All-append P (given (is_told u H before G e.stamp.maker e.entry) (shown_to u H before G e.stamp e.entry)) (each_told u H (shown_to u H) (before ++ e ∷ []) G)
+        (by (is_told u H before G e.stamp.maker e.entry) (each before G e.stamp e.more e.entry whole))
+        (all-placed (before ++ e ∷ []) G (append_assoc before (e ∷ []) G ∙ whole))
+      where
+        by : (told : Bool) → (told ≡ true → P (shown_to u H before G e.stamp e.entry)) → All P (given told (shown_to u H before G e.stamp e.entry))
+        by true one = All-cons P (shown_to u H before G e.stamp e.entry) [] (one refl) (All-nil P)
+        by false one = All-nil P
+
+    pub placed-view : All P (view u H)
+    placed-view = All-same P (view u H) (each_told u H (shown_to u H) [] H) (view-told u H) (all-placed [] H refl)
 
 -- the same, whatever is so of the entries
 module _

@@ -1,25 +1,31 @@
 -- Of what is written of a paper, its forms, comments and tags, little is shown to its authors, little before the discussion, and
--- little of who wrote it; and of decisions little to all but those who discuss the paper.
-use Rattle.std.proofs.Common.{◌≡◌, ℕ, Bool, true, false, List, [], ◌∷◌, eqb, refl, sym, ap, ◌∙◌, arith, ◌||◌, ◌&&◌, Option, Some, None}
+-- little of who wrote it; of a response little to all but authors and those who discuss the paper; and of decisions little to all
+-- but these.
+use Rattle.std.proofs.Common.{◌≡◌, ℕ, Bool, true, false, List, [], ◌∷◌, ◌++◌, eqb, refl, sym, ap, subst, ◌∙◌, arith, ◌||◌, ◌&&◌, Option, Some, None}
 use Rattle.std.specs.Prelude.{not, All}
-use Rattle.std.proofs.lemmas.Bool.{eqb-true, false≢true, and_parts, and_right, or_from, or_parts}
+use Rattle.std.specs.List.{list_any}
+use Rattle.std.proofs.lemmas.Bool.{eqb-true, false≢true, and_parts, and_right, or_from, or_parts, or_right}
+use Rattle.std.proofs.lemmas.List.Folds.{list_any-append}
 use Rattle.std.proofs.Math.Bool.{or-false}
 use Rattle.cr_base.specs.declared.entry.Entry.{Entry}
-use Rattle.cr_base.specs.declared.entry.Entry.TheVariants.{Reviewed, Commented, Tagged, Decided}
+use Rattle.cr_base.specs.declared.entry.Entry.TheVariants.{Reviewed, Commented, Tagged, Decided, Responded}
 use Rattle.cr_base.specs.declared.entry.EntryKind.TheVariants as kinds
 use Rattle.cr_base.specs.declared.entry.Stamp.{Stamp}
-use Rattle.cr_base.specs.Lists.{is_number}
+use Rattle.cr_base.specs.declared.entry.Stamped.{Stamped}
+use Rattle.cr_base.specs.Drawn.{stamped}
+use Rattle.cr_base.specs.Lists.{is_number, until}
 use Rattle.cr_base.specs.History.{History}
 use Rattle.cr_base.specs.HistoryFacts.{phase_of, mode_of, role_of, is_author, is_withdrawn, decision_of}
 use Rattle.cr_policy.specs.Sighting.{Sighting, blank}
 use Rattle.cr_policy.specs.View.{view}
 use Rattle.cr_policy.specs.ViewFacts.{is_kind}
+use Rattle.cr_policy.specs.ShownTo.{begins_response, is_responded_to, is_heard, is_past_writing}
 use Rattle.cr_policy.specs.ShownTo.{chairs_committee, is_past_reviewing, is_past_discussion, hides_reviewers, has_conflict, serves, is_eligible, oversees, administers, discusses}
 use Rattle.cr_policy.specs.ShownTo.{is_discussed, is_reviewed, is_committees, is_chairs, is_setters, is_told, takes, is_in_programme, is_decided_again, is_announced, where_known}
-use Rattle.cr_policy.specs.ViewBounds.{is_others, is_tag_so, FormsEarly, FormsFromAuthors, CommentsFromAuthors, WritersUnnamed, PrivateTagsAreOwn, ChairsTags}
+use Rattle.cr_policy.specs.ViewBounds.{is_others, is_tag_so, FormsEarly, FormsFromAuthors, CommentsFromAuthors, ResponsesShown, may_learn_forms, WritersUnnamed, PrivateTagsAreOwn, ChairsTags}
 use Rattle.cr_policy.specs.ViewBounds.{DecisionsEarly, DecisionsUntold}
-use Rattle.cr_policy.proofs.BoundsParts.{phase-words}
-use Rattle.cr_policy.proofs.BoundsWalk.{shown_to, each-view}
+use Rattle.cr_policy.proofs.BoundsWords.{phase-words}
+use Rattle.cr_policy.proofs.BoundsWalk.{shown_to, each-view, placed-view}
 use Rattle.cr_policy.proofs.BoundsLeft.{known-not, form-unread, comment-own, tag-own}
 use Rattle.cr_policy.proofs.BoundsSeats.{author-apart}
 
@@ -31,21 +37,40 @@ use Rattle.cr_policy.proofs.BoundsSeats.{author-apart}
 form-hidden : (o h past k : Bool) → o ≡ false → past ≡ false → (o || ((h && past) && k)) ≡ false
 form-hidden o h past k ho hp = grind (arith, ho, hp)
 
-review-hidden : (o h past k a d r : Bool) → o ≡ false → past ≡ false → d ≡ false → ((o || ((h && past) && k)) || ((a && d) && r)) ≡ false
-review-hidden o h past k a d r ho hp hd = grind (arith, ho, hp, hd)
+review-hidden : (o h past k heard c a d r : Bool) → o ≡ false → past ≡ false → heard ≡ false → d ≡ false
+    → ((o || ((h && past) && k)) || ((heard && c) || ((a && d) && r))) ≡ false
+review-hidden o h past k heard c a d r ho hp hh hd = grind (arith, ho, hp, hh, hd)
 
-author-form : (o h past k l n a d r : Bool) → o ≡ false → h ≡ false → l ≡ false
-    → ((o || ((h && past) && k)) || (l && n) || ((a && d) && r)) ≡ true → d ≡ true
-author-form o h past k l n a d r ho hh hl told = grind (arith, ho, hh, hl, told)
+-- `w` and `c` are that authors respond, and to this form
+author-form : (o h past k l n a w c d r : Bool) → o ≡ false → h ≡ false → l ≡ false
+    → ((o || ((h && past) && k)) || (l && n) || (((a && w) && c) || ((a && d) && r))) ≡ true → ((w && c) || d) ≡ true
+author-form o h past k l n a w c d r ho hh hl told = grind (arith, ho, hh, hl, told)
+
+-- where they do, the response was opened
+pub responded-opened : (p o : ℕ) (before later : History) (stamp : Stamp) (more : Bool) (e : Entry) (H : History)
+    → before ++ (stamped stamp more e ∷ later) ≡ H → is_responded_to p o before later ≡ true
+    → list_any (λ (e : Stamped). begins_response e.entry) H ≡ true
+responded-opened p o before later stamp more e H whole h =
+    ap (list_any heard) (sym whole)
+    ∙ list_any-append heard before (stamped stamp more e ∷ later)
+    ∙ or_right (list_any heard before) _ (or_right (begins_response e) (list_any heard later) behind)
+  where
+    heard : Stamped → Bool
+    heard e = begins_response e.entry
+
+    behind : list_any heard later ≡ true
+    behind =
+        let reviewed : Bool = is_reviewed p o (until heard later) in
+        (and_parts (not (list_any heard before)) (list_any heard later) (and_parts (not (list_any heard before) && list_any heard later) (not reviewed) h).0).1
 
 -- what is said of another's sighting on the paper
-other-parts : (same own : Bool) → (same && not own) ≡ true → (same ≡ true) × (own ≡ false)
+pub other-parts : (same own : Bool) → (same && not own) ≡ true → (same ≡ true) × (own ≡ false)
 other-parts true true h = absurd (false≢true h)
 other-parts true false h = (refl, refl)
 other-parts false own h = absurd (false≢true h)
 
 pub forms-early : FormsEarly
-forms-early u p H early = each-view u H IsUnread each
+forms-early u p H early unheard = each-view u H IsUnread each
   where
     IsUnread : Sighting → Type 0
     IsUnread s = is_others kinds.Reviewed p s ≡ true → s ≡ record (blank kinds.Reviewed) { paper = s.paper; ordinal = s.ordinal; done = s.done }
@@ -58,8 +83,10 @@ forms-early u p H early = each-view u H IsUnread each
         let own : is_number u stamp.maker ≡ false = (other-parts (eqb paper p) (is_number u stamp.maker) other).1 in
         let discussed : Bool = is_discussed paper ordinal before later in
         let unread = form-hidden (is_number u stamp.maker) (is_eligible u paper H) (is_past_reviewing (phase_of H)) discussed own early in
-        let unlearnt = review-hidden (is_number u stamp.maker) (is_eligible u paper H) (is_past_reviewing (phase_of H)) discussed (is_author u paper H)
-        (is_past_discussion (phase_of H)) (not (is_reviewed paper ordinal later)) own early silent in
+        let same : paper ≡ p = eqb-true paper p (other-parts (eqb paper p) (is_number u stamp.maker) other).0 in
+        let unlearnt = review-hidden (is_number u stamp.maker) (is_eligible u paper H) (is_past_reviewing (phase_of H)) discussed (is_heard u paper H)
+        (is_responded_to paper ordinal before later) (is_author u paper H) (is_past_discussion (phase_of H)) (not (is_reviewed paper ordinal later)) own early
+        (ap (λ n. is_heard u n H) same ∙ unheard) silent in
         λ i. record (shown_to u H before later stamp (Reviewed paper ordinal version form)) {
           mine = own i;
           at = where_known (own i) stamp.at;
@@ -81,23 +108,33 @@ module _ (u : Option ℕ) (p : ℕ) (H : History) (apart : administers u p H ≡
   led-at paper same = ap (λ n. administers u n H) (eqb-true paper p same) ∙ apart
 
   abbrev IsForAuthors : Sighting → Type 0
-  IsForAuthors s = is_others kinds.Reviewed p s ≡ true → (is_past_discussion (phase_of H) ≡ true) × (s.to_pc ≡ None)
+  IsForAuthors s = is_others kinds.Reviewed p s ≡ true → (may_learn_forms H ≡ true) × (s.to_pc ≡ None)
 
   forms-for-authors : All IsForAuthors (view u H)
-  forms-for-authors = each-view u H IsForAuthors each
+  forms-for-authors = placed-view u H IsForAuthors each
     where
-      each : (before later : History) (stamp : Stamp) (e : Entry) → is_told u H before later stamp.maker e ≡ true → IsForAuthors (shown_to u H before later stamp e)
-      each before later stamp (Reviewed paper ordinal version form) told = λ other.
+      learns : (w c d begun : Bool) → (c ≡ true → begun ≡ true) → ((w && c) || d) ≡ true → (d || (w && begun)) ≡ true
+      learns w true d begun h k = by (h refl)
+        where
+          by : begun ≡ true → (d || (w && begun)) ≡ true
+          by hb = grind (arith, hb, k)
+      learns w false d begun h k = grind (arith, k)
+
+      each : (before later : History) (stamp : Stamp) (more : Bool) (e : Entry) → before ++ (stamped stamp more e ∷ later) ≡ H
+          → is_told u H before later stamp.maker e ≡ true → IsForAuthors (shown_to u H before later stamp e)
+      each before later stamp more (Reviewed paper ordinal version form) whole told = λ other.
           let parts = other-parts (eqb paper p) (is_number u stamp.maker) other in
           let discussed : Bool = is_discussed paper ordinal before later in (
-            author-form (is_number u stamp.maker) (is_eligible u paper H) (is_past_reviewing (phase_of H)) discussed (administers u paper H)
-                (not (is_reviewed paper ordinal before)) (is_author u paper H) (is_past_discussion (phase_of H)) (not (is_reviewed paper ordinal later))
-                parts.1 (handled-at paper parts.0) (led-at paper parts.0) told,
+            learns (is_past_writing (phase_of H)) (is_responded_to paper ordinal before later) (is_past_discussion (phase_of H)) _
+                (responded-opened paper ordinal before later stamp more (Reviewed paper ordinal version form) H whole)
+                (author-form (is_number u stamp.maker) (is_eligible u paper H) (is_past_reviewing (phase_of H)) discussed (administers u paper H)
+                (not (is_reviewed paper ordinal before)) (is_author u paper H) (is_past_writing (phase_of H)) (is_responded_to paper ordinal before later)
+                (is_past_discussion (phase_of H)) (not (is_reviewed paper ordinal later)) parts.1 (handled-at paper parts.0) (led-at paper parts.0) told),
             known-not _ form.to_pc
                 (or_from (is_number u stamp.maker) _ parts.1
                 (form-unread (is_eligible u paper H) (is_past_reviewing (phase_of H)) discussed (handled-at paper parts.0))),
           )
-      each before later stamp e told = λ other. absurd (false≢true other)
+      each before later stamp more e whole told = λ other. absurd (false≢true other)
 
   -- ---- comments and tags
 
@@ -132,6 +169,23 @@ pub comments-from-authors : CommentsFromAuthors
 comments-from-authors u p H wrote =
     let apart = author-apart u p H wrote in
     none-of-others u p H apart.0 apart.1
+
+-- ---- responses
+
+pub responses-shown : ResponsesShown
+responses-shown u p H = each-view u H IsTheirs each
+  where
+    IsTheirs : Sighting → Type 0
+    IsTheirs s =
+        (is_kind kinds.Responded s && is_number s.paper p) ≡ true
+        → ((s.mine || is_author u p H || discusses u p H) ≡ true) × (s.by ≡ None)
+
+    each : (before later : History) (stamp : Stamp) (e : Entry) → is_told u H before later stamp.maker e ≡ true → IsTheirs (shown_to u H before later stamp e)
+    each before later stamp (Responded paper text) told = λ on_it. (
+      subst (λ n. (is_number u stamp.maker || is_author u n H || discusses u n H) ≡ true) (eqb-true paper p on_it) told,
+      refl,
+    )
+    each before later stamp e told = λ on_it. absurd (false≢true on_it)
 
 pub writers-unnamed : WritersUnnamed
 writers-unnamed u p H apart hides =

@@ -4,6 +4,8 @@ use Rattle.std.specs.Prelude.{not, IsFalse}
 use Rattle.std.specs.List.{flat_map, list_any}
 use Rattle.std.proofs.lemmas.Bool.{eq-eqb, or_right}
 use Rattle.std.proofs.lemmas.List.Concat.{flat_map-append}
+use Rattle.std.proofs.lemmas.List.Folds.{list_any-append}
+use Rattle.std.proofs.Math.Bool.{or-false}
 use Rattle.cr_base.specs.declared.entry.Entry.{Entry}
 use Rattle.cr_base.specs.declared.entry.Entry.TheVariants.{Registered, Named, PhaseSet, ModeSet, Submitted, Coauthor, Revised, Uploaded, Withdrawn}
 use Rattle.cr_base.specs.declared.entry.Entry.TheVariants.{Conflict, Assigned, Unassigned, Reviewed, Tagged, Decided}
@@ -11,12 +13,14 @@ use Rattle.cr_base.specs.declared.entry.Entry.TheVariants.{Dismissed, Invited, U
 use Rattle.cr_base.specs.declared.entry.Stamp.{Stamp}
 use Rattle.cr_base.specs.declared.entry.Stamped.{Stamped}
 use Rattle.cr_base.specs.declared.words.Mode.TheVariants.{Blind}
-use Rattle.cr_base.specs.declared.words.Phase.TheVariants.{Setup, Discussion}
+use Rattle.cr_base.specs.declared.words.Phase.{Phase}
+use Rattle.cr_base.specs.declared.words.Phase.TheVariants.{Setup, Response, Discussion}
 use Rattle.cr_base.specs.declared.words.Role.TheVariants.{Account}
 use Rattle.cr_base.specs.Decisions.{is_accepted_when}
 use Rattle.cr_base.specs.Drawn.{stamped}
 use Rattle.cr_base.specs.History.{History, phase_told, mode_told, role_told, author_told, conflict_told, withdrawal_told, decision_told, registration_told}
-use Rattle.cr_base.specs.History.{invite_told, title_told, upload_told, form_told, opens, opens_discussion}
+use Rattle.cr_base.specs.History.{invite_told, title_told, upload_told, form_told, opens}
+use Rattle.cr_base.specs.HistoryFacts.{had_response_of}
 use Rattle.cr_base.specs.Lists.{given, last, last_or, is_nothing, is_number, until}
 use Rattle.cr_base.specs.Words.{is_member}
 use Rattle.cr_base.proofs.ListLaws.{turned}
@@ -103,9 +107,9 @@ module _ (user : ℕ) where
   no_form (Reviewed paper ordinal version form) row p o = absurd row
   no_form e row p o = refl
 
-  no_opening : (e : Entry) → LeavesStanding user e → opens Discussion e ≡ false
-  no_opening (PhaseSet phase) row = absurd row
-  no_opening e row = refl
+  no_opening : (first : Phase) (e : Entry) → LeavesStanding user e → opens first e ≡ false
+  no_opening first (PhaseSet phase) row = absurd row
+  no_opening first e row = refl
 
 -- what an entry that tells nothing leaves
 behind-silent : {A : Type 0} (told : Stamped → List A) (H : History) (s : Stamped) → told s ≡ [] → flat_map told (H ++ s ∷ []) ≡ flat_map told H
@@ -149,6 +153,16 @@ module _ (stamp : Stamp) (more : Bool) (e : Entry) (row : LeavesStanding stamp.m
   abbrev s : Stamped
   s = stamped stamp more e
 
+  -- whether the entry opens this phase
+  abbrev opens_at : Phase → Stamped → Bool
+  opens_at first x = opens first x.entry
+
+  response-behind : (H : History) → had_response_of (H ++ s ∷ []) ≡ had_response_of H
+  response-behind H =
+      list_any-append (opens_at Response) H (s ∷ [])
+      ∙ (λ i. list_any (opens_at Response) H || (no_opening user Response e row i || false))
+      ∙ or-false (list_any (opens_at Response) H)
+
   -- she stands as before to the conference and to each paper, as far as the table asks
   reader-behind : (H : History) → reader (Some user) (H ++ s ∷ []) ≡ reader (Some user) H
   reader-behind H =
@@ -163,6 +177,7 @@ module _ (stamp : Stamp) (more : Bool) (e : Entry) (row : LeavesStanding stamp.m
       λ i. record {
         number = Some user;
         now = last_or Setup (phases i);
+        had_response = response-behind H i;
         mode = last_or Blind (modes i);
         rank = last_or Account (roles i);
         author = λ p. list_any (is_number (Some user)) (authors p i);
@@ -187,29 +202,30 @@ module _ (stamp : Stamp) (more : Bool) (e : Entry) (row : LeavesStanding stamp.m
   alike-behind (Decided paper decision) G = ap is_nothing (behind-silent (λ (x : Stamped). decision_told paper x.entry) G s (no_decision user e row paper))
   alike-behind x G = refl
 
-  alike-until : (x : Entry) (G : History) → none_alike x (until opens_discussion (G ++ s ∷ [])) ≡ none_alike x (until opens_discussion G)
-  alike-until x G = by (list_any opens_discussion G) refl
+  alike-until : (first : Phase) (x : Entry) (G : History) → none_alike x (until (opens_at first) (G ++ s ∷ [])) ≡ none_alike x (until (opens_at first) G)
+  alike-until first x G = by (list_any (opens_at first) G) refl
     where
-      alone : until opens_discussion (s ∷ []) ≡ s ∷ []
-      alone = until-none opens_discussion (s ∷ []) (ap (λ b. b || false) (no_opening user e row))
+      alone : until (opens_at first) (s ∷ []) ≡ s ∷ []
+      alone = until-none (opens_at first) (s ∷ []) (ap (λ b. b || false) (no_opening user first e row))
 
-      by : (b : Bool) → list_any opens_discussion G ≡ b → none_alike x (until opens_discussion (G ++ s ∷ [])) ≡ none_alike x (until opens_discussion G)
-      by true is = ap (none_alike x) (until-before opens_discussion G (s ∷ []) is)
+      by : (b : Bool) → list_any (opens_at first) G ≡ b → none_alike x (until (opens_at first) (G ++ s ∷ [])) ≡ none_alike x (until (opens_at first) G)
+      by true is = ap (none_alike x) (until-before (opens_at first) G (s ∷ []) is)
       by false is =
-          ap (none_alike x) (until-append opens_discussion G (s ∷ []) is ∙ ap (λ (g : History). G ++ g) alone)
+          ap (none_alike x) (until-append (opens_at first) G (s ∷ []) is ∙ ap (λ (g : History). G ++ g) alone)
           ∙ alike-behind x G
-          ∙ ap (none_alike x) (sym (until-none opens_discussion G is))
+          ∙ ap (none_alike x) (sym (until-none (opens_at first) G is))
 
   position-behind : (before after : History) (x : Entry)
       → position_of (record { before = before; after = after ++ s ∷ [] }) x ≡ position_of (record { before = before; after = after }) x
   position-behind before after x =
       let lasts = alike-behind x after in
-      let untils = alike-until x after in
+      let untils = λ (first : Phase). alike-until first x after in
       λ i. record {
         first = none_alike x before;
         last = lasts i;
-        last_before_discussion = not (list_any opens_discussion before) && untils i;
-        from_discussion = list_any opens_discussion before;
+        last_before_response = not (list_any (opens_at Response) before) && untils Response i;
+        last_before_discussion = not (list_any (opens_at Discussion) before) && untils Discussion i;
+        from_discussion = list_any (opens_at Discussion) before;
       }
 
   -- so all before it shows what it showed

@@ -9,14 +9,14 @@ use Rattle.cr_base.specs.declared.command.Call.{Call}
 use Rattle.cr_base.specs.declared.command.Command.{Command}
 use Rattle.cr_base.specs.declared.command.Command.TheVariants.{SetPhase, Submit, Revise, Upload, Withdraw, Name, SetMode, SetConflict}
 use Rattle.cr_base.specs.declared.command.Command.TheVariants.{Bid, Assign, Unassign, Review, Comment, Tag, Decide, SetDeadline}
-use Rattle.cr_base.specs.declared.command.Command.TheVariants.{Dismiss, Invite, Uninvite}
+use Rattle.cr_base.specs.declared.command.Command.TheVariants.{Dismiss, Invite, Uninvite, Respond}
 use Rattle.cr_base.specs.declared.form.Form.{Form}
 use Rattle.cr_base.specs.declared.retry.RetryKey.{RetryKey}
 use Rattle.cr_base.specs.declared.words.Decision.{Decision}
 use Rattle.cr_base.specs.declared.words.Kind.TheVariants.{Primary, Secondary, Pc}
 use Rattle.cr_base.specs.declared.words.Mode.{Mode}
-use Rattle.cr_base.specs.declared.words.Mode.TheVariants.{Anonymous}
-use Rattle.cr_base.specs.declared.words.Phase.TheVariants.{Submission, Bidding, Reviewing, Discussion, Notification, Closed}
+use Rattle.cr_base.specs.declared.words.Mode.TheVariants.{Anonymous, Overt}
+use Rattle.cr_base.specs.declared.words.Phase.TheVariants.{Submission, Bidding, Reviewing, Response, Discussion, Notification, Closed}
 use Rattle.cr_base.specs.declared.words.Role.TheVariants.{Member, Chair}
 use Rattle.cr_base.specs.Bounds.{IsGrade, IsForm, IsBoundedCommand}
 use Rattle.cr_base.specs.Calls.{call_of}
@@ -32,7 +32,8 @@ use Rattle.cr_policy.specs.Conference.{first_version, second_version, only_versi
 use Rattle.cr_policy.specs.Conference.{first_form, second_form, last_form, alices_form, ivys_form, agreed}
 use Rattle.cr_policy.specs.Conference.{registered, opened, submitted, before_bidding, having_tags, in_bidding, in_reviewing, having_comments}
 use Rattle.cr_policy.specs.Conference.{Verdicts, verdicts, in_discussion, at_notification, at_close}
-use Rattle.cr_policy.specs.ConferenceLaws.{IsReviewed, IsDecided, ConferenceLegal}
+use Rattle.cr_policy.specs.ConferenceLaws.{IsReviewed, IsDecided, IsResponded, ConferenceLegal}
+use Rattle.cr_policy.specs.ConferenceResponse.{thanks, late_form, in_response, behind_response, told_behind_response}
 use Rattle.cr_policy.specs.Legal.{CallsAs, IsKeyOf, IsNewKey, step, Move, calls, LeadsTo, Legal}
 use Rattle.cr_policy.specs.Witness.{morning, some_key}
 use Rattle.cr_policy.proofs.LegalLaws.{LeadsTo-append}
@@ -160,6 +161,9 @@ ascii-review text h = let p = few-ascii 20000 text h in record { few = p.0; utf8
 
 pub agreed-bounded : IsCommentText agreed
 agreed-bounded = let p = few-ascii 10000 agreed refl in record { some = omega arith; few = p.0; utf8 = p.1 }
+
+thanks-bounded : IsCommentText thanks
+thanks-bounded = let p = few-ascii 10000 thanks refl in record { some = omega arith; few = p.0; utf8 = p.1 }
 
 -- of forms whose text to the committee is
 pub bounded-form : (form : Form) → (nat_le 1 form.score && nat_le form.score 5) ≡ true → (nat_le 1 form.confidence && nat_le form.confidence 5) ≡ true
@@ -428,10 +432,68 @@ decided d mode a comments v =
     let legal = decided-legal d mode a dave v (led d mode a v.other v.first v.last) comments in
     record { discussion = legal.discussion; notification = legal.notification; closed = legal.closed }
 
+-- ---- with a response
+
+-- an author's view may name reviewers to her, by the mode
+abbrev response_turns : List Turn
+response_turns = by alice (SetPhase Response) tt ∷ by bob (Respond (Some 1) thanks) thanks-bounded ∷ []
+
+abbrev behind_turns : (a : Asides) → AreAsides a → Bool → List Turn
+behind_turns a are twin =
+    by alice (SetPhase Discussion) tt
+    ∷ by (assigned twin) (Review (Some 1) (last_form a)) (bounded-form (last_form a) refl refl refl are.to_pc)
+    ∷ by fay (Review (Some 2) late_form) (bounded-form late_form refl refl refl (ascii-review late_form.to_pc refl))
+    ∷ []
+
+response-leads : (d : Digests) (mode : Mode) (a : Asides) (twin : Bool)
+    → reached (in_reviewing d mode a (assigned twin)) response_turns ≡ Some (in_response d mode a (assigned twin))
+response-leads d Overt a false = refl
+response-leads d Overt a true = refl
+response-leads d mode a false = refl
+response-leads d mode a true = refl
+
+behind-leads : (d : Digests) (mode : Mode) (a : Asides) (are : AreAsides a) (twin : Bool)
+    → reached (in_response d mode a (assigned twin)) (behind_turns a are twin) ≡ Some (behind_response d mode a (assigned twin))
+behind-leads d Anonymous a are false = refl
+behind-leads d Anonymous a are true = refl
+behind-leads d mode a are false = refl
+behind-leads d mode a are true = refl
+
+told-leads : (d : Digests) (mode : Mode) (a : Asides) (twin : Bool)
+    → reached (behind_response d mode a (assigned twin)) notification_turns ≡ Some (told_behind_response d mode a (assigned twin))
+told-leads d mode a false = refl
+told-leads d mode a true = refl
+
+responded : (d : Digests) (mode : Mode) (a : Asides) → AreAsides a → (twin : Bool) → Legal (in_reviewing d mode a (assigned twin))
+    → IsResponded d mode a (assigned twin)
+responded d mode a are twin reviewing =
+    let member : ℕ = assigned twin in
+    let response = goes_on (in_reviewing d mode a member) (in_response d mode a member) response_turns (response-leads d mode a twin) reviewing in
+    let behind = goes_on (in_response d mode a member) (behind_response d mode a member) (behind_turns a are twin) (behind-leads d mode a are twin) response in
+    let told = goes_on (behind_response d mode a member) (told_behind_response d mode a member) notification_turns (told-leads d mode a twin) behind in
+    by_member twin response behind told
+  where
+    by_member : (twin : Bool) → Legal (in_response d mode a (assigned twin)) → Legal (behind_response d mode a (assigned twin))
+        → Legal (told_behind_response d mode a (assigned twin)) → IsResponded d mode a (assigned twin)
+    by_member false response behind told = record {
+      response = record { legal = response; cast = refl };
+      discussion = record { legal = behind; cast = refl };
+      notification = record { legal = told; cast = refl };
+    }
+    by_member true response behind told = record {
+      response = record { legal = response; cast = refl };
+      discussion = record { legal = behind; cast = refl };
+      notification = record { legal = told; cast = refl };
+    }
+
 pub conference-legal : ConferenceLegal
 conference-legal d mode a digests asides =
     let before = before-legal d mode (submitted-legal d mode (opened-legal d mode (registered-legal d digests))) in
+    let reviewing : (twin : Bool) → Legal (in_reviewing d mode a (assigned twin)) =
+    λ twin. reviewing-legal d mode a asides twin (bidding-legal d mode a asides twin before) in
     record {
+      responded = responded d mode a asides false (reviewing false);
+      responded_twin = responded d mode a asides true (reviewing true);
       before = record { legal = before; cast = refl };
       reviewed = reviewed d mode a asides before false;
       twin = reviewed d mode a asides before true;

@@ -6,6 +6,9 @@ use Rattle.cr_base.specs.declared.words.Mode.TheVariants.{Overt, Blind, Anonymou
 use Rattle.cr_policy.specs.Conference.{dave, before_bidding, in_bidding, in_reviewing, verdicts, reversed, in_discussion, at_notification, at_close}
 use Rattle.cr_policy.specs.ConferenceLaws.{views_of, outside_of, ViewsBeforeBidding, ViewsInBidding, ViewsInReviewing, ViewsInDiscussion}
 use Rattle.cr_policy.specs.ConferenceLaws.{ViewsAtNotification, ViewsAtClose, ViewsReversed, TwinsAlike, AsidesHidden}
+use Rattle.cr_policy.specs.ConferenceLaws.{ViewsInResponse, ViewsBehindResponse, ViewsTold, RespondedAlike}
+use Rattle.cr_policy.specs.ConferenceResponse.{in_response, behind_response, told_behind_response}
+use Rattle.cr_policy.specs.ConferenceResponse.{views_in_response, views_behind_response, told_outside}
 use Rattle.cr_policy.specs.ConferenceOutcomes.{views_in_discussion, views_at_notification, views_at_close, reversed_at_close}
 use Rattle.cr_policy.specs.ConferenceViews.{views_before, views_in_bidding, views_in_reviewing}
 
@@ -41,6 +44,16 @@ pub views-reversed : ViewsReversed
 views-reversed d mode a =
     in_each_mode (λ mode. outside_of (at_close d mode a dave reversed) ≡ reversed_at_close d mode a) refl refl refl mode
 
+pub views-response : ViewsInResponse
+views-response d mode a = in_each_mode (λ mode. views_of (in_response d mode a dave) ≡ views_in_response d mode a) refl refl refl mode
+
+pub views-behind : ViewsBehindResponse
+views-behind d mode a = in_each_mode (λ mode. views_of (behind_response d mode a dave) ≡ views_behind_response d mode a) refl refl refl mode
+
+pub views-told : ViewsTold
+views-told d mode a =
+    in_each_mode (λ mode. outside_of (told_behind_response d mode a dave) ≡ told_outside d mode a) refl refl refl mode
+
 -- ---- the twins
 
 pub twins-alike : TwinsAlike
@@ -60,6 +73,10 @@ twins-alike d mode a = record {
   conflicted_member = refl;
   conflicted_chair = refl;
 }
+
+pub responded-alike : RespondedAlike
+responded-alike d Overt a = record { author = refl; coauthor = refl; conflicted_member = refl; conflicted_chair = refl }
+responded-alike d mode a = record { author = refl; coauthor = refl; conflicted_member = refl; conflicted_chair = refl }
 
 pub asides-hidden : AsidesHidden
 asides-hidden d mode a b = record { author = refl; coauthor = refl; conflicted_member = refl; conflicted_chair = refl }

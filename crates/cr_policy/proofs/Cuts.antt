@@ -39,6 +39,23 @@ pub record CutsAt (r : Reader) (cut : Stamped → Bool) (cut_seen : Sighting →
   pub one : (at : Around) (e : Stamped) → cut e ≡ true → (s : Sighting) × ((sight r at e ≡ s ∷ []) × (cut_seen s ≡ true))
   pub other : (at : Around) (e : Stamped) → cut e ≡ false → list_any cut_seen (sight r at e) ≡ false
 
+-- so it is seen in a view exactly where it passes
+pub cut-seen : (r : Reader) (cut : Stamped → Bool) (cut_seen : Sighting → Bool) → CutsAt r cut cut_seen → (before H : History)
+    → list_any cut_seen (sights r before H) ≡ list_any cut H
+cut-seen r cut cut_seen cuts before [] = refl
+cut-seen r cut cut_seen cuts before (e ∷ after) =
+    let rest = sights r (before ++ e ∷ []) after in
+    list_any-append cut_seen (sight r at e) rest ∙ (λ i. by (cut e) refl i || cut-seen r cut cut_seen cuts (before ++ e ∷ []) after i)
+  where
+    at : Around
+    at = record { before = before; after = after }
+
+    by : (b : Bool) → cut e ≡ b → list_any cut_seen (sight r at e) ≡ b
+    by true h =
+        let o = cuts.one at e h in
+        ap (list_any cut_seen) o.1.0 ∙ ap (λ b. b || false) o.1.1
+    by false h = cuts.other at e h
+
 -- everyone sees a phase opened
 module _ (r : Reader) (first : Phase) where
   -- whether a sighting opens it
@@ -244,10 +261,10 @@ module _ {A B : Type 0} (m : A → B) (cut : Stamped → Bool) (passes : Around 
       ∙ kept_since-map before H
 
 -- what the cut itself doesn't tell is told before it and after it
-pub flat_map-cut : {A : Type 0} (cut : Stamped → Bool) (told : Stamped → List A) → ((e : Stamped) → cut e ≡ true → told e ≡ []) → (H : History) → flat_map told (until cut H) ++ flat_map told (since cut H) ≡ flat_map told H
+pub flat_map-cut : {X A : Type 0} (cut : X → Bool) (told : X → List A) → ((x : X) → cut x ≡ true → told x ≡ []) → (xs : List X) → flat_map told (until cut xs) ++ flat_map told (since cut xs) ≡ flat_map told xs
 flat_map-cut cut told silent [] = refl
-flat_map-cut {A} cut told silent (e ∷ after) = by (cut e) refl (flat_map-cut cut told silent after)
+flat_map-cut {X} {A} cut told silent (x ∷ after) = by (cut x) refl (flat_map-cut cut told silent after)
   where
-    by : (b : Bool) → cut e ≡ b → flat_map told (until cut after) ++ flat_map told (since cut after) ≡ flat_map told after → flat_map told (cond b [] (e ∷ until cut after)) ++ flat_map told (cond b after (since cut after)) ≡ told e ++ flat_map told after
-    by true h later = ap (λ xs. xs ++ flat_map told after) (sym (silent e h))
-    by false h later = append_assoc (told e) (flat_map told (until cut after)) (flat_map told (since cut after)) ∙ ap (λ ys. told e ++ ys) later
+    by : (b : Bool) → cut x ≡ b → flat_map told (until cut after) ++ flat_map told (since cut after) ≡ flat_map told after → flat_map told (cond b [] (x ∷ until cut after)) ++ flat_map told (cond b after (since cut after)) ≡ told x ++ flat_map told after
+    by true h later = ap (λ ys. ys ++ flat_map told after) (sym (silent x h))
+    by false h later = append_assoc (told x) (flat_map told (until cut after)) (flat_map told (since cut after)) ∙ ap (λ ys. told x ++ ys) later

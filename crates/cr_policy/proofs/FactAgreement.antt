@@ -19,7 +19,7 @@ use Rattle.cr_policy.specs.View.{view}
 use Rattle.cr_policy.specs.ViewFacts.{title_in_view, abstract_in_view, authors_in_view, uploads_in_view, is_withdrawn_in_view, decision_in_view}
 use Rattle.cr_policy.specs.ViewFacts.{is_invited_in_view, ordinal_in_view, seats_in_view, facts_in_view, shown_in_view}
 use Rattle.cr_policy.proofs.DecisionTells.{accepted-seen, decision-seen}
-use Rattle.cr_policy.proofs.StandingLaws.{standing_from_view, deadline-seen, accounts-seen, papers-seen, own_papers-seen, own_bytes-seen, own_comments-seen, own_bid-seen, seat-seen}
+use Rattle.cr_policy.proofs.StandingLaws.{standing_from_view, deadline-seen, had_response-seen, accounts-seen, papers-seen, own_papers-seen, own_bytes-seen, own_comments-seen, own_bid-seen, seat-seen}
 use Rattle.cr_policy.proofs.ReviewerTells.{invited-seen_by_chair, seat-seen_by_chair, labels-seen}
 use Rattle.cr_policy.proofs.ReviewTells.{own_forms-seen}
 use Rattle.cr_policy.proofs.PageTells.{title-seen, abstract-seen, authors-seen, uploads-seen_by_author, uploads-seen, withdrawn-seen}
@@ -32,6 +32,7 @@ facts_in_view-tables u H told forms =
     let own = own_papers-seen u H ∙ told.own_papers u in
     let bytes = own_bytes-seen u H ∙ told.own_bytes u in
     let comments = own_comments-seen u H ∙ told.own_comments u in
+    let opened = had_response-seen u H ∙ told.had_response in
     λ i. record {
       standing = λ paper. (standing_from_view u paper H ∙ told.standing u paper) i;
       accounts = accounts i;
@@ -44,6 +45,7 @@ facts_in_view-tables u H told forms =
       own_comments = comments i;
       accepted = λ p. (accepted-seen u p H ∙ told.accepted p) i;
       deadline = λ phase. (deadline-seen u phase H ∙ told.deadline phase) i;
+      had_response = opened i;
     }
 
 module _ (u : Option ℕ) (H : History) (told : AreTold H) (p : ℕ) where

@@ -1,16 +1,16 @@
 -- Which rule is told in each case of the small conference: by computing.
 use Rattle.std.proofs.Common.{true, [], ◌∷◌, refl, arith, Some}
 use Rattle.std.specs.Prelude.{codes}
-use Rattle.cr_base.specs.declared.command.Command.TheVariants.{Name, Dismiss, SetConflict, SetDeadline, Invite}
+use Rattle.cr_base.specs.declared.command.Command.TheVariants.{Name, Dismiss, SetConflict, SetDeadline, SetPhase, Invite}
 use Rattle.cr_base.specs.declared.words.Mode.TheVariants.{Blind}
-use Rattle.cr_base.specs.declared.words.Phase.TheVariants.{Submission, Bidding, Discussion}
+use Rattle.cr_base.specs.declared.words.Phase.TheVariants.{Submission, Bidding, Response, Discussion}
 use Rattle.cr_base.specs.declared.words.Role.TheVariants.{Chair}
 use Rattle.cr_base.specs.Bulk.{row_command}
 use Rattle.cr_base.specs.Deadlines.{IsDeadline}
 use Rattle.cr_policy.specs.Conference.{alice, dave, Digests, AreDigests, Asides, AreAsides}
-use Rattle.cr_policy.specs.FirstTold.{submission, bidding, discussion, gus_a_chair, dave_in_conflict, erin_in_conflict, carol_dismissed}
-use Rattle.cr_policy.specs.FirstTold.{submission_due, bidding_due, discussion_due, AreStagesLegal, FirstTold}
-use Rattle.cr_policy.specs.FirstTold.{OfTheConference, OfPapers, OfConflicts, OfReviewers, OfExternals, OfTheDiscussion, OfQueries, OfBulks}
+use Rattle.cr_policy.specs.FirstTold.{submission, bidding, reviewing, discussion, gus_a_chair, dave_in_conflict, erin_in_conflict, carol_dismissed}
+use Rattle.cr_policy.specs.FirstTold.{responding, submission_due, bidding_due, response_due, discussion_due, AreStagesLegal, FirstTold}
+use Rattle.cr_policy.specs.FirstTold.{OfTheConference, OfPapers, OfConflicts, OfReviewers, OfExternals, OfTheDiscussion, OfTheResponse, OfQueries, OfBulks}
 use Rattle.cr_policy.specs.Witness.{morning}
 use Rattle.cr_policy.proofs.ConferenceProofs.{conference-legal, goes_on, by}
 
@@ -35,10 +35,16 @@ stages-legal d a digests asides =
           refl legal.reviewed.bidding.legal;
       carol_dismissed =
           goes_on (bidding d a) (carol_dismissed d a) (by alice (Dismiss (Some (codes "carol"))) tt ∷ []) refl legal.reviewed.bidding.legal;
+      responding =
+          goes_on (reviewing d a) (responding d a) (by alice (SetPhase Response) tt ∷ []) refl legal.reviewed.reviewing.legal;
       submission_due =
           goes_on (submission d a) (submission_due d a) (by alice (SetDeadline Submission (Some morning)) (refl, in_range) ∷ []) refl legal.before.legal;
       bidding_due =
           goes_on (bidding d a) (bidding_due d a) (by alice (SetDeadline Bidding (Some morning)) (refl, in_range) ∷ []) refl legal.reviewed.bidding.legal;
+      response_due =
+          goes_on (reviewing d a) (response_due d a)
+          (by alice (SetPhase Response) tt ∷ by alice (SetDeadline Response (Some morning)) (refl, in_range) ∷ [])
+          refl legal.reviewed.reviewing.legal;
       discussion_due =
           goes_on (discussion d a) (discussion_due d a) (by alice (SetDeadline Discussion (Some morning)) (refl, in_range) ∷ []) refl legal.reviewed.discussion.legal;
     }
@@ -169,6 +175,15 @@ discussion-told d a = record {
   decide_early = refl;
 }
 
+response-told : (d : Digests) (a : Asides) → OfTheResponse d a
+response-told d a = record {
+  respond_none = refl;
+  respond_others = refl;
+  respond_early = refl;
+  respond_behind = refl;
+  respond_late = refl;
+}
+
 queries-told : (d : Digests) (a : Asides) → OfQueries d a
 queries-told d a = record {
   page_none = refl;
@@ -181,6 +196,11 @@ queries-told d a = record {
   reviews_to_account = refl;
   reviews_to_dismissed = refl;
   reviews_in_conflict = refl;
+  response_none = refl;
+  response_to_account = refl;
+  response_to_dismissed = refl;
+  response_in_conflict = refl;
+  response_early = refl;
   comments_none = refl;
   comments_to_author = refl;
   comments_in_conflict = refl;
@@ -214,6 +234,7 @@ first_told d a = record {
   reviewers = reviewers-told d a;
   externals = externals-told d a;
   discussion = discussion-told d a;
+  response = response-told d a;
   queries = queries-told d a;
   bulks = bulks-told d a;
 }

@@ -1,8 +1,8 @@
 -- What each entry shows of the forms of reviews, and what is kept of that.
-use Rattle.std.proofs.Common.{◌≡◌, ℕ, Bool, true, false, List, [], ◌∷◌, refl, sym, ap, subst, ◌∙◌, ◌||◌, ◌&&◌, Some, eqb}
+use Rattle.std.proofs.Common.{◌≡◌, ℕ, Bool, true, false, List, [], ◌∷◌, ◌++◌, refl, sym, ap, subst, ◌∙◌, ◌||◌, ◌&&◌, Some, eqb}
 use Rattle.std.specs.Prelude.{map}
 use Rattle.std.specs.List.{flat_map}
-use Rattle.std.proofs.lemmas.Bool.{eqb-true, and_parts, or_left, or_right, true≢false}
+use Rattle.std.proofs.lemmas.Bool.{eqb-true, and_parts, or_right, true≢false}
 use Rattle.cr_base.specs.declared.entry.Entry.{Entry}
 use Rattle.cr_base.specs.declared.entry.Entry.TheVariants.{Reviewed}
 use Rattle.cr_base.specs.declared.entry.Stamp.{Stamp}
@@ -12,11 +12,12 @@ use Rattle.cr_base.specs.Lists.{given, listed, is_number}
 use Rattle.cr_base.specs.Drawn.{stamped}
 use Rattle.cr_base.specs.History.{FormTold, whole_form, form_told, own_form_told}
 use Rattle.cr_policy.specs.Part as part
-use Rattle.cr_policy.specs.Part.{Part}
+use Rattle.cr_policy.specs.Part.{Part, own_parts}
 use Rattle.cr_policy.specs.Sighting.{Sighting, where_shown}
-use Rattle.cr_policy.specs.Triggers.{Reader, Around}
+use Rattle.cr_policy.specs.Triggers.{Reader, Around, TriggerRow, position_of, rows, ◌see◌, shows}
 use Rattle.cr_policy.specs.View.{sight, is_seen, joined}
 use Rattle.cr_policy.specs.ViewFacts.{only, form_shown, form_seen, own_form_seen, done_seen}
+use Rattle.cr_policy.proofs.BulkViews.{last-shows}
 use Rattle.cr_policy.proofs.Walk.{only-false, flat_map-given, Tells, TellsAll, TellsAs}
 use Rattle.cr_policy.proofs.Tells.{passes, own_value, seen_where, silent, told_where, shown_value}
 
@@ -78,11 +79,17 @@ module _ (r : Reader) (at : Around) (stamp : Stamp) (more : Bool) where
       e : Stamped
       e = stamped stamp more (Reviewed paper ordinal version form)
 
+      -- its maker is shown all that belongs to the whole of it
+      hers : (q : Part) → own_parts q ≡ true → is_number r.number stamp.maker ≡ true → passes q r at e ≡ true
+      hers q is own =
+          let table : List TriggerRow = rows r (position_of at (Reviewed paper ordinal version form)) stamp.maker (Reviewed paper ordinal version form) in
+          ap (λ (b : Bool). shows (table ++ b see own_parts ∷ []) q) own ∙ last-shows table q is
+
       whole : is_number r.number stamp.maker ≡ true → passes part.version r at e ≡ true
-      whole own = or_right _ _ (or_left (is_number r.number stamp.maker) false own)
+      whole = hers part.version refl
 
       graded : is_number r.number stamp.maker ≡ true → passes part.score r at e ≡ true
-      graded own = or_right _ _ (or_right _ _ (or_left (is_number r.number stamp.maker) false own))
+      graded = hers part.score refl
   own_form_at p e = silent r at stamp more (own_form_seen p) e refl
 
   done_at : (p o : ℕ) (e : Entry)

@@ -31,7 +31,7 @@ use Rattle.cr_history.proofs.LineAgreement.{accounts_of-tables}
 use Rattle.cr_history.proofs.SubmissionLaws.{registered-append}
 use Rattle.cr_policy.specs.GoesOn.{CanGoOn, HasChair, GoesOn}
 use Rattle.cr_base.specs.declared.words.Phase.{Phase}
-use Rattle.cr_base.specs.declared.words.Phase.TheVariants.{Setup, Submission, Bidding, Reviewing, Discussion, Notification, Closed}
+use Rattle.cr_base.specs.declared.words.Phase.TheVariants.{Setup, Submission, Bidding, Reviewing, Response, Discussion, Notification, Closed}
 use Rattle.cr_base.specs.HistoryFacts.{phase_of}
 use Rattle.cr_policy.specs.Sentences.{is_it, comes_behind, now, is_chairs, chairs}
 use Rattle.cr_policy.proofs.MayDoLaws.{permissions_as_said}
@@ -272,6 +272,7 @@ next-phase Setup before = (Submission, refl)
 next-phase Submission before = (Bidding, refl)
 next-phase Bidding before = (Reviewing, refl)
 next-phase Reviewing before = (Discussion, refl)
+next-phase Response before = (Discussion, refl)
 next-phase Discussion before = (Notification, refl)
 next-phase Notification before = (Closed, refl)
 next-phase Closed before = absurd (true≢false before)

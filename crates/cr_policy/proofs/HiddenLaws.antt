@@ -9,7 +9,7 @@ use Rattle.cr_base.specs.declared.entry.Entry.{Entry}
 use Rattle.cr_base.specs.declared.entry.Entry.TheVariants.{Registered, Named, PhaseSet, ModeSet, Submitted}
 use Rattle.cr_base.specs.declared.entry.Entry.TheVariants.{Coauthor, Revised, Uploaded, Withdrawn, Conflict}
 use Rattle.cr_base.specs.declared.entry.Entry.TheVariants.{Bid, Assigned, Unassigned, Reviewed, Commented, Tagged, Decided, DeadlineSet}
-use Rattle.cr_base.specs.declared.entry.Entry.TheVariants.{Dismissed, Invited, Uninvited}
+use Rattle.cr_base.specs.declared.entry.Entry.TheVariants.{Dismissed, Invited, Uninvited, Responded}
 use Rattle.cr_base.specs.declared.entry.EntryKind.{EntryKind}
 use Rattle.cr_base.specs.declared.entry.EntryKind.TheVariants as kinds
 use Rattle.cr_base.specs.declared.entry.Stamp.{Stamp}
@@ -17,12 +17,12 @@ use Rattle.cr_base.specs.declared.entry.Stamped.{Stamped}
 use Rattle.cr_base.specs.declared.words.Decision.TheVariants.{Reject}
 use Rattle.cr_base.specs.declared.words.Kind.TheVariants.{Primary}
 use Rattle.cr_base.specs.declared.words.Phase.{Phase}
-use Rattle.cr_base.specs.declared.words.Phase.TheVariants.{Setup, Discussion}
+use Rattle.cr_base.specs.declared.words.Phase.TheVariants.{Setup, Response, Discussion}
 use Rattle.cr_base.specs.declared.words.Mode.TheVariants.{Blind}
 use Rattle.cr_base.specs.declared.words.Role.TheVariants.{Account}
 use Rattle.cr_base.specs.Lists.{given, listed, is_number, is_nothing, last_or, until}
 use Rattle.cr_base.specs.History.{History, phase_told, mode_told, role_told, author_told, conflict_told, invite_told}
-use Rattle.cr_base.specs.History.{opens_discussion, title_told, upload_told, form_told, decision_told}
+use Rattle.cr_base.specs.History.{opens, title_told, upload_told, form_told, decision_told}
 use Rattle.cr_base.specs.HistoryFacts.{phase_of, mode_of, role_of, authors_of, is_author, is_conflict_on, is_invited, is_accepted}
 use Rattle.cr_base.specs.Phases.{is_phase}
 use Rattle.cr_base.specs.Words.{is_member}
@@ -91,6 +91,7 @@ blank_entry o user = of_kind o.kind
     of_kind kinds.Dismissed = Dismissed user
     of_kind kinds.Invited = Invited (number_in o.paper) user
     of_kind kinds.Uninvited = Uninvited (number_in o.paper) user
+    of_kind kinds.Responded = Responded (number_in o.paper) []
 
 -- the same, where it is told of the reader alone whether she is named
 abbrev plain : Option ℕ → Stamped → Entry
@@ -239,40 +240,45 @@ opened_by o phase = of_kind o.kind
     of_kind kinds.PhaseSet = listed phase
     of_kind _ = []
 
--- the discussion is opened in the same place
-opens-phase : (e : Stamped) → opens_discussion e ≡ list_any (λ (phase : Phase). is_phase phase Discussion) (opened_by (outline e) (all_of e).phase)
-opens-phase e = of e.entry
+-- a phase is opened in the same place
+abbrev opens_at : Phase → Stamped → Bool
+opens_at first e = opens first e.entry
+
+opens-phase : (first : Phase) (e : Stamped) → opens_at first e ≡ list_any (λ (phase : Phase). is_phase phase first) (opened_by (outline e) (all_of e).phase)
+opens-phase first e = of e.entry
   where
-    of : (entry : Entry) → opens_discussion (record { stamp = e.stamp; more = e.more; entry = entry })
-        ≡ list_any (λ (phase : Phase). is_phase phase Discussion)
+    of : (entry : Entry) → opens_at first (record { stamp = e.stamp; more = e.more; entry = entry })
+        ≡ list_any (λ (phase : Phase). is_phase phase first)
         (opened_by (outline (record { stamp = e.stamp; more = e.more; entry = entry })) (all_of (record { stamp = e.stamp; more = e.more; entry = entry })).phase)
-    of (PhaseSet phase) = by (is_phase phase Discussion)
+    of (PhaseSet phase) = by (is_phase phase first)
       where
         by : (b : Bool) → b ≡ (b || false)
         by true = refl
         by false = refl
     of entry = refl
 
-opens-same : (u : Option ℕ) (e other : Stamped) → SamePlace u e other → opens_discussion e ≡ opens_discussion other
-opens-same u e other same =
-    opens-phase e ∙ (λ i. list_any (λ (phase : Phase). is_phase phase Discussion) (opened_by (same.alike i) (same.phase i))) ∙ sym (opens-phase other)
+opens-same : (first : Phase) (u : Option ℕ) (e other : Stamped) → SamePlace u e other → opens_at first e ≡ opens_at first other
+opens-same first u e other same =
+    opens-phase first e
+    ∙ (λ i. list_any (λ (phase : Phase). is_phase phase first) (opened_by (same.alike i) (same.phase i)))
+    ∙ sym (opens-phase first other)
 
-opened-same : (u : Option ℕ) (H H' : History) → SamePlaces u H H' → list_any opens_discussion H ≡ list_any opens_discussion H'
-opened-same u [] [] same = refl
-opened-same u [] (other ∷ H') same = absurd same
-opened-same u (e ∷ H) [] same = absurd same
-opened-same u (e ∷ H) (other ∷ H') same = λ i. opens-same u e other same.0 i || opened-same u H H' same.1 i
+opened-same : (first : Phase) (u : Option ℕ) (H H' : History) → SamePlaces u H H' → list_any (opens_at first) H ≡ list_any (opens_at first) H'
+opened-same first u [] [] same = refl
+opened-same first u [] (other ∷ H') same = absurd same
+opened-same first u (e ∷ H) [] same = absurd same
+opened-same first u (e ∷ H) (other ∷ H') same = λ i. opens-same first u e other same.0 i || opened-same first u H H' same.1 i
 
 -- up to there they are alike
-until-same : (u : Option ℕ) (H H' : History) → SamePlaces u H H' → SamePlaces u (until opens_discussion H) (until opens_discussion H')
-until-same u [] [] same = tt
-until-same u [] (other ∷ H') same = absurd same
-until-same u (e ∷ H) [] same = absurd same
-until-same u (e ∷ H) (other ∷ H') same =
-    by (opens_discussion e) (opens_discussion other) (opens-same u e other same.0) (same.0, until-same u H H' same.1)
+until-same : (first : Phase) (u : Option ℕ) (H H' : History) → SamePlaces u H H' → SamePlaces u (until (opens_at first) H) (until (opens_at first) H')
+until-same first u [] [] same = tt
+until-same first u [] (other ∷ H') same = absurd same
+until-same first u (e ∷ H) [] same = absurd same
+until-same first u (e ∷ H) (other ∷ H') same =
+    by (opens_at first e) (opens_at first other) (opens-same first u e other same.0) (same.0, until-same first u H H' same.1)
   where
-    by : (a b : Bool) → a ≡ b → SamePlaces u (e ∷ until opens_discussion H) (other ∷ until opens_discussion H')
-        → SamePlaces u (if a then [] else e ∷ until opens_discussion H) (if b then [] else other ∷ until opens_discussion H')
+    by : (a b : Bool) → a ≡ b → SamePlaces u (e ∷ until (opens_at first) H) (other ∷ until (opens_at first) H')
+        → SamePlaces u (if a then [] else e ∷ until (opens_at first) H) (if b then [] else other ∷ until (opens_at first) H')
     by true true is rest = tt
     by true false is rest = absurd (true≢false is)
     by false true is rest = absurd (true≢false (sym is))
@@ -288,12 +294,17 @@ position-same : (u : Option ℕ) (at at' : Around) (e other : Stamped) → SameA
 position-same u at at' e other around alike = λ i. record {
   first = none_alike-same u e other alike at.before at'.before around.before i;
   last = none_alike-same u e other alike at.after at'.after around.after i;
-  last_before_discussion = not (opened i) && none_alike-same u e other alike (until opens_discussion at.after) (until opens_discussion at'.after) (until-same u at.after at'.after around.after) i;
-  from_discussion = opened i;
+  last_before_response = not (opened Response i) && none_before Response i;
+  last_before_discussion = not (opened Discussion i) && none_before Discussion i;
+  from_discussion = opened Discussion i;
 }
   where
-    opened : list_any opens_discussion at.before ≡ list_any opens_discussion at'.before
-    opened = opened-same u at.before at'.before around.before
+    opened : (first : Phase) → list_any (opens_at first) at.before ≡ list_any (opens_at first) at'.before
+    opened first = opened-same first u at.before at'.before around.before
+
+    none_before : (first : Phase) → none_alike e.entry (until (opens_at first) at.after) ≡ none_alike other.entry (until (opens_at first) at'.after)
+    none_before first =
+        none_alike-same u e other alike (until (opens_at first) at.after) (until (opens_at first) at'.after) (until-same first u at.after at'.after around.after)
 
 -- ---- who reads
 
@@ -444,6 +455,7 @@ reader-same : (u : Option ℕ) (H H' : History) → SamePlaces u H H' → ((p : 
 reader-same u H H' same accepted = λ i. record {
   number = u;
   now = phase-same u H H' same i;
+  had_response = opened-same Response u H H' same i;
   mode = mode-same u H H' same i;
   rank = role-same u H H' same i;
   author = λ p. author-same u p H H' same i;

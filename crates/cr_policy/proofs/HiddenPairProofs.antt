@@ -7,7 +7,7 @@ use Rattle.std.proofs.Math.Bool.{and-false}
 use Rattle.std.proofs.lemmas.Bool.{true≢false}
 use Rattle.cr_base.specs.declared.command.Command.TheVariants.{SetPhase, Submit, Revise, Upload, Withdraw, Name, SetMode, SetConflict}
 use Rattle.cr_base.specs.declared.command.Command.TheVariants.{Bid, Assign, Unassign, Review, Comment, Tag, Decide, SetDeadline}
-use Rattle.cr_base.specs.declared.command.Command.TheVariants.{Dismiss, Invite, Uninvite}
+use Rattle.cr_base.specs.declared.command.Command.TheVariants.{Dismiss, Invite, Uninvite, Respond}
 use Rattle.cr_base.specs.declared.entry.Entry.TheVariants as entry
 use Rattle.cr_base.specs.declared.entry.EntryKind.{EntryKind}
 use Rattle.cr_base.specs.declared.entry.EntryKind.TheVariants as kinds
@@ -17,9 +17,9 @@ use Rattle.cr_base.specs.declared.words.Decision.TheVariants.{Accept, Reject}
 use Rattle.cr_base.specs.declared.words.Kind.{Kind}
 use Rattle.cr_base.specs.declared.words.Kind.TheVariants.{Primary, Secondary}
 use Rattle.cr_base.specs.declared.words.Mode.{Mode}
-use Rattle.cr_base.specs.declared.words.Mode.TheVariants.{Blind, Anonymous}
+use Rattle.cr_base.specs.declared.words.Mode.TheVariants.{Overt, Blind, Anonymous}
 use Rattle.cr_base.specs.declared.words.Phase.{Phase}
-use Rattle.cr_base.specs.declared.words.Phase.TheVariants.{Submission, Bidding, Reviewing, Discussion, Notification}
+use Rattle.cr_base.specs.declared.words.Phase.TheVariants.{Submission, Bidding, Reviewing, Response, Discussion, Notification}
 use Rattle.cr_base.specs.declared.words.Role.TheVariants.{Member, Chair}
 use Rattle.cr_base.specs.Bounds.{IsForm}
 use Rattle.cr_base.specs.Lists.{given, listed, last_or, is_number}
@@ -109,6 +109,9 @@ reviews user form bounded = by user (Review (Some 1) form) bounded
 abbrev agrees : ℕ → Turn
 agrees user = by user (Comment (Some 1) agreed) agreed-bounded
 
+abbrev responds : ℕ → Turn
+responds user = by user (Respond (Some 1) agreed) agreed-bounded
+
 abbrev decides : ℕ → Decision → Turn
 decides chair decision = by chair (Decide (Some 1) decision) tt
 
@@ -173,6 +176,13 @@ module _ (d : Digests) (are : AreDigests d) where
 
   invited_to_talk-so : Legal (pairs.invited_to_talk d)
   invited_to_talk-so = goes_on (pairs.invited d) (pairs.invited_to_talk d) talking refl invited-so
+
+  behind_response-so : Legal (pairs.behind_response d)
+  behind_response-so =
+      goes_on (pairs.in_reviews d) (pairs.behind_response d) (opens Response alice ∷ opens Discussion alice ∷ []) refl reviews-so
+
+  response-so : Legal (pairs.in_response d)
+  response-so = goes_on (pairs.in_bids Blind d) (pairs.in_response d) (opens Reviewing alice ∷ opens Response alice ∷ []) refl (bids-so Blind)
 
 -- ---- who registers, and what the chairs set
 
@@ -424,22 +434,62 @@ to_pc-hidden d are =
     (list_any (λ (s : Sighting). is_text first_form.to_pc s.to_pc)) refl refl refl refl refl
 
 -- a member is assigned and writes the first form
-abbrev gives_form : ℕ → List ℕ → List Turn
-gives_form user name =
-    assigns alice name Primary ∷ opens Reviewing alice ∷ reviews user first_form first-bounded ∷ opens Discussion alice ∷ []
+abbrev gives_form : ℕ → List ℕ → Phase → List Turn
+gives_form user name next =
+    assigns alice name Primary ∷ opens Reviewing alice ∷ reviews user first_form first-bounded ∷ opens next alice ∷ []
 
 -- and so it stands then
-abbrev reviewed : ℕ → Digests → History
-reviewed member d = pairs.in_bids Anonymous d ++ (pairs.reviewed_by member ++ alice adds entry.PhaseSet Discussion ∷ [])
+abbrev reviewed : ℕ → Mode → Phase → Digests → History
+reviewed member mode next d = pairs.in_bids mode d ++ (pairs.reviewed_by member ++ alice adds entry.PhaseSet next ∷ [])
 
 pub reviewer-hidden : pairs.ReviewerHidden
 reviewer-hidden d are =
     pair (so dave (codes "dave") refl) (so hal (codes "hal") refl) (refl, (refl, (refl, tt))) (λ p. refl) (λ p hers. refl)
     (apart (names kinds.Assigned dave) _ _ refl)
   where
-    so : (member : ℕ) (name : List ℕ) → reached (pairs.in_bids Anonymous d) (gives_form member name) ≡ Some (reviewed member d)
-        → Legal (reviewed member d)
-    so member name leads = goes_on (pairs.in_bids Anonymous d) (reviewed member d) (gives_form member name) leads (bids-so d are Anonymous)
+    so : (member : ℕ) (name : List ℕ)
+        → reached (pairs.in_bids Anonymous d) (gives_form member name Discussion) ≡ Some (reviewed member Anonymous Discussion d)
+        → Legal (reviewed member Anonymous Discussion d)
+    so member name leads =
+        goes_on (pairs.in_bids Anonymous d) (reviewed member Anonymous Discussion d) (gives_form member name Discussion) leads
+        (bids-so d are Anonymous)
+
+-- ---- the response
+
+pub early_to_pc-hidden : pairs.EarlyToPcHidden
+early_to_pc-hidden d are =
+    once (reviews-so d are) (reviews dave first_form first-bounded) (reviews dave pairs.other_to_pc other-bounded) (opens Response alice ∷ [])
+    (list_any (λ (s : Sighting). is_text first_form.to_pc s.to_pc)) refl refl refl refl refl
+
+pub early_reviewer-hidden : pairs.EarlyReviewerHidden
+early_reviewer-hidden d are =
+    pair (so dave (codes "dave") refl) (so hal (codes "hal") refl) (refl, (refl, (refl, tt))) (λ p. refl) (λ p hers. refl)
+    (apart (names kinds.Assigned dave) _ _ refl)
+  where
+    so : (member : ℕ) (name : List ℕ)
+        → reached (pairs.in_bids Overt d) (gives_form member name Response) ≡ Some (reviewed member Overt Response d)
+        → Legal (reviewed member Overt Response d)
+    so member name leads =
+        goes_on (pairs.in_bids Overt d) (reviewed member Overt Response d) (gives_form member name Response) leads (bids-so d are Overt)
+
+pub late_form-hidden : pairs.LateFormHidden
+late_form-hidden d are =
+    once (behind_response-so d are) (reviews dave first_form first-bounded) (reviews dave second_form second-bounded) [] scores_2
+    refl refl refl refl refl
+
+pub response-hidden : pairs.ResponseHidden
+response-hidden d are =
+    once (response-so d are) (responds bob) (by bob (Respond (Some 1) we_prove) prove-commented) []
+    (list_any (λ (s : Sighting). is_text agreed s.text)) refl refl refl refl refl
+
+pub response-hidden_from_accounts : pairs.ResponseHiddenFromAccounts
+response-hidden_from_accounts d are =
+    once (response-so d are) (responds bob) (by bob (Respond (Some 1) we_prove) prove-commented) (opens Discussion alice ∷ [])
+    (list_any (λ (s : Sighting). is_text agreed s.text)) refl refl refl refl refl
+
+pub responder-hidden : pairs.ResponderHidden
+responder-hidden d are =
+    once (response-so d are) (responds bob) (responds gus) (opens Discussion alice ∷ []) (own kinds.Responded) refl refl refl refl refl
 
 -- ---- the discussion
 

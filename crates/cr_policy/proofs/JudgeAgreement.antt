@@ -22,16 +22,16 @@ use Rattle.cr_base.specs.declared.words.Role.TheVariants.{Account, Member, Chair
 use Rattle.cr_base.specs.Calls.{stamp_of}
 use Rattle.cr_base.specs.Checks.{Check, ◌breaks◌, judged, declare_checks, own_checks, other_checks, off_checks, conflict_case, conflict_checks}
 use Rattle.cr_base.specs.Checks.{bid_checks, reviewer_checks, assign_checks, unassign_checks}
-use Rattle.cr_base.specs.Checks.{review_checks, comment_checks, tag_checks, decide_checks, invite_checks, uninvite_checks, is_of_paper}
+use Rattle.cr_base.specs.Checks.{review_checks, respond_checks, comment_checks, tag_checks, decide_checks, invite_checks, uninvite_checks, is_of_paper}
 use Rattle.cr_base.specs.Lists.{at_some, is_number}
 use Rattle.cr_base.specs.History.{History, Upload}
 use Rattle.cr_base.specs.Page.{is_admitted, is_clear_external, is_clear_member, is_clear_chair, reads_paper, shows_author, gets_conflicts, gets_withdrawn}
-use Rattle.cr_base.specs.Phases.{phase_rank, is_from, is_phase, papers_may_change, authors_have_declared, conflicts_are_final, committee_works, bids_are_taken, reviews_are_written, comments_are_written, decisions_are_made, members_read_comments}
+use Rattle.cr_base.specs.Phases.{phase_rank, is_from, is_phase, papers_may_change, authors_have_declared, conflicts_are_final, committee_works, bids_are_taken, reviews_are_written, responses_are_written, comments_are_written, decisions_are_made, members_read_comments}
 use Rattle.cr_base.specs.Tables.{tables_of}
 use Rattle.cr_base.specs.TagTexts.{is_for_chairs}
 use Rattle.cr_base.specs.Words.{is_anonymous, is_member, is_chair}
 use Rattle.cr_base.specs.Drawn.{Drawn, revision_drawn, upload_drawn, withdrawal_drawn, conflict_drawn}
-use Rattle.cr_base.specs.Drawn.{bid_drawn, assignment_drawn, unassignment_drawn, review_drawn, comment_drawn, tag_drawn, decision_drawn, invitation_drawn, uninvitation_drawn}
+use Rattle.cr_base.specs.Drawn.{bid_drawn, assignment_drawn, unassignment_drawn, review_drawn, response_drawn, comment_drawn, tag_drawn, decision_drawn, invitation_drawn, uninvitation_drawn}
 use Rattle.cr_base.specs.Judging.{conflict_judged, assignment_judged, unassignment_judged, invitation_judged, uninvitation_judged, judge_by, judge_by_role}
 use Rattle.cr_base.specs.Sources.{Facts, Shown, user_among, role_among, has_paper, paper_named, standing_at, is_accepted_in, is_late}
 use Rattle.cr_base.specs.Sources.{facts_of_tables, shown_in_tables}
@@ -45,7 +45,7 @@ use Rattle.cr_policy.proofs.FactAgreement.{facts_in_view-tables, authors-tables,
 use Rattle.cr_policy.proofs.PageTells.{also_accepted}
 use Rattle.cr_policy.proofs.PageAgreement.{conflicts-tables}
 use Rattle.cr_policy.proofs.ReviewAgreement.{written-tables}
-use Rattle.cr_policy.proofs.TalkAgreement.{comment_count-tables}
+use Rattle.cr_policy.proofs.TalkAgreement.{comment_count-tables, response-tables}
 
 -- ---- judgement
 
@@ -216,6 +216,7 @@ record Agree (facts : Facts) (shown tabled : Shown) : Type 0 where
   invited : (p : ℕ) → gets_conflicts (facts.standing (Some p)) ≡ true → (v : Option ℕ) → shown.invited v p ≡ tabled.invited v p
   comments : (p : ℕ) → is_clear_member (facts.standing (Some p)) ≡ true → members_read_comments (facts.standing (Some p)).phase ≡ true
       → length (shown.comments p) ≡ length (tabled.comments p)
+  response : (p : ℕ) → (facts.standing (Some p)).author ≡ true → shown.response p ≡ tabled.response p
 
 -- a paper's authors are judged alike: whether it is withdrawn is asked, and what was uploaded is counted, only behind the
 -- rule that lets authors alone through
@@ -238,6 +239,22 @@ module _ (facts : Facts) (shown tabled : Shown) (same : Agree facts shown tabled
       (λ none.
       ap (λ (withdrawn : Bool). judged (behind late withdrawn more) (drawn (shown.uploads p))) (same.withdrawn p (told-author by_author (drawn []) none.1.0))
       ∙ ap (λ (uploads : List Upload). judged (behind late (tabled.withdrawn p) more) (drawn uploads)) (same.uploads p (not-false by_author.author none.1.0)))
+
+  -- and so is whether they have responded
+  respond-same : (late : Bool) (drawn : Drawn)
+      → judged (respond_checks by_author (paper_named facts shown (Some p)) (is_some (shown.response p)) late) drawn
+      ≡ judged (respond_checks by_author (paper_named facts tabled (Some p)) (is_some (tabled.response p)) late) drawn
+  respond-same late drawn =
+      judged-behind before (answers (shown.withdrawn p) (shown.response p)) (answers (tabled.withdrawn p) (tabled.response p)) drawn drawn
+      (λ none.
+      ap (λ (withdrawn : Bool). judged (answers withdrawn (shown.response p)) drawn) (same.withdrawn p (told-author by_author drawn none.1.0))
+      ∙ ap (λ (response : Option (List ℕ)). judged (answers (tabled.withdrawn p) response) drawn)
+      (same.response p (not-false by_author.author none.1.0)))
+    where
+      answers : Bool → Option (List ℕ) → List Check
+      answers withdrawn response =
+          not (responses_are_written by_author.phase) breaks rules.WrongPhase ∷ late breaks rules.Late ∷ withdrawn breaks rules.Withdrawn
+          ∷ is_some response breaks rules.AlreadyResponded ∷ []
 
 -- and matters to a conflict's judgement no further
 conflict-same : (facts : Facts) (shown tabled : Shown) (stamp : Stamp) (paper target : Option ℕ) (on : Bool) → Agree facts shown tabled
@@ -390,7 +407,7 @@ module _ (facts : Facts) (shown tabled : Shown) (same : Agree facts shown tabled
       clear : (k c : Bool) → not k ≡ false → c ≡ false → (k && not c) ≡ true
       clear k c hk hc = grind arith
 
-      discussed : (n : ℕ) → eqb n 4 ≡ true → nat_le 4 n ≡ true
+      discussed : (n : ℕ) → eqb n 5 ≡ true → nat_le 5 n ≡ true
       discussed n h = grind (arith, nat_tests)
 
 -- ---- assignments
@@ -545,6 +562,8 @@ command-same facts shown tabled stamp (commands.Invite (Some p) name) same = inv
 command-same facts shown tabled stamp (commands.Uninvite (Some p) name) same = uninvite-same facts shown tabled same stamp p (user_among facts.accounts name)
 command-same facts shown tabled stamp (commands.Review (Some p) form) same =
     review-same facts shown tabled same p (is_late facts stamp.at) (review_drawn stamp p (unwrap_or (facts.own_ordinal p) 0) (length (facts.own_forms p) + 1) form)
+command-same facts shown tabled stamp (commands.Respond (Some p) text) same =
+    respond-same facts shown tabled same p (is_late facts stamp.at) (response_drawn stamp p text)
 command-same facts shown tabled stamp (commands.Comment (Some p) text) same =
     comment-same facts shown tabled same p facts.own_comments (is_late facts stamp.at) (λ n. comment_drawn stamp p (n + 1) (facts.own_ordinal p) text)
 command-same facts shown tabled stamp (commands.Tag (Some p) tag on) same = tag-same facts shown tabled same p (is_for_chairs tag) (tag_drawn stamp p tag on)
@@ -569,4 +588,5 @@ judge-tables H call kept told forms =
       invited = λ p may v. invited-tables u H told p may v;
       written = λ p may o. written-tables u H told p (and_parts (is_clear_chair (standing_at (tables_of H) u (Some p))) _ may).0 o;
       comments = λ p clear discussed. comment_count-tables u H told p kept.bounded clear discussed;
+      response = λ p author. response-tables u H told p (or_left (standing_at (tables_of H) u (Some p)).author _ author);
     })

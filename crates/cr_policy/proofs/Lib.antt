@@ -8,6 +8,7 @@ pub mod BoundsSeats
 pub mod BoundsTexts
 pub mod BoundsVisits
 pub mod BoundsWalk
+pub mod BoundsWords
 pub mod BoundsWritten
 pub mod BulkLaws
 pub mod BulkViews
@@ -37,10 +38,13 @@ pub mod MayReadLaws
 pub mod MigrationLaws
 pub mod NumberLaws
 pub mod PageTells
+pub mod PhaseOrderLaws
 pub mod PageAgreement
 pub mod RemovedLaws
 pub mod RemovedRows
 pub mod ReceiptLaws
+pub mod ResponseBoundLaws
+pub mod ResponseTells
 pub mod ReportAgreement
 pub mod PlanAgreement
 pub mod ReviewTells

@@ -18,7 +18,7 @@ use Rattle.cr_base.specs.declared.reply.Rule.TheVariants as rules
 use Rattle.cr_base.specs.declared.retry.RetryKey.{RetryKey}
 use Rattle.cr_base.specs.declared.standing.Standing.{Standing}
 use Rattle.cr_base.specs.declared.words.Phase.{Phase}
-use Rattle.cr_base.specs.declared.words.Phase.TheVariants.{Setup, Submission, Bidding, Reviewing, Discussion}
+use Rattle.cr_base.specs.declared.words.Phase.TheVariants.{Setup, Submission, Bidding, Reviewing, Response, Discussion}
 use Rattle.cr_base.specs.declared.words.Role.{Role}
 use Rattle.cr_base.specs.declared.words.Role.TheVariants.{Account, Member, Chair}
 use Rattle.cr_base.specs.declared.reply.AccountLine.{AccountLine}
@@ -26,7 +26,7 @@ use Rattle.cr_base.specs.Accounts.{chair_count}
 use Rattle.cr_base.specs.Calls.{stamp_by, call_of}
 use Rattle.cr_base.specs.Checks.{Check, ◌breaks◌, judged, NamedPaper, phase_checks, deadline_checks, mode_checks, submit_checks, revise_checks, upload_checks}
 use Rattle.cr_base.specs.Checks.{of_role, register_checks, name_checks, own_checks, other_checks, conflict_case, conflict_checks, assign_checks, unassign_checks}
-use Rattle.cr_base.specs.Checks.{bid_checks, review_checks, comment_checks, tag_checks, decide_checks}
+use Rattle.cr_base.specs.Checks.{bid_checks, review_checks, respond_checks, comment_checks, tag_checks, decide_checks}
 use Rattle.cr_base.specs.Checks.{dismiss_checks, invite_checks, uninvite_checks}
 use Rattle.cr_base.specs.Drawn.{Drawn, naming_drawn, conflict_drawn, assignment_drawn, unassignment_drawn}
 use Rattle.cr_base.specs.Drawn.{dismissal_drawn, invitation_drawn, uninvitation_drawn}
@@ -35,8 +35,8 @@ use Rattle.cr_base.specs.Judging.{dismissal_judged, invitation_judged, uninvitat
 use Rattle.cr_base.specs.Lists.{at_some, is_number}
 use Rattle.cr_base.specs.History.{History}
 use Rattle.cr_base.specs.HistoryFacts.{standing_of, phase_of, deadline_of, role_of, is_conflicted, is_withdrawn, is_author, is_reviewer, authors_of, papers_of, ordinal_of, seats_of}
-use Rattle.cr_base.specs.HistoryFacts.{accounts_of, number_of, is_external, is_invited, is_written, own_comments_of, own_bytes_of, own_papers_of}
-use Rattle.cr_base.specs.Phases.{is_phase, is_from, is_next, mode_may_be_set, accepts_submissions, papers_may_change, authors_have_declared, conflicts_are_final, roles_are_final, committee_works, bids_are_taken, comments_are_written, decisions_are_made}
+use Rattle.cr_base.specs.HistoryFacts.{accounts_of, number_of, is_external, is_invited, is_written, response_of, own_comments_of, own_bytes_of, own_papers_of}
+use Rattle.cr_base.specs.Phases.{is_phase, is_from, is_next, mode_may_be_set, accepts_submissions, papers_may_change, authors_have_declared, conflicts_are_final, roles_are_final, committee_works, bids_are_taken, responses_are_written, comments_are_written, decisions_are_made}
 use Rattle.cr_base.specs.Sources.{number_in, users_among, role_among, paper_named, is_late}
 use Rattle.cr_base.specs.Tables.{tables_of}
 use Rattle.cr_base.specs.TagTexts.{is_for_chairs}
@@ -49,7 +49,7 @@ use Rattle.cr_policy.specs.View.{view}
 use Rattle.cr_policy.proofs.LegalLaws.{Legal-told}
 use Rattle.cr_policy.specs.MayDo.{may_register, may_name, may_set_mode, may_open, may_set_deadline, may_submit, may_change, may_upload, may_declare, may_take_back, may_bid, may_assign}
 use Rattle.cr_policy.specs.MayDo.{may_dismiss, may_invite, may_uninvite}
-use Rattle.cr_policy.specs.MayDo.{has_written, may_unassign, may_review, may_comment, may_tag, may_decide, may_do, is_accepted_from, PermissionsAsSaid}
+use Rattle.cr_policy.specs.MayDo.{has_written, may_unassign, may_review, may_respond, may_comment, may_tag, may_decide, may_do, is_accepted_from, PermissionsAsSaid}
 use Rattle.cr_policy.specs.Sentences.{now, comes_behind, in_time, lasts_or_comes, committee_at_work, is_over, is_members, is_chairs, is_above, is_paper, stands}
 use Rattle.cr_policy.specs.Sentences.{has_part, has_two_chairs}
 use Rattle.cr_policy.specs.Sentences.{administers, of_some, user_named, is_somebody, is_for_chairs_alone}
@@ -244,6 +244,24 @@ module _ (w : ℕ) (H : History) (legal : Legal H) (m : ℕ) (key : Option Retry
           → (not (not t) && (not (not m) && (not c && (not (not r) && (not (not (x || y)) && (not l && (not w && true)))))))
           ≡ ((t && not w) && (m' && not c) && r && (x' || y') && l')
       said t m c r x y l w m' x' y' l' hm hx hy hl = grind arith
+
+  responding : (paper : Option ℕ) (text : List ℕ) → is_ok (judge (view u H) (call_of u m key (commands.Respond paper text))) ≡ of_some paper (may_respond w m H)
+  responding None text = accepted-as u H legal m key (commands.Respond None text)
+  responding (Some p) text =
+      accepted-checks u H legal m key (commands.Respond (Some p) text)
+      (respond_checks (standing_of u (Some p) H) (paper_named (facts_of u H) (shown_of H) (Some p)) (is_some (response_of p H)) late) _ refl
+      ∙ said (is_paper p H) (is_author u p H) (responses_are_written (phase_of H)) late (is_withdrawn p H) (is_some (response_of p H))
+      (now Response H) (in_time m H) (is_none (response_of p H))
+      (phase-same Response (phase_of H)) time (unanswered (response_of p H))
+    where
+      unanswered : (o : Option (List ℕ)) → not (is_some o) ≡ is_none o
+      unanswered None = refl
+      unanswered (Some text) = refl
+
+      said : (t a n l w r n' l' r' : Bool) → n ≡ n' → not l ≡ l' → not r ≡ r'
+          → (not (not t) && (not (not a) && (not (not n) && (not l && (not w && (not r && true))))))
+          ≡ ((t && not w) && a && n' && l' && r')
+      said t a n l w r n' l' r' hn hl hr = grind arith
 
   comments : (paper : Option ℕ) (text : List ℕ) → is_ok (judge (view u H) (call_of u m key (commands.Comment paper text))) ≡ of_some paper (may_comment w m H)
   comments None text = accepted-as u H legal m key (commands.Comment None text)
@@ -546,6 +564,7 @@ permissions_as_said H call legal = by call.caller call.command
     by (Some w) (commands.Invite paper name) = invitations w H legal call.at call.key paper name
     by (Some w) (commands.Uninvite paper name) = uninvitations w H legal call.at call.key paper name
     by (Some w) (commands.Review paper form) = reviewing w H legal call.at call.key paper form
+    by (Some w) (commands.Respond paper text) = responding w H legal call.at call.key paper text
     by (Some w) (commands.Comment paper text) = comments w H legal call.at call.key paper text
     by (Some w) (commands.Tag paper tag on) = tags w H legal call.at call.key paper tag on
     by (Some w) (commands.Decide paper decision) = decisions w H legal call.at call.key paper decision

@@ -9,24 +9,24 @@ use Rattle.cr_base.specs.declared.report.Report.{Report}
 use Rattle.cr_base.specs.declared.report.Report.TheVariants as reports
 use Rattle.cr_base.specs.declared.words.Decision.{Decision}
 use Rattle.cr_base.specs.declared.words.Phase.{Phase}
-use Rattle.cr_base.specs.declared.words.Phase.TheVariants.{Setup, Submission, Bidding, Reviewing, Discussion, Notification, Closed}
+use Rattle.cr_base.specs.declared.words.Phase.TheVariants.{Setup, Submission, Bidding, Reviewing, Response, Discussion, Notification, Closed}
 use Rattle.std.proofs.lemmas.Bool.Decides.{nat_tests}
 use Rattle.cr_base.specs.Answering.{upload_of, uploads_told, content_by, content_asked, plan_asked}
 use Rattle.cr_base.specs.Lists.{is_number}
 use Rattle.cr_base.specs.History.{History, Upload}
 use Rattle.cr_base.specs.HistoryFacts.{phase_of, role_of, is_conflicted, is_withdrawn, is_author, is_reviewer, authors_of, uploads_of}
-use Rattle.cr_base.specs.HistoryFacts.{is_accepted, is_conflict_on, is_external, is_invited}
+use Rattle.cr_base.specs.HistoryFacts.{is_accepted, is_conflict_on, is_external, is_invited, had_response_of, response_of}
 use Rattle.cr_base.specs.Plans.{PlanPair, planned_papers, planned_members, best_plan, plan_reply}
 use Rattle.cr_base.specs.Sources.{Facts, Shown, facts_of_tables, shown_in_tables}
 use Rattle.cr_base.specs.Tables.{tables_of}
-use Rattle.cr_base.specs.Phases.{committee_works, members_see_papers, chairs_see_reviewers, reviewers_read_own, externals_read_own, members_read_reviews, members_read_comments, members_read_decisions, authors_read_reviews, letters_are_sent, papers_may_be_accepted, papers_are_published}
+use Rattle.cr_base.specs.Phases.{committee_works, members_see_papers, chairs_see_reviewers, reviewers_read_own, externals_read_own, members_read_reviews, members_read_comments, members_read_responses, members_read_decisions, authors_read_reviews, letters_are_sent, papers_may_be_accepted, papers_are_published}
 use Rattle.cr_base.specs.Words.{is_member, is_chair}
 use Rattle.cr_history.proofs.RuleLaws.{facts_of}
 use Rattle.cr_policy.specs.Legal.{Legal}
 use Rattle.cr_policy.specs.View.{view}
 use Rattle.cr_policy.specs.Judge.{answer, needs_login}
-use Rattle.cr_policy.specs.MayRead.{has_version, may_read_reviews, may_read_comments, may_report, may_plan, reads_content, is_told, is_answered_to, ReadingAsSaid}
-use Rattle.cr_policy.proofs.SentenceLaws.{none_broken, judged-both, phase-same, member-same, chair-same, in_committee-same, over-same, discussed-same, reviewed-same, closed-same, begun-same, shown_of, facts-same}
+use Rattle.cr_policy.specs.MayRead.{has_version, may_read_reviews, may_read_comments, may_read_response, may_report, may_plan, reads_content, is_told, is_answered_to, ReadingAsSaid}
+use Rattle.cr_policy.proofs.SentenceLaws.{none_broken, judged-both, member-same, chair-same, in_committee-same, over-same, discussed-same, reviewed-same, own-same, closed-same, begun-same, shown_of, facts-same}
 use Rattle.cr_policy.proofs.SentenceLaws.{answered-as, answered-checks}
 use Rattle.cr_policy.proofs.LegalLaws.{Legal-answer, Legal-needs_login}
 use Rattle.cr_base.specs.Answering.{login_wanted}
@@ -37,7 +37,7 @@ use Rattle.cr_base.specs.Lists.{last, last_from, listed, is_nothing}
 use Rattle.std.specs.Option.{option_map_or}
 use Rattle.cr_base.specs.declared.words.Decision.TheVariants.{Accept, Reject}
 use Rattle.cr_policy.specs.Sentences.{now, chairs, committee_at_work, before_bidding, is_over, from_discussion, is_members, is_chairs, is_paper, accepts, is_in, is_public}
-use Rattle.cr_policy.specs.Sentences.{from_reviewing, has_part, wrote, of_some}
+use Rattle.cr_policy.specs.Sentences.{before_discussion, from_reviewing, has_part, wrote, of_some}
 
 -- ---- words
 
@@ -149,9 +149,9 @@ module _ (w : ℕ) (H : History) (legal : Legal H) where
   reviews-read (Some p) =
       answered-checks u H legal (queries.Reviews (Some p)) refl
       ∙ said (is_paper p H) (is_author u p H) (is_conflict_on u p H) (is_member (role_of u H)) (is_members (role_of u H)) (is_invited u p H) (is_reviewer u p H)
-      (authors_read_reviews (phase_of H)) (is_over H) (members_read_reviews (phase_of H)) (from_discussion H)
-      (reviewers_read_own (phase_of H)) (now Reviewing H) (externals_read_own (phase_of H)) (from_reviewing H)
-      (member-same (role_of u H)) (over-same (phase_of H)) (discussed-same (phase_of H)) (phase-same Reviewing (phase_of H))
+      (had_response_of H) (authors_read_reviews (phase_of H)) (is_over H) (members_read_reviews (phase_of H)) (from_discussion H)
+      (reviewers_read_own (phase_of H)) (before_discussion H) (externals_read_own (phase_of H)) (from_reviewing H)
+      (member-same (role_of u H)) (over-same (phase_of H)) (discussed-same (phase_of H)) (own-same (phase_of H))
       (reviewed-same (phase_of H)) (own-then (phase_of H))
     where
       -- who reads her own forms in the reviewing does from then on
@@ -160,15 +160,16 @@ module _ (w : ℕ) (H : History) (legal : Legal H) where
       own-then Submission = refl
       own-then Bidding = refl
       own-then Reviewing = refl
+      own-then Response = refl
       own-then Discussion = refl
       own-then Notification = refl
       own-then Closed = refl
 
-      said : (t a k m m' e r o o' d d' g g' s s' : Bool) → m ≡ m' → o ≡ o' → d ≡ d' → g ≡ g' → s ≡ s' → (g && not s) ≡ false
-          → (not (not t) && (not (a && not o) && (not (not (a || (m || (not m && e)))) && (not (not a && (a || k))
+      said : (t a k m m' e r h o o' d d' g g' s s' : Bool) → m ≡ m' → o ≡ o' → d ≡ d' → g ≡ g' → s ≡ s' → (g && not s) ≡ false
+          → (not (not t) && (not (a && not (o || h)) && (not (not (a || (m || (not m && e)))) && (not (not a && (a || k))
           && (not (not (a || (m && d) || (r && (g || ((not m && e) && s))))) && true)))))
-          ≡ (t && ((a && o') || ((m' && not (a || k)) && (d' || (r && g'))) || ((not m' && e) && not (a || k) && r && s')))
-      said t a k m m' e r o o' d d' g g' s s' hm ho hd hg hs h = grind arith
+          ≡ (t && ((a && (o' || h)) || ((m' && not (a || k)) && (d' || (r && g'))) || ((not m' && e) && not (a || k) && r && s')))
+      said t a k m m' e r h o o' d d' g g' s s' hm ho hd hg hs hr = grind arith
 
   comments-read : (paper : Option ℕ) → is_told (answer u (view u H) (queries.Comments paper)) ≡ of_some paper (λ p. is_paper p H && may_read_comments w H p)
   comments-read None = answered-as u H legal (queries.Comments None)
@@ -180,6 +181,18 @@ module _ (w : ℕ) (H : History) (legal : Legal H) where
       said : (t m m' c d d' : Bool) → m ≡ m' → d ≡ d'
           → (not (not t) && (not (not m) && (not c && (not (not d) && true)))) ≡ (t && ((m' && not c) && d'))
       said t m m' c d d' hm hd = grind arith
+
+  response-read : (paper : Option ℕ) → is_told (answer u (view u H) (queries.Response paper)) ≡ of_some paper (λ p. is_paper p H && may_read_response w H p)
+  response-read None = answered-as u H legal (queries.Response None)
+  response-read (Some p) =
+      answered-checks u H legal (queries.Response (Some p)) refl
+      ∙ said (is_paper p H) (is_author u p H) (is_conflict_on u p H) (is_member (role_of u H)) (is_members (role_of u H)) (members_read_responses (phase_of H))
+      (from_discussion H) (is_some (response_of p H)) (member-same (role_of u H)) (discussed-same (phase_of H))
+    where
+      said : (t a k m m' d d' r : Bool) → m ≡ m' → d ≡ d'
+          → (not (not t) && (not (not (a || m)) && (not (not a && (a || k)) && (not (not (a || d)) && (not (not r) && true)))))
+          ≡ (t && (r && (a || ((m' && not (a || k)) && d'))))
+      said t a k m m' d d' r hm hd = grind arith
 
   -- a report, of a role and from a phase on
   report-said : (k k' b b' : Bool) → k ≡ k' → b ≡ b' → (not (not k) && (not (not b) && true)) ≡ (k' && b')
@@ -325,6 +338,7 @@ reading_as_said None H (queries.Version (Some p) version) legal =
     content-to_all H legal (queries.Version (Some p) version) p (Some version) (for_nobody H legal p) (versions-read None H legal p version)
 reading_as_said None H (queries.Reviews paper) legal = never H legal (queries.Reviews paper) (never_some H)
 reading_as_said None H (queries.Comments paper) legal = never H legal (queries.Comments paper) (never_some H)
+reading_as_said None H (queries.Response paper) legal = never H legal (queries.Response paper) (never_some H)
 reading_as_said None H (queries.Search search only_count) legal = never H legal (queries.Search search only_count) (never_some H)
 reading_as_said None H (queries.Report reports.Papers) legal = never H legal (queries.Report reports.Papers) (never_some H)
 reading_as_said None H (queries.Report reports.Scores) legal = never H legal (queries.Report reports.Scores) (never_some H)
@@ -346,6 +360,7 @@ reading_as_said (Some w) H (queries.Version None version) legal = answered-as (S
 reading_as_said (Some w) H (queries.Version (Some p) version) legal = versions-read (Some w) H legal p version ∙ content-checked (Some w) H legal p (Some version)
 reading_as_said (Some w) H (queries.Reviews paper) legal = reviews-read w H legal paper
 reading_as_said (Some w) H (queries.Comments paper) legal = comments-read w H legal paper
+reading_as_said (Some w) H (queries.Response paper) legal = response-read w H legal paper
 reading_as_said (Some w) H (queries.Search search true) legal = answered-as (Some w) H legal (queries.Search search true)
 reading_as_said (Some w) H (queries.Search search false) legal = answered-as (Some w) H legal (queries.Search search false)
 reading_as_said (Some w) H (queries.Report report) legal = reports-read w H legal report

@@ -27,11 +27,11 @@ use Rattle.cr_base.specs.Lists.{listed}
 use Rattle.cr_base.specs.Page.{PaperTexts, page_of, where_told, is_admitted, is_clear_external, is_clear_chair, reads_paper}
 use Rattle.cr_base.specs.Page.{gets_title, gets_abstract, shows_author, gets_conflict, gets_conflicts, gets_declared}
 use Rattle.cr_base.specs.Page.{gets_versions, gets_withdrawn, gets_bid, gets_bids, gets_label, gets_reviewers, gets_tags, gets_decision}
-use Rattle.cr_base.specs.Phases.{members_see_papers, committee_sees_authors, members_read_comments}
+use Rattle.cr_base.specs.Phases.{members_see_papers, committee_sees_authors, members_read_comments, members_read_responses}
 use Rattle.cr_base.specs.Tables.{Tables, no_tables, tables_of, FitInTurn}
 use Rattle.cr_base.specs.Answering.{uploads_told, upload_of, content_by, content_asked, query_checks, bidder_told, reviewer_told, page_by}
-use Rattle.cr_base.specs.Answering.{told_of_paper, found_by, search_told, reviews_answered, comments_answered}
-use Rattle.cr_base.specs.Answering.{accepted_paper, accepted_by, comments_by, reply_or_rule, answer_by, answer_by_role}
+use Rattle.cr_base.specs.Answering.{told_of_paper, found_by, search_told, reviews_answered, comments_answered, tells_response}
+use Rattle.cr_base.specs.Answering.{accepted_paper, accepted_by, comments_by, response_by, reply_or_rule, answer_by, answer_by_role}
 use Rattle.cr_base.specs.Searching.{is_found, found_paper}
 use Rattle.cr_base.specs.Sources.{Facts, Shown, decision_by, has_paper, facts_of_tables, shown_in_tables, names_in}
 use Rattle.cr_base.specs.Words.{is_anonymous, is_chair, is_member, no_bid}
@@ -53,7 +53,7 @@ use Rattle.cr_policy.proofs.ReportAgreement.{passed, map-same, report-tables}
 use Rattle.cr_base.specs.Plans.{best_plan, planned_papers}
 use Rattle.cr_policy.proofs.PlanAgreement.{best-same, papers-same, plan-tables}
 use Rattle.cr_policy.proofs.ReviewAgreement.{reviewers-tables, reviews-tables}
-use Rattle.cr_policy.proofs.TalkAgreement.{comments-tables, tags-tables}
+use Rattle.cr_policy.proofs.TalkAgreement.{comments-tables, response-tables, tags-tables}
 
 -- ---- users by number
 
@@ -237,6 +237,40 @@ module _ (u : Option ℕ) (H : History) (kept : Invariants H) (told : AreTold H)
       clear : (k c : Bool) → not k ≡ false → c ≡ false → (k && not c) ≡ true
       clear k c hk hc = grind arith
 
+  -- ---- responses
+
+  -- whether there is one is asked only behind the rules that have let through one who is told it
+  response-same : (paper : Option ℕ)
+      → judged (query_checks facts shown (queries.Response paper)) (replies.Response (response_by shown paper))
+      ≡ judged (query_checks facts tabled (queries.Response paper)) (replies.Response (response_by tabled paper))
+  response-same None = refl
+  response-same (Some p) =
+      judged-behind before (behind (shown.response p)) (behind (tabled.response p)) (reply (shown.response p)) (reply (tabled.response p))
+      (λ none.
+      ap (λ (response : Option (List ℕ)). judged (behind response) (reply response))
+      (response-tables u H told p
+      (reads by.author (is_member by.role) by.conflicted (members_read_responses by.phase) none.1.0 none.1.1.0 none.1.1.1.0)))
+    where
+      by : Standing
+      by = facts.standing (Some p)
+
+      before : List Check
+      before =
+          not (has_paper facts (Some p)) breaks rules.NoPaper
+          ∷ not (by.author || is_member by.role) breaks rules.NotMember
+          ∷ (not by.author && by.conflicted) breaks rules.Conflict
+          ∷ not (by.author || members_read_responses by.phase) breaks rules.WrongPhase
+          ∷ []
+
+      behind : Option (List ℕ) → List Check
+      behind response = not (is_some response) breaks rules.NoResponse ∷ []
+
+      reply : Option (List ℕ) → Reply
+      reply response = replies.Response (unwrap_or response [])
+
+      reads : (a k c d : Bool) → not (a || k) ≡ false → (not a && c) ≡ false → not (a || d) ≡ false → (a || ((k && not c) && d)) ≡ true
+      reads a k c d h1 h2 h3 = grind (arith, h1, h2, h3)
+
   -- ---- accepted papers
 
   -- everyone is told who wrote a paper that is accepted, and its title
@@ -268,8 +302,9 @@ module _ (u : Option ℕ) (H : History) (kept : Invariants H) (told : AreTold H)
     page = page-tables p i;
     accepted = facts.accepted p;
     conflicted = (facts.standing (Some p)).conflicted;
-    reviews = reviews_answered (reply_or_rule (reviews-tables u H told p forms i));
+    reviews = reviews_answered (reply_or_rule (reviews-tables u H told p forms kept.responded i));
     comments = comments_answered (reply_or_rule (comments-same (Some p) i));
+    responded = tells_response (reply_or_rule (response-same (Some p) i));
   }
 
   found-same : (search : List Step) → found_by facts shown u search ≡ found_by facts tabled u search
@@ -291,8 +326,9 @@ module _ (u : Option ℕ) (H : History) (kept : Invariants H) (told : AreTold H)
   answer-shown (queries.Content paper) = ap reply_or_rule (content-tables paper None)
   answer-shown (queries.Version paper version) = ap reply_or_rule (content-tables paper (Some version))
   answer-shown (queries.Reviews None) = refl
-  answer-shown (queries.Reviews (Some p)) = ap reply_or_rule (reviews-tables u H told p forms)
+  answer-shown (queries.Reviews (Some p)) = ap reply_or_rule (reviews-tables u H told p forms kept.responded)
   answer-shown (queries.Comments paper) = ap reply_or_rule (comments-same paper)
+  answer-shown (queries.Response paper) = ap reply_or_rule (response-same paper)
   answer-shown (queries.Search search only_count) = search-same search only_count
   answer-shown (queries.Report report) = ap reply_or_rule (report-tables u H told forms report)
   answer-shown (queries.Plan per_paper load) =

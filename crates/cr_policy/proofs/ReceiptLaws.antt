@@ -182,6 +182,8 @@ module _ (u : ℕ) (H : History) (legal : Legal H) where
       by None = tt
       by (Some o) = only H (entries.Reviewed p o (next_form p o H) form) refl
   first-of (commands.Review None form) = tt
+  first-of (commands.Respond (Some p) text) = only H (entries.Responded p text) refl
+  first-of (commands.Respond None text) = tt
   first-of (commands.Comment (Some p) text) = only H (entries.Commented p (next_comment p H) (ordinal_of (Some u) p H) text) refl
   first-of (commands.Comment None text) = tt
   first-of (commands.Tag (Some p) tag on) = only H (entries.Tagged p tag on) refl

@@ -8,12 +8,12 @@ use Rattle.std.proofs.lemmas.List.Folds.{list_any-append}
 use Rattle.cr_base.specs.declared.entry.Entry.{Entry}
 use Rattle.cr_base.specs.declared.entry.Entry.TheVariants.{Conflict}
 use Rattle.cr_base.specs.declared.entry.Stamped.{Stamped}
-use Rattle.cr_base.specs.declared.words.Phase.TheVariants.{Setup}
+use Rattle.cr_base.specs.declared.words.Phase.TheVariants.{Setup, Response}
 use Rattle.cr_base.specs.declared.words.Mode.TheVariants.{Blind}
 use Rattle.cr_base.specs.declared.words.Role.TheVariants.{Account}
 use Rattle.cr_base.specs.Lists.{given, is_number, last_or}
-use Rattle.cr_base.specs.History.{History, phase_told, mode_told, role_told, author_told, conflict_told, invite_told}
-use Rattle.cr_base.specs.HistoryFacts.{phase_of, mode_of, role_of, authors_of, is_author, is_conflict_on, is_invited}
+use Rattle.cr_base.specs.History.{History, phase_told, mode_told, role_told, author_told, conflict_told, invite_told, opens_response}
+use Rattle.cr_base.specs.HistoryFacts.{phase_of, mode_of, role_of, authors_of, is_author, is_conflict_on, is_invited, had_response_of}
 use Rattle.cr_base.specs.Words.{is_member}
 use Rattle.cr_policy.specs.Part.{own_parts}
 use Rattle.cr_policy.specs.Sighting.{Sighting}
@@ -23,7 +23,7 @@ use Rattle.cr_policy.specs.ViewFacts.{phase_seen, mode_seen, role_seen, author_s
 use Rattle.cr_policy.specs.HiddenPayload.{AcceptedAlike, Removal, LooksSame, unchanged, differing, left_out, reversed, through}
 use Rattle.cr_policy.proofs.HiddenLaws.{hidden_payload, where_wrote, MadeAlike, wrote-rows, seen_by}
 use Rattle.cr_policy.proofs.InviteTells.{invite_kept, invite_tells}
-use Rattle.cr_policy.proofs.RemovedRows.{moved-rows, moved-ahead, moved-behind}
+use Rattle.cr_policy.proofs.RemovedRows.{moved-rows, moved-ahead, moved-behind, unseen-opens}
 use Rattle.cr_policy.proofs.StandingLaws.{first_of}
 use Rattle.cr_policy.proofs.Tells.{phase_tells, mode_tells, role_tells, author_tells, author_value, conflict_tells, conflict_value}
 
@@ -42,7 +42,7 @@ unseen-sight r at e h = by (is_seen r at e) (joined r at e) h
 -- ---- who reads
 
 -- an entry that tells nothing leaves what is told
-told-without : {A : Type 0} (told : Stamped → List A) (before after : History) (gone : Stamped) → told gone ≡ []
+pub told-without : {A : Type 0} (told : Stamped → List A) (before after : History) (gone : Stamped) → told gone ≡ []
     → flat_map told (before ++ gone ∷ after) ≡ flat_map told (before ++ after)
 told-without told before after gone h =
     flat_map-append told before (gone ∷ after)
@@ -75,6 +75,12 @@ module _ (u : Option ℕ) (before after : History) (gone : Stamped) where
         ap (last_or Setup)
         (told-without (λ (e : Stamped). phase_told e.entry) before after gone
         (sym (phase_tells (reader u with_it) there gone) ∙ ap (flat_map phase_seen) nothing))
+
+    response-without : had_response_of with_it ≡ had_response_of without_it
+    response-without =
+        list_any-append opens_response before (gone ∷ after)
+        ∙ (λ i. list_any opens_response before || (unseen-opens Response (reader u with_it) there gone (unseen-sight (reader u with_it) there gone nothing) i || list_any opens_response after))
+        ∙ sym (list_any-append opens_response before after)
 
     mode-without : mode_of with_it ≡ mode_of without_it
     mode-without =
@@ -129,6 +135,7 @@ module _ (u : Option ℕ) (before after : History) (gone : Stamped) where
     reader-without accepted = λ i. record {
       number = u;
       now = phase-without i;
+      had_response = response-without i;
       mode = mode-without i;
       rank = role-without i;
       author = λ p. author-without p i;

@@ -10,11 +10,13 @@ use Rattle.cr_base.specs.declared.entry.Entry.{Entry}
 use Rattle.cr_base.specs.declared.entry.Entry.TheVariants.{PhaseSet, Submitted, Revised, Uploaded, Reviewed, Decided}
 use Rattle.cr_base.specs.declared.entry.Stamp.{Stamp}
 use Rattle.cr_base.specs.declared.entry.Stamped.{Stamped}
+use Rattle.cr_base.specs.declared.words.Phase.{Phase}
+use Rattle.cr_base.specs.declared.words.Phase.TheVariants.{Response, Discussion}
 use Rattle.cr_base.specs.Lists.{given, is_nothing, until}
 use Rattle.cr_base.specs.Drawn.{stamped}
-use Rattle.cr_base.specs.History.{History, opens_discussion, title_told, upload_told, form_told, decision_told}
+use Rattle.cr_base.specs.History.{History, opens, title_told, upload_told, form_told, decision_told}
 use Rattle.cr_base.specs.Page.{is_clear_chair, is_clear_external, reads_paper}
-use Rattle.cr_base.specs.Phases.{members_see_papers, authors_read_reviews, authors_read_decisions}
+use Rattle.cr_base.specs.Phases.{members_see_papers, authors_read_early_reviews, authors_read_reviews, authors_read_decisions}
 use Rattle.cr_history.proofs.ListCuts.{until-append, until-before}
 use Rattle.cr_policy.specs.Part.{Part}
 use Rattle.cr_policy.specs.Triggers.{Reader, Around, Position, position_of, standing_to, members, authors, TriggerRow, rows, applies_any, none_in, none_alike, published, reads_reviews}
@@ -140,6 +142,16 @@ stands-row_both apart with without gone a b s h =
     ∙ stands-row apart with without gone (a && b) s (λ no. sym (and_assoc gone a b) ∙ h no)
     ∙ sym (and_assoc without a b)
 
+-- the same of a row that asks three things
+stands-row_all : (apart with without gone a b c : Bool) → Stands apart with without gone → (apart ≡ false → (gone && a && b && c) ≡ false)
+    → (with && a && b && c) ≡ (without && a && b && c)
+stands-row_all apart with without gone a b c s h =
+    grouped with ∙ stands-row apart with without gone (a && b && c) s (λ no. sym (grouped gone) ∙ h no) ∙ sym (grouped without)
+  where
+    grouped : (x : Bool) → (x && a && b && c) ≡ (x && (a && b && c))
+    grouped true = refl
+    grouped false = refl
+
 -- of forms that are discussed, the last before the discussion and all that came in it
 stands-row_discussed : (apart with without gone since asked gone_since : Bool) → Stands apart with without gone
     → (apart ≡ false → ((gone || gone_since) && asked) ≡ false) → ((with || since) && asked) ≡ ((without || since) && asked)
@@ -209,19 +221,23 @@ none_alike-alike (Reviewed paper ordinal version form) gone H h = forms-alike pa
 none_alike-alike (Decided paper decision) gone H h = decisions-alike paper gone.entry H h
 none_alike-alike e gone H h = absurd (true≢false h)
 
+-- the entry opens this phase
+abbrev opens_at : Phase → Stamped → Bool
+opens_at first e = opens first e.entry
+
 -- an entry that sets a phase is of no series
-no-opening : (e : Stamped) (gone : Stamped) → none_alike e.entry (gone ∷ []) ≡ false → opens_discussion e ≡ false
-no-opening e gone = of e.entry
+no-opening : (first : Phase) (e : Stamped) (gone : Stamped) → none_alike e.entry (gone ∷ []) ≡ false → opens_at first e ≡ false
+no-opening first e gone = of e.entry
   where
-    of : (entry : Entry) → none_alike entry (gone ∷ []) ≡ false → opens_discussion (stamped e.stamp e.more entry) ≡ false
+    of : (entry : Entry) → none_alike entry (gone ∷ []) ≡ false → opens_at first (stamped e.stamp e.more entry) ≡ false
     of (PhaseSet phase) h = absurd (true≢false h)
     of entry h = refl
 
 -- nor does one that shows nothing
-unseen-opens : (r : Reader) (at : Around) (e : Stamped) → is_seen r at e ≡ false → opens_discussion e ≡ false
-unseen-opens r at e = of e.entry
+pub unseen-opens : (first : Phase) (r : Reader) (at : Around) (e : Stamped) → is_seen r at e ≡ false → opens first e.entry ≡ false
+unseen-opens first r at e = of e.entry
   where
-    of : (entry : Entry) → is_seen r at (stamped e.stamp e.more entry) ≡ false → opens_discussion (stamped e.stamp e.more entry) ≡ false
+    of : (entry : Entry) → is_seen r at (stamped e.stamp e.more entry) ≡ false → opens first entry ≡ false
     of (PhaseSet phase) h = absurd (true≢false h)
     of entry h = refl
 
@@ -231,6 +247,7 @@ unseen-opens r at e = of e.entry
 pub record Moved (apart : Bool) (with without gone : Position) : Type 0 where
   first : Stands apart with.first without.first gone.first
   last : Stands apart with.last without.last gone.last
+  response : Stands apart with.last_before_response without.last_before_response gone.last_before_response
   early : Stands apart with.last_before_discussion without.last_before_discussion gone.last_before_discussion
   late : with.from_discussion ≡ without.from_discussion
 
@@ -249,6 +266,7 @@ record SilentUpload (r : Reader) (last : Bool) (p : ℕ) : Type 0 where
 record SilentForm (r : Reader) (place : Position) (p : ℕ) : Type 0 where
   done : (place.first && is_clear_chair (standing_to r p)) ≡ false
   discussed : ((place.last_before_discussion || place.from_discussion) && reads_reviews r p) ≡ false
+  responded : (place.last_before_response && r.had_response && authors r p && authors_read_early_reviews r.now) ≡ false
   told : (place.last && authors r p && authors_read_reviews r.now) ≡ false
 
 record SilentDecision (r : Reader) (last : Bool) (p : ℕ) : Type 0 where
@@ -279,7 +297,7 @@ module _ (r : Reader) (at : Around) (stamp : Stamp) (more : Bool) where
       let none = none-applies (rows_at r at (stamped stamp more (Reviewed paper ordinal version form))) unseen in
       let both = and_parts (eqb paper p) (eqb ordinal o) (on_paper (eqb paper p && eqb ordinal o) _ told) in
       subst (λ q. SilentForm r (position_of at (Reviewed paper ordinal version form)) q) (eqb-true paper p both.0)
-      (record { done = none.0; discussed = none.1.0; told = none.1.1.0 })
+      (record { done = none.0; discussed = none.1.0; responded = none.1.1.0; told = none.1.1.1.0 })
   silent-form p o e unseen told = absurd (true≢false told)
 
   silent-decision : (p : ℕ) (e : Entry) → is_seen r at (stamped stamp more e) ≡ false → is_nothing (decision_told p e ++ []) ≡ false
@@ -346,8 +364,11 @@ module _ (r : Reader) (at : Around) (gone : Stamped) (unseen : is_seen r at gone
           stands-row_discussed apart with.last_before_discussion without.last_before_discussion place.last_before_discussion with.from_discussion (reads_reviews r paper) place.from_discussion moved.early (λ no. (silent no).discussed)
               ∙ (λ i. (without.last_before_discussion || moved.late i) && reads_reviews r paper),
           (
-            stands-row_both apart with.last without.last place.last (authors r paper) (authors_read_reviews r.now) moved.last (λ no. (silent no).told),
-            tt,
+            stands-row_all apart with.last_before_response without.last_before_response place.last_before_response r.had_response (authors r paper) (authors_read_early_reviews r.now) moved.response (λ no. (silent no).responded),
+            (
+              stands-row_both apart with.last without.last place.last (authors r paper) (authors_read_reviews r.now) moved.last (λ no. (silent no).told),
+              tt,
+            ),
           ),
         ),
       )
@@ -377,49 +398,61 @@ moved-ahead r b between post e gone unseen = record {
       subst (λ (with : Bool). Stands apart with (none_alike e.entry (between ++ post)) (none_alike gone.entry post)) (sym (none_alike-with e.entry gone between post))
       (subst (λ (without : Bool). Stands apart (none_alike e.entry between && (apart && none_alike e.entry post)) without (none_alike gone.entry post)) (sym (none_alike-append e.entry between post))
       (stands-last apart (none_alike e.entry between) (none_alike e.entry post) (none_alike gone.entry post) (none_alike-alike e.entry gone post)));
-  early = early (list_any opens_discussion between) refl;
+  response = early Response (list_any (opens_at Response) between) refl;
+  early = early Discussion (list_any (opens_at Discussion) between) refl;
   late = refl;
 }
   where
     apart : Bool
     apart = none_alike e.entry (gone ∷ [])
 
-    early-with : Bool
-    early-with = not (list_any opens_discussion b)
-
-    gone-early : Bool
-    gone-early = not (list_any opens_discussion (b ++ e ∷ between))
-
-    gone-last : Bool
-    gone-last = none_alike gone.entry (until opens_discussion post)
-
-    early : (opened : Bool) → list_any opens_discussion between ≡ opened → Stands apart
-        (early-with && none_alike e.entry (until opens_discussion (between ++ gone ∷ post)))
-        (early-with && none_alike e.entry (until opens_discussion (between ++ post)))
-        (gone-early && gone-last)
-    early true is =
-        subst (λ (with : History). Stands apart (early-with && none_alike e.entry with) (early-with && none_alike e.entry (until opens_discussion (between ++ post))) (gone-early && gone-last)) (sym (until-before opens_discussion between (gone ∷ post) is))
-        (subst (λ (without : History). Stands apart (early-with && none_alike e.entry (until opens_discussion between)) (early-with && none_alike e.entry without) (gone-early && gone-last)) (sym (until-before opens_discussion between post is))
-        (stands-still apart (early-with && none_alike e.entry (until opens_discussion between)) (gone-early && gone-last)))
-    early false is =
-        let cut = until opens_discussion post in
-        let opened_cut : until opens_discussion (between ++ gone ∷ post) ≡ between ++ gone ∷ cut =
-        until-append opens_discussion between (gone ∷ post) is ∙ ap (λ rest. between ++ rest) (until-append opens_discussion (gone ∷ []) post (ap (λ b. b || false) (unseen-opens r _ gone unseen))) in
-        let stood : Stands apart (none_alike e.entry between && (apart && none_alike e.entry cut)) (none_alike e.entry between && none_alike e.entry cut) gone-last =
-        stands-last apart (none_alike e.entry between) (none_alike e.entry cut) gone-last (none_alike-alike e.entry gone cut) in
-        let all_early = stands-early apart early-with _ _ gone-last gone-early stood (λ no. ap not (not_opened no)) in
-        subst (λ (with : Bool). Stands apart (early-with && with) (early-with && none_alike e.entry (until opens_discussion (between ++ post))) (gone-early && gone-last)) (sym (ap (none_alike e.entry) opened_cut ∙ none_alike-with e.entry gone between cut))
-        (subst (λ (without : Bool). Stands apart (early-with && (none_alike e.entry between && (apart && none_alike e.entry cut))) (early-with && without) (gone-early && gone-last)) (sym (ap (none_alike e.entry) (until-append opens_discussion between post is) ∙ none_alike-append e.entry between cut)) all_early)
+    -- before a phase is opened
+    early : (first : Phase) (opened : Bool) → list_any (opens_at first) between ≡ opened
+        → Stands apart
+        (not (list_any (opens_at first) b) && none_alike e.entry (until (opens_at first) (between ++ gone ∷ post)))
+        (not (list_any (opens_at first) b) && none_alike e.entry (until (opens_at first) (between ++ post)))
+        (not (list_any (opens_at first) (b ++ e ∷ between)) && none_alike gone.entry (until (opens_at first) post))
+    early first opened is = by opened is
       where
+        test : Stamped → Bool
+        test = opens_at first
+
+        early-with : Bool
+        early-with = not (list_any test b)
+
+        gone-early : Bool
+        gone-early = not (list_any test (b ++ e ∷ between))
+
+        gone-last : Bool
+        gone-last = none_alike gone.entry (until test post)
+
         or-false : (a : Bool) → a ≡ (a || false)
         or-false true = refl
         or-false false = refl
 
-        not_opened : apart ≡ false → list_any opens_discussion b ≡ list_any opens_discussion (b ++ e ∷ between)
-        not_opened one =
-            or-false (list_any opens_discussion b)
-            ∙ (λ i. list_any opens_discussion b || (sym (no-opening e gone one) i || sym is i))
-            ∙ sym (list_any-append opens_discussion b (e ∷ between))
+        not_opened : list_any test between ≡ false → apart ≡ false → list_any test b ≡ list_any test (b ++ e ∷ between)
+        not_opened none one =
+            or-false (list_any test b)
+            ∙ (λ i. list_any test b || (sym (no-opening first e gone one) i || sym none i))
+            ∙ sym (list_any-append test b (e ∷ between))
+
+        by : (opened : Bool) → list_any test between ≡ opened → Stands apart
+            (early-with && none_alike e.entry (until test (between ++ gone ∷ post)))
+            (early-with && none_alike e.entry (until test (between ++ post)))
+            (gone-early && gone-last)
+        by true is =
+            subst (λ (with : History). Stands apart (early-with && none_alike e.entry with) (early-with && none_alike e.entry (until test (between ++ post))) (gone-early && gone-last)) (sym (until-before test between (gone ∷ post) is))
+            (subst (λ (without : History). Stands apart (early-with && none_alike e.entry (until test between)) (early-with && none_alike e.entry without) (gone-early && gone-last)) (sym (until-before test between post is))
+            (stands-still apart (early-with && none_alike e.entry (until test between)) (gone-early && gone-last)))
+        by false is =
+            let cut = until test post in
+            let opened_cut : until test (between ++ gone ∷ post) ≡ between ++ gone ∷ cut =
+            until-append test between (gone ∷ post) is ∙ ap (λ rest. between ++ rest) (until-append test (gone ∷ []) post (ap (λ b. b || false) (unseen-opens first r _ gone unseen))) in
+            let stood : Stands apart (none_alike e.entry between && (apart && none_alike e.entry cut)) (none_alike e.entry between && none_alike e.entry cut) gone-last =
+            stands-last apart (none_alike e.entry between) (none_alike e.entry cut) gone-last (none_alike-alike e.entry gone cut) in
+            let all_early = stands-early apart early-with _ _ gone-last gone-early stood (λ no. ap not (not_opened is no)) in
+            subst (λ (with : Bool). Stands apart (early-with && with) (early-with && none_alike e.entry (until test (between ++ post))) (gone-early && gone-last)) (sym (ap (none_alike e.entry) opened_cut ∙ none_alike-with e.entry gone between cut))
+            (subst (λ (without : Bool). Stands apart (early-with && (none_alike e.entry between && (apart && none_alike e.entry cut))) (early-with && without) (gone-early && gone-last)) (sym (ap (none_alike e.entry) (until-append test between post is) ∙ none_alike-append e.entry between cut)) all_early)
 
 -- behind it
 pub moved-behind : (r : Reader) (front between post : History) (e gone : Stamped)
@@ -433,20 +466,27 @@ moved-behind r front between post e gone unseen = record {
       (subst (λ (without : Bool). Stands apart (none_alike e.entry front && (apart && none_alike e.entry between)) without (none_alike gone.entry front)) (sym (none_alike-append e.entry front between))
       (stands-first apart (none_alike e.entry front) (none_alike e.entry between) (none_alike gone.entry front) (none_alike-alike e.entry gone front)));
   last = stands-still apart _ _;
-  early =
-      subst (λ (opened : Bool). Stands apart (not opened && none_alike e.entry (until opens_discussion post)) (not (list_any opens_discussion (front ++ between)) && none_alike e.entry (until opens_discussion post)) gone-early) (sym opened)
-      (stands-still apart (not (list_any opens_discussion (front ++ between)) && none_alike e.entry (until opens_discussion post)) gone-early);
-  late = opened;
+  response = early Response;
+  early = early Discussion;
+  late = opened Discussion;
 }
   where
     apart : Bool
     apart = none_alike e.entry (gone ∷ [])
 
-    gone-early : Bool
-    gone-early = (position_of (record { before = front; after = between ++ e ∷ post }) gone.entry).last_before_discussion
+    opened : (first : Phase) → list_any (opens_at first) (front ++ gone ∷ between) ≡ list_any (opens_at first) (front ++ between)
+    opened first =
+        list_any-append (opens_at first) front (gone ∷ between)
+        ∙ (λ i. list_any (opens_at first) front || (unseen-opens first r _ gone unseen i || list_any (opens_at first) between))
+        ∙ sym (list_any-append (opens_at first) front between)
 
-    opened : list_any opens_discussion (front ++ gone ∷ between) ≡ list_any opens_discussion (front ++ between)
-    opened =
-        list_any-append opens_discussion front (gone ∷ between)
-        ∙ (λ i. list_any opens_discussion front || (unseen-opens r _ gone unseen i || list_any opens_discussion between))
-        ∙ sym (list_any-append opens_discussion front between)
+    -- before a phase is opened
+    early : (first : Phase) → Stands apart
+        (not (list_any (opens_at first) (front ++ gone ∷ between)) && none_alike e.entry (until (opens_at first) post))
+        (not (list_any (opens_at first) (front ++ between)) && none_alike e.entry (until (opens_at first) post))
+        (not (list_any (opens_at first) front) && none_alike gone.entry (until (opens_at first) (between ++ e ∷ post)))
+    early first =
+        let gone-early : Bool = not (list_any (opens_at first) front) && none_alike gone.entry (until (opens_at first) (between ++ e ∷ post)) in
+        let rest : Bool = none_alike e.entry (until (opens_at first) post) in
+        let without : Bool = not (list_any (opens_at first) (front ++ between)) && rest in
+        subst (λ (opened : Bool). Stands apart (not opened && rest) without gone-early) (sym (opened first)) (stands-still apart without gone-early)

@@ -314,7 +314,7 @@ module _ (u : Option ℕ) (H : History) (told : AreTold H) (forms : AreFormsTold
   answered text = Ok (replies.Report text)
 
   -- a later phase comes behind the bidding, and a chair is a member
-  begun_by : (n : ℕ) → nat_le 4 n ≡ true → nat_le 2 n ≡ true
+  begun_by : (n : ℕ) → nat_le 5 n ≡ true → nat_le 2 n ≡ true
   begun_by n h = grind (arith, nat_tests)
 
   -- each report by any user's view is the one by the tables, where she may have it

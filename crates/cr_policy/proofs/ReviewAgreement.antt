@@ -1,5 +1,5 @@
 -- Where the tables tell what a history tells, what a reader is told of a paper's reviewers and reviews is what the tables have.
-use Rattle.std.proofs.Common.{ℕ, Bool, true, false, cond, ◌≡◌, List, [], refl, ap, subst, ◌∙◌, ◌&&◌, arith, Option, Some, Ok, Result}
+use Rattle.std.proofs.Common.{ℕ, Bool, true, false, cond, ◌≡◌, List, [], refl, sym, ap, subst, ◌∙◌, ◌||◌, ◌&&◌, arith, Option, Some, Ok, Result}
 use Rattle.std.specs.Prelude.{map, not, unwrap_or}
 use Rattle.std.specs.Option.{option_map, option_and_then}
 use Rattle.std.proofs.lemmas.Bool.{and_parts}
@@ -10,26 +10,27 @@ use Rattle.cr_base.specs.declared.reply.Reply.TheVariants as replies
 use Rattle.cr_base.specs.declared.reply.Rule.{Rule}
 use Rattle.cr_base.specs.declared.review.ReviewLine.{ReviewLine}
 use Rattle.cr_base.specs.declared.standing.Standing.{Standing}
-use Rattle.cr_base.specs.Answering.{reviewer_told, review_told, reviews_by}
+use Rattle.cr_base.specs.Answering.{reviewer_told, review_told, authors_form, reviews_by}
 use Rattle.cr_base.specs.Labels.{by_labels, most_labels}
 use Rattle.cr_base.specs.Checks.{judged, of_there, reviews_checks, reads_all_forms}
 use Rattle.cr_base.specs.History.{History, SeatTold, FormTold}
-use Rattle.cr_base.specs.HistoryFacts.{assigned_under, reviewers_of, last_form_of, forms_discussed_of}
+use Rattle.cr_base.specs.HistoryFacts.{assigned_under, reviewers_of, last_form_of, early_form_of, forms_discussed_of}
 use Rattle.cr_base.specs.Lists.{listed}
 use Rattle.cr_base.specs.Page.{is_clear_chair, is_clear_member, gets_conflicts, gets_reviewers, shows_reviewer, where_told}
-use Rattle.cr_base.specs.Phases.{members_read_reviews, authors_read_reviews}
-use Rattle.cr_base.specs.Reviews.{last_form_in, forms_discussed_in, is_written_in, written_told}
+use Rattle.cr_base.specs.Phases.{members_read_reviews, authors_read_early_reviews, authors_read_reviews}
+use Rattle.cr_base.specs.Reviews.{last_form_in, early_form_in, forms_discussed_in, is_written_in, written_told}
 use Rattle.cr_base.specs.Seats.{seats_in, reviewers_in}
 use Rattle.cr_base.specs.Sources.{Facts, Shown, standing_at, has_paper, name_in, facts_of_tables, shown_in_tables}
 use Rattle.cr_base.specs.Tables.{tables_of}
 use Rattle.cr_base.specs.Words.{is_member}
 use Rattle.cr_base.proofs.CheckLaws.{judged-behind}
+use Rattle.cr_history.specs.Invariants.{IsRespondedInTime}
 use Rattle.cr_history.specs.Laws.{AreTold, AreFormsTold}
 use Rattle.cr_history.proofs.ReviewAgreement.{is_written-tables, last_form_of-tables}
 use Rattle.cr_policy.specs.View.{view}
-use Rattle.cr_policy.specs.ViewFacts.{seats_in_view, reviewers_in_view, last_form_in_view, forms_discussed_in_view, is_written_in_view, shown_in_view}
+use Rattle.cr_policy.specs.ViewFacts.{seats_in_view, reviewers_in_view, last_form_in_view, early_form_in_view, forms_discussed_in_view, is_written_in_view, shown_in_view}
 use Rattle.cr_policy.proofs.ReviewerTells.{same_key, assigned-seen, reviewers-seen, reviewers-seen_by_chair}
-use Rattle.cr_policy.proofs.ReviewTells.{written-seen, last_form-seen, discussed-seen}
+use Rattle.cr_policy.proofs.ReviewTells.{written-seen, last_form-seen, early_form-seen, discussed-seen}
 
 -- reviewers are told alike where clear chairs are told alike which labels have a form
 reviewer_told-same : (by : Standing) (accounts : List AccountLine) (written written' : ℕ → Bool) → (is_clear_chair by ≡ true → (o : ℕ) → written o ≡ written' o)
@@ -107,6 +108,18 @@ module _ (u : Option ℕ) (H : History) (told : AreTold H) (p : ℕ) where
         (told.standing u (Some p)) (λ author notified. last_form-seen u p H accounts named user o author notified) author notified
         ∙ ap (λ (form : Option FormTold). map tell (listed form)) (last_form_of-tables p o H)
 
+    -- and the last before the response, from it on
+    pub early_form-tables : AreFormsTold H → by.author ≡ true → authors_read_early_reviews by.phase ≡ true
+        → map tell (listed (early_form_in_view p o (view u H)))
+        ≡ map tell (listed (early_form_in (tables_of H).stage.had_response (tables_of H).reviews p o))
+    early_form-tables forms author responding =
+        subst
+        (λ (s : Standing). s.author ≡ true → authors_read_early_reviews s.phase ≡ true
+        → map (review_told s accounts named user o) (listed (early_form_in_view p o (view u H)))
+        ≡ map (review_told s accounts named user o) (listed (early_form_of p o H)))
+        (told.standing u (Some p)) (λ author responding. early_form-seen u p H accounts named user o author responding) author responding
+        ∙ ap (λ (form : Option FormTold). map tell (listed form)) (forms.early p o)
+
     -- the forms that are discussed, as one who discusses the paper is told of them
     pub discussed-tables : AreFormsTold H → is_clear_member by ≡ true → members_read_reviews by.phase ≡ true
         → map tell (forms_discussed_in_view p o (view u H)) ≡ map tell (forms_discussed_in (tables_of H).reviews p o)
@@ -129,7 +142,7 @@ module _ (u : Option ℕ) (H : History) (told : AreTold H) (p : ℕ) where
   abbrev reviews_with : Shown → Bool → Bool → List ReviewLine
   reviews_with source author discussed =
       let lines = λ (named : Bool) (o : ℕ) (forms : List FormTold). map (review_told by facts.accounts named (source.assigned p o) o) forms in
-      cond author (by_labels (λ (o : ℕ). lines (shows_reviewer by) o (listed (source.last_form p o))) most_labels)
+      cond author (by_labels (λ (o : ℕ). lines (shows_reviewer by) o (listed (authors_form source by p o))) most_labels)
       (cond discussed (by_labels (λ (o : ℕ). lines (shows_reviewer by) o (source.forms_discussed p o)) most_labels)
       (lines false (unwrap_or (facts.own_ordinal p) 0) (facts.own_forms p)))
 
@@ -150,31 +163,46 @@ module _ (u : Option ℕ) (H : History) (told : AreTold H) (p : ℕ) where
   clear_of : (k c : Bool) → k ≡ true → c ≡ false → (k && not c) ≡ true
   clear_of k c hk hc = grind arith
 
+  -- the form of a label that an author is told is the same: the last from the notification on, and before it, where the response was
+  -- opened, the last before that
+  authors_form-same : AreFormsTold H → IsRespondedInTime H → (accounts : List AccountLine) (named : Bool) (user : Option ℕ) (o : ℕ) → by.author ≡ true
+      → (authors_read_reviews by.phase || facts.had_response) ≡ true
+      → map (review_told by accounts named user o) (listed (authors_form shown by p o)) ≡ map (review_told by accounts named user o) (listed (authors_form tabled by p o))
+  authors_form-same forms in_time accounts named user o author may = from (authors_read_reviews by.phase) refl may
+    where
+      from : (notified : Bool) → authors_read_reviews by.phase ≡ notified → (notified || facts.had_response) ≡ true
+          → map (review_told by accounts named user o) (listed (cond notified (shown.last_form p o) (shown.early_form p o)))
+          ≡ map (review_told by accounts named user o) (listed (cond notified (tabled.last_form p o) (tabled.early_form p o)))
+      from true is may = last_form-tables accounts named user o author is
+      from false is may =
+          early_form-tables accounts named user o forms author
+          (sym (ap (λ (s : Standing). authors_read_early_reviews s.phase) (told.standing u (Some p))) ∙ in_time (told.had_response ∙ may))
+
   -- the reviews by any user's view are those by the tables, where she may ask for them
-  reviews-same : AreFormsTold H → (author discussed : Bool) → by.author ≡ author → reads_all_forms by ≡ discussed
-      → (author ≡ true → authors_read_reviews by.phase ≡ true) → (author ≡ false → by.conflicted ≡ false)
+  reviews-same : AreFormsTold H → IsRespondedInTime H → (author discussed : Bool) → by.author ≡ author → reads_all_forms by ≡ discussed
+      → (author ≡ true → (authors_read_reviews by.phase || facts.had_response) ≡ true) → (author ≡ false → by.conflicted ≡ false)
       → reviews_with shown author discussed ≡ reviews_with tabled author discussed
-  reviews-same forms true discussed ha hd notified clear =
+  reviews-same forms in_time true discussed ha hd notified clear =
       each-label _ _ (λ o.
-      last_form-tables facts.accounts (shows_reviewer by) (shown.assigned p o) o ha (notified refl)
-      ∙ forms-same facts.accounts o (listed (tabled.last_form p o)))
-  reviews-same forms false true ha hd notified clear =
+      authors_form-same forms in_time facts.accounts (shows_reviewer by) (shown.assigned p o) o ha (notified refl)
+      ∙ forms-same facts.accounts o (listed (authors_form tabled by p o)))
+  reviews-same forms in_time false true ha hd notified clear =
       let all = and_parts (is_member by.role) (members_read_reviews by.phase) hd in
       each-label _ _ (λ o.
       discussed-tables facts.accounts (shows_reviewer by) (shown.assigned p o) o forms (clear_of (is_member by.role) by.conflicted all.0 (clear refl)) all.1
       ∙ forms-same facts.accounts o (tabled.forms_discussed p o))
-  reviews-same forms false false ha hd notified clear = refl
+  reviews-same forms in_time false false ha hd notified clear = refl
 
   -- and they matter only where she may
-  pub reviews-tables : AreFormsTold H
-      → judged (reviews_checks by (of_there (has_paper facts (Some p)))) (replies.Reviews (reviews_by facts shown p))
-      ≡ judged (reviews_checks by (of_there (has_paper facts (Some p)))) (replies.Reviews (reviews_by facts tabled p))
-  reviews-tables forms =
-      judged-behind (reviews_checks by (of_there (has_paper facts (Some p)))) [] []
+  pub reviews-tables : AreFormsTold H → IsRespondedInTime H
+      → judged (reviews_checks by facts.had_response (of_there (has_paper facts (Some p)))) (replies.Reviews (reviews_by facts shown p))
+      ≡ judged (reviews_checks by facts.had_response (of_there (has_paper facts (Some p)))) (replies.Reviews (reviews_by facts tabled p))
+  reviews-tables forms in_time =
+      judged-behind (reviews_checks by facts.had_response (of_there (has_paper facts (Some p)))) [] []
       (replies.Reviews (reviews_by facts shown p)) (replies.Reviews (reviews_by facts tabled p))
       (λ none. ap (λ (lines : List ReviewLine). answered lines)
-      (reviews-same forms by.author (reads_all_forms by) refl refl
-      (λ author. notified by.author (authors_read_reviews by.phase) author none.1.0)
+      (reviews-same forms in_time by.author (reads_all_forms by) refl refl
+      (λ author. notified by.author (authors_read_reviews by.phase || facts.had_response) author none.1.0)
       (λ other. clear by.author by.conflicted other none.1.1.1.0)))
     where
       answered : List ReviewLine → Result Reply Rule

@@ -1,5 +1,5 @@
 -- What a view says of a paper's reviews is what the history says, where the reader's standing tells them.
-use Rattle.std.proofs.Common.{◌≡◌, ℕ, Bool, true, false, List, [], ◌∷◌, ◌++◌, refl, sym, ap, ◌∙◌, ◌||◌, ◌&&◌, Option, Some, None, arith}
+use Rattle.std.proofs.Common.{◌≡◌, ℕ, Bool, true, false, cond, List, [], ◌∷◌, ◌++◌, refl, sym, ap, ◌∙◌, ◌||◌, ◌&&◌, Option, Some, None, arith}
 use Rattle.std.specs.Prelude.{map, not, unwrap_or}
 use Rattle.std.specs.List.{flat_map, list_any}
 use Rattle.std.proofs.lemmas.Bool.{or_right}
@@ -10,21 +10,22 @@ use Rattle.cr_base.specs.declared.form.Form.{Form}
 use Rattle.cr_base.specs.declared.reply.AccountLine.{AccountLine}
 use Rattle.cr_base.specs.declared.review.ReviewLine.{ReviewLine}
 use Rattle.cr_base.specs.declared.standing.Standing.{Standing}
-use Rattle.cr_base.specs.declared.words.Phase.TheVariants.{Discussion}
+use Rattle.cr_base.specs.declared.words.Phase.TheVariants.{Response, Discussion}
 use Rattle.cr_base.specs.Answering.{review_told}
 use Rattle.cr_base.specs.Lists.{is_nothing, last, last_from, last_or, listed, since, until}
 use Rattle.cr_base.specs.Drawn.{stamped}
-use Rattle.cr_base.specs.History.{History, FormTold, form_told, own_form_told, opens_discussion, whole_form}
-use Rattle.cr_base.specs.HistoryFacts.{standing_of, forms_of, last_form_of, forms_discussed_of, own_forms_of, is_written}
+use Rattle.cr_base.specs.History.{History, FormTold, form_told, own_form_told, opens_discussion, opens_response, whole_form}
+use Rattle.cr_base.specs.HistoryFacts.{standing_of, forms_of, last_form_of, early_form_of, had_response_of, forms_discussed_of, own_forms_of, is_written}
 use Rattle.cr_base.specs.Page.{is_clear_member, is_clear_chair, where_told}
-use Rattle.cr_base.specs.Phases.{members_read_reviews, authors_read_reviews}
+use Rattle.cr_base.specs.Phases.{members_read_reviews, authors_read_early_reviews, authors_read_reviews}
 use Rattle.cr_policy.specs.Part as part
-use Rattle.cr_policy.specs.Triggers.{Reader, reader, Around, user_named, standing_to}
+use Rattle.cr_policy.specs.Triggers.{Reader, reader, Around, position_of, reads_reviews, user_named, standing_to}
 use Rattle.cr_policy.specs.View.{view}
-use Rattle.cr_policy.specs.ViewFacts.{only, form_seen, own_form_seen, done_seen, discussion_seen, last_form_in_view, forms_discussed_in_view}
+use Rattle.cr_policy.specs.ViewFacts.{only, form_seen, own_form_seen, done_seen, discussion_seen, opening_response_seen, last_form_in_view, early_form_in_view, forms_discussed_in_view}
 use Rattle.cr_policy.specs.ViewFacts.{own_forms_in_view, is_written_in_view}
 use Rattle.cr_policy.proofs.Cuts.{opening_cuts, kept_until, sights_until-as, sights_since-as, last_from-kept_until, kept_since-all}
 use Rattle.cr_policy.proofs.FormTells.{masked_form, ShowsForm, form_tells, form_kept, own_form_tells, done_tells}
+use Rattle.cr_policy.proofs.StandingLaws.{had_response-seen}
 use Rattle.cr_policy.proofs.Tells.{passes}
 use Rattle.cr_policy.proofs.Walk.{kept, kept-map, sights-all, sights-kept, is_nothing-kept, last-same, last_as}
 
@@ -103,14 +104,26 @@ module _ (u : Option ℕ) (p : ℕ) (H : History) (accounts : List AccountLine) 
   abbrev told : Stamped → List FormTold
   told e = form_told p o e.entry
 
+  -- what the rows ask of a form: that it is among those that are discussed, and she reads these; and that it is the last before the
+  -- response, which was opened
+  abbrev reads_at : Around → ℕ → ℕ → Form → Bool
+  reads_at at ordinal version form =
+      ((position_of at (Reviewed p ordinal version form)).last_before_discussion || (position_of at (Reviewed p ordinal version form)).from_discussion)
+      && reads_reviews r p
+
+  abbrev is_early_at : Around → ℕ → ℕ → Form → Bool
+  is_early_at at ordinal version form = (position_of at (Reviewed p ordinal version form)).last_before_response && r.had_response
+
   -- whoever isn't an author is shown all of a form or no grade of it
   shows-form : (at : Around) → ShowsForm tell r at p
   shows-form at stamp more ordinal version form graded =
       told_alike by accounts named user o (passes part.version r at (stamped stamp more (Reviewed p ordinal version form))) version form
-      (λ member. whole _ _ by.author _ (user_named r stamp.maker) member graded)
+      (λ member.
+      whole (reads_at at ordinal version form) (is_early_at at ordinal version form) (authors_read_early_reviews by.phase)
+      (position_of at (Reviewed p ordinal version form)).last by.author (authors_read_reviews by.phase) (user_named r stamp.maker) member graded)
     where
-      whole : (d n a f own : Bool) → not a ≡ true → (d || ((n && a && f) || (own || false))) ≡ true → (d || (own || false)) ≡ true
-      whole d n a f own hn h = grind arith
+      whole : (d h e n a f own : Bool) → not a ≡ true → (d || ((h && a && e) || ((n && a && f) || (own || false)))) ≡ true → (d || (own || false)) ≡ true
+      whole d h e n a f own hn is = grind (arith, hn, is)
 
   -- an author sees the last form of each label from the notification on
   pub last_form-seen : by.author ≡ true → authors_read_reviews by.phase ≡ true
@@ -118,11 +131,39 @@ module _ (u : Option ℕ) (p : ℕ) (H : History) (accounts : List AccountLine) 
   last_form-seen author notified =
       last_as tell r (form_seen p o) told (passes part.score r) (form_tells tell r p o shows-form)
       (λ at e last. form_kept part.score r at p o
-      (λ stamp more version form. shown _ (is_nothing (flat_map told at.after)) by.author (authors_read_reviews by.phase) (user_named r stamp.maker)
-      last author notified) e) [] H
+      (λ stamp more version form.
+      shown (reads_at at o version form) (is_early_at at o version form && by.author && authors_read_early_reviews by.phase)
+      (is_nothing (flat_map told at.after)) by.author (authors_read_reviews by.phase) (user_named r stamp.maker) last author notified) e) [] H
     where
-      shown : (d n a f own : Bool) → n ≡ true → a ≡ true → f ≡ true → (d || ((n && a && f) || (own || false))) ≡ true
-      shown d n a f own hn ha hf = grind arith
+      shown : (d e n a f own : Bool) → n ≡ true → a ≡ true → f ≡ true → (d || (e || ((n && a && f) || (own || false)))) ≡ true
+      shown d e n a f own hn ha hf = grind (arith, hn, ha, hf)
+
+  -- and from the response on, where it was opened, the last that was written before it
+  pub early_form-seen : by.author ≡ true → authors_read_early_reviews by.phase ≡ true
+      → map tell (listed (early_form_in_view p o (view u H))) ≡ map tell (listed (early_form_of p o H))
+  early_form-seen author responding =
+      ap (λ (opened : Bool). map tell (listed (cond opened (last (flat_map (form_seen p o) (until opening_response_seen (view u H)))) None))) (had_response-seen u H)
+      ∙ from (had_response_of H) refl
+    where
+      shown : (d opened n had a f rest : Bool) → opened ≡ false → n ≡ true → had ≡ true → a ≡ true → f ≡ true
+          → (d || (((not opened && n) && had && a && f) || rest)) ≡ true
+      shown d opened n had a f rest ho hn hh ha hf = grind (arith, ho, hn, hh, ha, hf)
+
+      from : (opened : Bool) → had_response_of H ≡ opened
+          → map tell (listed (cond opened (last (flat_map (form_seen p o) (until opening_response_seen (view u H)))) None))
+          ≡ map tell (listed (cond opened (last (forms_of p o (until opens_response H))) None))
+      from true had =
+          last-same tell (flat_map (form_seen p o) (until opening_response_seen (view u H))) (kept_until opens_response (passes part.score r) told [] H)
+          (forms_of p o (until opens_response H))
+          (sights_until-as tell opens_response (passes part.score r) told r opening_response_seen (opening_cuts r Response) (form_seen p o)
+          (form_tells tell r p o shows-form) [] H)
+          (last_from-kept_until opens_response (passes part.score r) told
+          (λ at e opened none. form_kept part.score r at p o (λ stamp more version form.
+          shown (reads_at at o version form) (list_any opens_response at.before) (is_nothing (flat_map told (until opens_response at.after)))
+          (had_response_of H) by.author (authors_read_early_reviews by.phase)
+          (((position_of at (Reviewed p o version form)).last && by.author && authors_read_reviews by.phase) || (user_named r stamp.maker || false))
+          opened none had author responding) e) None [] H refl)
+      from false had = refl
 
   -- who discusses the paper sees of each label's forms the last before the discussion, and all later ones
   module _ (clear : is_clear_member by ≡ true) (discussed : members_read_reviews by.phase ≡ true) where

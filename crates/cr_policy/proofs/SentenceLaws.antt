@@ -1,5 +1,4 @@
 -- The words of the sentences against those that the lists of checks read, and judgement by the facts of a history.
-use Rattle.cr_base.specs.HistoryFacts.{comments_of}
 use Rattle.std.proofs.Common.{ℕ, Bool, true, false, cond, ◌≡◌, List, [], ◌∷◌, length, eqb, refl, sym, ap, ◌∙◌, ◌||◌, ◌&&◌, arith, Option, Some, None, Result, Err}
 use Rattle.std.specs.Prelude.{not, map, nat_le, nat_lt, is_ok, is_some, is_none, find}
 use Rattle.std.specs.List.{list_any, list_all}
@@ -15,7 +14,7 @@ use Rattle.cr_base.specs.declared.reply.Reply.{Reply}
 use Rattle.cr_base.specs.declared.reply.Rule.{Rule}
 use Rattle.cr_base.specs.declared.retry.RetryKey.{RetryKey}
 use Rattle.cr_base.specs.declared.words.Phase.{Phase}
-use Rattle.cr_base.specs.declared.words.Phase.TheVariants.{Setup, Submission, Bidding, Reviewing, Discussion, Notification, Closed}
+use Rattle.cr_base.specs.declared.words.Phase.TheVariants.{Setup, Submission, Bidding, Reviewing, Response, Discussion, Notification, Closed}
 use Rattle.cr_base.specs.declared.words.Role.{Role}
 use Rattle.cr_base.specs.declared.words.Role.TheVariants.{Account, Member, Chair}
 use Rattle.cr_base.specs.Answering.{query_checks, reply_or_rule, told_by, answer_by}
@@ -27,7 +26,7 @@ use Rattle.cr_base.specs.Judging.{judge_by}
 use Rattle.cr_base.specs.Lists.{at_some}
 use Rattle.cr_base.specs.History.{History, Registration, all_told, registration_told}
 use Rattle.cr_base.specs.HistoryFacts.{role_of, is_withdrawn, authors_of, uploads_of, ordinal_of, seats_of}
-use Rattle.cr_base.specs.HistoryFacts.{accounts_of, number_of, is_invited, is_written}
+use Rattle.cr_base.specs.HistoryFacts.{accounts_of, number_of, is_invited, is_written, comments_of, response_of}
 use Rattle.cr_base.specs.Phases.{is_phase, is_from, is_next, committee_works}
 use Rattle.cr_base.specs.Sources.{Shown, number_in, user_among, users_among, role_among, facts_of_tables, shown_in_tables}
 use Rattle.cr_base.specs.Tables.{tables_of}
@@ -90,6 +89,7 @@ phase-same Setup Setup = refl
 phase-same Submission Submission = refl
 phase-same Bidding Bidding = refl
 phase-same Reviewing Reviewing = refl
+phase-same Response Response = refl
 phase-same Discussion Discussion = refl
 phase-same Notification Notification = refl
 phase-same Closed Closed = refl
@@ -99,7 +99,9 @@ pub next-same : (a b : Phase) → is_next a b ≡ comes_behind a b
 next-same Setup Submission = refl
 next-same Submission Bidding = refl
 next-same Bidding Reviewing = refl
+next-same Reviewing Response = refl
 next-same Reviewing Discussion = refl
+next-same Response Discussion = refl
 next-same Discussion Notification = refl
 next-same Notification Closed = refl
 next-same Closed Setup = refl
@@ -110,6 +112,7 @@ ahead-same Setup Setup = refl
 ahead-same Submission Submission = refl
 ahead-same Bidding Bidding = refl
 ahead-same Reviewing Reviewing = refl
+ahead-same Response Response = refl
 ahead-same Discussion Discussion = refl
 ahead-same Notification Notification = refl
 ahead-same Closed Closed = refl
@@ -125,11 +128,12 @@ chair-same Account = refl
 chair-same Member = refl
 chair-same Chair = refl
 
-pub in_committee-same : (a : Phase) → committee_works a ≡ (is_it Bidding a || is_it Reviewing a || is_it Discussion a)
+pub in_committee-same : (a : Phase) → committee_works a ≡ (is_it Bidding a || is_it Reviewing a || is_it Response a || is_it Discussion a)
 in_committee-same Setup = refl
 in_committee-same Submission = refl
 in_committee-same Bidding = refl
 in_committee-same Reviewing = refl
+in_committee-same Response = refl
 in_committee-same Discussion = refl
 in_committee-same Notification = refl
 in_committee-same Closed = refl
@@ -146,6 +150,7 @@ over-same Setup = refl
 over-same Submission = refl
 over-same Bidding = refl
 over-same Reviewing = refl
+over-same Response = refl
 over-same Discussion = refl
 over-same Notification = refl
 over-same Closed = refl
@@ -155,24 +160,37 @@ discussed-same Setup = refl
 discussed-same Submission = refl
 discussed-same Bidding = refl
 discussed-same Reviewing = refl
+discussed-same Response = refl
 discussed-same Discussion = refl
 discussed-same Notification = refl
 discussed-same Closed = refl
 
-pub reviewed-same : (a : Phase) → is_from Reviewing a ≡ (is_it Reviewing a || is_it Discussion a || (is_it Notification a || is_it Closed a))
+pub reviewed-same : (a : Phase) → is_from Reviewing a ≡ ((is_it Reviewing a || is_it Response a) || is_it Discussion a || (is_it Notification a || is_it Closed a))
 reviewed-same Setup = refl
 reviewed-same Submission = refl
 reviewed-same Bidding = refl
 reviewed-same Reviewing = refl
+reviewed-same Response = refl
 reviewed-same Discussion = refl
 reviewed-same Notification = refl
 reviewed-same Closed = refl
+
+pub own-same : (a : Phase) → (is_from Reviewing a && not (is_from Discussion a)) ≡ (is_it Reviewing a || is_it Response a)
+own-same Setup = refl
+own-same Submission = refl
+own-same Bidding = refl
+own-same Reviewing = refl
+own-same Response = refl
+own-same Discussion = refl
+own-same Notification = refl
+own-same Closed = refl
 
 pub closed-same : (a : Phase) → is_from Closed a ≡ is_it Closed a
 closed-same Setup = refl
 closed-same Submission = refl
 closed-same Bidding = refl
 closed-same Reviewing = refl
+closed-same Response = refl
 closed-same Discussion = refl
 closed-same Notification = refl
 closed-same Closed = refl
@@ -182,6 +200,7 @@ begun-same Setup = refl
 begun-same Submission = refl
 begun-same Bidding = refl
 begun-same Reviewing = refl
+begun-same Response = refl
 begun-same Discussion = refl
 begun-same Notification = refl
 begun-same Closed = refl
@@ -191,6 +210,7 @@ early-same Setup = refl
 early-same Submission = refl
 early-same Bidding = refl
 early-same Reviewing = refl
+early-same Response = refl
 early-same Discussion = refl
 early-same Notification = refl
 early-same Closed = refl
@@ -260,6 +280,7 @@ shown_of H = record (shown_in_tables (tables_of H)) {
   authors = λ p. authors_of p H;
   uploads = λ p. uploads_of p H;
   comments = λ p. comments_of p H;
+  response = λ p. response_of p H;
   withdrawn = λ p. is_withdrawn p H;
   ordinal = λ v p. ordinal_of v p H;
   labels = λ p. length (seats_of p H);
@@ -287,6 +308,7 @@ module _ (u : Option ℕ) (H : History) (legal : Legal H) where
     own_comments = told.own_comments u i;
     accepted = λ p. told.accepted p i;
     deadline = λ phase. told.deadline phase i;
+    had_response = told.had_response i;
   }
 
   pub shown-same : shown_of H ≡ shown_in_tables (tables_of H)
@@ -294,6 +316,7 @@ module _ (u : Option ℕ) (H : History) (legal : Legal H) where
     authors = λ p. told.authors p i;
     uploads = λ p. told.uploads p i;
     comments = λ p. told.comments p i;
+    response = λ p. told.response p i;
     withdrawn = λ p. told.withdrawn p i;
     ordinal = λ v p. told.ordinal v p i;
     labels = λ p. told.labels p i;

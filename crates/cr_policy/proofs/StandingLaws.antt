@@ -7,7 +7,7 @@ use Rattle.cr_base.specs.declared.entry.Entry.TheVariants.{Conflict}
 use Rattle.cr_base.specs.declared.entry.Stamp.{Stamp}
 use Rattle.cr_base.specs.declared.entry.Stamped.{Stamped}
 use Rattle.cr_base.specs.declared.words.Phase.{Phase}
-use Rattle.cr_base.specs.declared.words.Phase.TheVariants.{Setup}
+use Rattle.cr_base.specs.declared.words.Phase.TheVariants.{Setup, Response}
 use Rattle.cr_base.specs.declared.words.Mode.TheVariants.{Blind}
 use Rattle.cr_base.specs.declared.words.Role.{Role}
 use Rattle.cr_base.specs.declared.words.Role.TheVariants.{Account}
@@ -15,9 +15,10 @@ use Rattle.cr_base.specs.declared.reply.AccountLine.{AccountLine}
 use Rattle.cr_base.specs.Lists.{last, last_or, total, is_number, at_some}
 use Rattle.cr_base.specs.Drawn.{stamped}
 use Rattle.cr_base.specs.History.{History, Registration, all_told, phase_told, mode_told, deadline_told, paper_told, own_paper_told, own_bytes_told, own_comment_told, author_told}
-use Rattle.cr_base.specs.History.{invite_told}
+use Rattle.cr_base.specs.History.{invite_told, opens_response}
 use Rattle.cr_base.specs.History.{conflict_told, registration_told, role_told, number_told, bid_told, ordinal_told}
 use Rattle.cr_base.specs.HistoryFacts.{phase_of, mode_of, deadline_of, role_of, papers_of, own_papers_of, own_bytes_of, own_comments_of, accounts_of, number_of, authors_of}
+use Rattle.cr_base.specs.HistoryFacts.{had_response_of}
 use Rattle.cr_base.specs.HistoryFacts.{is_author, is_conflict_on, is_conflicted, is_invited, is_external, bid_of, ordinal_of, is_reviewer}
 use Rattle.cr_base.specs.Words.{is_member}
 use Rattle.cr_policy.specs.Part as part
@@ -27,8 +28,10 @@ use Rattle.cr_policy.specs.ViewFacts.{phase_seen, mode_seen, deadline_seen, pape
 use Rattle.cr_policy.specs.ViewFacts.{registration_seen, role_seen, number_seen, own_bid_seen, ordinal_seen, own_bid_in_view, ordinal_in_view}
 use Rattle.cr_policy.specs.ViewFacts.{phase_in_view, mode_in_view, deadline_in_view, role_in_view, papers_in_view, own_papers_in_view, own_bytes_in_view, own_comments_in_view}
 use Rattle.cr_policy.specs.ViewFacts.{accounts_in_view, number_in_view, authors_in_view, is_author_in_view, is_conflict_on_in_view}
+use Rattle.cr_policy.specs.ViewFacts.{opening_response_seen, had_response_in_view}
 use Rattle.cr_policy.specs.ViewFacts.{is_conflicted_in_view, invite_seen, is_invited_in_view, is_external_in_view}
 use Rattle.cr_policy.specs.Laws.{StandingFromView, PublicFactsFromView}
+use Rattle.cr_policy.proofs.Cuts.{opening_cuts, cut-seen}
 use Rattle.cr_policy.proofs.DecisionTells.{accepted-seen}
 use Rattle.cr_policy.proofs.Walk.{sights-all, sights-kept, fold_all, list_any-kept}
 use Rattle.cr_policy.proofs.InviteTells.{ShowsInvite, invite_kept, invite_tells}
@@ -47,6 +50,10 @@ mode-seen u H = ap (last_or Blind) (sights-all (reader u H) mode_seen (λ (e : S
 pub deadline-seen : (u : Option ℕ) (phase : Phase) (H : History) → deadline_in_view phase (view u H) ≡ deadline_of phase H
 deadline-seen u phase H =
     ap (last_or None) (sights-all (reader u H) (deadline_seen phase) (λ (e : Stamped). deadline_told phase e.entry) (deadline_tells (reader u H) phase) [] H)
+
+-- the response was opened
+pub had_response-seen : (u : Option ℕ) (H : History) → had_response_in_view (view u H) ≡ had_response_of H
+had_response-seen u H = cut-seen (reader u H) opens_response opening_response_seen (opening_cuts (reader u H) Response) [] H
 
 -- the role of any user, not of the reader alone
 role-seen : (u v : Option ℕ) (H : History) → role_in_view v (view u H) ≡ role_of v H
@@ -176,6 +183,7 @@ standing_from_view u paper H = λ i. record {
 pub public_from_view : (u : Option ℕ) (H : History) → PublicFactsFromView u H
 public_from_view u H = record {
   deadlines = λ phase. deadline-seen u phase H;
+  had_response = had_response-seen u H;
   accounts = accounts-seen u H;
   papers = papers-seen u H;
   accepted = λ p. accepted-seen u p H;

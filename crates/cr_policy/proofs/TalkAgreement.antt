@@ -1,4 +1,5 @@
--- Where the tables tell what a history tells, what a reader is told of the comments on a paper and of its tags is what the tables have.
+-- Where the tables tell what a history tells, what a reader is told of the comments on a paper, of what its authors responded and of its
+-- tags is what the tables have.
 use Rattle.std.proofs.Common.{ℕ, true, ◌≡◌, List, [], length, sym, ap, subst, ◌∙◌, Option, Some}
 use Rattle.std.specs.Prelude.{map}
 use Rattle.std.specs.List.{All}
@@ -14,12 +15,13 @@ use Rattle.cr_base.specs.Rows.{IsBoundedEntry}
 use Rattle.cr_base.specs.Sources.{standing_at}
 use Rattle.cr_base.specs.Tables.{tables_of}
 use Rattle.cr_base.specs.Tags.{tags_for, tags_in}
-use Rattle.cr_base.specs.Talk.{comments_in, comment_as_told}
+use Rattle.cr_base.specs.Talk.{comments_in, comment_as_told, response_in}
 use Rattle.cr_base.specs.Words.{is_chair}
 use Rattle.cr_history.specs.Laws.{AreTold}
 use Rattle.cr_policy.specs.View.{view}
-use Rattle.cr_policy.specs.ViewFacts.{comments_in_view, tags_in_view}
+use Rattle.cr_policy.specs.ViewFacts.{comments_in_view, response_in_view, tags_in_view}
 use Rattle.cr_policy.proofs.CommentTells.{comments-seen}
+use Rattle.cr_policy.proofs.ResponseTells.{is_told_response, response-seen}
 use Rattle.cr_policy.proofs.TagTells.{tags-seen}
 
 module _ (u : Option ℕ) (H : History) (told : AreTold H) (p : ℕ) where
@@ -49,6 +51,12 @@ module _ (u : Option ℕ) (H : History) (told : AreTold H) (p : ℕ) where
       sym (length-map seen (comment_line by []))
       ∙ ap length (comments-tables [] bounded clear discussed)
       ∙ length-map kept (comment_line by [])
+
+  -- ---- responses
+
+  -- as the paper's authors are told them, and who discusses it
+  pub response-tables : is_told_response by ≡ true → response_in_view p (view u H) ≡ response_in (tables_of H).talk p
+  response-tables may = response-seen u p H (ap is_told_response (told.standing u (Some p)) ∙ may) ∙ told.response p
 
   -- ---- tags
 

@@ -12,7 +12,7 @@ use Rattle.cr_base.specs.declared.entry.Entry.TheVariants.{Registered, Named, Ph
 use Rattle.cr_base.specs.declared.entry.Entry.TheVariants.{Coauthor, Revised, Uploaded, Withdrawn, Conflict}
 use Rattle.cr_base.specs.declared.entry.Entry.TheVariants.{Bid, Assigned, Unassigned, Reviewed, Commented, Tagged}
 use Rattle.cr_base.specs.declared.entry.Entry.TheVariants.{Decided, DeadlineSet}
-use Rattle.cr_base.specs.declared.entry.Entry.TheVariants.{Dismissed, Invited, Uninvited}
+use Rattle.cr_base.specs.declared.entry.Entry.TheVariants.{Dismissed, Invited, Uninvited, Responded}
 use Rattle.cr_base.specs.declared.entry.Stamp.{Stamp}
 use Rattle.cr_base.specs.declared.entry.Stamped.{Stamped}
 use Rattle.cr_base.specs.declared.reply.Receipt.{Receipt}
@@ -99,6 +99,7 @@ added (Some u) H (commands.Unassign (Some p) name) = for_seated name p H (λ v o
 added (Some u) H (commands.Invite (Some p) name) = for_user name H (λ v. Invited p v)
 added (Some u) H (commands.Uninvite (Some p) name) = for_user name H (λ v. Uninvited p v)
 added (Some u) H (commands.Review (Some p) form) = for_label u p H (λ o. Reviewed p o (next_form p o H) form)
+added (Some u) H (commands.Respond (Some p) text) = Responded p text ∷ []
 added (Some u) H (commands.Comment (Some p) text) = Commented p (next_comment p H) (ordinal_of (Some u) p H) text ∷ []
 added (Some u) H (commands.Tag (Some p) tag on) = Tagged p tag on ∷ []
 added (Some u) H (commands.Decide (Some p) decision) = Decided p decision ∷ []
@@ -136,6 +137,7 @@ answered caller H (commands.Invite (Some p) name) = receipts.Changed p ∷ []
 answered caller H (commands.Uninvite (Some p) name) = receipts.Changed p ∷ []
 answered (Some u) H (commands.Review (Some p) form) =
     listed (option_map (λ o. receipts.Version (next_form p o H)) (ordinal_of (Some u) p H))
+answered caller H (commands.Respond (Some p) text) = receipts.Paper p ∷ []
 answered caller H (commands.Comment (Some p) text) = receipts.Comment (next_comment p H) ∷ []
 answered caller H (commands.Tag (Some p) tag on) = receipts.Changed p ∷ []
 answered caller H (commands.Decide (Some p) decision) = receipts.Changed p ∷ []

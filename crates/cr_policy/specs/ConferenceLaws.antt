@@ -21,6 +21,8 @@ use Rattle.cr_policy.specs.Conference.{at_notification, at_close}
 use Rattle.cr_policy.specs.ConferenceViews.{Views, views_before, views_in_bidding, views_in_reviewing}
 use Rattle.cr_policy.specs.ConferenceOutcomes.{views_in_discussion, views_at_notification}
 use Rattle.cr_policy.specs.ConferenceOutcomes.{views_at_close, Outside, reversed_at_close}
+use Rattle.cr_policy.specs.ConferenceResponse.{in_response, behind_response, told_behind_response}
+use Rattle.cr_policy.specs.ConferenceResponse.{views_in_response, views_behind_response, told_outside}
 use Rattle.cr_policy.specs.Legal.{Legal}
 use Rattle.cr_policy.specs.View.{View, view}
 
@@ -111,12 +113,20 @@ pub record IsDecided (d : Digests) (mode : Mode) (a : Asides) (v : Verdicts) : T
   pub notification : Legal (at_notification d mode a dave v)
   pub closed : Legal (at_close d mode a dave v)
 
--- the conference, its twin, and what it is with other decisions
+-- and where it has a response, whoever of the two is assigned
+pub record IsResponded (d : Digests) (mode : Mode) (a : Asides) (member : ℕ) : Type 0 where
+  pub response : IsConference (in_response d mode a member) (by_last member)
+  pub discussion : IsConference (behind_response d mode a member) (by_last member)
+  pub notification : IsConference (told_behind_response d mode a member) (by_last member)
+
+-- the conference, its twin, what it is with other decisions, and with a response
 pub record IsLegal (d : Digests) (mode : Mode) (a : Asides) : Type 0 where
   pub before : IsConference (before_bidding d mode) by_none
   pub reviewed : IsReviewed d mode a dave
   pub twin : IsReviewed d mode a hal
   pub decided : (v : Verdicts) → IsDecided d mode a v
+  pub responded : IsResponded d mode a dave
+  pub responded_twin : IsResponded d mode a hal
 
 abbrev pub ConferenceLegal : Type 0
 ConferenceLegal = (d : Digests) (mode : Mode) (a : Asides) → AreDigests d → AreAsides a → IsLegal d mode a
@@ -173,6 +183,18 @@ ViewsReversed =
     (d : Digests) (mode : Mode) (a : Asides)
     → outside_of (at_close d mode a dave reversed) ≡ reversed_at_close d mode a
 
+-- where it has a response: in it, in the discussion, and at the notification
+abbrev pub ViewsInResponse : Type 0
+ViewsInResponse = AreViews (λ d mode a. in_response d mode a dave) views_in_response
+
+abbrev pub ViewsBehindResponse : Type 0
+ViewsBehindResponse = AreViews (λ d mode a. behind_response d mode a dave) views_behind_response
+
+abbrev pub ViewsTold : Type 0
+ViewsTold =
+    (d : Digests) (mode : Mode) (a : Asides)
+    → outside_of (told_behind_response d mode a dave) ≡ told_outside d mode a
+
 -- ---- its twins
 
 -- what the reader sees in each phase from the bidding to the discussion, where the committee says this, and
@@ -207,6 +229,20 @@ pub record Twins (d : Digests) (mode : Mode) (a : Asides) : Type 0 where
 
 abbrev pub TwinsAlike : Type 0
 TwinsAlike = (d : Digests) (mode : Mode) (a : Asides) → Twins d mode a
+
+-- so it is where authors respond, to the discussion behind it
+abbrev pub seen_in_response : ℕ → Digests → Mode → Asides → ℕ → List View
+seen_in_response reader d mode a member =
+    view (Some reader) (in_response d mode a member) ∷ view (Some reader) (behind_response d mode a member) ∷ []
+
+pub record ResponseTwins (d : Digests) (mode : Mode) (a : Asides) : Type 0 where
+  pub author : seen_in_response bob d mode a dave ≡ seen_in_response bob d mode a hal
+  pub coauthor : seen_in_response gus d mode a dave ≡ seen_in_response gus d mode a hal
+  pub conflicted_member : seen_in_response carol d mode a dave ≡ seen_in_response carol d mode a hal
+  pub conflicted_chair : seen_in_response fay d mode a dave ≡ seen_in_response fay d mode a hal
+
+abbrev pub RespondedAlike : Type 0
+RespondedAlike = (d : Digests) (mode : Mode) (a : Asides) → ResponseTwins d mode a
 
 -- whether the committee says this or that where no author reads it, the paper's authors, and a member and a chair in
 -- conflict with it, see the same throughout

@@ -9,7 +9,7 @@ use Rattle.cr_base.specs.declared.command.Command.{Command}
 use Rattle.cr_base.specs.declared.command.Command.TheVariants as commands
 use Rattle.cr_base.specs.declared.command.Query.{Query}
 use Rattle.cr_base.specs.declared.command.Query.TheVariants as queries
-use Rattle.cr_base.specs.declared.entry.Entry.TheVariants.{Named, Conflict, DeadlineSet, Dismissed, Invited}
+use Rattle.cr_base.specs.declared.entry.Entry.TheVariants.{Named, Conflict, DeadlineSet, Dismissed, Invited, PhaseSet}
 use Rattle.cr_base.specs.declared.reply.Reply.TheVariants as replies
 use Rattle.cr_base.specs.declared.reply.Rule.{Rule}
 use Rattle.cr_base.specs.declared.reply.Rule.TheVariants as rules
@@ -18,7 +18,7 @@ use Rattle.cr_base.specs.declared.words.Decision.TheVariants.{Accept}
 use Rattle.cr_base.specs.declared.words.Kind.TheVariants.{Primary}
 use Rattle.cr_base.specs.declared.words.Mode.TheVariants.{Overt, Blind}
 use Rattle.cr_base.specs.declared.words.Phase.{Phase}
-use Rattle.cr_base.specs.declared.words.Phase.TheVariants.{Submission, Bidding, Discussion, Closed}
+use Rattle.cr_base.specs.declared.words.Phase.TheVariants.{Submission, Bidding, Response, Discussion, Closed}
 use Rattle.cr_base.specs.declared.words.Role.TheVariants.{Member, Chair}
 use Rattle.cr_base.specs.Calls.{call_of, bulk_by}
 use Rattle.cr_base.specs.History.{History}
@@ -68,6 +68,10 @@ erin_in_conflict d a = bidding d a ++ alice adds Invited 1 erin ∷ alice adds C
 abbrev pub carol_dismissed : Digests → Asides → History
 carol_dismissed d a = bidding d a ++ alice adds Dismissed carol ∷ []
 
+-- in another authors respond to the reviews
+abbrev pub responding : Digests → Asides → History
+responding d a = reviewing d a ++ alice adds PhaseSet Response ∷ []
+
 -- and in others the current phase has a deadline, which is past by noon
 abbrev pub noon : ℕ
 noon = morning + 10800
@@ -80,6 +84,9 @@ submission_due d a = due_by_morning Submission (submission d a)
 
 abbrev pub bidding_due : Digests → Asides → History
 bidding_due d a = due_by_morning Bidding (bidding d a)
+
+abbrev pub response_due : Digests → Asides → History
+response_due d a = due_by_morning Response (responding d a)
 
 abbrev pub discussion_due : Digests → Asides → History
 discussion_due d a = due_by_morning Discussion (discussion d a)
@@ -95,8 +102,10 @@ pub record AreStagesLegal (d : Digests) (a : Asides) : Type 0 where
   pub dave_in_conflict : Legal (dave_in_conflict d a)
   pub erin_in_conflict : Legal (erin_in_conflict d a)
   pub carol_dismissed : Legal (carol_dismissed d a)
+  pub responding : Legal (responding d a)
   pub submission_due : Legal (submission_due d a)
   pub bidding_due : Legal (bidding_due d a)
+  pub response_due : Legal (response_due d a)
   pub discussion_due : Legal (discussion_due d a)
 
 -- ---- who asks, where, for what, and what she is told
@@ -306,6 +315,19 @@ pub record OfTheDiscussion (d : Digests) (a : Asides) : Type 0 where
   pub decide_in_conflict : Refused fay (bidding d a) (commands.Decide (Some 1) Accept) rules.Conflict
   pub decide_early : Refused alice (bidding d a) (commands.Decide (Some 3) Accept) rules.WrongPhase
 
+-- ---- what authors respond
+
+abbrev pub thanks : List ℕ
+thanks = codes "Thanks."
+
+pub record OfTheResponse (d : Digests) (a : Asides) : Type 0 where
+  -- responding: no_paper, not_author, wrong_phase, late, withdrawn; nobody has responded of a withdrawn paper
+  pub respond_none : Refused erin (responding d a) (commands.Respond (Some 9) thanks) rules.NoPaper
+  pub respond_others : Refused dave (bidding d a) (commands.Respond (Some 1) thanks) rules.NotAuthor
+  pub respond_early : Refused gus (bidding d a) (commands.Respond (Some 3) thanks) rules.WrongPhase
+  pub respond_behind : RefusedAtNoon gus (bidding_due d a) (commands.Respond (Some 2) thanks) rules.WrongPhase
+  pub respond_late : RefusedAtNoon gus (response_due d a) (commands.Respond (Some 3) thanks) rules.Late
+
 -- ---- queries
 
 pub record OfQueries (d : Digests) (a : Asides) : Type 0 where
@@ -322,6 +344,12 @@ pub record OfQueries (d : Digests) (a : Asides) : Type 0 where
   pub reviews_to_account : Unanswered erin (bidding d a) (queries.Reviews (Some 1)) rules.NotMember
   pub reviews_to_dismissed : Unanswered carol (carol_dismissed d a) (queries.Reviews (Some 1)) rules.NotMember
   pub reviews_in_conflict : Unanswered carol (bidding d a) (queries.Reviews (Some 1)) rules.Conflict
+  -- the response, of those who are no authors: no_paper, not_member, conflict, wrong_phase, no_response
+  pub response_none : Unanswered erin (bidding d a) (queries.Response (Some 9)) rules.NoPaper
+  pub response_to_account : Unanswered erin (bidding d a) (queries.Response (Some 1)) rules.NotMember
+  pub response_to_dismissed : Unanswered carol (carol_dismissed d a) (queries.Response (Some 1)) rules.NotMember
+  pub response_in_conflict : Unanswered carol (bidding d a) (queries.Response (Some 1)) rules.Conflict
+  pub response_early : Unanswered dave (bidding d a) (queries.Response (Some 1)) rules.WrongPhase
   -- comments: no_paper, not_member, conflict, wrong_phase
   pub comments_none : Unanswered erin (bidding d a) (queries.Comments (Some 9)) rules.NoPaper
   pub comments_to_author : Unanswered bob (bidding d a) (queries.Comments (Some 1)) rules.NotMember
@@ -374,6 +402,7 @@ pub record IsFirstTold (d : Digests) (a : Asides) : Type 0 where
   pub reviewers : OfReviewers d a
   pub externals : OfExternals d a
   pub discussion : OfTheDiscussion d a
+  pub response : OfTheResponse d a
   pub queries : OfQueries d a
   pub bulks : OfBulks d a
 

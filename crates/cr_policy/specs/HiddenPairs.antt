@@ -5,14 +5,15 @@ use Rattle.cr_base.specs.declared.entry.Entry.TheVariants.{Registered, Named, Ph
 use Rattle.cr_base.specs.declared.entry.Entry.TheVariants.{Coauthor, Revised, Uploaded, Withdrawn, Conflict}
 use Rattle.cr_base.specs.declared.entry.Entry.TheVariants.{Bid, Assigned, Unassigned, Reviewed}
 use Rattle.cr_base.specs.declared.entry.Entry.TheVariants.{Commented, Tagged, Decided, DeadlineSet}
-use Rattle.cr_base.specs.declared.entry.Entry.TheVariants.{Dismissed, Invited, Uninvited}
+use Rattle.cr_base.specs.declared.entry.Entry.TheVariants.{Dismissed, Invited, Uninvited, Responded}
 use Rattle.cr_base.specs.declared.entry.Stamped.{Stamped}
 use Rattle.cr_base.specs.declared.form.Form.{Form}
 use Rattle.cr_base.specs.declared.words.Decision.TheVariants.{Accept, Reject}
 use Rattle.cr_base.specs.declared.words.Kind.TheVariants.{Primary, Secondary}
 use Rattle.cr_base.specs.declared.words.Mode.{Mode}
-use Rattle.cr_base.specs.declared.words.Mode.TheVariants.{Blind, Anonymous}
-use Rattle.cr_base.specs.declared.words.Phase.TheVariants.{Submission, Bidding, Reviewing, Discussion, Notification}
+use Rattle.cr_base.specs.declared.words.Mode.TheVariants.{Overt, Blind, Anonymous}
+use Rattle.cr_base.specs.declared.words.Phase.TheVariants.{Submission, Bidding, Reviewing, Response, Discussion}
+use Rattle.cr_base.specs.declared.words.Phase.TheVariants.{Notification}
 use Rattle.cr_base.specs.declared.words.Role.TheVariants.{Member, Chair}
 use Rattle.cr_base.specs.Calls.{stamp_by}
 use Rattle.cr_base.specs.Drawn.{stamped}
@@ -302,6 +303,41 @@ abbrev pub ReviewerHidden : Type 0
 ReviewerHidden =
     AllAlikeTo carol alice (in_bids Anonymous) (reviewed_by dave) (reviewed_by hal)
     (alice adds PhaseSet Discussion ∷ [])
+
+-- ---- the response
+
+-- what a form tells the committee alone, to the authors who respond to it; and who wrote it, in the open mode too
+abbrev pub EarlyToPcHidden : Type 0
+EarlyToPcHidden = AlikeTo bob dave in_reviews
+    (dave adds Reviewed 1 1 1 first_form) (dave adds Reviewed 1 1 1 other_to_pc) (alice adds PhaseSet Response ∷ [])
+
+abbrev pub EarlyReviewerHidden : Type 0
+EarlyReviewerHidden =
+    AllAlikeTo bob alice (in_bids Overt) (reviewed_by dave) (reviewed_by hal) (alice adds PhaseSet Response ∷ [])
+
+-- all of a form that is written behind the response, to the authors
+abbrev pub behind_response : Digests → History
+behind_response d = in_reviews d ++ alice adds PhaseSet Response ∷ alice adds PhaseSet Discussion ∷ []
+
+abbrev pub LateFormHidden : Type 0
+LateFormHidden =
+    AlikeTo bob hal behind_response (dave adds Reviewed 1 1 1 first_form) (dave adds Reviewed 1 1 1 second_form) []
+
+-- what is responded, to a member before the discussion, and to an account in it
+abbrev pub in_response : Digests → History
+in_response d = in_bids Blind d ++ alice adds PhaseSet Reviewing ∷ alice adds PhaseSet Response ∷ []
+
+abbrev pub ResponseHidden : Type 0
+ResponseHidden = AlikeTo dave gus in_response (bob adds Responded 1 agreed) (bob adds Responded 1 we_prove) []
+
+abbrev pub ResponseHiddenFromAccounts : Type 0
+ResponseHiddenFromAccounts = AlikeTo erin dave in_response
+    (bob adds Responded 1 agreed) (bob adds Responded 1 we_prove) (alice adds PhaseSet Discussion ∷ [])
+
+-- which author responds, to the members who read it
+abbrev pub ResponderHidden : Type 0
+ResponderHidden = AlikeTo dave bob in_response
+    (bob adds Responded 1 agreed) (gus adds Responded 1 agreed) (alice adds PhaseSet Discussion ∷ [])
 
 -- ---- the discussion
 

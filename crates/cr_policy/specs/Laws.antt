@@ -10,7 +10,8 @@ use Rattle.cr_base.specs.declared.entry.Stamped.{Stamped}
 use Rattle.cr_base.specs.declared.reply.Rule.TheVariants as rules
 use Rattle.cr_base.specs.declared.words.Phase.{Phase}
 use Rattle.cr_base.specs.History.{History}
-use Rattle.cr_base.specs.HistoryFacts.{standing_of, deadline_of, is_author, declared_by_authors, accounts_of}
+use Rattle.cr_base.specs.HistoryFacts.{standing_of, deadline_of, had_response_of, is_author, declared_by_authors}
+use Rattle.cr_base.specs.HistoryFacts.{accounts_of}
 use Rattle.cr_base.specs.HistoryFacts.{papers_of, own_papers_of, own_bytes_of, number_of}
 use Rattle.cr_base.specs.HistoryFacts.{own_comments_of, is_accepted}
 use Rattle.cr_base.specs.Tables.{tables_of}
@@ -28,7 +29,7 @@ use Rattle.cr_policy.specs.Sighting.{Sighting}
 use Rattle.cr_policy.specs.View.{view}
 use Rattle.cr_policy.specs.ViewFacts.{is_user, standing_in_view, deadline_in_view, accounts_in_view, papers_in_view}
 use Rattle.cr_policy.specs.ViewFacts.{own_papers_in_view, own_bytes_in_view, own_comments_in_view}
-use Rattle.cr_policy.specs.ViewFacts.{number_in_view, is_accepted_in_view, declared_in_view}
+use Rattle.cr_policy.specs.ViewFacts.{number_in_view, is_accepted_in_view, declared_in_view, had_response_in_view}
 use Rattle.cr_policy.specs.ViewRetries.{kept_in_view}
 use Rattle.cr_policy.specs.Judge.{judge, decide, judge_bulk, decide_bulk, answer, needs_login}
 use Rattle.cr_policy.specs.Legal.{Legal, MayAsk}
@@ -37,11 +38,12 @@ use Rattle.cr_policy.specs.Legal.{Legal, MayAsk}
 abbrev pub StandingFromView : Type 0
 StandingFromView = (u paper : Option ℕ) (H : History) → standing_in_view u paper (view u H) ≡ standing_of u paper H
 
--- PublicFacts can be read off what anybody sees, whatever the history: the deadlines, who has registered, in which
--- role, under which name, the papers, and which of them are accepted; and so can how many of them are the reader's
--- own, how many bytes she has uploaded, and how many comments she has written
+-- PublicFacts can be read off what anybody sees, whatever the history: the deadlines, whether the response was opened,
+-- who has registered, in which role, under which name, the papers, and which of them are accepted; and so can how many
+-- of them are the reader's own, how many bytes she has uploaded, and how many comments she has written
 pub record PublicFactsFromView (u : Option ℕ) (H : History) : Type 0 where
   pub deadlines : (phase : Phase) → deadline_in_view phase (view u H) ≡ deadline_of phase H
+  pub had_response : had_response_in_view (view u H) ≡ had_response_of H
   pub accounts : accounts_in_view (view u H) ≡ accounts_of H
   pub papers : papers_in_view (view u H) ≡ papers_of H
   pub accepted : (p : ℕ) → is_accepted_in_view p (view u H) ≡ is_accepted p H

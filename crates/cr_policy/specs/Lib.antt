@@ -17,10 +17,12 @@ pub mod Added
 pub mod ShownTo
 -- ---- bounds of views
 pub mod ViewBounds
+pub mod ResponseBounds
 -- ---- laws
 pub mod Laws
 pub mod SingleRows
 pub mod GoesOn
+pub mod PhaseOrder
 pub mod HiddenPayload
 pub mod Migration
 -- ---- examples: the witness, the small conference with its twins, and what is tried on it
@@ -29,6 +31,7 @@ pub mod WitnessLaws
 pub mod Conference
 pub mod ConferenceViews
 pub mod ConferenceOutcomes
+pub mod ConferenceResponse
 pub mod ConferenceLaws
 pub mod FirstTold
 pub mod HiddenPairs

@@ -7,11 +7,12 @@ use Rattle.cr_base.specs.declared.command.Call.{Call}
 use Rattle.cr_base.specs.declared.command.Command.{Command}
 use Rattle.cr_base.specs.declared.command.Command.TheVariants as commands
 use Rattle.cr_base.specs.declared.words.Phase.{Phase}
-use Rattle.cr_base.specs.declared.words.Phase.TheVariants.{Setup, Submission, Bidding, Reviewing, Discussion}
+use Rattle.cr_base.specs.declared.words.Phase.TheVariants.{Setup, Submission, Bidding, Reviewing, Response, Discussion}
 use Rattle.cr_base.specs.declared.words.Role.{Role}
 use Rattle.cr_base.specs.History.{History}
 use Rattle.cr_base.specs.HistoryFacts.{phase_of, role_of, accounts_of, papers_of, number_of, ordinal_of, seats_of}
 use Rattle.cr_base.specs.HistoryFacts.{is_invited, is_written, own_papers_of, own_bytes_of, own_comments_of}
+use Rattle.cr_base.specs.HistoryFacts.{response_of}
 use Rattle.cr_base.specs.Logins.{command_wants_login}
 use Rattle.cr_policy.specs.Judge.{judge}
 use Rattle.cr_policy.specs.Legal.{Legal}
@@ -117,13 +118,18 @@ abbrev pub may_uninvite : ℕ → History → ℕ → ℕ → Bool
 may_uninvite u H p v =
     stands p H && administers u p H && committee_at_work H && is_invited (Some v) p H && not (reviews v p H)
 
--- ---- reviews, comments, tags and decisions
+-- ---- reviews, responses, comments, tags and decisions
 
 -- a member or an external in no conflict with a paper that isn't withdrawn, who reviews it, writes a form, in the
 -- reviewing and in the discussion, in each until its deadline
 abbrev pub may_review : ℕ → ℕ → History → ℕ → Bool
 may_review u at H p =
     stands p H && may_have_it u p H && reviews u p H && (now Reviewing H || now Discussion H) && in_time at H
+
+-- an author of a paper that isn't withdrawn responds to its reviews, in the response until its deadline, where none of
+-- its authors has
+abbrev pub may_respond : ℕ → ℕ → History → ℕ → Bool
+may_respond u at H p = stands p H && wrote u p H && now Response H && in_time at H && is_none (response_of p H)
 
 -- a member in no conflict with a paper that isn't withdrawn comments on it, in the discussion until its deadline,
 -- while she has written fewer than 1,000 comments
@@ -171,6 +177,7 @@ may_do caller at H (commands.Invite paper name) =
 may_do caller at H (commands.Uninvite paper name) =
     of_some caller (λ u. of_some paper (λ p. of_some (user_named name H) (may_uninvite u H p)))
 may_do caller at H (commands.Review paper form) = of_some caller (λ u. of_some paper (may_review u at H))
+may_do caller at H (commands.Respond paper text) = of_some caller (λ u. of_some paper (may_respond u at H))
 may_do caller at H (commands.Comment paper text) = of_some caller (λ u. of_some paper (may_comment u at H))
 may_do caller at H (commands.Tag paper tag on) = of_some caller (λ u. of_some paper (may_tag u H tag))
 may_do caller at H (commands.Decide paper decision) = of_some caller (λ u. of_some paper (may_decide u H))

@@ -10,16 +10,16 @@ use Rattle.cr_base.specs.declared.report.Report.{Report}
 use Rattle.cr_base.specs.declared.report.Report.TheVariants as reports
 use Rattle.cr_base.specs.declared.reply.Reply.{Reply}
 use Rattle.cr_base.specs.declared.reply.Reply.TheVariants as replies
-use Rattle.cr_base.specs.declared.words.Phase.TheVariants.{Reviewing}
 use Rattle.cr_base.specs.History.{History, Upload}
-use Rattle.cr_base.specs.HistoryFacts.{uploads_of}
+use Rattle.cr_base.specs.HistoryFacts.{uploads_of, had_response_of, response_of}
 use Rattle.cr_base.specs.Lists.{last, is_nothing}
 use Rattle.cr_base.specs.Plans.{planned_papers, planned_members, best_plan}
 use Rattle.cr_base.specs.Sources.{Facts, Shown, facts_of_tables, shown_in_tables}
 use Rattle.cr_base.specs.Tables.{tables_of}
 use Rattle.cr_policy.specs.Judge.{answer, needs_login}
 use Rattle.cr_policy.specs.Legal.{Legal}
-use Rattle.cr_policy.specs.Sentences.{now, before_bidding, is_over, from_reviewing, from_discussion, committee_at_work}
+use Rattle.cr_policy.specs.Sentences.{before_bidding, before_discussion, is_over, from_reviewing, from_discussion}
+use Rattle.cr_policy.specs.Sentences.{committee_at_work}
 use Rattle.cr_policy.specs.Sentences.{on_committee, chairs, has_part, may_have_it, is_external_of, in_conflict}
 use Rattle.cr_policy.specs.Sentences.{is_paper, is_in, is_public, wrote, is_eligible, reviews, of_some}
 use Rattle.cr_policy.specs.View.{view}
@@ -42,18 +42,23 @@ has_version author None uploads = not (is_nothing uploads)
 has_version true (Some version) uploads = list_any (λ (u : Upload). u.version == version) uploads
 has_version false (Some version) uploads = option_map_or (λ (u : Upload). u.version == version) (last uploads) false
 
--- a paper's authors read its reviews from the notification on; members in no conflict with it from the discussion
--- on, and in the reviewing where they review it, of their own; externals in none who review it, of their own, from the
--- reviewing on
+-- a paper's authors read its reviews from the notification on, and before it once the response was opened; members in
+-- no conflict with it from the discussion on, and in the reviewing and the response where they review it, of their
+-- own; externals in none who review it, of their own, from the reviewing on
 abbrev pub may_read_reviews : ℕ → History → ℕ → Bool
 may_read_reviews u H p =
-    (wrote u p H && is_over H)
-    || (is_eligible u p H && (from_discussion H || (reviews u p H && now Reviewing H)))
+    (wrote u p H && (is_over H || had_response_of H))
+    || (is_eligible u p H && (from_discussion H || (reviews u p H && before_discussion H)))
     || (is_external_of u p H && not (in_conflict u p H) && reviews u p H && from_reviewing H)
 
 -- members in no conflict with a paper read the comments on it, from the discussion on
 abbrev pub may_read_comments : ℕ → History → ℕ → Bool
 may_read_comments u H p = is_eligible u p H && from_discussion H
+
+-- a paper's authors read what they responded, where they did; and members in no conflict with it do, from the
+-- discussion on
+abbrev pub may_read_response : ℕ → History → ℕ → Bool
+may_read_response u H p = is_some (response_of p H) && (wrote u p H || (is_eligible u p H && from_discussion H))
 
 -- ---- reports
 
@@ -108,6 +113,8 @@ may_read caller H (queries.Reviews paper) =
     of_some caller (λ u. of_some paper (λ p. is_paper p H && may_read_reviews u H p))
 may_read caller H (queries.Comments paper) =
     of_some caller (λ u. of_some paper (λ p. is_paper p H && may_read_comments u H p))
+may_read caller H (queries.Response paper) =
+    of_some caller (λ u. of_some paper (λ p. is_paper p H && may_read_response u H p))
 may_read caller H (queries.Report report) = of_some caller (λ u. may_report u H report)
 may_read caller H (queries.Plan per_paper load) = of_some caller (λ u. may_plan u H per_paper load)
 

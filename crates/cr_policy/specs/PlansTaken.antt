@@ -20,8 +20,8 @@ use Rattle.cr_policy.specs.ViewFacts.{facts_in_view, shown_in_view}
 abbrev pub row_of_pair : PlanPair → BulkRow
 row_of_pair pair = a_row (decimal pair.paper) (codes "pcreview") pair.member.name []
 
--- PlansTaken: on a legal history, the best plan of a user who has registered and may ask for it is accepted as a bulk of
--- hers, at every moment, with a number or without
+-- PlansTaken: on a legal history, the best plan of a user who has registered and may ask for it is accepted as a bulk
+-- of hers, at every moment, with a number or without
 abbrev pub PlansTaken : Type 0
 PlansTaken =
     (user at : ℕ) (key : Option RetryKey) (H : History) (per_paper load : ℕ) (plan : List PlanPair) → Legal H

@@ -9,7 +9,7 @@ use Rattle.cr_base.specs.declared.words.Decision.{Decision}
 use Rattle.cr_base.specs.declared.words.Decision.TheVariants.{Accept, Reject}
 use Rattle.cr_base.specs.declared.words.Phase.{Phase}
 use Rattle.cr_base.specs.declared.words.Phase.TheVariants.{Setup, Submission, Bidding, Reviewing, Discussion}
-use Rattle.cr_base.specs.declared.words.Phase.TheVariants.{Notification, Closed}
+use Rattle.cr_base.specs.declared.words.Phase.TheVariants.{Response, Notification, Closed}
 use Rattle.cr_base.specs.declared.words.Role.{Role}
 use Rattle.cr_base.specs.declared.words.Role.TheVariants.{Account, Member, Chair}
 use Rattle.cr_base.specs.History.{History}
@@ -25,17 +25,20 @@ is_it Setup Setup = true
 is_it Submission Submission = true
 is_it Bidding Bidding = true
 is_it Reviewing Reviewing = true
+is_it Response Response = true
 is_it Discussion Discussion = true
 is_it Notification Notification = true
 is_it Closed Closed = true
 is_it _ _ = false
 
--- one comes right behind another: they come in this order, and nothing comes behind the last
+-- one may come right behind another: they come in this order, of which the response may be left out, and nothing comes
+-- behind the last
 abbrev pub comes_behind : Phase → Phase → Bool
 comes_behind Setup to = is_it Submission to
 comes_behind Submission to = is_it Bidding to
 comes_behind Bidding to = is_it Reviewing to
-comes_behind Reviewing to = is_it Discussion to
+comes_behind Reviewing to = is_it Response to || is_it Discussion to
+comes_behind Response to = is_it Discussion to
 comes_behind Discussion to = is_it Notification to
 comes_behind Notification to = is_it Closed to
 comes_behind Closed to = false
@@ -48,17 +51,21 @@ now phase H = is_it phase (phase_of H)
 abbrev pub before_bidding : History → Bool
 before_bidding H = now Setup H || now Submission H
 
--- the committee works: it bids, reviews or discusses
+-- the committee works: it bids, reviews, waits for what authors respond, or discusses
 abbrev pub committee_at_work : History → Bool
-committee_at_work H = now Bidding H || now Reviewing H || now Discussion H
+committee_at_work H = now Bidding H || now Reviewing H || now Response H || now Discussion H
 
 -- the notification went out, so the committee's work is over
 abbrev pub is_over : History → Bool
 is_over H = now Notification H || now Closed H
 
+-- the committee has its reviews to itself: it writes them, or waits for what authors respond
+abbrev pub before_discussion : History → Bool
+before_discussion H = now Reviewing H || now Response H
+
 -- the committee reviews or discusses, or has done so
 abbrev pub from_reviewing : History → Bool
-from_reviewing H = now Reviewing H || now Discussion H || is_over H
+from_reviewing H = before_discussion H || now Discussion H || is_over H
 
 -- the committee discusses, or has done so
 abbrev pub from_discussion : History → Bool
@@ -82,6 +89,9 @@ lasts_or_comes_in Submission current = is_it Setup current || is_it Submission c
 lasts_or_comes_in Bidding current = is_it Setup current || is_it Submission current || is_it Bidding current
 lasts_or_comes_in Reviewing current =
     is_it Setup current || is_it Submission current || is_it Bidding current || is_it Reviewing current
+lasts_or_comes_in Response current =
+    is_it Setup current || is_it Submission current || is_it Bidding current || is_it Reviewing current
+    || is_it Response current
 lasts_or_comes_in Discussion current = not (is_it Notification current || is_it Closed current)
 lasts_or_comes_in Notification current = not (is_it Closed current)
 lasts_or_comes_in Closed current = true

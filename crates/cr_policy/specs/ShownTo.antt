@@ -13,7 +13,7 @@ use Rattle.cr_base.specs.declared.entry.Entry.TheVariants.{Registered, Named, Ph
 use Rattle.cr_base.specs.declared.entry.Entry.TheVariants.{Coauthor, Revised, Uploaded, Withdrawn, Conflict}
 use Rattle.cr_base.specs.declared.entry.Entry.TheVariants.{Bid, Assigned, Unassigned, Reviewed}
 use Rattle.cr_base.specs.declared.entry.Entry.TheVariants.{Commented, Tagged, Decided, DeadlineSet}
-use Rattle.cr_base.specs.declared.entry.Entry.TheVariants.{Dismissed, Invited, Uninvited}
+use Rattle.cr_base.specs.declared.entry.Entry.TheVariants.{Dismissed, Invited, Uninvited, Responded}
 use Rattle.cr_base.specs.declared.entry.EntryKind.{EntryKind}
 use Rattle.cr_base.specs.declared.entry.Stamped.{Stamped}
 use Rattle.cr_base.specs.declared.entry.Stamp.{Stamp}
@@ -22,7 +22,8 @@ use Rattle.cr_base.specs.declared.words.Decision.{Decision}
 use Rattle.cr_base.specs.declared.words.Decision.TheVariants.{Accept, Reject}
 use Rattle.cr_base.specs.declared.words.Kind.{Kind}
 use Rattle.cr_base.specs.declared.words.Phase.{Phase}
-use Rattle.cr_base.specs.declared.words.Phase.TheVariants.{Bidding, Reviewing, Discussion, Notification, Closed}
+use Rattle.cr_base.specs.declared.words.Phase.TheVariants.{Bidding, Reviewing, Response, Discussion, Notification}
+use Rattle.cr_base.specs.declared.words.Phase.TheVariants.{Closed}
 use Rattle.cr_base.specs.declared.words.Mode.{Mode}
 use Rattle.cr_base.specs.declared.words.Mode.TheVariants.{Overt, Blind, Anonymous}
 use Rattle.cr_base.specs.declared.words.Role.{Role}
@@ -56,16 +57,21 @@ abbrev pub is_past_discussion : Phase → Bool
 is_past_discussion Notification = true
 is_past_discussion phase = is_over phase
 
--- it is the discussion, or later
+-- it is the discussion, or later: all reviewing is behind
 abbrev pub is_past_reviewing : Phase → Bool
 is_past_reviewing Discussion = true
 is_past_reviewing phase = is_past_discussion phase
+
+-- authors respond, or could have: it is the response, or later
+abbrev pub is_past_writing : Phase → Bool
+is_past_writing Response = true
+is_past_writing phase = is_past_reviewing phase
 
 -- it is bidding, or later
 abbrev pub is_past_submission : Phase → Bool
 is_past_submission Bidding = true
 is_past_submission Reviewing = true
-is_past_submission phase = is_past_reviewing phase
+is_past_submission phase = is_past_writing phase
 
 -- authors are hidden from members and externals
 abbrev pub hides_authors : Mode → Bool
@@ -123,6 +129,10 @@ discusses u p H = is_eligible u p H && is_past_reviewing (phase_of H)
 -- she wrote the paper and is named its reviewers: in the open mode, from the notification on
 abbrev pub is_answered : Option ℕ → ℕ → History → Bool
 is_answered u p H = is_author u p H && names_reviewers (mode_of H) && is_past_discussion (phase_of H)
+
+-- she wrote the paper, and may respond to its reviews, or might have: from the response on
+abbrev pub is_heard : Option ℕ → ℕ → History → Bool
+is_heard u p H = is_author u p H && is_past_writing (phase_of H)
 
 -- she wrote the paper, and learns what became of it: from the notification on
 abbrev pub is_notified : Option ℕ → ℕ → History → Bool
@@ -197,14 +207,34 @@ is_discussed p o before later =
     list_any (λ (e : Stamped). begins_discussion e.entry) before
     || not (is_reviewed p o (until (λ (e : Stamped). begins_discussion e.entry) later))
 
+-- the entry begins the response
+abbrev pub is_response : Phase → Bool
+is_response Response = true
+is_response _ = false
+
+abbrev pub begins_response : Entry → Bool
+begins_response (PhaseSet phase) = is_response phase
+begins_response _ = false
+
+-- a form that stands there is the one to which authors respond: the response begins behind it, and no later form of its
+-- label was written before that
+abbrev pub is_responded_to : ℕ → ℕ → History → History → Bool
+is_responded_to p o before later =
+    not (list_any (λ (e : Stamped). begins_response e.entry) before)
+    && list_any (λ (e : Stamped). begins_response e.entry) later
+    && not (is_reviewed p o (until (λ (e : Stamped). begins_response e.entry) later))
+
 -- she reads all of the form: she wrote it, or discusses it
 abbrev pub reads_form : Option ℕ → History → History → History → ℕ → ℕ → ℕ → Bool
 reads_form u H before later maker paper ordinal =
     is_number u maker || (discusses u paper H && is_discussed paper ordinal before later)
 
--- she reads of the form what is for authors: it is the label's last, and she is notified
-abbrev pub learns_form : Option ℕ → History → History → ℕ → ℕ → Bool
-learns_form u H later paper ordinal = is_notified u paper H && not (is_reviewed paper ordinal later)
+-- she reads of the form what is for authors: it is the one of its label to which they respond, and she is heard; or it
+-- is the label's last, and she is notified
+abbrev pub learns_form : Option ℕ → History → History → History → ℕ → ℕ → Bool
+learns_form u H before later paper ordinal =
+    (is_heard u paper H && is_responded_to paper ordinal before later)
+    || (is_notified u paper H && not (is_reviewed paper ordinal later))
 
 -- she is told that there is a form under the label: it is the first, and she administers the paper
 abbrev pub counts_form : Option ℕ → History → History → ℕ → ℕ → Bool
@@ -256,10 +286,11 @@ is_party u H maker paper user = is_number u user || is_number u maker || adminis
 -- external; of conflicts the ones that name her, and all where she oversees the paper; of bids her own, and all where
 -- she oversees the paper; of invitations those that she is a party to; of assignments these, all where she discusses
 -- the paper, and those to her own paper where she is named its reviewers; of forms her own, the first of each label
--- where she administers the paper, those that are discussed where she discusses it, and of her own paper the last of
--- each label where she is notified; of comments her own, and all where she discusses the paper; of tags those that
--- she set, and those that she reads; and of decisions those that she reads, the last one by which she learns what
--- became of her paper, and the last one of a paper in the programme
+-- where she administers the paper, those that are discussed where she discusses it, and of her own paper of each label
+-- the one to which authors respond where she is heard, and the last where she is notified; of comments her own, and all
+-- where she discusses the paper; of responses those of her own papers' authors, and all where she discusses the paper;
+-- of tags those that she set, and those that she reads; and of decisions those that she reads, the last one by which
+-- she learns what became of her paper, and the last one of a paper in the programme
 abbrev pub is_told : Option ℕ → History → History → History → ℕ → Entry → Bool
 is_told u H before later maker (Registered user name digest) = true
 is_told u H before later maker (Named user role) = true
@@ -290,7 +321,7 @@ is_told u H before later maker (Unassigned paper user ordinal) =
 is_told u H before later maker (Reviewed paper ordinal version form) =
     reads_form u H before later maker paper ordinal
     || counts_form u H before paper ordinal
-    || learns_form u H later paper ordinal
+    || learns_form u H before later paper ordinal
 is_told u H before later maker (Commented paper n ordinal text) = is_number u maker || discusses u paper H
 is_told u H before later maker (Tagged paper tag on) = is_number u maker || reads_tag u H paper tag
 is_told u H before later maker (Decided paper decision) =
@@ -299,6 +330,7 @@ is_told u H before later maker (DeadlineSet phase until) = true
 is_told u H before later maker (Dismissed user) = true
 is_told u H before later maker (Invited paper user) = is_party u H maker paper user
 is_told u H before later maker (Uninvited paper user) = is_party u H maker paper user
+is_told u H before later maker (Responded paper text) = owns u H maker paper || discusses u paper H
 
 -- ---- the parts of an entry that she is told of
 
@@ -343,6 +375,7 @@ paper_for u H before later stamp (Tagged paper tag on) = Some paper
 paper_for u H before later stamp (Decided paper decision) = Some paper
 paper_for u H before later stamp (Invited paper user) = Some paper
 paper_for u H before later stamp (Uninvited paper user) = Some paper
+paper_for u H before later stamp (Responded paper text) = Some paper
 paper_for u H before later stamp _ = None
 
 -- who reviews a paper: to the parties of the assignment, to authors who are named the reviewers, and to those who
@@ -480,7 +513,7 @@ ordinal_for u H before later stamp _ = None
 -- and to authors who learn of it
 abbrev pub reads_review : Option ℕ → History → History → History → ℕ → ℕ → ℕ → Bool
 reads_review u H before later maker paper ordinal =
-    reads_form u H before later maker paper ordinal || learns_form u H later paper ordinal
+    reads_form u H before later maker paper ordinal || learns_form u H before later paper ordinal
 
 abbrev pub score_for : PartFor (Option ℕ)
 score_for u H before later stamp (Reviewed paper ordinal version form) =
@@ -509,13 +542,14 @@ done_for u H before later stamp (Reviewed paper ordinal version form) =
     where_known (counts_form u H before paper ordinal) true
 done_for u H before later stamp _ = None
 
--- a comment's number, and its text: always
+-- a comment's number, and its text, and that of a response: always
 abbrev pub n_for : PartFor (Option ℕ)
 n_for u H before later stamp (Commented paper n ordinal text) = Some n
 n_for u H before later stamp _ = None
 
 abbrev pub text_for : PartFor (Option (List ℕ))
 text_for u H before later stamp (Commented paper n ordinal text) = Some text
+text_for u H before later stamp (Responded paper text) = Some text
 text_for u H before later stamp _ = None
 
 -- a tag: always

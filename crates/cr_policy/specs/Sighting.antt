@@ -7,7 +7,7 @@ use Rattle.cr_base.specs.declared.entry.Entry.TheVariants.{Registered, Named, Ph
 use Rattle.cr_base.specs.declared.entry.Entry.TheVariants.{Coauthor, Revised, Uploaded, Withdrawn, Conflict}
 use Rattle.cr_base.specs.declared.entry.Entry.TheVariants.{Bid, Assigned, Unassigned, Reviewed}
 use Rattle.cr_base.specs.declared.entry.Entry.TheVariants.{Commented, Tagged, Decided, DeadlineSet}
-use Rattle.cr_base.specs.declared.entry.Entry.TheVariants.{Dismissed, Invited, Uninvited}
+use Rattle.cr_base.specs.declared.entry.Entry.TheVariants.{Dismissed, Invited, Uninvited, Responded}
 use Rattle.cr_base.specs.declared.entry.Stamp.{Stamp}
 use Rattle.cr_base.specs.declared.entry.Stamped.{Stamped}
 use Rattle.cr_base.specs.declared.retry.RetryKey.{RetryKey}
@@ -166,6 +166,7 @@ entire stamp (DeadlineSet phase until) =
 entire stamp (Dismissed user) = record (under stamp kinds.Dismissed) { user = Some user }
 entire stamp (Invited paper user) = record (under stamp kinds.Invited) { paper = Some paper; user = Some user }
 entire stamp (Uninvited paper user) = record (under stamp kinds.Uninvited) { paper = Some paper; user = Some user }
+entire stamp (Responded paper text) = record (under stamp kinds.Responded) { paper = Some paper; text = Some text }
 
 -- ---- the parts that are shown
 

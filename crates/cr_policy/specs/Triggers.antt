@@ -7,33 +7,36 @@ use Rattle.cr_base.specs.declared.entry.Entry.TheVariants.{Registered, Named, Ph
 use Rattle.cr_base.specs.declared.entry.Entry.TheVariants.{Coauthor, Revised, Uploaded, Withdrawn, Conflict}
 use Rattle.cr_base.specs.declared.entry.Entry.TheVariants.{Bid, Assigned, Unassigned, Reviewed}
 use Rattle.cr_base.specs.declared.entry.Entry.TheVariants.{Commented, Tagged, Decided, DeadlineSet}
-use Rattle.cr_base.specs.declared.entry.Entry.TheVariants.{Dismissed, Invited, Uninvited}
+use Rattle.cr_base.specs.declared.entry.Entry.TheVariants.{Dismissed, Invited, Uninvited, Responded}
 use Rattle.cr_base.specs.declared.words.Phase.{Phase}
 use Rattle.cr_base.specs.declared.standing.Standing.{Standing}
 use Rattle.cr_base.specs.declared.words.Mode.{Mode}
 use Rattle.cr_base.specs.declared.words.Role.{Role}
 use Rattle.cr_base.specs.Decisions.{is_published}
 use Rattle.cr_base.specs.Lists.{is_nothing, is_number, until}
-use Rattle.cr_base.specs.History.{History, all_told, opens_discussion, title_told}
+use Rattle.cr_base.specs.History.{History, all_told, opens_discussion, opens_response, title_told}
 use Rattle.cr_base.specs.History.{upload_told, form_told, decision_told}
 use Rattle.cr_base.specs.HistoryFacts.{phase_of, mode_of, role_of, is_author, is_conflicted, is_external}
 use Rattle.cr_base.specs.HistoryFacts.{is_accepted}
+use Rattle.cr_base.specs.HistoryFacts.{had_response_of}
 use Rattle.cr_base.specs.Page.{is_clear_member, is_clear_chair, is_clear_external, reads_paper}
 use Rattle.cr_base.specs.Phases.{members_see_papers, committee_sees_authors, chairs_see_conflicts, chairs_see_bids}
 use Rattle.cr_base.specs.Phases.{committee_sees_tags, members_see_reviewers, members_read_reviews}
 use Rattle.cr_base.specs.Phases.{members_read_comments, members_read_decisions, authors_read_reviews}
 use Rattle.cr_base.specs.Phases.{authors_see_reviewers, authors_read_decisions}
+use Rattle.cr_base.specs.Phases.{authors_read_early_reviews, members_read_responses}
 use Rattle.cr_base.specs.TagTexts.{is_for_all, is_for_chairs}
 use Rattle.cr_base.specs.Words.{is_anonymous, is_overt, is_member}
 use Rattle.cr_policy.specs.Part as part
 use Rattle.cr_policy.specs.Part.{Part, these, whole, whole_and}
 
--- what the table asks at the end of the history: who reads, the phase, the mode, the reader's role, her ties to each
--- paper (whether she is an author, in conflict, an external), which user is an author of which paper, and which
--- papers are accepted
+-- what the table asks at the end of the history: who reads, the phase, whether the response was opened, the mode, the
+-- reader's role, her ties to each paper (whether she is an author, in conflict, an external), which user is an author
+-- of which paper, and which papers are accepted
 pub record Reader : Type 0 where
   pub number : Option ℕ
   pub now : Phase
+  pub had_response : Bool
   pub mode : Mode
   pub rank : Role
   pub author : ℕ → Bool
@@ -47,6 +50,7 @@ abbrev pub reader : Option ℕ → History → Reader
 reader u H = record {
   number = u;
   now = phase_of H;
+  had_response = had_response_of H;
   mode = mode_of H;
   rank = role_of u H;
   author = λ p. is_author u p H;
@@ -128,13 +132,16 @@ none_alike (DeadlineSet phase until) H = true
 none_alike (Dismissed user) H = true
 none_alike (Invited paper user) H = true
 none_alike (Uninvited paper user) H = true
+none_alike (Responded paper text) H = true
 
 -- What a row may ask of where an entry stands: whether it is the first of its series; the last; the last of those
--- before the discussion was opened; and whether it was made when the discussion was opened already. To an entry of
--- a kind that has no series none is alike, so it counts as the first and as the last; no row of such a kind asks.
+-- before the response was opened, and of those before the discussion was; and whether it was made when the discussion
+-- was opened already. To an entry of a kind that has no series none is alike, so it counts as the first and as the
+-- last; no row of such a kind asks.
 pub record Position : Type 0 where
   pub first : Bool
   pub last : Bool
+  pub last_before_response : Bool
   pub last_before_discussion : Bool
   pub from_discussion : Bool
 
@@ -143,6 +150,7 @@ abbrev pub position_of : Around → Entry → Position
 position_of at e = record {
   first = none_alike e at.before;
   last = none_alike e at.after;
+  last_before_response = not (list_any opens_response at.before) && none_alike e (until opens_response at.after);
   last_before_discussion = not (list_any opens_discussion at.before) && none_alike e (until opens_discussion at.after);
   from_discussion = list_any opens_discussion at.before;
 }
@@ -188,6 +196,10 @@ reads_reviews r paper = is_clear_member (standing_to r paper) && members_read_re
 -- and reads the comments on it
 abbrev pub reads_comments : Reader → ℕ → Bool
 reads_comments r paper = is_clear_member (standing_to r paper) && members_read_comments r.now
+
+-- and reads what its authors responded
+abbrev pub reads_responses : Reader → ℕ → Bool
+reads_responses r paper = is_clear_member (standing_to r paper) && members_read_responses r.now
 
 -- and reads what is decided of it
 abbrev pub reads_decisions : Reader → ℕ → Bool
@@ -266,6 +278,8 @@ rows r at by (Unassigned paper user ordinal) = seat_rows r paper user
 rows r at by (Reviewed paper ordinal version form) =
     (at.first && is_clear_chair (standing_to r paper)) see these (part.ordinal ∷ part.done ∷ [])
     ∷ ((at.last_before_discussion || at.from_discussion) && reads_reviews r paper) see whole
+    ∷ (at.last_before_response && r.had_response && authors r paper && authors_read_early_reviews r.now)
+    see these (part.ordinal ∷ part.score ∷ part.confidence ∷ part.to_authors ∷ [])
     ∷ (at.last && authors r paper && authors_read_reviews r.now)
     see these (part.ordinal ∷ part.score ∷ part.confidence ∷ part.to_authors ∷ [])
     ∷ []
@@ -291,6 +305,10 @@ rows r at by (Dismissed user) =
     ∷ []
 rows r at by (Invited paper user) = invite_rows r paper user
 rows r at by (Uninvited paper user) = invite_rows r paper user
+rows r at by (Responded paper text) =
+    authors r paper see whole
+    ∷ reads_responses r paper see whole
+    ∷ []
 
 -- whether a row applies
 abbrev pub applies_any : List TriggerRow → Bool

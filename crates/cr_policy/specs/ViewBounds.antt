@@ -16,10 +16,11 @@ use Rattle.cr_base.specs.HistoryFacts.{phase_of, mode_of, role_of, is_author}
 use Rattle.cr_policy.specs.Sighting.{Sighting, blank}
 use Rattle.cr_policy.specs.View.{view}
 use Rattle.cr_policy.specs.ViewFacts.{only, is_user, is_kind}
-use Rattle.cr_policy.specs.ShownTo.{PartFor, each_told, chairs_committee, is_past_reviewing}
+use Rattle.cr_policy.specs.ShownTo.{PartFor, each_told, chairs_committee, is_past_reviewing, is_past_writing}
+use Rattle.cr_policy.specs.ShownTo.{begins_response}
 use Rattle.cr_policy.specs.ShownTo.{is_past_discussion, hides_reviewers, names_reviewers}
 use Rattle.cr_policy.specs.ShownTo.{serves, is_eligible, oversees, administers, discusses, is_in_programme, appears}
-use Rattle.cr_policy.specs.ShownTo.{is_on_committee, hides_authors, visits, reads_visiting}
+use Rattle.cr_policy.specs.ShownTo.{is_on_committee, hides_authors, visits, reads_visiting, is_heard}
 use Rattle.cr_policy.specs.ShownTo.{is_chairs, is_setters, kind_for, mark_for, moment_for, key_for, paper_for}
 use Rattle.cr_policy.specs.ShownTo.{user_for, name_for}
 use Rattle.cr_policy.specs.ShownTo.{digest_for, role_for, phase_for, until_for, mode_for, maker_for}
@@ -120,7 +121,7 @@ TextsToPcShown = Shows (λ (s : Sighting). s.to_pc) to_pc_for
 abbrev pub DoneShown : Type 0
 DoneShown = Shows (λ (s : Sighting). s.done) done_for
 
--- comments, and tags
+-- comments and responses, and tags
 abbrev pub NumbersShown : Type 0
 NumbersShown = Shows (λ (s : Sighting). s.n) n_for
 
@@ -178,21 +179,27 @@ ReviewersUnnamed =
 abbrev pub is_others : EntryKind → ℕ → Sighting → Bool
 is_others kind p s = is_kind kind s && is_number s.paper p && not s.mine
 
--- before the discussion nobody is shown what is in another's form
+-- before the discussion nobody is shown what is in another's form, but the paper's authors from the response on
 abbrev pub FormsEarly : Type 0
 FormsEarly =
-    (u : Option ℕ) (p : ℕ) (H : History) → IsFalse (is_past_reviewing (phase_of H))
+    (u : Option ℕ) (p : ℕ) (H : History) → IsFalse (is_past_reviewing (phase_of H)) → IsFalse (is_heard u p H)
     → All
     (λ (s : Sighting). IsTrue (is_others kinds.Reviewed p s)
     → s ≡ record (blank kinds.Reviewed) { paper = s.paper; ordinal = s.ordinal; done = s.done })
     (view u H)
 
--- of the forms on a paper its authors are shown nothing before the notification, and what is for the committee never
+-- of the forms on a paper its authors are shown nothing before the notification, but where the response was opened, and
+-- then from the response on; and what is for the committee never
+abbrev pub may_learn_forms : History → Bool
+may_learn_forms H =
+    is_past_discussion (phase_of H)
+    || (is_past_writing (phase_of H) && list_any (λ (e : Stamped). begins_response e.entry) H)
+
 abbrev pub FormsFromAuthors : Type 0
 FormsFromAuthors =
     (u : Option ℕ) (p : ℕ) (H : History) → IsTrue (is_author u p H)
     → All (λ (s : Sighting). IsTrue (is_others kinds.Reviewed p s)
-    → IsTrue (is_past_discussion (phase_of H)) × (s.to_pc ≡ None)) (view u H)
+    → IsTrue (may_learn_forms H) × (s.to_pc ≡ None)) (view u H)
 
 -- of the comments on a paper, and of its tags, they are shown none
 abbrev pub CommentsFromAuthors : Type 0
@@ -205,6 +212,14 @@ abbrev pub WritersUnnamed : Type 0
 WritersUnnamed =
     (u : Option ℕ) (p : ℕ) (H : History) → IsFalse (administers u p H) → IsTrue (hides_reviewers (mode_of H))
     → All (λ (s : Sighting). IsTrue (is_kind kinds.Commented s && is_number s.paper p) → s.by ≡ None) (view u H)
+
+-- of a response nobody but the paper's authors, and from the discussion on those who discuss the paper, is shown that
+-- it is there; and who of its authors wrote it nobody is
+abbrev pub ResponsesShown : Type 0
+ResponsesShown =
+    (u : Option ℕ) (p : ℕ) (H : History)
+    → All (λ (s : Sighting). IsTrue (is_kind kinds.Responded s && is_number s.paper p)
+    → IsTrue (s.mine || is_author u p H || discusses u p H) × (s.by ≡ None)) (view u H)
 
 -- the tag that is shown is so
 abbrev pub is_tag_so : (List ℕ → Bool) → Option (List ℕ) → Bool
@@ -354,6 +369,7 @@ IsLeft u is kinds.Reviewed s =
     })
 IsLeft u is kinds.Commented s =
     IsTrue s.mine × (s ≡ record (as_hers kinds.Commented s) { n = s.n; ordinal = s.ordinal; text = s.text })
+IsLeft u is kinds.Responded s = IsTrue s.mine × (s ≡ record (as_hers kinds.Responded s) { text = s.text })
 IsLeft u is kinds.Tagged s =
     IsTrue s.mine × (s ≡ record (as_hers kinds.Tagged s) { tag = s.tag; on = s.on })
 IsLeft u is kinds.Decided s =
@@ -389,7 +405,7 @@ pub record Visit : Type 0 where
 
 -- all that a sighting on it has for her, which neither is her own nor names her: the last title and abstract, the
 -- content, that it is withdrawn, its authors where they are named, and of a paper in the programme that it is accepted;
--- never another's bid, comment, tag or form, nor who else reviews it
+-- never another's bid, comment, tag or form, nor a response, nor who else reviews it
 abbrev pub IsVisitors : Visit → EntryKind → Sighting → Type 0
 IsVisitors is kinds.Submitted s =
     s ≡ record (blank kinds.Submitted) {
@@ -461,6 +477,7 @@ IsPublic announced appearing kinds.Assigned s = ⊥
 IsPublic announced appearing kinds.Unassigned s = ⊥
 IsPublic announced appearing kinds.Invited s = ⊥
 IsPublic announced appearing kinds.Uninvited s = ⊥
+IsPublic announced appearing kinds.Responded s = ⊥
 IsPublic announced appearing kinds.Reviewed s = ⊥
 IsPublic announced appearing kinds.Commented s = ⊥
 IsPublic announced appearing kinds.Tagged s = ⊥

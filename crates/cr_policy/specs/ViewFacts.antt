@@ -8,7 +8,7 @@ use Rattle.cr_base.specs.declared.entry.EntryKind.{EntryKind}
 use Rattle.cr_base.specs.declared.entry.EntryKind.TheVariants as kinds
 use Rattle.cr_base.specs.declared.words.Decision.{Decision}
 use Rattle.cr_base.specs.declared.words.Phase.{Phase}
-use Rattle.cr_base.specs.declared.words.Phase.TheVariants.{Setup, Bidding, Discussion}
+use Rattle.cr_base.specs.declared.words.Phase.TheVariants.{Setup, Bidding, Response, Discussion}
 use Rattle.cr_base.specs.declared.words.Mode.{Mode}
 use Rattle.cr_base.specs.declared.words.Mode.TheVariants.{Blind}
 use Rattle.cr_base.specs.declared.words.Role.{Role}
@@ -211,6 +211,10 @@ comment_seen p s = only (is_number s.paper p) (of_kind kinds.Commented s (commen
 abbrev pub own_comment_seen : Sighting → List ℕ
 own_comment_seen s = only s.mine (of_kind kinds.Commented s (listed s.n))
 
+-- what the paper's authors respond
+abbrev pub response_seen : ℕ → Sighting → List (List ℕ)
+response_seen p s = only (is_number s.paper p) (of_kind kinds.Responded s (listed s.text))
+
 -- the tag that it turns on or off at the paper, which this reader reads
 abbrev pub tag_seen : Option ℕ → ℕ → Sighting → List TagTold
 tag_seen u p s = only (is_number s.paper p) (of_kind kinds.Tagged s (tag_shown u s.mine s.tag s.on))
@@ -229,6 +233,10 @@ bidding_seen s = is_kind kinds.PhaseSet s && shows_phase Bidding s.phase
 -- and whether it opens the discussion
 abbrev pub discussion_seen : Sighting → Bool
 discussion_seen s = is_kind kinds.PhaseSet s && shows_phase Discussion s.phase
+
+-- and whether it opens the response
+abbrev pub opening_response_seen : Sighting → Bool
+opening_response_seen s = is_kind kinds.PhaseSet s && shows_phase Response s.phase
 
 -- the title, the abstract that it gives the paper
 abbrev pub title_seen : ℕ → Sighting → List (List ℕ)
@@ -274,6 +282,10 @@ mode_in_view V = last_or Blind (flat_map mode_seen V)
 -- the deadline of a phase that was set last: none where none was, or it was taken away
 abbrev pub deadline_in_view : Phase → View → Option ℕ
 deadline_in_view phase V = last_or None (flat_map (deadline_seen phase) V)
+
+-- the response was opened
+abbrev pub had_response_in_view : View → Bool
+had_response_in_view V = list_any opening_response_seen V
 
 -- the last role that the user was named to, where she wasn't dismissed since; else account
 abbrev pub role_in_view : Option ℕ → View → Role
@@ -362,14 +374,19 @@ reviewers_in_view p V = seats_left (flat_map (unassigned_seen p) V) (seats_in_vi
 
 -- ---- reviews, comments and tags
 
--- FormsOf: of each label's forms that are shown the last, which the paper's authors read; the last before the
--- discussion and all later ones, which the committee discusses; the reader's own, which a reviewer reads while reviews
--- are written, and one from outside the committee from then on; and whether there is one
+-- FormsOf: of each label's forms that are shown the last, which the paper's authors read in the end; the last before
+-- the response, where it was opened, which they read before the end; the last before the discussion and all later ones,
+-- which the committee discusses; the reader's own, which a reviewer reads until the discussion, and one from outside
+-- the committee from the reviewing on; and whether there is one
 abbrev pub forms_in_view : ℕ → ℕ → View → List FormTold
 forms_in_view p o V = flat_map (form_seen p o) V
 
 abbrev pub last_form_in_view : ℕ → ℕ → View → Option FormTold
 last_form_in_view p o V = last (forms_in_view p o V)
+
+abbrev pub early_form_in_view : ℕ → ℕ → View → Option FormTold
+early_form_in_view p o V =
+    if had_response_in_view V then last (forms_in_view p o (until opening_response_seen V)) else None
 
 abbrev pub forms_discussed_in_view : ℕ → ℕ → View → List FormTold
 forms_discussed_in_view p o V =
@@ -384,6 +401,10 @@ is_written_in_view p o V = last_or false (flat_map (done_seen p o) V)
 -- CommentsOf: the comments on the paper that are shown, by number
 abbrev pub comments_in_view : ℕ → View → List CommentTold
 comments_in_view p V = flat_map (comment_seen p) V
+
+-- ResponseOf: what the paper's authors responded, where it is shown
+abbrev pub response_in_view : ℕ → View → Option (List ℕ)
+response_in_view p V = last (flat_map (response_seen p) V)
 
 -- TagsOf: the paper's tags that are on, each by the last entry shown, a private one by the reader's own
 abbrev pub tags_in_view : Option ℕ → Bool → ℕ → View → List (List ℕ)
@@ -444,6 +465,7 @@ facts_in_view u V = record {
   own_comments = own_comments_in_view V;
   accepted = λ p. is_accepted_in_view p V;
   deadline = λ phase. deadline_in_view phase V;
+  had_response = had_response_in_view V;
 }
 
 -- of the users who have registered, those of whom this holds, by number
@@ -466,9 +488,11 @@ shown_in_view u V = record {
   assigned = λ p o. assigned_under o (seats_in_view p V);
   invited = λ v p. is_invited_in_view v p V;
   last_form = λ p o. last_form_in_view p o V;
+  early_form = λ p o. early_form_in_view p o V;
   forms_discussed = λ p o. forms_discussed_in_view p o V;
   written = λ p o. is_written_in_view p o V;
   comments = λ p. comments_in_view p V;
+  response = λ p. response_in_view p V;
   tags = λ v chair p. tags_in_view v chair p V;
   decision = λ p. decision_in_view p V;
 }

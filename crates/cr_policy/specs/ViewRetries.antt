@@ -57,6 +57,7 @@ receipt_shown kinds.DeadlineSet name s = receipts.Deadline (unwrap_or s.phase Se
 receipt_shown kinds.Dismissed name s = receipts.Named name Account
 receipt_shown kinds.Invited name s = receipts.Changed (unwrap_or s.paper 0)
 receipt_shown kinds.Uninvited name s = receipts.Changed (unwrap_or s.paper 0)
+receipt_shown kinds.Responded name s = receipts.Paper (unwrap_or s.paper 0)
 
 -- what these sightings of one command's entries tell
 abbrev pub kept_shown : List AccountLine → View → Option KeptCall

@@ -11,8 +11,8 @@ ghost use Rattle.cr_base.specs.History.{History};
 ghost use Rattle.cr_policy.specs.ConferenceLaws.{ConferenceLegal, ViewsBeforeBidding};
 ghost use Rattle.cr_policy.specs.ConferenceLaws.{ViewsInBidding, ViewsInReviewing};
 ghost use Rattle.cr_policy.specs.ConferenceLaws.{ViewsInDiscussion, ViewsAtNotification, ViewsAtClose};
-ghost use Rattle.cr_policy.specs.ConferenceLaws.{ViewsReversed, TwinsAlike, AsidesHidden};
-ghost use Rattle.cr_policy.specs.ConferenceLaws.{VerdictsHidden};
+ghost use Rattle.cr_policy.specs.ConferenceLaws.{ViewsReversed, TwinsAlike, AsidesHidden, RespondedAlike};
+ghost use Rattle.cr_policy.specs.ConferenceLaws.{VerdictsHidden, ViewsInResponse, ViewsBehindResponse, ViewsTold};
 ghost use Rattle.cr_policy.specs.HiddenPayload.{HiddenPayload, StampsUnseen, Removal};
 ghost use Rattle.cr_policy.specs.Migration.{Migrates};
 ghost use Rattle.cr_policy.specs.HiddenPairs.{CommentRemovable, VersionRemovable};
@@ -31,12 +31,15 @@ ghost use Rattle.cr_policy.specs.HiddenPairs.{SeatHidden, AssignerHidden, Unassi
 ghost use Rattle.cr_policy.specs.HiddenPairs.{UnassignerHidden, FormHidden, FormHiddenFromMembers};
 ghost use Rattle.cr_policy.specs.HiddenPairs.{ToPcHidden, ReviewerHidden, CommentHidden};
 ghost use Rattle.cr_policy.specs.HiddenPairs.{WriterHidden, DecisionHidden, DeciderHidden};
+ghost use Rattle.cr_policy.specs.HiddenPairs.{EarlyToPcHidden, EarlyReviewerHidden, LateFormHidden};
+ghost use Rattle.cr_policy.specs.HiddenPairs.{ResponseHidden, ResponseHiddenFromAccounts, ResponderHidden};
 ghost use Rattle.cr_policy.specs.Laws.{KeptFromView, NumbersOnce};
 ghost use Rattle.cr_policy.specs.Laws.{StandingFromView, PublicFactsFromView};
 ghost use Rattle.cr_policy.specs.Laws.{ViewSuffices, DeclaredFromView, LegalKeeps};
 ghost use Rattle.cr_policy.specs.SingleRows.{BulkIsItsRows};
 ghost use Rattle.cr_policy.specs.FirstTold.{FirstTold};
 ghost use Rattle.cr_policy.specs.GoesOn.{GoesOn};
+ghost use Rattle.cr_policy.specs.PhaseOrder.{PhasesInOrder};
 ghost use Rattle.cr_policy.specs.PlansTaken.{PlansTaken};
 ghost use Rattle.cr_policy.specs.Added.{AddsAsSaid};
 ghost use Rattle.cr_policy.specs.MayBulk.{RowsAsSaid, BulksAsSaid};
@@ -59,15 +62,17 @@ ghost use Rattle.cr_policy.specs.ViewBounds.{CommentsFromAuthors, WritersUnnamed
 ghost use Rattle.cr_policy.specs.ViewBounds.{BidsAreOwn, ReviewersFromAuthors, ReviewersEarly, ReviewersUnnamed};
 ghost use Rattle.cr_policy.specs.ViewBounds.{OneTitle, OneAbstract, OneContent, OneDecision};
 ghost use Rattle.cr_policy.specs.ViewBounds.{OutsidersShown, ExternalsShown, AccountsShown, StrangersShown};
-ghost use Rattle.cr_policy.specs.ViewBounds.{NobodyShown};
+ghost use Rattle.cr_policy.specs.ViewBounds.{NobodyShown, ResponsesShown};
+ghost use Rattle.cr_policy.specs.ResponseBounds.{ReviewsAwaited, ReviewsForAuthors, OneReview, ReviewsBehindUnseen};
+ghost use Rattle.cr_policy.specs.ResponseBounds.{UnheardForms, LaterForms};
 
 /// How a user stands can be read off what she sees: phase, mode, role and her ties to any paper, of
 /// every history and for every user, nobody among them. An author sees all authors of her paper, and
 /// whoever is none is told so by what she sees; each entry on a conflict of hers is shown her, and each by
 /// which she is assigned or unassigned, invited or no longer, so she is told whether she is in conflict, whether
-/// she reviews, and whether she is an external. What is public can be read off any view, the deadlines, the accounts,
-/// their names and roles, the papers, and which of them are accepted; and so can how many of the papers are the
-/// reader's own, how many bytes she has uploaded, and how many comments she has written.
+/// she reviews, and whether she is an external. What is public can be read off any view, the deadlines, whether the
+/// response was opened, the accounts, their names and roles, the papers, and which of them are accepted; and so can how
+/// many of the papers are the reader's own, how many bytes she has uploaded, and how many comments she has written.
 pub fn law_standing()
     ensures standing { StandingFromView }
     ensures public { (u : Option ℕ) (H : History) → PublicFactsFromView u H }
@@ -78,11 +83,11 @@ pub fn law_standing()
 /// its receipt, of every query its answer, for every registered user, and for nobody where no login is wanted; and so
 /// is what a command or a bulk comes to that has a number, by these and by what the history keeps of it. A bulk's rows
 /// are judged one behind the other, each on the view with the entries of those before it, which are the caller's own.
-/// The accepted papers, a paper's page, its content, its reviews and the comments on it are among the answers: what
+/// The accepted papers, a paper's page, content, reviews, comments and response are among the answers: what
 /// the caller's standing lets her have, its texts, its authors, its versions, whether it is withdrawn, who is declared
 /// in conflict with it and whom its authors declared, her own bid, label and forms, all bids, who reviews it and has
-/// written of it, the forms that are hers to read, the comments with their writers or their labels, and the tags that
-/// are for her, is in her view, and no more is needed.
+/// written of it, the forms that are hers to read, the comments with their writers or labels, the response and the
+/// tags that are for her, is in her view, and no more is needed.
 pub fn law_view_suffices()
     ensures { ViewSuffices }
 {}
@@ -120,6 +125,12 @@ pub fn law_first_told()
     ensures { FirstTold }
 {}
 
+/// The order of phases, of all pairs: which phases are one phase or later, and which may follow it. The response stands
+/// between the reviewing and the discussion, and may be left out; its number in rows comes behind all others.
+pub fn law_phases()
+    ensures { PhasesInOrder }
+{}
+
 /// No conference gets stuck: in each legal history in which anybody has registered, somebody who has is a chair; and
 /// before the close there is a next phase, and each chair's request for it is accepted.
 pub fn law_goes_on()
@@ -140,13 +151,13 @@ pub fn law_declared()
     ensures { DeclaredFromView }
 {}
 
-/// What every legal history keeps. Each entry is within its bounds, so that its row spells it; each fits the tables of
-/// what stands before it; each is in order there: who registers makes the entry herself and every other maker has
-/// registered before, users and papers are numbered as they come, names are new, phases go on by one, and what is set,
-/// submitted, named or declared is so in its phase, by whom may. No command's entries are cut off, nor a bulk's, and
-/// all of them are of one maker, one moment and one number; and authors declare conflicts before the bidding. A
-/// history is legal that commands and bulks lead to. So a digest is its user's alone: no view shows it to anybody
-/// else.
+/// What every legal history keeps. Each entry is within its bounds, so that its row spells it; each fits the tables
+/// of what stands before it; each is in order there: who registers makes the entry herself and every other maker has
+/// registered before, users and papers are numbered as they come, names are new, phases go on by one, or past the
+/// response, and what is set, submitted, named or declared is so in its phase, by whom may. No command's entries are
+/// cut off, nor a bulk's, and all of them are of one maker, one moment and one number; and authors declare conflicts
+/// before the bidding. A history is legal that commands and bulks lead to. So a digest is its user's alone: no view
+/// shows it to anybody else.
 pub fn law_legal()
     ensures invariants { LegalKeeps }
     ensures own_digests { DigestsAreOwn }
@@ -169,16 +180,20 @@ pub fn law_witness()
 
 /// What each kind of reader sees of a small conference, entry by entry and all of it: nobody, an account, an external
 /// who reviews and was a member once, an author, a co-author, a member in no conflict, one who reviews, a chair who
-/// does, and a member and a chair in conflict, of three papers with every kind of entry, in each mode, before the
-/// bidding, in it, in the reviewing, in the discussion, at the notification and at the close. A paper is rejected
-/// first and accepted then, one is rejected, and one is withdrawn; and where the two are decided the other way round,
-/// it is told what is seen at the close by who isn't on the committee. One submission has a number, which its maker
-/// alone is shown.
+/// does, and a member and a chair in conflict, of three papers with every kind of entry but a response, in each mode,
+/// before the bidding, in it, in the reviewing, in the discussion, at the notification and at the close. A paper is
+/// rejected first and accepted then, one is rejected, and one is withdrawn; and where the two are decided the other
+/// way round, it is told what is seen at the close by who isn't on the committee. One submission has a number, which
+/// its maker alone is shown.
 ///
 /// It has a twin, in which another member reviews a paper and writes its forms in the first one's place: what the
 /// paper's authors see of the two is the same, up to the discussion, and later but in the open mode; and so is what a
 /// member and a chair in conflict with the paper see, in all phases. Whatever a private tag, what a form tells the
 /// committee alone and a comment are, all four see the same in all phases.
+///
+/// Where it opens the response, and an author responds, what each reader sees is told as well: in it, in the
+/// discussion behind it, where a reviewer changes her form and another writes her first, and at the notification what
+/// nobody, an account and the two authors see. Up to the discussion its twin is the same for those four.
 ///
 /// Whatever the chairs decide, nobody, accounts and authors see the same before the notification, and so do a member
 /// and a chair in conflict with a paper, whatever is decided of that one. From the notification on they all do where
@@ -193,7 +208,11 @@ pub fn law_views()
     ensures notification { ViewsAtNotification }
     ensures closed { ViewsAtClose }
     ensures reversed { ViewsReversed }
+    ensures response { ViewsInResponse }
+    ensures behind_response { ViewsBehindResponse }
+    ensures told { ViewsTold }
     ensures twins { TwinsAlike }
+    ensures responded_twins { RespondedAlike }
     ensures asides { AsidesHidden }
     ensures verdicts { VerdictsHidden }
 {}
@@ -202,19 +221,20 @@ pub fn law_views()
 /// clauses go part by part: a view has one sighting of each entry that the user is told of, and of each part exactly
 /// what she may know, by who wrote the paper, who is on the committee, who is declared in conflict, phase and mode;
 /// when an entry was made, and by a command of which number, its maker alone. The last say what that leaves: of bids
-/// and of who reviews a paper little, for all but the chairs in no conflict with it; nothing that stands in another's
-/// review before the discussion, and for authors none before the notification and never what is for the committee; no
-/// comments and tags of others for authors; who comments, in the anonymous mode, for such chairs alone; private tags
-/// for whoever sets them, and tags for chairs for such chairs; no decision before the notification for all but those
-/// who discuss the paper, and for all but them and its authors never more than that it is accepted; of a paper's
-/// titles, abstracts and contents the last one, for all but its authors, and of decisions for all but those who
-/// discuss it; little of a paper for outsiders, who neither wrote it nor are eligible for it nor read it as externals,
-/// so in conflict, or on no committee, or before the bidding; of a paper for its externals its last texts, content and,
-/// unless the mode is anonymous, authors, and never another's bid, comment, tag or form, nor who else reviews it; of
-/// all other papers for whoever is on no committee what is public, beside her own entries and those that name her; for
-/// strangers what is public and their own entries; and for nobody what is
-/// public, an accepted paper's title and authors among it, and once the conference is closed its abstract and its
-/// content.
+/// and of who reviews a paper little, for all but the chairs in no conflict with it; of another's review nothing
+/// before the discussion, but for the paper's authors, to whom forms are shown from the notification on, or from the
+/// response where it was opened, and never what is for the committee; no comments and tags of others for authors; a
+/// response for its paper's authors and those who discuss the paper, and never who wrote it; who comments, in the
+/// anonymous mode, for such chairs alone; private tags for whoever sets them, and tags for chairs for such chairs; no
+/// decision before the notification for all but those who discuss the paper, and for all but them and its authors
+/// never more than that it is accepted; of a paper's titles, abstracts and contents the last one, for all but its
+/// authors, and of decisions for all but those who discuss it; little of a paper for outsiders, who neither wrote it
+/// nor are eligible for it nor read it as externals, so in conflict, or on no committee, or before the bidding; of a
+/// paper for its externals its last texts, content and, unless the mode is anonymous, authors, and never another's
+/// bid, comment, tag or form, nor who else reviews it; of all other papers for whoever is on no committee what is
+/// public, beside her own entries and those that name her; for strangers what is public and their own entries; and
+/// for nobody what is public, an accepted paper's title and authors among it, and once the conference is closed its
+/// abstract and its content.
 pub fn law_bounds()
     ensures entries { EntriesShown }
     ensures marks { MarksShown }
@@ -255,6 +275,7 @@ pub fn law_bounds()
     ensures forms_early { FormsEarly }
     ensures forms_from_authors { FormsFromAuthors }
     ensures comments_from_authors { CommentsFromAuthors }
+    ensures responses { ResponsesShown }
     ensures writers_unnamed { WritersUnnamed }
     ensures private_tags { PrivateTagsAreOwn }
     ensures chairs_tags { ChairsTags }
@@ -269,6 +290,21 @@ pub fn law_bounds()
     ensures accounts { AccountsShown }
     ensures strangers { StrangersShown }
     ensures nobody { NobodyShown }
+{}
+
+/// What a paper's authors are shown of its reviews before the notification, of every history and in every mode:
+/// before a response phase is opened, and in the discussion of a conference that has skipped it, nothing; and then of
+/// each label at most one form, its score, its confidence and its text to the authors, and none that was written when
+/// the response had been opened. The last two clauses say what therefore looks the same to them: whatever stands in
+/// the forms that others wrote of their papers, but for the last of each label before the response; and whether there
+/// is one of those that were written behind it.
+pub fn law_response_bound()
+    ensures awaited { ReviewsAwaited }
+    ensures for_authors { ReviewsForAuthors }
+    ensures one { OneReview }
+    ensures behind { ReviewsBehindUnseen }
+    ensures unheard { UnheardForms }
+    ensures later { LaterForms }
 {}
 
 /// Two histories that differ in nothing that a user is shown look the same to her; and so they do to an
@@ -309,15 +345,17 @@ pub fn law_migrated()
 
 /// For each kind of entry, and each part of it that is hidden from some, two legal histories that differ there and
 /// meet the conditions of [`law_hidden_payload`] for one user, who sees the same of both, while another user doesn't:
-/// the digest of a registration; who named a member, and who set a mode, a phase or a deadline, when, and by a command
-/// of which number; a paper's title and abstract, and in the anonymous mode its authors; a revision's texts and an
-/// upload's content, where others follow, and who made them; who withdrew; whom an author declares in conflict,
-/// whether a chair turns that off, and which author declared; a bid and whose it is; whether a private tag is on and
-/// whose it is; who is assigned, as what and by whom, and who is unassigned and by whom; who dismissed a member; who is
-/// invited and by whom, whose invitation is taken back and by whom, and to who is invited who else reviews, a bid,
-/// whether a tag is on, and a comment and who wrote it; a form before it is read, what it tells the committee alone, and
-/// in the anonymous mode who wrote it; a comment and who wrote it; and a decision and who made it. The last two clauses
-/// are of [`law_removed`]: a comment, and the last version of a content, whose place another takes.
+/// the digest of a registration; who named a member, and who set a mode, a phase or a deadline, when, and by a
+/// command of which number; a paper's title and abstract, and in the anonymous mode its authors; a revision's texts
+/// and an upload's content, where others follow, and who made them; who withdrew; whom an author declares in
+/// conflict, whether a chair turns that off, and which author declared; a bid and whose it is; whether a private tag
+/// is on and whose it is; who is assigned, as what and by whom, and who is unassigned and by whom; who dismissed a
+/// member; who is invited and by whom, whose invitation is taken back and by whom, and to who is invited who else
+/// reviews, a bid, whether a tag is on, and a comment and who wrote it; a form before it is read, what it tells the
+/// committee alone, and in the anonymous mode who wrote it; of a form that authors respond to the same, in the open
+/// mode too, and all of one behind it; a response, and which author wrote it; a comment and who wrote it; and a
+/// decision and who made it. The last two clauses are of [`law_removed`]: a comment, and the last version of a
+/// content, whose place another takes.
 pub fn law_hidden_pairs()
     ensures digests { DigestHidden }
     ensures namers { NamerHidden }
@@ -360,6 +398,12 @@ pub fn law_hidden_pairs()
     ensures forms_to_members { FormHiddenFromMembers }
     ensures to_pc { ToPcHidden }
     ensures reviewers { ReviewerHidden }
+    ensures early_to_pc { EarlyToPcHidden }
+    ensures early_reviewers { EarlyReviewerHidden }
+    ensures late_forms { LateFormHidden }
+    ensures responses { ResponseHidden }
+    ensures responses_to_accounts { ResponseHiddenFromAccounts }
+    ensures responders { ResponderHidden }
     ensures comments { CommentHidden }
     ensures writers { WriterHidden }
     ensures decisions { DecisionHidden }

@@ -35,6 +35,7 @@ use Rattle.cr_json.specs.Deadlines.{phase_deadline_text}
 use Rattle.cr_print.specs.Found.{found_content, count_content}
 use Rattle.cr_print.specs.Page.{page_content}
 use Rattle.cr_print.specs.Me.{me_content}
+use Rattle.cr_print.specs.Response.{response_content}
 
 -- an answer to HEAD ends behind its head (RFC 9110, section 9.3.2)
 abbrev pub unless_head : Bool → List ℕ → List ℕ
@@ -110,6 +111,10 @@ page_text page sending = served_text (page_content page) sending
 unfoldable pub me_text : Me → Sending → List ℕ
 me_text me sending = served_text (me_content me) sending
 
+-- what a paper's authors responded
+unfoldable pub response_text : List ℕ → Sending → List ℕ
+response_text text sending = served_text (response_content text) sending
+
 -- the head of an answer whose content is bytes as they are
 abbrev pub bytes_head : AnswerHead
 bytes_head = record { status = Okay; media_type = OctetStream; extra = Nothing }
@@ -135,6 +140,7 @@ front_text sending (replies.Accounts accounts) = accounts_text accounts sending
 front_text sending (replies.Deadlines deadlines) = deadlines_text deadlines sending
 front_text sending (replies.AcceptedPapers papers) = papers_text papers sending
 front_text sending (replies.Reviews reviews) = reviews_text reviews sending
+front_text sending (replies.Response text) = response_text text sending
 front_text sending (replies.Comments comments) = comments_text comments sending
 front_text sending (replies.Found papers) = found_text papers sending
 front_text sending (replies.Count n) = count_text n sending
@@ -167,6 +173,7 @@ IsBrief (replies.Accounts accounts) = ⊥
 IsBrief (replies.Deadlines deadlines) = ⊥
 IsBrief (replies.AcceptedPapers papers) = ⊥
 IsBrief (replies.Reviews reviews) = ⊥
+IsBrief (replies.Response text) = ⊥
 IsBrief (replies.Comments comments) = ⊥
 IsBrief (replies.Found papers) = ⊥
 IsBrief (replies.Count n) = Unit {0}

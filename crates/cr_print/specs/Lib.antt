@@ -8,4 +8,5 @@ pub mod Conference
 pub mod Found
 pub mod Page
 pub mod Me
+pub mod Response
 pub mod Answers

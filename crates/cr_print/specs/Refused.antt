@@ -12,6 +12,7 @@ use Rattle.cr_base.specs.declared.reply.Rule.TheVariants.{HasReview, NotReviewer
 use Rattle.cr_base.specs.declared.reply.Rule.TheVariants.{BadAction, BadTag, BulkSelf, Late, NumberUsed}
 use Rattle.cr_base.specs.declared.reply.Rule.TheVariants.{PlanTooLarge, NoPlan, LastChair, IsMember}
 use Rattle.cr_base.specs.declared.reply.Rule.TheVariants.{AlreadyInvited, NotInvited, StillAssigned}
+use Rattle.cr_base.specs.declared.reply.Rule.TheVariants.{AlreadyResponded, NoResponse}
 use Rattle.cr_http.specs.declared.refusal.Refusal.{Refusal}
 use Rattle.cr_http.specs.declared.refusal.Refusal.TheVariants.{HeadTooLarge, BadHttp, NoHost}
 use Rattle.cr_http.specs.declared.refusal.Refusal.TheVariants.{LengthRequired, BadLength, TooLarge}
@@ -70,6 +71,8 @@ rule_name IsMember = codes "is_member"
 rule_name AlreadyInvited = codes "already_invited"
 rule_name NotInvited = codes "not_invited"
 rule_name StillAssigned = codes "still_assigned"
+rule_name AlreadyResponded = codes "already_responded"
+rule_name NoResponse = codes "no_response"
 
 unfoldable pub refused_name : Refused → List ℕ
 refused_name (Closing refusal) = closing_name refusal
@@ -129,6 +132,8 @@ rule_status IsMember = statuses.Conflict
 rule_status AlreadyInvited = statuses.Conflict
 rule_status NotInvited = statuses.Conflict
 rule_status StillAssigned = statuses.Conflict
+rule_status AlreadyResponded = statuses.Conflict
+rule_status NoResponse = statuses.NotFound
 
 unfoldable pub refused_status : Refused → Status
 refused_status (Closing refusal) = closing_status refusal

@@ -21,6 +21,7 @@ mod put;
 mod receipt;
 mod refused;
 mod reply;
+mod response;
 mod sending;
 mod status;
 

@@ -57,7 +57,7 @@ pub enum Refused {
 #[tactic(auto, unfolding(crate::specs::Refused::rule_name))]
 fn rule_name(rule: Rule) -> &'static str
     ensures value { result.now ≡ rule_name rule }
-    ensures short { length result.now ≤ 16 }
+    ensures short { length result.now ≤ 17 }
 {
     match rule {
         Rule::NameTaken => "name_taken",
@@ -96,6 +96,8 @@ fn rule_name(rule: Rule) -> &'static str
         Rule::AlreadyInvited => "already_invited",
         Rule::NotInvited => "not_invited",
         Rule::StillAssigned => "still_assigned",
+        Rule::AlreadyResponded => "already_responded",
+        Rule::NoResponse => "no_response",
     }
 }
 
@@ -117,7 +119,7 @@ fn closing_name(refusal: Refusal) -> &'static str
 #[tactic(auto, unfolding(crate::specs::Refused::refused_name))]
 fn name(refused: Refused) -> &'static str
     ensures value { result.now ≡ refused_name refused }
-    ensures short { length result.now ≤ 16 }
+    ensures short { length result.now ≤ 17 }
 {
     match refused {
         Refused::Closing(refusal) => closing_name(refusal),
@@ -141,7 +143,7 @@ fn rule_status(rule: Rule) -> Status
     match rule {
         Rule::NotChair | Rule::NotMember | Rule::NotAuthor | Rule::NotReviewer | Rule::Conflict =>
             Status::Forbidden,
-        Rule::NoPaper | Rule::NoUser | Rule::NoContent => Status::NotFound,
+        Rule::NoPaper | Rule::NoUser | Rule::NoContent | Rule::NoResponse => Status::NotFound,
         Rule::NameTaken
         | Rule::FullAccounts
         | Rule::WrongPhase
@@ -169,7 +171,8 @@ fn rule_status(rule: Rule) -> Status
         | Rule::IsMember
         | Rule::AlreadyInvited
         | Rule::NotInvited
-        | Rule::StillAssigned => Status::Conflict,
+        | Rule::StillAssigned
+        | Rule::AlreadyResponded => Status::Conflict,
     }
 }
 
@@ -217,7 +220,7 @@ fn extra(refused: Refused) -> Extra
 fn add_row(object: &mut Object, into: &mut Vec<u8>, row: u64, rule: Rule) -> Result<(), AllocError>
     ensures adds { AddsMembers result into.old into.new object.old.is_first object.new.is_first
         (further_members (refused.Row row rule)) }
-    ensures room { Takes result into.old into.new 133 }
+    ensures room { Takes result into.old into.new 139 }
 {
     object.number(into, "row", row)?;
     object.string(into, "rule", rule_name(rule).as_bytes())?;
@@ -229,7 +232,7 @@ fn add_row(object: &mut Object, into: &mut Vec<u8>, row: u64, rule: Rule) -> Res
 fn add_further(object: &mut Object, into: &mut Vec<u8>, refused: Refused) -> Result<(), AllocError>
     ensures adds { AddsMembers result into.old into.new object.old.is_first object.new.is_first
         (further_members refused) }
-    ensures room { Takes result into.old into.new 133 }
+    ensures room { Takes result into.old into.new 139 }
 {
     match refused {
         Refused::BadQuery { offset } => object.number(into, "place", offset as u64),

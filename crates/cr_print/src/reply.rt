@@ -4,7 +4,8 @@ ghost use Rattle.cr_json.specs.Put.{HasRoom, Puts};
 ghost use Rattle.cr_print.specs.Prints.{Prints};
 ghost use Rattle.cr_print.specs.Answers.{bytes_head, content_front, text_head, report_front, served_text, list_text};
 ghost use Rattle.cr_print.specs.Answers.{accounts_text, deadlines_text, papers_text, reviews_text, comments_text};
-ghost use Rattle.cr_print.specs.Answers.{found_text, page_text, me_text, front_text, block_text, IsBrief};
+ghost use Rattle.cr_print.specs.Answers.{found_text, page_text, me_text, response_text};
+ghost use Rattle.cr_print.specs.Answers.{front_text, block_text, IsBrief};
 
 use crate::brief::ANSWER_ROOM;
 use crate::conference::print_conference;
@@ -15,11 +16,12 @@ use crate::page::{append_page, page_room};
 use crate::put::put;
 use crate::receipt::print_receipt;
 use crate::refused::{Refused, print_refusal};
+use crate::response::append_response;
 use crate::sending::Sending;
 use crate::status::Status;
 use cr_base::{
     AcceptedPapers, AccountLines, CommentLines, FoundPapers, Me, Page, PhaseDeadlines, Reply,
-    ReviewLines,
+    ReviewLines, Text,
 };
 use cr_json::{Value, append_list_alone};
 use std::alloc::AllocError;
@@ -142,6 +144,15 @@ fn print_me(into: &mut Vec<u8>, me: &Me, sending: Sending) -> Result<(), AllocEr
     print_content(into, content.as_slice(), sending)
 }
 
+#[tactic(auto, unfolding(crate::specs::Answers::response_text))]
+fn print_response(into: &mut Vec<u8>, text: &Text, sending: Sending) -> Result<(), AllocError>
+    ensures { Prints result into.old into.new (response_text text.now sending) }
+{
+    let mut content = Vec::new(*into.allocator());
+    append_response(&mut content, text)?;
+    print_content(into, content.as_slice(), sending)
+}
+
 /// The head of an answer whose content is bytes as they are.
 fn head_of_bytes() -> AnswerHead
     ensures { result ≡ bytes_head }
@@ -187,8 +198,8 @@ fn print_report_front(into: &mut Vec<u8>, length: usize, sending: Sending)
 ///
 /// An error comes only for lack of memory, and `into` then has the bytes that it had; its room may
 /// have grown. It never comes for a receipt, a refusal, the conference, a count, a content or a report where room for
-/// 512 bytes is there. The content of a list, a page, what was found or what one is told of oneself is made in a
-/// vector of its own, to HEAD too, and copied once.
+/// 512 bytes is there. The content of a list, a page, a response, what was found or what one is told of oneself is made
+/// in a vector of its own, to HEAD too, and copied once.
 pub fn print_reply(into: &mut Vec<u8>, reply: &Reply, sending: Sending) -> Result<(), AllocError>
     ensures prints { Prints result into.old into.new (front_text sending reply.now) }
     ensures sure { OnErr result (IsBrief reply.now → HasRoom into.old 512 → ⊥) }
@@ -217,6 +228,7 @@ pub fn print_reply(into: &mut Vec<u8>, reply: &Reply, sending: Sending) -> Resul
         Reply::Deadlines(deadlines) => print_deadlines(into, deadlines, sending),
         Reply::AcceptedPapers(papers) => print_accepted(into, papers, sending),
         Reply::Reviews(reviews) => print_reviews(into, reviews, sending),
+        Reply::Response(text) => print_response(into, text, sending),
         Reply::Comments(comments) => print_comments(into, comments, sending),
         Reply::Found(papers) => print_found(into, papers, sending),
         Reply::Count(count) => {

@@ -1,6 +1,6 @@
 -- What passes a test: whether there is one, and which is the last.
 use Rattle.std.proofs.Common.{Bool, true, false, cond, not, ◌≡◌, ◌||◌, ◌&&◌, List, [], ◌∷◌, reverse, refl, ap, ◌∙◌, Option, Some, None}
-use Rattle.std.specs.Prelude.{filter}
+use Rattle.std.specs.Prelude.{filter, is_some}
 use Rattle.std.specs.List.{list_any, find}
 use Rattle.std.specs.Option.{option_or}
 use Rattle.std.proofs.lemmas.List.{reverse-append}
@@ -39,6 +39,22 @@ module _ {A : Type 0} (q : A → Bool) where
       by None h = h
       by (Some x) h = h
 
+-- there is a last where there is one
+last-behind : {A : Type 0} (x : A) (xs : List A) → true ≡ is_some (last_from (Some x) xs)
+last-behind x [] = refl
+last-behind x (y ∷ xs) = last-behind y xs
+
+last-there : {A : Type 0} (xs : List A) → not (is_nothing xs) ≡ is_some (last xs)
+last-there [] = refl
+last-there (x ∷ xs) = last-behind x xs
+
 -- the last of what passes one test and then another
 pub last-both : {A : Type 0} (q r : A → Bool) (xs : List A) → find (λ x. q x && r x) (reverse xs) ≡ last (filter r (filter q xs))
 last-both {A} q r xs = last-found (λ (y : A). q y && r y) xs ∙ ap (λ (zs : List A). last zs) (filter-filter q r xs)
+
+-- and whether there is one
+pub found-both : {A : Type 0} (q r : A → Bool) (xs : List A) → list_any (λ x. q x && r x) xs ≡ is_some (last (filter r (filter q xs)))
+found-both {A} q r xs =
+    found (λ (y : A). q y && r y) xs
+    ∙ last-there (filter (λ (y : A). q y && r y) xs)
+    ∙ ap (λ (zs : List A). is_some (last zs)) (filter-filter q r xs)

@@ -3,6 +3,7 @@
 ghost use Rattle.std.specs.Prelude.{◌≡◌, ℕ, count_by};
 ghost use Rattle.std.specs.List.{list_any};
 ghost use Rattle.std.specs.Option.{option_copied};
+ghost use Rattle.cr_reviews.specs.declared.forms.Written.TheVariants.{Before};
 ghost use Rattle.cr_reviews.specs.Labels.{has_label};
 ghost use Rattle.cr_reviews.specs.Under.{is_under, is_written, last_that};
 
@@ -66,6 +67,19 @@ pub(crate) fn labels_of(forms: &[WrittenForm]) -> Labels
     let mut labels = Labels::none();
     for form in forms {
         labels.add(form.ordinal);
+    }
+    labels
+}
+
+/// The labels under which there is one that was written before the phase began. One walk.
+pub(crate) fn labels_before(forms: &[WrittenForm], phase: Phase) -> Labels
+    ensures { (o : ℕ) → has_label result o ≡ list_any (is_written o (Before phase)) forms.now }
+{
+    let mut labels = Labels::none();
+    for form in forms {
+        if !form.phase.is_from(phase) {
+            labels.add(form.ordinal);
+        }
     }
     labels
 }

@@ -5,7 +5,7 @@ use Rattle.cr_routes.specs.declared.resource.Resource.TheVariants.{Register, Acc
 use Rattle.cr_routes.specs.declared.resource.Resource.TheVariants.{Members, Member, Mode, Phase, Me, Search}
 use Rattle.cr_routes.specs.declared.resource.Resource.TheVariants.{Papers, Paper, Content, Version}
 use Rattle.cr_routes.specs.declared.resource.Resource.TheVariants.{Conflicts, Bid, Externals, External}
-use Rattle.cr_routes.specs.declared.resource.Resource.TheVariants.{Reviewers, Reviewer}
+use Rattle.cr_routes.specs.declared.resource.Resource.TheVariants.{Reviewers, Reviewer, Response}
 use Rattle.cr_routes.specs.declared.resource.Resource.TheVariants.{Review, Reviews, Comments, Tag, Decision, Bulk}
 use Rattle.cr_routes.specs.declared.resource.Resource.TheVariants.{PapersReport, ScoresReport}
 use Rattle.cr_routes.specs.declared.resource.Resource.TheVariants.{LoadReport, DecisionsReport, Letter, Plan}
@@ -30,6 +30,7 @@ paths =
     (codes "/papers/{p}/decision", Decision) ∷
     (codes "/papers/{p}/externals/{u}", External) ∷
     (codes "/papers/{p}/externals", Externals) ∷
+    (codes "/papers/{p}/response", Response) ∷
     (codes "/papers/{p}/reviewers/{u}", Reviewer) ∷
     (codes "/papers/{p}/reviewers", Reviewers) ∷
     (codes "/papers/{p}/reviews", Reviews) ∷

@@ -47,6 +47,8 @@ pub enum Resource {
     Review,
     /// `/papers/{p}/reviews`: one such part stands between the slashes.
     Reviews,
+    /// `/papers/{p}/response`: one such part stands between the slashes.
+    Response,
     /// `/papers/{p}/comments`: one such part stands between the slashes.
     Comments,
     /// `/papers/{p}/tags/{t}`: one such part stands between the slashes, and one at the end.
@@ -89,6 +91,7 @@ impl Resource {
             Resource::Content => Some(Ask::Content),
             Resource::Version => Some(Ask::Version),
             Resource::Reviews => Some(Ask::Reviews),
+            Resource::Response => Some(Ask::Response),
             Resource::Comments => Some(Ask::Comments),
             Resource::Me => Some(Ask::Me),
             Resource::Search => Some(Ask::Search),
@@ -125,6 +128,7 @@ impl Resource {
             (Resource::Externals, Method::Post) => Some(Ask::Invite),
             (Resource::External, Method::Delete) => Some(Ask::Uninvite),
             (Resource::Review, Method::Put) => Some(Ask::Review),
+            (Resource::Response, Method::Put) => Some(Ask::Respond),
             (Resource::Comments, Method::Post) => Some(Ask::Comment),
             (Resource::Tag, Method::Put) => Some(Ask::Tag),
             (Resource::Tag, Method::Delete) => Some(Ask::Untag),
@@ -152,7 +156,7 @@ impl Resource {
             Resource::PapersReport | Resource::ScoresReport | Resource::LoadReport => "GET, HEAD",
             Resource::DecisionsReport | Resource::Letter | Resource::Plan => "GET, HEAD",
             Resource::Paper => "DELETE, GET, HEAD, PUT",
-            Resource::Content => "GET, HEAD, PUT",
+            Resource::Content | Resource::Response => "GET, HEAD, PUT",
             Resource::Phase | Resource::Deadlines | Resource::Comments => "GET, HEAD, POST",
         }
     }

@@ -9,7 +9,7 @@ use matchit::{InsertError, Router};
 use std::alloc::{AllocError, Global};
 
 /// As `paths` lists them.
-static PATHS: [(&str, Resource); 32] = [
+static PATHS: [(&str, Resource); 33] = [
     ("/accepted", Resource::Accepted),
     ("/accounts", Resource::Accounts),
     ("/assign", Resource::Bulk),
@@ -26,6 +26,7 @@ static PATHS: [(&str, Resource); 32] = [
     ("/papers/{p}/decision", Resource::Decision),
     ("/papers/{p}/externals/{u}", Resource::External),
     ("/papers/{p}/externals", Resource::Externals),
+    ("/papers/{p}/response", Resource::Response),
     ("/papers/{p}/reviewers/{u}", Resource::Reviewer),
     ("/papers/{p}/reviewers", Resource::Reviewers),
     ("/papers/{p}/reviews", Resource::Reviews),

@@ -6,7 +6,7 @@ use Rattle.cr_base.specs.Page.{gets_abstract, gets_decision, gets_title, where_t
 use Rattle.cr_base.specs.Searching.{PaperTold, search_holds, term_holds}
 use Rattle.cr_base.specs.Tables.{Tables}
 use Rattle.cr_search_eval.specs.declared.asked.Asked.{Asked}
-use Rattle.cr_view.specs.Fields.{comments_told, reviews_told}
+use Rattle.cr_view.specs.Fields.{comments_told, response_told, reviews_told}
 use Rattle.cr_view.specs.PaperSeen.{PaperSeen, paper_seen_at, page_seen}
 use Rattle.cr_view.specs.PaperSeen.{abstract_seen, accepted_seen, decision_seen, title_seen}
 
@@ -26,6 +26,7 @@ told_at t asked = record {
   conflicted = asked.facts.by.conflicted;
   reviews = reviews_told t (Some asked.user) asked.facts.by asked.facts.paper;
   comments = comments_told t asked.facts.by asked.facts.paper;
+  responded = response_told t asked.facts.by asked.facts.paper;
 }
 
 -- the keys of its page that its facts tell

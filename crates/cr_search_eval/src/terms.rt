@@ -165,6 +165,7 @@ fn has_feature(live: &Live, asked: &Asked<'_>, feature: Feature) -> bool
         Feature::Content => live.tells_version(&asked.facts),
         Feature::Review => live.tells_review(&Some(asked.user), &asked.facts),
         Feature::Comment => live.tells_comment(&asked.facts),
+        Feature::Response => live.tells_response(&asked.facts),
         Feature::Decision => tells_decision(asked),
         Feature::Conflict => asked.facts.by().conflicted,
         Feature::Mine => asked.facts.label_told().is_some(),

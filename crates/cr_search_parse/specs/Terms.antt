@@ -73,9 +73,10 @@ feature_asked word =
     if bytes_eq word (codes "content") then Some features.Content
     else (if bytes_eq word (codes "review") then Some features.Review
     else (if bytes_eq word (codes "comment") then Some features.Comment
+    else (if bytes_eq word (codes "response") then Some features.Response
     else (if bytes_eq word (codes "decision") then Some features.Decision
     else (if bytes_eq word (codes "conflict") then Some features.Conflict
-    else (if bytes_eq word (codes "mine") then Some features.Mine else None)))))
+    else (if bytes_eq word (codes "mine") then Some features.Mine else None))))))
 
 -- the term of a key and what stands behind its colon
 abbrev pub keyed : List ℕ → List ℕ → Option Term

@@ -172,6 +172,9 @@ fn feature_asked(word: &[u8]) -> Option<Feature>
     if word == b"comment".as_slice() {
         return Some(Feature::Comment);
     }
+    if word == b"response".as_slice() {
+        return Some(Feature::Response);
+    }
     if word == b"decision".as_slice() {
         return Some(Feature::Decision);
     }

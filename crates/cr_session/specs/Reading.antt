@@ -27,13 +27,13 @@ pub record StandsWish (text : List ℕ) (w : Wish) (rest : List ℕ) : Type 0 wh
 abbrev pub IsUnfinished : List ℕ → Type 0
 IsUnfinished text = StandsAt text clean ⊎ StandsAt text cut
 
--- memory may run out for the body or the search of the request at the front, whose moment this is
+-- memory may run out for the body, the search or the plan of the request at the front, whose moment this is
 abbrev pub MayWantToLook : ℕ → List ℕ → Type 0
 MayWantToLook at text =
     (w : Wish) × (rest : List ℕ) × StandsWish text w rest × LooksBehindPath w.what × (w.at ≡ at)
 
 -- memory may run out in reading on: for more bytes, where no moment was read for the request that comes; or for the
--- body or the search of the one at the front
+-- body, the search or the plan of the one at the front
 abbrev pub MayWantToRead : Option ℕ → List ℕ → Type 0
 MayWantToRead None text = IsUnfinished text
 MayWantToRead (Some at) text = MayWantToLook at text

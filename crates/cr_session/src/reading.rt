@@ -82,10 +82,10 @@ pub enum WishRead {
 /// Nothing is read ahead: each read is made only where neither a whole request nor a refusal stands in
 /// what has come. `ReadFault` comes only where the source's count of faults rose, or stands at its last
 /// value, and with every other answer that count is as it was. `OutOfMemory` comes for lack of memory
-/// alone, and only where more bytes are needed, or a body or a search is looked at. Costs the reads, a few looks at
-/// each byte of the head, and one reading of a JSON body or of a search where one is wanted.
+/// alone, and only where more bytes are needed, or a body, a search or a plan is looked at. Costs the reads, a few
+/// looks at each byte of the head, and one reading of a JSON body, of a search or of a plan where one is wanted.
 ///
-/// The clock is asked once, where a whole request or a refusal stands there, before a body or a search is looked at;
+/// The clock is asked once, where a whole request or a refusal stands there, before any of these is looked at;
 /// elsewhere it isn't asked. `ClockFault` comes only where its count of faults rose, or stands at its last value, and
 /// with every other answer that count is as it was.
 pub fn read_wish<S: Source, C: Clock>(

@@ -280,7 +280,8 @@ fn serve_next_request<R: Wait, K: Keeper, S: Source, O: Sink, C: Clock>(
 ///
 /// `OutOfMemory` comes for lack of memory alone. The room for answers is made at the beginning: where it
 /// can't be had, the connection ends before anything is read. Later, memory may run out for more bytes,
-/// for reading a body or a search, for an accepted command and for a query that isn't refused, and for nothing else.
+/// for reading a body, a search or a plan, for an accepted command or bulk, and for a query that isn't refused, or
+/// refused since there is no plan, and for nothing else.
 pub fn serve_connection<R: Wait, K: Keeper, S: Source, O: Sink, C: Clock>(
     server: &Server<'_, R, K>,
     pass: &mut Pass<Book<K>>,
@@ -300,7 +301,7 @@ pub fn serve_connection<R: Wait, K: Keeper, S: Source, O: Sink, C: Clock>(
         → WholeInHistory S.left result b (world pass.old source.old sink.old clock.old)
         (world pass.new source.new sink.new clock.new) }
 
-    // The pass is of the same lock and has its share, and took at most one turn a request.
+    // The pass is of the same lock and has its share, and took at most 2^20 turns.
     ensures own { (pass.new.lock ≡ pass.old.lock) × (pass.new.share ≡ pass.old.share) }
     ensures turns { pass.new.turns ≤ pass.old.turns + 2 ^ 20 }
     ensures read_fault { result ≡ Ending.ReadFault → Rises (S.faults source.old) (S.faults source.new) }

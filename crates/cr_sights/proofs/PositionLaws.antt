@@ -8,9 +8,10 @@ use Rattle.std.proofs.lemmas.Option.{slice_get-get_or}
 use Rattle.cr_base.specs.declared.entry.Entry.{Entry}
 use Rattle.cr_base.specs.declared.entry.Entry.TheVariants.{PhaseSet}
 use Rattle.cr_base.specs.declared.entry.Stamped.{Stamped}
-use Rattle.cr_base.specs.declared.words.Phase.TheVariants.{Discussion}
+use Rattle.cr_base.specs.declared.words.Phase.{Phase}
+use Rattle.cr_base.specs.declared.words.Phase.TheVariants.{Response, Discussion}
 use Rattle.cr_base.specs.Lists.{is_number, until}
-use Rattle.cr_base.specs.History.{History, opens, opens_discussion}
+use Rattle.cr_base.specs.History.{History, opens, opens_discussion, opens_response}
 use Rattle.cr_policy.specs.Triggers.{Around, Position, none_alike, position_of}
 use Rattle.cr_sights.specs.Series.{AreLast, is_last_at, is_of, none_of}
 use Rattle.cr_sights.specs.Positions.{IsPositionIn}
@@ -53,10 +54,14 @@ module _ {A : Type 0} (test : A → Bool) where
       by true none rest = cc
       by false none rest = ap (λ (ys : List A). y ∷ ys) (rest none not_here)
 
--- an entry of a series opens no discussion
-opens-none : (k : ℕ) (e : Entry) → is_of k e ≡ true → opens Discussion e ≡ false
-opens-none k (PhaseSet phase) of = cc
-opens-none k _ of = refl
+-- the entry opens the phase
+abbrev opens_it : Phase → Stamped → Bool
+opens_it phase e = opens phase e.entry
+
+-- an entry of a series opens no phase
+opens-none : (phase : Phase) (k : ℕ) (e : Entry) → is_of k e ≡ true → opens phase e ≡ false
+opens-none phase k (PhaseSet other) of = cc
+opens-none phase k _ of = refl
 
 -- ---- the entry at a place of a history
 
@@ -67,16 +72,21 @@ module _ (log : History) (at : ℕ) (d : Stamped) (within : at < length log) whe
   at-length : length (take at log) ≡ at
   at-length = length-take-le at log (omega (arith, within))
 
-  -- none behind it before the discussion
-  early-behind : (early : List ℕ) (series : Option ℕ) → ((k : ℕ) → is_of k here.entry ≡ is_number series k) → list_any opens_discussion (take at log) ≡ false
-      → AreLast early (until opens_discussion log) → none_of series (until opens_discussion (drop (at + 1) log)) ≡ is_last_at early series (at + 1)
-  early-behind early None of none last = refl
-  early-behind early (Some k) of none last =
-      none-behind early (take at log) here (until opens_discussion (drop (at + 1) log)) (Some k) of
+  -- none behind it before the phase
+  early-behind : (phase : Phase) (early : List ℕ) (series : Option ℕ) → ((k : ℕ) → is_of k here.entry ≡ is_number series k)
+      → list_any (opens_it phase) (take at log) ≡ false → AreLast early (until (opens_it phase) log)
+      → none_of series (until (opens_it phase) (drop (at + 1) log)) ≡ is_last_at early series (at + 1)
+  early-behind phase early None of none last = refl
+  early-behind phase early (Some k) of none last =
+      none-behind early (take at log) here (until (opens_it phase) (drop (at + 1) log)) (Some k) of
       (subst (AreLast early)
-      (ap (until opens_discussion) (split_here log at d within)
-      ∙ until-behind opens_discussion (take at log) here (drop (at + 1) log) none (opens-none k here.entry (of k ∙ eqb-same k))) last)
+      (ap (until (opens_it phase)) (split_here log at d within)
+      ∙ until-behind (opens_it phase) (take at log) here (drop (at + 1) log) none (opens-none phase k here.entry (of k ∙ eqb-same k))) last)
       ∙ ap (λ (n : ℕ). is_last_at early (Some k) (n + 1)) at-length
+
+  -- the phase was opened before it
+  from-here : (phase : Phase) (n : ℕ) → n ≡ length (until (opens_it phase) log) → list_any (opens_it phase) (take at log) ≡ nat_lt n at
+  from-here phase n is = passed-before (opens_it phase) log at (omega (arith, within)) ∙ ap (λ (m : ℕ). nat_lt m at) (sym is)
 
   module _ (series : Option ℕ)
       (of : (k : ℕ) → is_of k here.entry ≡ is_number series k) (alike : (H : History) → none_alike here.entry H ≡ none_of series H) where
@@ -89,29 +99,42 @@ module _ (log : History) (at : ℕ) (d : Stamped) (within : at < length log) whe
         ∙ none-behind all (take at log) here (drop (at + 1) log) series of (subst (AreLast all) (split_here log at d within) last)
         ∙ ap (λ (n : ℕ). is_last_at all series (n + 1)) at-length
 
-    early-here : (early : List ℕ) (opened : Bool) → list_any opens_discussion (take at log) ≡ opened → AreLast early (until opens_discussion log)
-        → (not opened && none_alike here.entry (until opens_discussion (drop (at + 1) log))) ≡ (not opened && is_last_at early series (at + 1))
-    early-here early true some last = refl
-    early-here early false none last = alike (until opens_discussion (drop (at + 1) log)) ∙ early-behind early series of none last
+    early-here : (phase : Phase) (early : List ℕ) (opened : Bool) → list_any (opens_it phase) (take at log) ≡ opened
+        → AreLast early (until (opens_it phase) log)
+        → (not opened && none_alike here.entry (until (opens_it phase) (drop (at + 1) log))) ≡ (not opened && is_last_at early series (at + 1))
+    early-here phase early true some last = refl
+    early-here phase early false none last = alike (until (opens_it phase) (drop (at + 1) log)) ∙ early-behind phase early series of none last
 
-    pub stands_so : (passed all early : List ℕ) (n : ℕ)
-        → AreLast passed (take at log) → AreLast all log → AreLast early (until opens_discussion log) → n ≡ length (until opens_discussion log)
+    -- it is the last before the phase
+    before-here : (phase : Phase) (early : List ℕ) (n : ℕ) (last : Bool) → AreLast early (until (opens_it phase) log)
+        → n ≡ length (until (opens_it phase) log) → last ≡ (not (nat_lt n at) && is_last_at early series (at + 1))
+        → (not (list_any (opens_it phase) (take at log)) && none_alike here.entry (until (opens_it phase) (drop (at + 1) log))) ≡ last
+    before-here phase early n last ends is told =
+        ap (λ b. not b && none_alike here.entry (until (opens_it phase) (drop (at + 1) log))) (from-here phase n is)
+        ∙ early-here phase early (nat_lt n at) (from-here phase n is) ends ∙ sym told
+
+    pub stands_so : (passed all heard early : List ℕ) (m n : ℕ)
+        → AreLast passed (take at log) → AreLast all log
+        → AreLast heard (until opens_response log) → m ≡ length (until opens_response log)
+        → AreLast early (until opens_discussion log) → n ≡ length (until opens_discussion log)
         → (position : Position) → position.first ≡ is_last_at passed series 0 → position.last ≡ is_last_at all series (at + 1)
-        → position.last_before_discussion ≡ (not position.from_discussion && is_last_at early series (at + 1)) → position.from_discussion ≡ nat_lt n at
+        → position.last_before_response ≡ (not (nat_lt m at) && is_last_at heard series (at + 1))
+        → position.last_before_discussion ≡ (not (nat_lt n at) && is_last_at early series (at + 1)) → position.from_discussion ≡ nat_lt n at
         → IsPositionIn log at position
-    stands_so passed all early n passes ends ends_early is position first last last_early from =
+    stands_so passed all heard early m n passes ends ends_heard answered ends_early opened position first last last_heard last_early from =
         subst (λ (o : Option Stamped). IfSome o (λ e. position_of place e.entry ≡ position)) (sym (slice_get-get_or log at d within)) same
       where
         place : Around
         place = record { before = take at log; after = drop (at + 1) log }
 
-        from-here : list_any opens_discussion (take at log) ≡ position.from_discussion
-        from-here = passed-before opens_discussion log at (omega (arith, within)) ∙ ap (λ (m : ℕ). nat_lt m at) (sym is) ∙ sym from
+        heard-is : (not (list_any opens_response place.before) && none_alike here.entry (until opens_response place.after)) ≡ position.last_before_response
+        heard-is = before-here Response heard m position.last_before_response ends_heard answered last_heard
 
         early-is : (not (list_any opens_discussion place.before) && none_alike here.entry (until opens_discussion place.after)) ≡ position.last_before_discussion
-        early-is =
-            ap (λ b. not b && none_alike here.entry (until opens_discussion place.after)) from-here
-            ∙ early-here early position.from_discussion from-here ends_early ∙ sym last_early
+        early-is = before-here Discussion early n position.last_before_discussion ends_early opened last_early
+
+        from-is : list_any opens_discussion place.before ≡ position.from_discussion
+        from-is = from-here Discussion n opened ∙ sym from
 
         same : position_of place here.entry ≡ position
-        same = rw (first-here passed passes ∙ sym first, last-here all ends ∙ sym last, early-is, from-here) refl
+        same = rw (first-here passed passes ∙ sym first, last-here all ends ∙ sym last, heard-is, early-is, from-is) refl

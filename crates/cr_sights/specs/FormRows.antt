@@ -2,7 +2,7 @@
 use Rattle.std.specs.Prelude.{Bool, ◌&&◌, ◌||◌}
 use Rattle.cr_base.specs.declared.standing.Standing.{Standing}
 use Rattle.cr_base.specs.Page.{is_clear_chair, is_clear_member}
-use Rattle.cr_base.specs.Phases.{members_read_reviews, authors_read_reviews}
+use Rattle.cr_base.specs.Phases.{members_read_reviews, authors_read_reviews, authors_read_early_reviews}
 use Rattle.cr_policy.specs.Triggers.{Position}
 
 -- a clear chair, of the first under a label
@@ -14,6 +14,11 @@ abbrev pub is_discussed_by : Position → Standing → Bool
 is_discussed_by position by =
     (position.last_before_discussion || position.from_discussion)
     && (is_clear_member by && members_read_reviews by.phase)
+
+-- an author from the response on, where it was opened, of the last before it
+abbrev pub is_early_for : Position → Bool → Standing → Bool
+is_early_for position opened by =
+    position.last_before_response && opened && by.author && authors_read_early_reviews by.phase
 
 -- an author once authors read reviews, of the last
 abbrev pub is_for_author : Position → Standing → Bool

@@ -2,7 +2,7 @@
 use Rattle.std.specs.Prelude.{◌≡◌, ℕ, ◌+◌, length, take, drop, IfSome}
 use Rattle.std.specs.List.{slice_get}
 use Rattle.cr_base.specs.declared.entry.Stamped.{Stamped}
-use Rattle.cr_base.specs.History.{History, opens_discussion}
+use Rattle.cr_base.specs.History.{History, opens_discussion, opens_response}
 use Rattle.cr_base.specs.Lists.{until}
 use Rattle.cr_policy.specs.Triggers.{Position, position_of}
 use Rattle.cr_sights.specs.declared.positions.Positions.{Positions}
@@ -15,9 +15,12 @@ IsPositionIn H at position =
     (λ (e : Stamped). position_of (record { before = take at H; after = drop (at + 1) H }) e.entry ≡ position)
 
 -- What is noted when the entries up to a place were passed: the last places of each series among those, in the whole
--- history, and among the entries that stand before the discussion was opened, and how many these are.
+-- history, and among the entries that stand before the response was opened, and before the discussion was, and how many
+-- these are.
 pub record AreNoted (positions : Positions) (H : History) (at : ℕ) : Type 0 where
   pub passed : AreLast positions.passed.places.items (take at H)
   pub all : AreLast positions.all.places.items H
+  pub heard : AreLast positions.heard.places.items (until opens_response H)
   pub early : AreLast positions.early.places.items (until opens_discussion H)
+  pub answered : positions.answered ≡ length (until opens_response H)
   pub opened : positions.opened ≡ length (until opens_discussion H)

@@ -11,6 +11,7 @@ abbrev pub reader_in : Tables → Option ℕ → Reader
 reader_in t u = record {
   number = u;
   now = t.stage.phase;
+  had_response = t.stage.had_response;
   mode = t.stage.mode;
   rank = role_in t.accounts u;
   author = λ p. is_author_in t.ties u p;

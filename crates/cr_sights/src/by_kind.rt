@@ -14,7 +14,7 @@ use crate::reviews::review;
 use crate::seats::{assignment, unassignment};
 use crate::sighting::Sighting;
 use crate::tags::tagging;
-use crate::talk::comment;
+use crate::talk::{comment, response};
 use crate::ties::{bid, conflict};
 use cr_base::{Entry, Stamped, UserNo};
 use cr_view::Live;
@@ -52,5 +52,6 @@ pub fn sight<'a>(
         Entry::Dismissed { .. } => dismissal(reader, stamped),
         Entry::Invited { .. } => invitation(live, reader, stamped),
         Entry::Uninvited { .. } => uninvitation(live, reader, stamped),
+        Entry::Responded { .. } => response(live, reader, stamped),
     }
 }

@@ -12,6 +12,8 @@ pub struct Position {
     pub first: bool,
     /// Whether no later one is.
     pub last: bool,
+    /// Whether the response wasn't opened before it, and no later entry of its series was made before that.
+    pub last_before_response: bool,
     /// Whether the discussion wasn't opened before it, and no later entry of its series was made before that.
     pub last_before_discussion: bool,
     /// Whether the discussion was opened before it.
@@ -26,6 +28,7 @@ impl Model for Position {
     ghost view = { λ p. record {
       first = p.first;
       last = p.last;
+      last_before_response = p.last_before_response;
       last_before_discussion = p.last_before_discussion;
       from_discussion = p.from_discussion;
     } };
@@ -33,6 +36,7 @@ impl Model for Position {
     ghost inverse = { λ p. record {
       first = p.first;
       last = p.last;
+      last_before_response = p.last_before_response;
       last_before_discussion = p.last_before_discussion;
       from_discussion = p.from_discussion;
     } };

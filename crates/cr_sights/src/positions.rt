@@ -1,7 +1,6 @@
 //! Where each entry of a history stands among those of its series, entry by entry.
 ghost use Rattle.std.specs.Prelude.{◌≡◌, ◌+◌, ◌<◌, ◌≤◌, ◌&&◌, length, not, IfOk, OnOk};
-ghost use Rattle.cr_base.specs.declared.words.Phase.TheVariants as phases;
-ghost use Rattle.cr_base.specs.History.{opens, opens_discussion};
+ghost use Rattle.cr_base.specs.History.{opens};
 ghost use Rattle.cr_base.specs.Lists.{until};
 ghost use Rattle.cr_sights.specs.Positions.{AreNoted, IsPositionIn};
 
@@ -12,12 +11,16 @@ use cr_base::{Entry, Phase, Stamped};
 use std::alloc::{AllocError, Global};
 
 /// What tells of each entry of a history where it stands, as a walk comes to it: the last places of series among the
-/// entries that were passed, in the whole history, and among those that stand before the discussion was opened.
+/// entries that were passed, in the whole history, among those that stand before the response was opened, and among
+/// those that stand before the discussion was.
 #[derive(Drop)]
 pub(crate) struct Positions {
     passed: Places,
     all: Places,
+    heard: Places,
     early: Places,
+    /// How many entries stand before that which opens the response.
+    answered: usize,
     /// How many entries stand before that which opens the discussion.
     opened: usize,
 }
@@ -27,13 +30,17 @@ impl Positions {
     pub(crate) fn of(alloc: Global, log: &[Stamped]) -> Result<Positions, AllocError>
         ensures { IfOk result (λ positions. AreNoted positions log.now 0) }
     {
-        let opened = opening(log);
+        let answered = opening(log, Phase::Response);
+        let opened = opening(log, Phase::Discussion);
         let all = Places::of(alloc, log)?;
+        let heard = Places::of(alloc, &log[..answered])?;
         let early = Places::of(alloc, &log[..opened])?;
         Ok(Positions {
             passed: Places::new(alloc),
             all,
+            heard,
             early,
+            answered,
             opened,
         })
     }
@@ -47,10 +54,12 @@ impl Positions {
     {
         let series = series(&log[at].entry);
         let from_discussion = self.opened < at;
+        let last_heard = self.heard.is_last_at(&series, at + 1);
         let last_early = self.early.is_last_at(&series, at + 1);
         let position = Position {
             first: self.passed.is_last_at(&series, 0),
             last: self.all.is_last_at(&series, at + 1),
+            last_before_response: is_last_before(self.answered < at, last_heard),
             last_before_discussion: is_last_before(from_discussion, last_early),
             from_discussion,
         };
@@ -59,31 +68,31 @@ impl Positions {
     }
 }
 
-/// Whether an entry stands before the discussion, as the last of its series there.
-fn is_last_before(from_discussion: bool, last_early: bool) -> bool
-    ensures { result ≡ (not from_discussion && last_early) }
+/// Whether an entry stands before a phase is opened, as the last of its series there.
+fn is_last_before(from_phase: bool, last_before: bool) -> bool
+    ensures { result ≡ (not from_phase && last_before) }
 {
-    !from_discussion && last_early
+    !from_phase && last_before
 }
 
-/// Whether an entry opens the discussion.
-fn opens(entry: &Entry) -> bool
-    ensures { result ≡ opens phases.Discussion entry.now }
+/// Whether an entry opens the phase told.
+fn opens(entry: &Entry, told: Phase) -> bool
+    ensures { result ≡ opens told entry.now }
 {
     match entry {
-        Entry::PhaseSet { phase } => phase.is(Phase::Discussion),
+        Entry::PhaseSet { phase } => phase.is(told),
         _ => false,
     }
 }
 
-/// How many entries stand before the first that opens the discussion; all where none does.
-fn opening(log: &[Stamped]) -> usize
-    ensures before { result ≡ length (until opens_discussion log.now) }
+/// How many entries stand before the first that opens the phase; all where none does.
+fn opening(log: &[Stamped], phase: Phase) -> usize
+    ensures before { result ≡ length (until (λ s. opens phase s.entry) log.now) }
     ensures within { result ≤ length log.now }
 {
     let mut at = 0;
     'entries: while at < log.len() {
-        if opens(&log[at].entry) {
+        if opens(&log[at].entry, phase) {
             return at;
         }
         at += 1;

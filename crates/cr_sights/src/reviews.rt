@@ -7,7 +7,7 @@ ghost use Rattle.cr_base.specs.Phases.{members_read_reviews};
 ghost use Rattle.cr_base.specs.Rows.{kind_of};
 ghost use Rattle.cr_policy.specs.Triggers.{Around, position_of};
 ghost use Rattle.cr_policy.specs.View.{sight as sight_at};
-ghost use Rattle.cr_sights.specs.FormRows.{is_discussed_by, is_done_for, is_for_author};
+ghost use Rattle.cr_sights.specs.FormRows.{is_discussed_by, is_done_for, is_early_for, is_for_author};
 ghost use Rattle.cr_sights.specs.Readers.{reader_in};
 
 use crate::position::Position;
@@ -44,6 +44,21 @@ fn is_for_author(by: &Standing, position: Position) -> bool
     position.last && by.author && by.phase.authors_read_reviews()
 }
 
+/// Whether a form is for her as an author to respond to: from the response on, where it was opened, the last under a
+/// label before it is.
+fn is_early_for(by: &Standing, position: Position, opened: bool) -> bool
+    ensures { result ≡ is_early_for position opened by.now }
+{
+    position.last_before_response && opened && by.author && by.phase.authors_read_early_reviews()
+}
+
+/// Whether a form is for her as an author, to respond to or in the end.
+fn is_told_author(by: &Standing, position: Position, opened: bool) -> bool
+    ensures { result ≡ (is_early_for position opened by.now || is_for_author position by.now) }
+{
+    is_early_for(by, position, opened) || is_for_author(by, position)
+}
+
 /// Whether she is shown all of a form: who discusses it is, and who wrote it.
 fn shows_all(by: &Standing, position: Position, mine: bool) -> bool
     ensures { result ≡ (is_discussed_by position by.now || mine) }
@@ -53,18 +68,20 @@ fn shows_all(by: &Standing, position: Position, mine: bool) -> bool
 
 /// Whether she is shown the grades of a form and its text to the authors: who discusses it is, the paper's authors
 /// where it is for them, and who wrote it.
-fn shows_grades(by: &Standing, position: Position, mine: bool) -> bool
-    ensures { result ≡ (is_discussed_by position by.now || (is_for_author position by.now || mine)) }
+fn shows_grades(by: &Standing, position: Position, opened: bool, mine: bool) -> bool
+    ensures { result ≡ (is_discussed_by position by.now
+        || (is_early_for position opened by.now || (is_for_author position by.now || mine))) }
 {
-    is_discussed_by(by, position) || is_for_author(by, position) || mine
+    is_discussed_by(by, position) || is_told_author(by, position, opened) || mine
 }
 
 /// Whether she is told of a form: who is told that there is one, or shown its grades.
-fn tells_review(by: &Standing, position: Position, mine: bool) -> bool
+fn tells_review(by: &Standing, position: Position, opened: bool, mine: bool) -> bool
     ensures { result ≡ (is_done_for position by.now
-        || (is_discussed_by position by.now || (is_for_author position by.now || mine))) }
+        || (is_discussed_by position by.now
+        || (is_early_for position opened by.now || (is_for_author position by.now || mine)))) }
 {
-    is_done_for(by, position) || shows_grades(by, position, mine)
+    is_done_for(by, position) || shows_grades(by, position, opened, mine)
 }
 
 /// What a form shows her: its paper and its label, and of the other parts those that she may know; or
@@ -90,11 +107,12 @@ pub(crate) fn review<'a>(
     };
     let mine = reader == stamped.stamp.maker;
     let by = live.standing(&Some(reader), &Some(*paper));
-    if !tells_review(&by, position, mine) {
+    let opened = live.stage_table().had_response();
+    if !tells_review(&by, position, opened, mine) {
         return None;
     }
     let all = shows_all(&by, position, mine);
-    let grades = shows_grades(&by, position, mine);
+    let grades = shows_grades(&by, position, opened, mine);
     let mut sighting = of_stamp(EntryKind::Reviewed, reader, &stamped.stamp);
     sighting.paper = Some(*paper);
     sighting.version = all.then_some(*version);

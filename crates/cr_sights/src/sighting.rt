@@ -64,7 +64,7 @@ pub struct Sighting<'a> {
     pub done: Option<bool>,
     /// The number of a comment.
     pub n: Option<u64>,
-    /// What was commented.
+    /// What was commented, or responded.
     pub text: Option<&'a Text>,
     /// The tag that was turned on, or off.
     pub tag: Option<&'a Tag>,

@@ -1,4 +1,4 @@
-//! What comments show a reader.
+//! What comments and authors' responses show a reader.
 ghost use Rattle.std.specs.Prelude.{◌≡◌, ◌||◌, ◌&&◌, Some, not, unwrap_or};
 ghost use Rattle.cr_base.specs.declared.entry.EntryKind.TheVariants as kinds;
 ghost use Rattle.cr_base.specs.Lists.{listed};
@@ -6,7 +6,8 @@ ghost use Rattle.cr_base.specs.Page.{is_clear_chair, is_clear_member};
 ghost use Rattle.cr_base.specs.Phases.{members_read_comments};
 ghost use Rattle.cr_base.specs.Words.{is_anonymous};
 ghost use Rattle.cr_base.specs.Rows.{kind_of};
-ghost use Rattle.cr_policy.specs.Triggers.{Around, names_writers, reads_comments as may_read, user_named};
+ghost use Rattle.cr_policy.specs.Triggers.{Around, authors, names_writers, reads_comments as may_read};
+ghost use Rattle.cr_policy.specs.Triggers.{reads_responses, user_named};
 ghost use Rattle.cr_policy.specs.View.{sight as sight_at};
 ghost use Rattle.cr_sights.specs.Readers.{reader_in};
 
@@ -91,6 +92,38 @@ pub(crate) fn comment<'a>(live: &Live, reader: UserNo, stamped: &'a Stamped) -> 
     sighting.by = shows_writer(live, reader, *paper).then_some(stamped.stamp.maker);
     sighting.n = Some(*n);
     sighting.ordinal = label.then_some(label_number(ordinal));
+    sighting.text = Some(text);
+    Some(sighting)
+}
+
+/// Whether she is told what a paper's authors responded: its authors are, clear members once members read responses,
+/// and who made it.
+fn tells_response(live: &Live, reader: UserNo, maker: UserNo, paper: PaperNo) -> bool
+    ensures { let r = reader_in live.now.tables (Some reader) in
+        result ≡ (authors r paper || (reads_responses r paper || user_named r maker)) }
+{
+    let by = live.standing(&Some(reader), &Some(paper));
+    by.author || by.is_clear_member() && by.phase.members_read_responses() || maker == reader
+}
+
+/// What a response shows her: its paper and its text, or nothing where she isn't told of it. Who of its authors wrote
+/// it is shown to nobody.
+pub(crate) fn response<'a>(
+    live: &Live,
+    reader: UserNo,
+    stamped: &'a Stamped,
+) -> Option<Sighting<'a>>
+    requires { kind_of stamped.now.entry ≡ kinds.Responded }
+    ensures { (at : Around) → listed result ≡ sight_at (reader_in live.now.tables (Some reader)) at stamped.now }
+{
+    let Entry::Responded { paper, text } = &stamped.entry else {
+        return None;
+    };
+    if !tells_response(live, reader, stamped.stamp.maker, *paper) {
+        return None;
+    }
+    let mut sighting = of_stamp(EntryKind::Responded, reader, &stamped.stamp);
+    sighting.paper = Some(*paper);
     sighting.text = Some(text);
     Some(sighting)
 }

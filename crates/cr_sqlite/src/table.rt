@@ -41,7 +41,7 @@ pub(crate) enum Table {
     Papers,
     /// Kinds 10 to 13, 20 and 21.
     Ties,
-    /// Kinds 14 to 17.
+    /// Kinds 14 to 17 and 22.
     Talk,
 }
 
@@ -52,7 +52,7 @@ impl Table {
             1..=4 | 18..=19 => Some(Table::People),
             5..=9 => Some(Table::Papers),
             10..=13 | 20..=21 => Some(Table::Ties),
-            14..=17 => Some(Table::Talk),
+            14..=17 | 22 => Some(Table::Talk),
             _ => None,
         }
     }

@@ -90,8 +90,8 @@ impl Shelf for FileShelf {
 
     ghost left = { λ _ _ _. ⊥ };
 
-    /// Opens the file as a journal where its name ends in `.cj`, and else as a database. Where others may read a file that
-    /// is taken, standard error is told so in a line.
+    /// Opens the file as a journal where its name ends in `.cj`, and else as a database. Where others may read a file
+    /// that is taken, standard error is told so in a line.
     fn open(&mut self, path: &str) -> Result<Self::Keeper, KeeperError> {
         if is_journal(path) {
             let journal = self.open_journal(path)?;

@@ -1,13 +1,14 @@
-//! The comments on papers.
+//! The comments on papers, and what authors respond.
 ghost use Rattle.std.specs.Prelude.{◌≡◌, ◌+◌, [], ◌∷◌, OnOk, IfOk, Some, length, is_some, unwrap_or};
 ghost use Rattle.std.specs.List.{filter_map};
-ghost use Rattle.cr_base.specs.Checks.{judged, comment_checks};
+ghost use Rattle.std.specs.Option.{option_copied};
+ghost use Rattle.cr_base.specs.Checks.{judged, comment_checks, respond_checks};
 ghost use Rattle.cr_base.specs.History.{History};
-ghost use Rattle.cr_base.specs.Steps.{Takes};
-ghost use Rattle.cr_base.specs.Talk.{no_talk, talk_after, comments_in, own_comments_in, TalkFit};
-ghost use Rattle.cr_talk.specs.Room.{paper_commented, TalkHasRoom};
+ghost use Rattle.cr_base.specs.Steps.{Takes, TakesAtMost};
+ghost use Rattle.cr_base.specs.Talk.{no_talk, talk_after, comments_in, own_comments_in, response_in, TalkFit};
+ghost use Rattle.cr_talk.specs.Room.{paper_commented, paper_responded, TalkHasRoom};
 
-use cr_base::{Comment, Entry, PaperNo, Rule, Stamped, Standing, Steps, UserNo};
+use cr_base::{Comment, Entry, PaperNo, Rule, Stamped, Standing, Steps, Text, UserNo};
 use cr_kept::{Files, Sums};
 use std::alloc::{AllocError, Global};
 use std::marker::Model;
@@ -17,9 +18,9 @@ use std::sync::ledger::Ledger;
 pub const MOST_OWN_COMMENTS: u64 = 1_000;
 
 /// What was written on papers: the comments on each in the order in which they came, which are numbered
-/// from 1, and how many each user has written, at most 1,000.
+/// from 1, and how many each user has written, at most 1,000; and what the authors of each responded, once.
 ///
-/// Contracts see the comments paper by paper and the sums, and for how many more comments on each paper there
+/// Contracts see the comments and the responses paper by paper and the sums, and for how many more of each paper there
 /// is room.
 #[derive(Drop)]
 pub struct Talk {
@@ -27,6 +28,8 @@ pub struct Talk {
     comments: Files<Comment>,
     // How many each user has written.
     written: Sums,
+    // One at most of each paper.
+    responses: Files<Text>,
 }
 
 impl Model for Talk {
@@ -36,14 +39,17 @@ impl Model for Talk {
     ghost Value = { SeenTalk };
 
     ghost view = { λ t. record {
-      talk = record { comments = t.comments.files; written = t.written.sums };
-      rooms = rooms_beside t.written.capacity t.comments.rooms;
+      talk = record { comments = t.comments.files; written = t.written.sums; responses = t.responses.files };
+      rooms = record {
+        comments = rooms_beside t.written.capacity t.comments.rooms;
+        responses = t.responses.rooms;
+      };
     } };
 }
 
 /// What is read.
 impl Talk {
-    /// No comments; takes no memory.
+    /// No comments and no responses; takes no memory.
     pub fn new(alloc: Global) -> Talk
         ensures { result.talk ≡ no_talk }
     {
@@ -51,6 +57,7 @@ impl Talk {
             alloc,
             comments: Files::new(alloc),
             written: Sums::new(alloc),
+            responses: Files::new(alloc),
         }
     }
 
@@ -68,6 +75,53 @@ impl Talk {
         ensures { result ≡ own_comments_in self.now.talk (Some user) }
     {
         self.written.of(user)
+    }
+
+    /// What the paper's authors responded; none where they didn't, and where there is no such paper. Found by number,
+    /// without reading another: a step where there is one. Takes no memory.
+    pub fn response<L: Ledger>(&self, paper: PaperNo, steps: &mut Steps<L>) -> Option<&Text>
+        ensures response { option_copied result ≡ response_in self.now.talk paper }
+        ensures steps { TakesAtMost 1 steps.old steps.new }
+    {
+        self.responses.last(paper, steps)
+    }
+
+    /// Whether the authors of this paper may respond now, or the first broken rule. `by` is the caller's standing at
+    /// the paper; `paper` is none where there is no such paper. Whether it is withdrawn doesn't stand in this table.
+    /// `late` is what `Stage::is_late` says at the request's moment. One read by number at most; takes no memory.
+    ///
+    /// In this order: `NoPaper`, `NotAuthor`, `WrongPhase` where it isn't the response, `Late` where it is too late,
+    /// `Withdrawn`, `AlreadyResponded` where one of the authors has responded.
+    pub fn judge_respond(
+        &self,
+        by: &Standing,
+        paper: &Option<PaperNo>,
+        withdrawn: bool,
+        late: bool,
+    ) -> Result<(), Rule>
+        ensures { result ≡ judged
+            (respond_checks by.now (record { there = is_some paper.now; withdrawn = withdrawn })
+            (is_some (response_in self.now.talk (unwrap_or paper.now 0))) late) tt }
+    {
+        let Some(paper) = paper else {
+            return Err(Rule::NoPaper);
+        };
+        if !by.author {
+            return Err(Rule::NotAuthor);
+        }
+        if !by.phase.responses_are_written() {
+            return Err(Rule::WrongPhase);
+        }
+        if late {
+            return Err(Rule::Late);
+        }
+        if withdrawn {
+            return Err(Rule::Withdrawn);
+        }
+        if self.response(*paper, &mut Steps::uncounted()).is_some() {
+            return Err(Rule::AlreadyResponded);
+        }
+        Ok(())
     }
 
     /// The number that a comment by this maker on this paper would have now, the count of those on it plus
@@ -116,20 +170,22 @@ impl Talk {
 /// What entries make of it.
 impl Talk {
     /// Takes the memory that the entries of one command need, and the first time 40,000 bytes for the sums; an
-    /// error only for lack of memory, and the comments are the same either way. Each paper that they comment on
-    /// is compared with those before it.
+    /// error only for lack of memory, and what is kept is the same either way. Each paper that they comment on, or
+    /// whose authors respond, is compared with those before it.
     pub fn room(&mut self, group: &[Stamped]) -> Result<(), AllocError>
         ensures ok { OnOk result (TalkHasRoom group.now self.new.rooms) }
         ensures same { self.new.talk ≡ self.old.talk }
         ensures keeps { (any : History) → TalkHasRoom any self.old.rooms → TalkHasRoom any self.new.rooms }
     {
-        let papers = papers_commented(self.alloc, group)?;
+        let commented = papers_commented(self.alloc, group)?;
+        let responded = papers_responded(self.alloc, group)?;
         self.written.make_room()?;
-        self.comments.room(&papers)
+        self.comments.room(&commented)?;
+        self.responses.room(&responded)
     }
 
-    /// One more entry, for which there is room. It is taken whole, since a comment's text is kept; takes no
-    /// memory. A comment costs two reads by number, and moves none of the others.
+    /// One more entry, for which there is room. It is taken whole, since a comment's and a response's text is kept;
+    /// takes no memory. A comment costs two reads by number, a response one, and neither moves any of the others.
     pub fn apply(&mut self, stamped: Stamped)
         requires room { TalkHasRoom (stamped ∷ []) self.old.rooms }
         requires fits { TalkFit self.old.talk stamped.stamp.maker stamped.entry }
@@ -156,6 +212,7 @@ impl Talk {
                     },
                 );
             }
+            Entry::Responded { paper, text } => self.responses.file(paper, text),
             _ => {}
         }
     }
@@ -178,5 +235,25 @@ fn papers_commented(alloc: Global, group: &[Stamped]) -> Result<Vec<PaperNo>, Al
     group
         .iter()
         .filter_map(|stamped| paper_commented(stamped))
+        .collect(alloc)
+}
+
+/// The paper whose authors respond by the entry, if they do.
+fn paper_responded(stamped: &Stamped) -> Option<PaperNo>
+    ensures { result ≡ paper_responded stamped.now }
+{
+    match &stamped.entry {
+        Entry::Responded { paper, .. } => Some(*paper),
+        _ => None,
+    }
+}
+
+/// The papers whose authors respond by the entries, as often as they do.
+fn papers_responded(alloc: Global, group: &[Stamped]) -> Result<Vec<PaperNo>, AllocError>
+    ensures { IfOk result (λ papers. papers.items ≡ filter_map paper_responded group.now) }
+{
+    group
+        .iter()
+        .filter_map(|stamped| paper_responded(stamped))
         .collect(alloc)
 }

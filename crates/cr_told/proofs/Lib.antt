@@ -14,9 +14,11 @@ pub mod ToldPartsPublic
 pub mod ToldPartsSeats
 pub mod ToldPartsTags
 pub mod ToldPartsTalk
+pub mod ToldPhases
 pub mod ToldPlaces
 pub mod ToldPublic
 pub mod ToldReports
+pub mod ToldResponses
 pub mod ToldReviews
 pub mod ToldSearches
 pub mod ToldSettled

@@ -43,6 +43,10 @@ module _
         by true one = All-cons P (shown_to u H earlier G e.stamp e.entry) [] (one refl) (All-nil P)
         by false one = All-nil P
 
+    -- so it is of all sightings
+    pub all-sightings : AllByRecursion Q H → All P (view u H)
+    all-sightings holds = All-same P (view u H) (each_told u H (shown_to u H) [] H) (view-told u H) (all-placed [] H refl holds)
+
     pub at-sighting : (before : View) (s : Sighting) (after : View) → view u H ≡ before ++ s ∷ after → AllByRecursion Q H → P s
     at-sighting before s after is holds =
         all-at P before s after

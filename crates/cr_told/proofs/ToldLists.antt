@@ -9,7 +9,7 @@ use Rattle.cr_base.specs.declared.entry.Stamp.{Stamp}
 use Rattle.cr_base.specs.declared.comment.CommentLine.{CommentLine}
 use Rattle.cr_base.specs.declared.command.Query.TheVariants as queries
 use Rattle.cr_base.specs.declared.entry.Entry.{Entry}
-use Rattle.cr_base.specs.declared.entry.Entry.TheVariants.{Uploaded, Assigned, Unassigned, Reviewed, Commented}
+use Rattle.cr_base.specs.declared.entry.Entry.TheVariants.{Uploaded, Assigned, Unassigned, Reviewed, Commented, Responded}
 use Rattle.cr_base.specs.declared.entry.EntryKind.TheVariants as kinds
 use Rattle.cr_base.specs.declared.page.Bidder.{Bidder}
 use Rattle.cr_base.specs.declared.page.Reviewer.{Reviewer}
@@ -25,31 +25,33 @@ use Rattle.cr_base.specs.Answering.{bidder_told, reviewer_told, comment_line, co
 use Rattle.cr_base.specs.Checks.{judged, ◌breaks◌, reads_freely}
 use Rattle.cr_base.specs.Decisions.{is_published}
 use Rattle.cr_base.specs.History.{History, Upload, BidTold, SeatTold, CommentTold}
-use Rattle.cr_base.specs.HistoryFacts.{standing_of, phase_of, mode_of, role_of, is_author, is_conflicted, is_external, is_accepted}
+use Rattle.cr_base.specs.HistoryFacts.{standing_of, phase_of, mode_of, role_of, is_author, is_conflicted, is_external, is_accepted, response_of}
 use Rattle.cr_base.specs.Lists.{listed, last, last_or, total, is_number}
 use Rattle.cr_base.specs.Page.{is_admitted, where_told, is_clear_member, is_clear_chair, shows_reviewer, shows_writer, gets_bids, gets_reviewers, gets_tags}
-use Rattle.cr_base.specs.Phases.{is_from, members_see_papers, members_read_comments}
+use Rattle.cr_base.specs.Phases.{is_from, members_see_papers, members_read_comments, members_read_responses}
 use Rattle.cr_base.specs.Sources.{has_paper, name_in}
 use Rattle.cr_base.specs.Words.{is_member, is_chair, is_anonymous}
 use Rattle.cr_base.proofs.LastLaws.{last_from-map}
 use Rattle.cr_history.specs.Invariants.{IsSubmitted, IsInOrder, InTurn}
 use Rattle.cr_policy.specs.Judge.{answer}
+use Rattle.cr_policy.specs.Legal.{Legal}
 use Rattle.cr_policy.specs.ShownTo.{is_on_committee, chairs_committee, is_past_submission, is_past_reviewing, is_past_discussion, hides_reviewers, names_reviewers, knows_writers}
 use Rattle.cr_policy.specs.ShownTo.{is_eligible, has_before_her, oversees, administers, discusses, is_answered, appears, where_known}
 use Rattle.cr_policy.specs.Sighting.{Sighting}
 use Rattle.cr_policy.specs.View.{View, view}
 use Rattle.cr_policy.specs.ViewFacts.{only, is_kind, role_in_view, label_shown, upload_shown, accounts_in_view, papers_in_view, tags_in_view, standing_in_view, facts_in_view, shown_in_view}
 use Rattle.cr_policy.specs.ViewFacts.{assigned_seen, unassigned_seen, done_seen, comment_seen, own_comment_seen, own_bytes_seen, upload_seen, bids_in_view, seats_in_view}
-use Rattle.cr_policy.specs.ViewFacts.{bid_in_view, reviewers_in_view, is_written_in_view, comments_in_view, uploads_in_view}
-use Rattle.cr_policy.proofs.BoundsParts.{phase-words, mode-words}
+use Rattle.cr_policy.specs.ViewFacts.{bid_in_view, reviewers_in_view, is_written_in_view, comments_in_view, uploads_in_view, response_seen, response_in_view}
+use Rattle.cr_policy.proofs.BoundsWords.{phase-words, mode-words}
 use Rattle.cr_policy.proofs.BoundsWalk.{shown_to}
 use Rattle.cr_policy.proofs.DecisionTells.{accepted-seen}
 use Rattle.cr_policy.proofs.LegalLaws.{legal_invariants}
+use Rattle.cr_policy.proofs.ResponseTells.{response-seen}
 use Rattle.cr_policy.proofs.StandingLaws.{papers-seen, standing_from_view}
 use Rattle.cr_policy.proofs.Walk.{only-true, only-false, map-flat_map, filter-flat_map}
 use Rattle.cr_told.specs.ToldPages.{page_told, shown_by, names_shown, is_clear}
 use Rattle.cr_told.specs.ToldLists.{name_shown, bids_listed, is_shown_done, knows_reviewers, reviewer_shown, is_left, reviewers_listed, SeatsTold, PageListsTold}
-use Rattle.cr_told.specs.ToldLists.{content_answered, contents_of, first_of, ContentTold, ContentsTold, comments_answered, comment_shown_by, comments_listed, CommentsTold}
+use Rattle.cr_told.specs.ToldLists.{content_answered, contents_of, first_of, ContentTold, ContentsTold, comments_answered, comment_shown_by, comments_listed, CommentsTold, response_answered, ResponsesTold}
 use Rattle.cr_told.specs.ToldLists.{AcceptedTold, own_shown, MeTold}
 use Rattle.cr_told.specs.ToldPublic.{role_shown}
 use Rattle.cr_told.proofs.ToldPublic.{roles}
@@ -57,7 +59,7 @@ use Rattle.cr_told.proofs.ToldWords.{member-committee, chair-leads, visits-same}
 use Rattle.cr_told.proofs.ToldPages.{told-key, overseen, handled, every-upload, public}
 use Rattle.cr_told.proofs.ToldShown as reads
 use Rattle.cr_told.proofs.ToldShown.{readings}
-use Rattle.cr_told.proofs.ToldTexts.{uploads-none}
+use Rattle.cr_told.proofs.ToldTexts.{uploads-none, responses-none}
 
 -- ---- lists
 
@@ -411,6 +413,60 @@ module _ (u : Option ℕ) (p : ℕ) (H : History) (there : IsSubmitted H p) (ord
       known-same {A} true x y h = ap (λ (x : A). Some x) (h refl)
       known-same false x y h = refl
 
+  -- ---- responses
+
+  response-gate : (there author member conflicted begun : Bool) (response : Option (List ℕ)) → there ≡ true
+      → response_answered (reply_or_rule
+      (judged (not there breaks rules.NoPaper ∷ not (author || member) breaks rules.NotMember ∷ (not author && conflicted) breaks rules.Conflict
+      ∷ not (author || begun) breaks rules.WrongPhase ∷ not (is_some response) breaks rules.NoResponse ∷ [])
+      (replies.Response (unwrap_or response []))))
+      ≡ (if author || ((member && not conflicted) && begun) then response else None)
+  response-gate false author member conflicted begun response h = absurd (true≢false (sym h))
+  response-gate true true member conflicted begun None h = refl
+  response-gate true true member conflicted begun (Some text) h = refl
+  response-gate true false false conflicted begun response h = refl
+  response-gate true false true true begun response h = refl
+  response-gate true false true false false response h = refl
+  response-gate true false true false true None h = refl
+  response-gate true false true false true (Some text) h = refl
+
+  response-given : response_answered (answer u V (queries.Response (Some p))) ≡ (if is_author u p H || discusses u p H then response_in_view p V else None)
+  response-given =
+      ap (λ (by : Standing). response_answered (reply_or_rule
+      (judged (not (has_paper (facts_in_view u V) (Some p)) breaks rules.NoPaper ∷ not (by.author || is_member by.role) breaks rules.NotMember
+      ∷ (not by.author && by.conflicted) breaks rules.Conflict ∷ not (by.author || members_read_responses by.phase) breaks rules.WrongPhase
+      ∷ not (is_some (response_in_view p V)) breaks rules.NoResponse ∷ [])
+      (replies.Response (unwrap_or (response_in_view p V) [])))))
+      (standing_from_view u (Some p) H)
+      ∙ response-gate (has_paper (facts_in_view u V) (Some p)) (is_author u p H) (is_member (role_of u H)) (is_conflicted u p H) (is_from Discussion (phase_of H))
+      (response_in_view p V) is-there
+      ∙ ap (λ b. if is_author u p H || b then response_in_view p V else None) discussed
+
+  pub response-answered : response_answered (answer u V (queries.Response (Some p))) ≡ (if is_author u p H || discusses u p H then response_of p H else None)
+  response-answered = response-given ∙ by (is_author u p H || discusses u p H) refl
+    where
+      by : (b : Bool) → (is_author u p H || discusses u p H) ≡ b → (if b then response_in_view p V else None) ≡ (if b then response_of p H else None)
+      by true is = response-seen u p H (ap (λ b. is_author u p H || b) discussed ∙ is)
+      by false is = refl
+
+  responses-shown : flat_map (response_seen p) V ≡ shown_by kinds.Responded p (λ (s : Sighting). s.text) V
+  responses-shown = readings u p H (response_seen p) (λ (s : Sighting). only (is_kind kinds.Responded s && is_number s.paper p) (listed s.text)) one
+    where
+      one : (before later : History) (stamp : Stamp) (e : Entry)
+          → response_seen p (shown_to u H before later stamp e)
+          ≡ (let s : Sighting = shown_to u H before later stamp e in only (is_kind kinds.Responded s && is_number s.paper p) (listed s.text))
+      one before later stamp (Responded paper text) = refl
+      one before later stamp e = refl
+
+  pub response-told : response_answered (answer u V (queries.Response (Some p))) ≡ last (shown_by kinds.Responded p (λ (s : Sighting). s.text) V)
+  response-told = response-given ∙ by (is_author u p H || discusses u p H) refl
+    where
+      by : (b : Bool) → (is_author u p H || discusses u p H) ≡ b → (if b then response_in_view p V else None) ≡ last (shown_by kinds.Responded p (λ (s : Sighting). s.text) V)
+      by true is = ap last responses-shown
+      by false is =
+          let neither = or_parts (is_author u p H) (discusses u p H) is in
+          ap last (sym (responses-none u p H order neither.0 neither.1) ∙ responses-shown)
+
   -- ---- contents
 
   content-gate : (there a b c : Bool) (content : Option (List ℕ)) → there ≡ true
@@ -542,3 +598,11 @@ contents_told u p H legal there = contents-told u p H there (legal_invariants H 
 
 pub comments_told : CommentsTold
 comments_told u p H legal there = comments-told u p H there (legal_invariants H legal).in_order
+
+-- what was responded is answered to authors, and to those who discuss the paper
+pub response_answer : (u : Option ℕ) (p : ℕ) (H : History) → Legal H → IsSubmitted H p
+    → response_answered (answer u (view u H) (queries.Response (Some p))) ≡ (if is_author u p H || discusses u p H then response_of p H else None)
+response_answer u p H legal there = response-answered u p H there (legal_invariants H legal).in_order
+
+pub responses_told : ResponsesTold
+responses_told u p H legal there = response-told u p H there (legal_invariants H legal).in_order

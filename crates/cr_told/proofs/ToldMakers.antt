@@ -1,11 +1,11 @@
--- Who made an entry, at the end of a legal history: a paper's authors alone name its co-authors, change it and withdraw it.
+-- Who made an entry, at the end of a legal history: a paper's authors alone name its co-authors, change it, withdraw it and respond.
 use Rattle.std.proofs.Common.{◌≡◌, ℕ, Bool, true, false, [], ◌∷◌, ◌++◌, refl, sym, ap, ◌∙◌, Option, Some, None, append_assoc, eqb}
 use Rattle.std.specs.List.{AllByRecursion, list_any}
 use Rattle.std.proofs.lemmas.Bool.{or_left, eqb-true, true≢false}
 use Rattle.std.proofs.lemmas.List.Concat.{flat_map-append}
 use Rattle.std.proofs.lemmas.List.Folds.{list_any-append}
 use Rattle.cr_base.specs.declared.entry.Entry.{Entry}
-use Rattle.cr_base.specs.declared.entry.Entry.TheVariants.{Coauthor, Revised, Uploaded, Withdrawn}
+use Rattle.cr_base.specs.declared.entry.Entry.TheVariants.{Coauthor, Revised, Uploaded, Withdrawn, Responded}
 use Rattle.cr_base.specs.declared.entry.Stamped.{Stamped}
 use Rattle.cr_base.specs.Lists.{is_number}
 use Rattle.cr_base.specs.History.{History, author_told}
@@ -18,6 +18,7 @@ IsByAuthor H maker (Coauthor paper user) = is_author (Some maker) paper H ≡ tr
 IsByAuthor H maker (Revised paper title abstract) = is_author (Some maker) paper H ≡ true
 IsByAuthor H maker (Uploaded paper version content) = is_author (Some maker) paper H ≡ true
 IsByAuthor H maker (Withdrawn paper) = is_author (Some maker) paper H ≡ true
+IsByAuthor H maker (Responded paper text) = is_author (Some maker) paper H ≡ true
 IsByAuthor H maker _ = Unit {0}
 
 -- an author stays one
@@ -37,6 +38,7 @@ module _ (H : History) where
   by-one before maker (Revised paper title abstract) after whole right = still-author (Some maker) paper before after H whole right
   by-one before maker (Uploaded paper version content) after whole right = still-author (Some maker) paper before after H whole right
   by-one before maker (Withdrawn paper) after whole right = still-author (Some maker) paper before after H whole right
+  by-one before maker (Responded paper text) after whole right = still-author (Some maker) paper before after H whole right
   by-one before maker e after whole right = tt
 
   by-all : (before after : History) → before ++ after ≡ H → InTurn IsInOrder before after → AllByRecursion ByAuthor after

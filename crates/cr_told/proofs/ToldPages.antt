@@ -39,7 +39,7 @@ use Rattle.cr_policy.specs.View.{View, view}
 use Rattle.cr_policy.specs.ViewFacts.{facts_in_view, shown_in_view, standing_in_view, is_accepted_in_view, title_in_view, abstract_in_view, authors_in_view, is_withdrawn_in_view}
 use Rattle.cr_policy.specs.ViewFacts.{uploads_in_view, is_author_in_view, declared_in_view, own_bid_in_view, ordinal_in_view, is_conflict_on_in_view, decision_in_view, only, upload_seen, upload_shown}
 use Rattle.cr_policy.specs.ViewBounds.{part_shown}
-use Rattle.cr_policy.proofs.BoundsParts.{phase-words, mode-words}
+use Rattle.cr_policy.proofs.BoundsWords.{phase-words, mode-words}
 use Rattle.cr_policy.proofs.DecisionTells.{accepted-seen}
 use Rattle.cr_policy.proofs.BoundsTexts.{one-content}
 use Rattle.cr_policy.proofs.BoundsWalk.{shown_to, all-view}

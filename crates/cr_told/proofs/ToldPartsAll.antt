@@ -14,7 +14,7 @@ use Rattle.cr_told.proofs.ToldPartsInvites.{invited-all, uninvited-all}
 use Rattle.cr_told.proofs.ToldPartsPublic.{registered-all, named-all, dismissed-all, phase-set-all, mode-set-all, deadline-set-all, submitted-all, coauthor-all, revised-all, withdrawn-all}
 use Rattle.cr_told.proofs.ToldPartsSeats.{assigned-all, unassigned-all}
 use Rattle.cr_told.proofs.ToldPartsTags.{tagged-all}
-use Rattle.cr_told.proofs.ToldPartsTalk.{commented-all, decided-all}
+use Rattle.cr_told.proofs.ToldPartsTalk.{commented-all, responded-all, decided-all}
 
 all-kinds : (kind : EntryKind) → AllOf kind
 all-kinds kinds.Registered = registered-all
@@ -38,6 +38,7 @@ all-kinds kinds.DeadlineSet = deadline-set-all
 all-kinds kinds.Dismissed = dismissed-all
 all-kinds kinds.Invited = invited-all
 all-kinds kinds.Uninvited = uninvited-all
+all-kinds kinds.Responded = responded-all
 
 pub parts_told : PartsTold
 parts_told u H before s after what legal is shown =

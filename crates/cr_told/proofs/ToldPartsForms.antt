@@ -20,7 +20,7 @@ use Rattle.cr_base.specs.HistoryFacts.{role_of, standing_of, is_written}
 use Rattle.cr_base.specs.Page.{is_clear_chair}
 use Rattle.cr_policy.specs.ShownTo.{administers, chairs_committee, oversees, is_on_committee, is_past_submission, has_conflict, counts_form}
 use Rattle.cr_policy.specs.ViewFacts.{is_user}
-use Rattle.cr_policy.proofs.BoundsParts.{phase-words}
+use Rattle.cr_policy.proofs.BoundsWords.{phase-words}
 use Rattle.cr_policy.proofs.ReviewerTells.{seat-seen_by_chair}
 use Rattle.cr_policy.proofs.ReviewTells.{written-seen}
 use Rattle.cr_told.specs.ToldPages.{shown_of, ordinal_by}
@@ -47,7 +47,7 @@ use Rattle.cr_policy.specs.Legal.{Legal}
 use Rattle.cr_policy.specs.Part as part
 use Rattle.cr_policy.specs.Part.{Part}
 use Rattle.cr_policy.proofs.BoundsWalk.{shown_to}
-use Rattle.cr_policy.specs.ShownTo.{is_told, where_known, is_eligible, serves, visits, has_before_her, discusses, is_notified, is_past_reviewing, reads_review, reads_form, learns_form, is_discussed, is_reviewed, is_past_discussion}
+use Rattle.cr_policy.specs.ShownTo.{is_told, where_known, is_eligible, serves, visits, has_before_her, discusses, is_notified, is_past_reviewing, reads_review, reads_form, learns_form, is_discussed, is_reviewed, is_past_discussion, is_past_writing, is_heard, is_responded_to}
 use Rattle.cr_policy.specs.Sighting.{Sighting}
 use Rattle.cr_policy.specs.View.{View, view}
 use Rattle.cr_policy.specs.ViewFacts.{only, is_kind, discussion_seen, seats_in_view}
@@ -58,11 +58,11 @@ use Rattle.cr_policy.proofs.Walk.{is_nothing-append}
 use Rattle.cr_told.specs.ToldPages.{label_shown_of}
 use Rattle.cr_told.specs.ToldLists.{name_shown, knows_reviewers}
 use Rattle.cr_told.specs.ToldParts.{has, agree, lists, has_line, is_followed, scores_at, is_told as is_part_told, is_left_untold}
-use Rattle.cr_told.specs.ToldReviews.{review_shown, forms_listed, own_forms_listed, reviews_listed, reviews_now, reviews_visiting, is_reviewing_now}
+use Rattle.cr_told.specs.ToldReviews.{review_shown, forms_listed, own_forms_listed, reviews_listed, may_respond, reviews_now, reviews_visiting, is_reviewing_now}
 use Rattle.cr_told.proofs.ToldEach.{last-there, last-here, listed-here, known}
 use Rattle.cr_told.proofs.ToldNames.{same-bytes}
 use Rattle.cr_told.proofs.ToldPlaces.{reviewing-on, known-some, own-so, number-is}
-use Rattle.cr_told.proofs.ToldReviews.{reviews_told}
+use Rattle.cr_told.proofs.ToldReviews.{reviews_told, heard-responds}
 use Rattle.cr_told.proofs.ToldShown as reads
 
 -- ---- lists
@@ -249,7 +249,7 @@ module _ (u : Option ℕ) (H : History) (legal : Legal H) (before after : View) 
             passes : (named : Bool) → test (line named true) ≡ true
             passes named = λ i. eq-eqb o o refl i && pass named i
 
-            answered : (is_notified u paper H || discusses u paper H || reviews_now u paper H || reviews_visiting u paper H) ≡ true → has_line u H s T ≡ list_any test (reviews_listed u paper H)
+            answered : (is_notified u paper H || may_respond u paper H || discusses u paper H || reviews_now u paper H || reviews_visiting u paper H) ≡ true → has_line u H s T ≡ list_any test (reviews_listed u paper H)
             answered h = ap (λ lines. lists lines test) (reviews_told u paper H legal there ∙ ap (λ b. where_known b (reviews_listed u paper H)) h)
 
             abbrev Goal : Type 0
@@ -266,13 +266,14 @@ module _ (u : Option ℕ) (H : History) (legal : Legal H) (before after : View) 
                 (last-here (shown-at named entire) first rest s (line named entire) (shows named entire) (nothing-same named entire paper V o rest ∙ none))
                 ∙ ap (λ b. b || false) passed
 
-            of-authors : is_author u paper H ≡ true → is_number u stamp.maker ≡ false → is_notified u paper H ≡ true → Goal
-            of-authors a m notified = by (is_nothing (scores_at paper o after)) refl
+            of-authors : is_author u paper H ≡ true → is_number u stamp.maker ≡ false → (is_notified u paper H || may_respond u paper H) ≡ true → Goal
+            of-authors a m learns = by (is_nothing (scores_at paper o after)) refl
               where
                 by : (b : Bool) → is_nothing (scores_at paper o after) ≡ b → Goal
                 by true none =
                     or_left (has_line u H s T) _
-                    (answered (first (is_notified u paper H) (discusses u paper H) (reviews_now u paper H) (reviews_visiting u paper H) notified)
+                    (answered
+                    (first (is_notified u paper H) (may_respond u paper H) (discusses u paper H) (reviews_now u paper H) (reviews_visiting u paper H) learns)
                     ∙ ap (λ b. list_any test
                     (if b then by_labels (λ (k : ℕ). listed (last (forms_listed (knows_reviewers u paper H) false paper V k V))) most_labels
                     else (if is_on_committee (role_of u H) && is_past_reviewing (phase_of H)
@@ -285,8 +286,8 @@ module _ (u : Option ℕ) (H : History) (legal : Legal H) (before after : View) 
                     (ap (λ (W : View). list_any test (listed (last (forms_listed (knows_reviewers u paper H) false paper V o W)))) is
                     ∙ last-line (knows_reviewers u paper H) false before after (λ i. eq-eqb o o refl i && pass-author a m (knows_reviewers u paper H) i) none))
                   where
-                    first : (a b c d : Bool) → a ≡ true → (a || b || c || d) ≡ true
-                    first a b c d h = grind (arith, h)
+                    first : (a f b c d : Bool) → (a || f) ≡ true → (a || f || b || c || d) ≡ true
+                    first a f b c d h = grind (arith, h)
                 by false some =
                     or_right (has_line u H s T) _
                     (or_left (is_followed u H s after) _ ((λ i. not (is_nothing (scores_at paper o (if a i then after else until discussion_seen after)))) ∙ ap not some))
@@ -294,13 +295,13 @@ module _ (u : Option ℕ) (H : History) (legal : Legal H) (before after : View) 
             of-members : is_author u paper H ≡ false → (is_on_committee (role_of u H) && is_past_reviewing (phase_of H)) ≡ true → discusses u paper H ≡ true → Goal
             of-members a past d = by (list_any discussion_seen before) refl (is_nothing (scores_at paper o (until discussion_seen after))) refl
               where
-                second : (a b c d : Bool) → b ≡ true → (a || b || c || d) ≡ true
-                second a b c d h = grind (arith, h)
+                second : (a f b c d : Bool) → b ≡ true → (a || f || b || c || d) ≡ true
+                second a f b c d h = grind (arith, h)
 
                 lined : list_any test (listed (last (forms_listed (knows_reviewers u paper H) true paper V o (until discussion_seen V)))
                     ++ forms_listed (knows_reviewers u paper H) true paper V o (since discussion_seen V)) ≡ true → has_line u H s T ≡ true
                 lined h =
-                    answered (second (is_notified u paper H) (discusses u paper H) (reviews_now u paper H) (reviews_visiting u paper H) d)
+                    answered (second (is_notified u paper H) (may_respond u paper H) (discusses u paper H) (reviews_now u paper H) (reviews_visiting u paper H) d)
                     ∙ (λ i. list_any test
                     (if a i then by_labels (λ (k : ℕ). listed (last (forms_listed (knows_reviewers u paper H) false paper V k V))) most_labels
                     else (if past i
@@ -340,7 +341,7 @@ module _ (u : Option ℕ) (H : History) (legal : Legal H) (before after : View) 
 
             -- her own: of a member before the discussion, and of an external
             of-herself : is_author u paper H ≡ false → (is_on_committee (role_of u H) && is_past_reviewing (phase_of H)) ≡ false
-                → (is_notified u paper H || discusses u paper H || reviews_now u paper H || reviews_visiting u paper H) ≡ true → is_number u stamp.maker ≡ true → Goal
+                → (is_notified u paper H || may_respond u paper H || discusses u paper H || reviews_now u paper H || reviews_visiting u paper H) ≡ true → is_number u stamp.maker ≡ true → Goal
             of-herself a past due m =
                 or_left (has_line u H s T) _
                 (answered due
@@ -380,15 +381,17 @@ module _ (u : Option ℕ) (H : History) (legal : Legal H) (before after : View) 
                     none : (s c p : Bool) → ((s && not (true || c)) && p) ≡ false
                     none s c p = grind arith
 
-                notified : (m d x n y : Bool) → ((m || (d && x)) || (n && y)) ≡ true → m ≡ false → d ≡ false → n ≡ true
-                notified m d x n y r hm hd = grind (arith, r, hm, hd)
+                learns : (m d x h q n y f : Bool) → (not (h && q) || f) ≡ true → ((m || (d && x)) || ((h && q) || (n && y))) ≡ true → m ≡ false → d ≡ false
+                    → (n || f) ≡ true
+                learns m d x h q n y f heard r hm hd = grind (arith, heard, r, hm, hd)
 
-                mine : (m d x a n y : Bool) → ((m || (d && x)) || ((a && n) && y)) ≡ true → a ≡ false → d ≡ false → m ≡ true
-                mine m d x a n y r ha hd = grind (arith, r, ha, hd)
+                mine : (m d x a w q n y : Bool) → ((m || (d && x)) || (((a && w) && q) || ((a && n) && y))) ≡ true → a ≡ false → d ≡ false → m ≡ true
+                mine m d x a w q n y r ha hd = grind (arith, r, ha, hd)
 
                 made : is_author u paper H ≡ false → discusses u paper H ≡ false → is_number u stamp.maker ≡ true
                 made a d =
-                    mine (is_number u stamp.maker) (discusses u paper H) (is_discussed paper o earlier later) (is_author u paper H) (is_past_discussion (phase_of H))
+                    mine (is_number u stamp.maker) (discusses u paper H) (is_discussed paper o earlier later) (is_author u paper H) (is_past_writing (phase_of H))
+                    (is_responded_to paper o earlier later) (is_past_discussion (phase_of H))
                     (not (is_reviewed paper o later)) read a d
 
                 over : (o s c p : Bool) → (((o && s) && not c) && p) ≡ true → (o && p) ≡ true
@@ -397,25 +400,26 @@ module _ (u : Option ℕ) (H : History) (legal : Legal H) (before after : View) 
                 alone : (o i s c p : Bool) → (((o && s) && not c) || (((not o && i) && not c) && s)) ≡ true → (((o && s) && not c) && p) ≡ false → (o && p) ≡ false
                 alone o i s c p h d = grind (arith, h, d)
 
-                answered-to : (x y o v s c p r w m : Bool) → (((o && s) && not c) || ((v && not c) && s)) ≡ true → (((o && s) && not c) && p) ≡ false
+                answered-to : (x f y o v s c p r w m : Bool) → (((o && s) && not c) || ((v && not c) && s)) ≡ true → (((o && s) && not c) && p) ≡ false
                     → (not m || r) ≡ true → m ≡ true → (p || w) ≡ true
-                    → (((x || y) || ((((o && s) && not c) && r) && w)) || ((((v && not c) && s) && r) && (w || p))) ≡ true
-                answered-to x y o v s c p r w m h d hr hm hw = grind (arith, h, d, hr, hm, hw)
+                    → ((((x || f) || y) || ((((o && s) && not c) && r) && w)) || ((((v && not c) && s) && r) && (w || p))) ≡ true
+                answered-to x f y o v s c p r w m h d hr hm hw = grind (arith, h, d, hr, hm, hw)
 
                 by : (a : Bool) → is_author u paper H ≡ a → (d : Bool) → discusses u paper H ≡ d → (h : Bool) → has_before_her u paper H ≡ h → (m : Bool)
                     → is_number u stamp.maker ≡ m → Goal
                 by true a d e h f true g = behind g (outside a)
                 by true a d e h f false g =
                     of-authors a g
-                    (notified (is_number u stamp.maker) (discusses u paper H) (is_discussed paper o earlier later) (is_notified u paper H) (not (is_reviewed paper o later)) read g
-                    (silent a))
+                    (learns (is_number u stamp.maker) (discusses u paper H) (is_discussed paper o earlier later) (is_heard u paper H)
+                    (is_responded_to paper o earlier later) (is_notified u paper H) (not (is_reviewed paper o later)) (may_respond u paper H)
+                    (heard-responds u H paper o earlier later stamp more (Reviewed paper o version form) whole) read g (silent a))
                 by false a true e h f m g =
                     of-members a (over (is_on_committee (role_of u H)) (is_past_submission (phase_of H)) (has_conflict u paper H) (is_past_reviewing (phase_of H)) e) e
                 by false a false e false f m g = behind (made a e) f
                 by false a false e true f m g =
                     of-herself a
                     (alone (is_on_committee (role_of u H)) (is_invited u paper H) (is_past_submission (phase_of H)) (has_conflict u paper H) (is_past_reviewing (phase_of H)) f e)
-                    (answered-to (is_notified u paper H) (discusses u paper H) (is_on_committee (role_of u H)) (visits u paper H) (is_past_submission (phase_of H))
+                    (answered-to (is_notified u paper H) (may_respond u paper H) (discusses u paper H) (is_on_committee (role_of u H)) (visits u paper H) (is_past_submission (phase_of H))
                     (has_conflict u paper H) (is_past_reviewing (phase_of H)) (is_reviewer u paper H) (is_reviewing_now (phase_of H)) (is_number u stamp.maker) f e reviews
                     (made a e) (reviewing-on (phase_of H) begun))
                     (made a e)
@@ -497,7 +501,7 @@ module _ (u : Option ℕ) (H : History) (legal : Legal H) (before after : View) 
           same : agree bytes_eq s.to_authors (Some form.to_authors) ≡ true
           same = (λ i. agree bytes_eq (where_known (read i) form.to_authors) (Some form.to_authors)) ∙ same-bytes form.to_authors
       reviewed part.to_pc shown =
-          form-told (or_left (reads_form u H earlier later stamp.maker paper o) (learns_form u H later paper o) read) (λ l. agree bytes_eq s.to_pc l.to_pc) (λ named. same)
+          form-told (or_left (reads_form u H earlier later stamp.maker paper o) (learns_form u H earlier later paper o) read) (λ l. agree bytes_eq s.to_pc l.to_pc) (λ named. same)
           (λ a m named. absurd (not-whole a m read))
         where
           read : reads_form u H earlier later stamp.maker paper o ≡ true
@@ -506,7 +510,7 @@ module _ (u : Option ℕ) (H : History) (legal : Legal H) (before after : View) 
           same : agree bytes_eq s.to_pc s.to_pc ≡ true
           same = (λ i. agree bytes_eq (where_known (read i) form.to_pc) (where_known (read i) form.to_pc)) ∙ same-bytes form.to_pc
       reviewed part.version shown =
-          form-told (or_left (reads_form u H earlier later stamp.maker paper o) (learns_form u H later paper o) read) (λ l. agree nat_eq s.version l.version) (λ named. same)
+          form-told (or_left (reads_form u H earlier later stamp.maker paper o) (learns_form u H earlier later paper o) read) (λ l. agree nat_eq s.version l.version) (λ named. same)
           (λ a m named. absurd (not-whole a m read))
         where
           read : reads_form u H earlier later stamp.maker paper o ≡ true
@@ -534,7 +538,7 @@ module _ (u : Option ℕ) (H : History) (legal : Legal H) (before after : View) 
           by false none =
               second (has_line u H s (λ l. true)) (has_mark u H s) (is_form_left u H s after) (is_taken_off u H s)
               (mark
-              (counted (reads_form u H earlier later stamp.maker paper o) (administers u paper H) (not (is_reviewed paper o earlier)) (learns_form u H later paper o) told none))
+              (counted (reads_form u H earlier later stamp.maker paper o) (administers u paper H) (not (is_reviewed paper o earlier)) (learns_form u H earlier later paper o) told none))
       reviewed part.at shown = known-own (is_number u stamp.maker) stamp.at shown
       reviewed part.key shown = known-own (is_number u stamp.maker) stamp.key shown
       reviewed _ shown = absurd (true≢false (sym shown))

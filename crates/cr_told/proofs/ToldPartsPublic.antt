@@ -14,7 +14,7 @@ use Rattle.cr_base.specs.declared.words.Mode.{Mode}
 use Rattle.cr_base.specs.declared.words.Mode.TheVariants.{Blind}
 use Rattle.cr_base.specs.declared.words.Phase.{Phase}
 use Rattle.cr_base.specs.declared.deadline.PhaseDeadline.{PhaseDeadline}
-use Rattle.cr_base.specs.declared.words.Phase.TheVariants.{Setup, Submission, Bidding, Reviewing, Discussion}
+use Rattle.cr_base.specs.declared.words.Phase.TheVariants.{Setup, Submission, Bidding, Reviewing, Response, Discussion}
 use Rattle.cr_base.specs.declared.words.Role.{Role}
 use Rattle.cr_base.specs.declared.words.Role.TheVariants.{Account}
 use Rattle.cr_base.specs.Lists.{is_nothing, is_number, last, last_or, listed}
@@ -62,16 +62,23 @@ module _ (D : Phase → Option ℕ) (set : Phase) (n : ℕ) (test : ℕ → Bool
 
 deadline-listed : (D : Phase → Option ℕ) (set : Phase) (n : ℕ) (test : ℕ → Bool) → may_have_deadline set ≡ true → D set ≡ Some n → test n ≡ true
     → list_any (line_passes D set n test) (deadlines_told D) ≡ true
-deadline-listed D Submission n test may is passes = first-line D Submission n test (Bidding ∷ Reviewing ∷ Discussion ∷ []) is passes
+deadline-listed D Submission n test may is passes = first-line D Submission n test (Bidding ∷ Reviewing ∷ Response ∷ Discussion ∷ []) is passes
 deadline-listed D Bidding n test may is passes =
-    later-line D Bidding n test Submission (Bidding ∷ Reviewing ∷ Discussion ∷ []) (first-line D Bidding n test (Reviewing ∷ Discussion ∷ []) is passes)
+    later-line D Bidding n test Submission (Bidding ∷ Reviewing ∷ Response ∷ Discussion ∷ [])
+    (first-line D Bidding n test (Reviewing ∷ Response ∷ Discussion ∷ []) is passes)
 deadline-listed D Reviewing n test may is passes =
-    later-line D Reviewing n test Submission (Bidding ∷ Reviewing ∷ Discussion ∷ [])
-    (later-line D Reviewing n test Bidding (Reviewing ∷ Discussion ∷ []) (first-line D Reviewing n test (Discussion ∷ []) is passes))
+    later-line D Reviewing n test Submission (Bidding ∷ Reviewing ∷ Response ∷ Discussion ∷ [])
+    (later-line D Reviewing n test Bidding (Reviewing ∷ Response ∷ Discussion ∷ [])
+    (first-line D Reviewing n test (Response ∷ Discussion ∷ []) is passes))
+deadline-listed D Response n test may is passes =
+    later-line D Response n test Submission (Bidding ∷ Reviewing ∷ Response ∷ Discussion ∷ [])
+    (later-line D Response n test Bidding (Reviewing ∷ Response ∷ Discussion ∷ [])
+    (later-line D Response n test Reviewing (Response ∷ Discussion ∷ []) (first-line D Response n test (Discussion ∷ []) is passes)))
 deadline-listed D Discussion n test may is passes =
-    later-line D Discussion n test Submission (Bidding ∷ Reviewing ∷ Discussion ∷ [])
-    (later-line D Discussion n test Bidding (Reviewing ∷ Discussion ∷ [])
-    (later-line D Discussion n test Reviewing (Discussion ∷ []) (first-line D Discussion n test [] is passes)))
+    later-line D Discussion n test Submission (Bidding ∷ Reviewing ∷ Response ∷ Discussion ∷ [])
+    (later-line D Discussion n test Bidding (Reviewing ∷ Response ∷ Discussion ∷ [])
+    (later-line D Discussion n test Reviewing (Response ∷ Discussion ∷ [])
+    (later-line D Discussion n test Response (Discussion ∷ []) (first-line D Discussion n test [] is passes))))
 deadline-listed D set n test may is passes = absurd (true≢false (sym may))
 
 module _ (u : Option ℕ) (H : History) (legal : Legal H) (before after : View) where

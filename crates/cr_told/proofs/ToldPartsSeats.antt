@@ -25,7 +25,7 @@ use Rattle.cr_policy.specs.ShownTo.{is_eligible, visits, has_before_her, oversee
 use Rattle.cr_policy.specs.Sighting.{Sighting}
 use Rattle.cr_policy.specs.View.{View, view}
 use Rattle.cr_policy.specs.ViewFacts.{only, is_kind, is_user, papers_in_view}
-use Rattle.cr_policy.proofs.BoundsParts.{phase-words}
+use Rattle.cr_policy.proofs.BoundsWords.{phase-words}
 use Rattle.cr_policy.proofs.BoundsWalk.{shown_to}
 use Rattle.cr_policy.proofs.StandingLaws.{papers-seen}
 use Rattle.cr_policy.proofs.Walk.{only-true, only-false}

@@ -25,7 +25,7 @@ use Rattle.cr_policy.specs.ShownTo.{is_told, chairs_committee, is_eligible, is_c
 use Rattle.cr_policy.specs.Sighting.{Sighting}
 use Rattle.cr_policy.specs.View.{View, view}
 use Rattle.cr_policy.specs.ViewFacts.{only, is_kind, tag_shown, tag_seen, tags_in_view}
-use Rattle.cr_policy.proofs.BoundsParts.{for-chairs}
+use Rattle.cr_policy.proofs.BoundsWords.{for-chairs}
 use Rattle.cr_policy.proofs.BoundsWalk.{shown_to}
 use Rattle.cr_told.specs.ToldPages.{page_told}
 use Rattle.cr_told.specs.ToldParts.{has, agree, lists, is_told as is_part_told, is_left_untold}

@@ -1,4 +1,4 @@
--- Of comments and decisions each part that is shown is told or left out.
+-- Of comments, responses and decisions each part that is shown is told or left out.
 use Rattle.std.proofs.Common.{◌≡◌, ℕ, Bool, true, false, List, [], ◌∷◌, ◌++◌, refl, sym, ap, ◌∙◌, ◌||◌, ◌&&◌, Option, Some, None, eqb, arith}
 use Rattle.std.specs.Prelude.{not, map, filter, ◌==◌, IsTrue, is_some, nat_eq, unwrap_or, if◌then◌else◌}
 use Rattle.std.specs.Option.{option_and_then}
@@ -7,7 +7,7 @@ use Rattle.std.specs.List.{flat_map, list_any}
 use Rattle.std.proofs.lemmas.Bool.{true≢false, eq-eqb, eqb-true, or_left, or_right, and_parts, or_parts}
 use Rattle.cr_base.specs.declared.comment.CommentLine.{CommentLine}
 use Rattle.cr_base.specs.declared.entry.Entry.{Entry}
-use Rattle.cr_base.specs.declared.entry.Entry.TheVariants.{Commented, Decided}
+use Rattle.cr_base.specs.declared.entry.Entry.TheVariants.{Commented, Decided, Responded}
 use Rattle.cr_base.specs.declared.entry.EntryKind.TheVariants as kinds
 use Rattle.cr_base.specs.declared.entry.Stamp.{Stamp}
 use Rattle.cr_base.specs.declared.entry.Stamped.{Stamped}
@@ -18,7 +18,7 @@ use Rattle.cr_base.specs.Answering.{accepted_paper}
 use Rattle.cr_base.specs.Lists.{given, is_nothing, is_number, last, listed}
 use Rattle.cr_base.specs.Drawn.{stamped}
 use Rattle.cr_base.specs.History.{History, decision_told}
-use Rattle.cr_base.specs.HistoryFacts.{phase_of, decision_of, is_withdrawn}
+use Rattle.cr_base.specs.HistoryFacts.{phase_of, decision_of, is_withdrawn, is_author, response_of}
 use Rattle.cr_base.specs.Phases.{is_from}
 use Rattle.cr_base.specs.Words.{decision_number}
 use Rattle.cr_history.specs.Invariants.{IsRegistered, IsSubmitted, IsInOrder, InTurn}
@@ -29,7 +29,7 @@ use Rattle.cr_policy.specs.ShownTo.{is_notified, is_in_programme, is_decided_aga
 use Rattle.cr_policy.specs.Sighting.{Sighting}
 use Rattle.cr_policy.specs.View.{View, view}
 use Rattle.cr_policy.specs.ViewFacts.{only, is_kind, label_shown, is_accepted_in_view, papers_in_view, facts_in_view, shown_in_view}
-use Rattle.cr_policy.proofs.BoundsParts.{phase-words}
+use Rattle.cr_policy.proofs.BoundsWords.{phase-words}
 use Rattle.cr_policy.proofs.BoundsWalk.{shown_to}
 use Rattle.cr_policy.proofs.DecisionTells.{accepted-seen}
 use Rattle.cr_policy.proofs.LegalLaws.{legal_invariants}
@@ -40,10 +40,11 @@ use Rattle.cr_told.specs.ToldPlaces.{has_key}
 use Rattle.cr_told.specs.ToldParts.{has, agree, lists, same_decision, comments_given, is_told as is_part_told, is_left_untold}
 use Rattle.cr_told.proofs.ToldEach.{last-here, last-told, listed-here, known}
 use Rattle.cr_told.proofs.ToldKnown.{AllOf, Each, all-of, known-own}
-use Rattle.cr_told.proofs.ToldLists.{comments_told}
+use Rattle.cr_told.proofs.ToldLists.{comments_told, response_answer}
 use Rattle.cr_told.proofs.ToldNames.{same-bytes, swap, name-is}
 use Rattle.cr_told.proofs.ToldPages.{pages_told, programme}
-use Rattle.cr_told.proofs.ToldPlaces.{known-some, decision-key}
+use Rattle.cr_told.proofs.ToldPlaces.{known-some, own-so, decision-key}
+use Rattle.cr_told.proofs.ToldResponses.{responded-once}
 use Rattle.cr_told.proofs.ToldShown as reads
 
 -- what is made of a number stands among what is made of those that pass
@@ -152,6 +153,26 @@ module _ (u : Option ℕ) (H : History) (legal : Legal H) (before after : View) 
         commented part.at shown = known-own (is_number u stamp.maker) stamp.at shown
         commented part.key shown = known-own (is_number u stamp.maker) stamp.key shown
         commented _ shown = absurd (true≢false (sym shown))
+
+    module _ (paper : ℕ) (text : List ℕ) (there : IsSubmitted H paper) (wrote : (not (is_number u stamp.maker) || is_author u paper H) ≡ true)
+        (once : response_of paper H ≡ Some text) (told : is_told u H earlier later stamp.maker (Responded paper text) ≡ true)
+      where
+        abbrev r : Sighting
+        r = shown_to u H earlier later stamp (Responded paper text)
+
+        may : (is_author u paper H || discusses u paper H) ≡ true
+        may = by (is_number u stamp.maker) (is_author u paper H) (discusses u paper H) told wrote
+          where
+            by : (m a d : Bool) → ((m || a) || d) ≡ true → (not m || a) ≡ true → (a || d) ≡ true
+            by m a d told own = grind (arith, told, own)
+
+        responded : (what : Part) → IsTrue (has what r) → IsTrue (is_part_told u H r kinds.Responded what || is_left_untold u H r after kinds.Responded what)
+        responded part.text shown =
+            or_left _ false
+            (ap (agree bytes_eq (Some text)) (response_answer u paper H legal there ∙ (λ i. if may i then once i else None)) ∙ same-bytes text)
+        responded part.at shown = known-own (is_number u stamp.maker) stamp.at shown
+        responded part.key shown = known-own (is_number u stamp.maker) stamp.key shown
+        responded _ shown = absurd (true≢false (sym shown))
 
     module _ (paper : ℕ) (decision : Decision) (there : IsSubmitted H paper) (begun : is_from Discussion (phase_of H) ≡ true)
         (whole : earlier ++ stamped stamp more (Decided paper decision) ∷ later ≡ H)
@@ -279,6 +300,15 @@ commented-all = all-of kinds.Commented each
     each : Each kinds.Commented
     each u H legal before after what earlier later stamp more (Commented paper n ordinal text) whole known told is kind shown =
         commented u H legal before after earlier later stamp more paper n ordinal text known.there.0 known.there.1 known.settled.1 told is what shown
+    each u H legal before after what earlier later stamp more e whole known told is kind shown = absurd (true≢false (sym kind))
+
+pub responded-all : AllOf kinds.Responded
+responded-all = all-of kinds.Responded each
+  where
+    each : Each kinds.Responded
+    each u H legal before after what earlier later stamp more (Responded paper text) whole known told is kind shown =
+        responded u H legal before after earlier later stamp more paper text known.settled.0 (own-so (λ v. is_author v paper H) u stamp.maker known.settled.1)
+        (responded-once H (legal_invariants H legal).fits earlier later stamp more paper text whole) told what shown
     each u H legal before after what earlier later stamp more e whole known told is kind shown = absurd (true≢false (sym kind))
 
 pub decided-all : AllOf kinds.Decided

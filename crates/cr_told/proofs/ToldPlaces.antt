@@ -1,69 +1,44 @@
 -- Each sighting on a paper has its place in an answer, or is the reader's own on a paper that she isn't eligible for, or
 -- doesn't oversee.
-use Rattle.std.proofs.Common.{◌≡◌, ℕ, Bool, true, false, [], ◌∷◌, ◌++◌, refl, sym, ap, ◌∙◌, ◌||◌, ◌&&◌, Option, Some, None, append_assoc, append-nil, eqb, arith}
-use Rattle.std.specs.Prelude.{not, nat_le, ◌==◌, ◌+◌, is_some, IsTrue}
+use Rattle.std.proofs.Common.{◌≡◌, ℕ, Bool, true, false, List, [], ◌∷◌, ◌++◌, refl, sym, ap, ◌∙◌, ◌||◌, ◌&&◌, Option, Some, None, append_assoc, eqb, arith}
+use Rattle.std.specs.Prelude.{not, ◌==◌, is_some, IsTrue, if◌then◌else◌}
 use Rattle.std.specs.List.{AllByRecursion, list_any}
-use Rattle.std.proofs.lemmas.Bool.Decides.{nat_tests}
-use Rattle.std.proofs.lemmas.Bool.{or_left, eqb-true, true≢false}
+use Rattle.std.proofs.lemmas.Bool.{or_left, eq-eqb, eqb-true, true≢false}
 use Rattle.std.proofs.lemmas.List.Concat.{flat_map-append}
 use Rattle.std.proofs.lemmas.List.Elements.{recursion_from_All}
 use Rattle.std.proofs.lemmas.List.Folds.{list_any-append}
 use Rattle.cr_base.specs.declared.entry.Entry.{Entry}
-use Rattle.cr_base.specs.declared.entry.Entry.TheVariants.{PhaseSet, Withdrawn, Conflict, Bid, Assigned, Unassigned, Reviewed, Commented, Tagged, Decided}
+use Rattle.cr_base.specs.declared.entry.Entry.TheVariants.{Withdrawn, Conflict, Bid, Assigned, Unassigned, Reviewed, Commented, Tagged, Decided, Responded}
 use Rattle.cr_base.specs.declared.entry.Stamp.{Stamp}
 use Rattle.cr_base.specs.declared.entry.Stamped.{Stamped}
 use Rattle.cr_base.specs.declared.words.Phase.{Phase}
-use Rattle.cr_base.specs.declared.words.Phase.TheVariants.{Setup, Submission, Bidding, Reviewing, Discussion, Notification, Closed}
-use Rattle.cr_base.specs.Lists.{is_number, last_or}
+use Rattle.cr_base.specs.declared.words.Phase.TheVariants.{Setup, Submission, Bidding, Reviewing, Response, Discussion, Notification, Closed}
+use Rattle.cr_base.specs.Lists.{given, is_number}
 use Rattle.cr_base.specs.Drawn.{stamped}
-use Rattle.cr_base.specs.History.{History, all_told, phase_told, paper_told}
-use Rattle.cr_base.specs.HistoryFacts.{phase_of, mode_of, role_of, papers_of, is_author, is_reviewer}
-use Rattle.cr_base.specs.Phases.{phase_rank, is_from, is_phase, committee_works}
-use Rattle.cr_history.proofs.Folds.{last_or-append}
-use Rattle.cr_history.specs.Invariants.{Invariants, IsInOrder, InTurn, IsInPhase, IsSubmitted, IsHeld}
+use Rattle.cr_base.specs.History.{History, paper_told, response_told}
+use Rattle.cr_base.specs.HistoryFacts.{phase_of, mode_of, role_of, papers_of, is_author, is_reviewer, response_of}
+use Rattle.cr_base.specs.Phases.{is_from, is_phase, committee_works}
+use Rattle.cr_history.specs.Invariants.{Invariants, IsInOrder, InTurn, IsSubmitted, IsHeld}
 use Rattle.cr_policy.specs.Legal.{Legal}
 use Rattle.cr_policy.specs.ShownTo.{is_on_committee, chairs_committee, is_past_submission, is_past_reviewing, has_conflict, serves, is_eligible, visits, reads_visiting, has_before_her, oversees, discusses}
-use Rattle.cr_policy.specs.ShownTo.{is_party, is_answered, is_notified, is_in_programme, is_told, where_known, is_committees, is_chairs, hides_reviewers, is_discussed, is_reviewed, is_decided_again}
+use Rattle.cr_policy.specs.ShownTo.{is_party, is_answered, is_notified, is_heard, is_responded_to, is_in_programme, is_told, where_known, is_committees, is_chairs, hides_reviewers, is_discussed, is_reviewed, is_decided_again}
 use Rattle.cr_policy.specs.Sighting.{Sighting}
 use Rattle.cr_policy.specs.View.{view}
 use Rattle.cr_policy.specs.ViewFacts.{is_user}
-use Rattle.cr_policy.proofs.BoundsParts.{phase-words}
-use Rattle.cr_policy.proofs.BoundsWalk.{shown_to, all-view}
+use Rattle.cr_policy.proofs.BoundsWords.{phase-words}
+use Rattle.cr_policy.proofs.BoundsWalk.{shown_to}
 use Rattle.cr_policy.proofs.DecisionTells.{accepted-seen}
 use Rattle.cr_policy.proofs.LegalLaws.{legal_invariants}
 use Rattle.cr_told.specs.ToldPages.{is_shown_accepted}
-use Rattle.cr_told.specs.ToldPlaces.{has_key, has_reviews, has_comments, is_placed, PlacesTold}
-use Rattle.cr_told.specs.ToldReviews.{is_reviewing_now, reviews_now, reviews_visiting}
-use Rattle.cr_told.proofs.ToldLists.{leads-serves, page_lists_told, comments_told}
+use Rattle.cr_told.specs.ToldPlaces.{has_key, has_reviews, has_comments, has_response, is_placed, PlacesTold}
+use Rattle.cr_told.specs.ToldReviews.{is_reviewing_now, may_respond, reviews_now, reviews_visiting}
+use Rattle.cr_told.proofs.ToldLists.{leads-serves, page_lists_told, comments_told, response_answer}
+use Rattle.cr_told.proofs.ToldEach.{last-there, all-sightings}
 use Rattle.cr_told.proofs.ToldMakers.{still-author}
 use Rattle.cr_told.proofs.ToldPages.{pages_told, programme}
-use Rattle.cr_told.proofs.ToldReviews.{reviews_told}
+use Rattle.cr_told.proofs.ToldPhases.{phase-rises}
+use Rattle.cr_told.proofs.ToldReviews.{reviews_told, heard-responds}
 use Rattle.cr_told.proofs.ToldShown as reads
-
--- ---- what stays as a history grows
-
--- phases only go on
-phase-after : (H : History) (stamp : Stamp) (more : Bool) (e : Entry) → phase_of (H ++ stamped stamp more e ∷ []) ≡ last_or (phase_of H) (phase_told e ++ [])
-phase-after H stamp more e =
-    ap (last_or Setup) (flat_map-append (λ (e : Stamped). phase_told e.entry) H (stamped stamp more e ∷ []))
-    ∙ last_or-append Setup (all_told phase_told H) (phase_told e ++ [])
-
-goes-on : (k m n : ℕ) → n ≡ m + 1 → nat_le k m ≡ true → nat_le k n ≡ true
-goes-on k m n e h = grind (arith, nat_tests, e, h)
-
-phase-later : (first : Phase) (H : History) (stamp : Stamp) (more : Bool) (e : Entry) → IsInPhase H e → is_from first (phase_of H) ≡ true
-    → is_from first (phase_of (H ++ stamped stamp more e ∷ [])) ≡ true
-phase-later first H stamp more (PhaseSet to) next from =
-    ap (is_from first) (phase-after H stamp more (PhaseSet to))
-    ∙ goes-on (phase_rank first) (phase_rank (phase_of H)) (phase_rank to) (eqb-true (phase_rank to) (phase_rank (phase_of H) + 1) next) from
-phase-later first H stamp more e next from = ap (is_from first) (phase-after H stamp more e) ∙ from
-
-pub phase-rises : (first : Phase) (before after H : History) → before ++ after ≡ H → InTurn IsInOrder before after → is_from first (phase_of before) ≡ true
-    → is_from first (phase_of H) ≡ true
-phase-rises first before [] H whole order from = ap (λ (G : History). is_from first (phase_of G)) (sym (sym (append-nil before) ∙ whole)) ∙ from
-phase-rises first before (e ∷ after) H whole order from =
-    phase-rises first (before ++ e ∷ []) after H (append_assoc before (e ∷ []) after ∙ whole) order.1
-    (phase-later first before e.stamp e.more e.entry order.0.phase from)
 
 pub number-is : (v : Option ℕ) (user : ℕ) → is_number v user ≡ true → v ≡ Some user
 number-is None user h = absurd (true≢false (sym h))
@@ -84,6 +59,7 @@ committee-begun Setup h = absurd (true≢false (sym h))
 committee-begun Submission h = absurd (true≢false (sym h))
 committee-begun Bidding h = refl
 committee-begun Reviewing h = refl
+committee-begun Response h = refl
 committee-begun Discussion h = refl
 committee-begun Notification h = refl
 committee-begun Closed h = refl
@@ -93,6 +69,7 @@ reviewed-in Setup h = absurd (true≢false (sym h))
 reviewed-in Submission h = absurd (true≢false (sym h))
 reviewed-in Bidding h = absurd (true≢false (sym h))
 reviewed-in Reviewing h = refl
+reviewed-in Response h = refl
 reviewed-in Discussion h = refl
 reviewed-in Notification h = refl
 reviewed-in Closed h = refl
@@ -102,6 +79,7 @@ discussed-in Setup h = absurd (true≢false (sym h))
 discussed-in Submission h = absurd (true≢false (sym h))
 discussed-in Bidding h = absurd (true≢false (sym h))
 discussed-in Reviewing h = absurd (true≢false (sym h))
+discussed-in Response h = absurd (true≢false (sym h))
 discussed-in Discussion h = refl
 discussed-in Notification h = refl
 discussed-in Closed h = refl
@@ -116,6 +94,8 @@ IsSettled H maker (Unassigned paper user ordinal) = IsSubmitted H paper × (is_f
 IsSettled H maker (Reviewed paper ordinal version form) =
     IsSubmitted H paper × (is_from Reviewing (phase_of H) ≡ true) × (is_reviewer (Some maker) paper H ≡ true)
 IsSettled H maker (Commented paper n ordinal text) = IsSubmitted H paper × (is_from Discussion (phase_of H) ≡ true)
+IsSettled H maker (Responded paper text) =
+    IsSubmitted H paper × (is_author (Some maker) paper H ≡ true) × (is_some (response_of paper H) ≡ true)
 IsSettled H maker (Tagged paper tag on) = IsSubmitted H paper
 IsSettled H maker (Decided paper decision) = IsSubmitted H paper × (is_from Discussion (phase_of H) ≡ true)
 IsSettled H maker _ = Unit {0}
@@ -131,20 +111,28 @@ module _ (H : History) where
     writes : (v : Option ℕ) (p : ℕ) → is_author v p before ≡ true → is_author v p H ≡ true
     writes v p is = still-author v p before after H whole is
 
-    settled-one : (stamp : Stamp) (more : Bool) (e : Entry) → IsInOrder before (stamped stamp more e) → IsHeld H stamp.maker e → IsSettled H stamp.maker e
-    settled-one stamp more (Withdrawn paper) is held = (there paper is.about, writes (Some stamp.maker) paper is.right)
-    settled-one stamp more (Conflict paper user on) is held = there paper is.about.0
-    settled-one stamp more (Bid paper value) is held = there paper is.about
-    settled-one stamp more (Assigned paper user review_kind ordinal) is held =
+    settled-one : (stamp : Stamp) (more : Bool) (e : Entry) (rest : History) → after ≡ stamped stamp more e ∷ rest → IsInOrder before (stamped stamp more e) → IsHeld H stamp.maker e → IsSettled H stamp.maker e
+    settled-one stamp more (Withdrawn paper) rest here is held = (there paper is.about, writes (Some stamp.maker) paper is.right)
+    settled-one stamp more (Conflict paper user on) rest here is held = there paper is.about.0
+    settled-one stamp more (Bid paper value) rest here is held = there paper is.about
+    settled-one stamp more (Assigned paper user review_kind ordinal) rest here is held =
         (there paper is.about.0, from Bidding (committee-begun (phase_of before) is.phase))
-    settled-one stamp more (Unassigned paper user ordinal) is held =
+    settled-one stamp more (Unassigned paper user ordinal) rest here is held =
         (there paper is.about.0, from Bidding (committee-begun (phase_of before) is.phase))
-    settled-one stamp more (Reviewed paper ordinal version form) is held =
+    settled-one stamp more (Reviewed paper ordinal version form) rest here is held =
         (there paper is.about, from Reviewing (reviewed-in (phase_of before) is.phase), ap is_some held)
-    settled-one stamp more (Commented paper n ordinal text) is held = (there paper is.about, from Discussion (discussed-in (phase_of before) is.phase))
-    settled-one stamp more (Tagged paper tag on) is held = there paper is.about
-    settled-one stamp more (Decided paper decision) is held = (there paper is.about, from Discussion (discussed-in (phase_of before) is.phase))
-    settled-one stamp more e is held = tt
+    settled-one stamp more (Commented paper n ordinal text) rest here is held = (there paper is.about, from Discussion (discussed-in (phase_of before) is.phase))
+    settled-one stamp more (Responded paper text) rest here is held = (
+      there paper is.about,
+      writes (Some stamp.maker) paper is.right,
+      ap (λ (G : History). is_some (response_of paper G)) (sym whole)
+          ∙ ap (λ (G : History). is_some (response_of paper (before ++ G))) here
+          ∙ last-there (λ (e : Stamped). response_told paper e.entry) before rest (stamped stamp more (Responded paper text)) text
+          (ap (λ b. given b text) (eq-eqb paper paper refl)),
+    )
+    settled-one stamp more (Tagged paper tag on) rest here is held = there paper is.about
+    settled-one stamp more (Decided paper decision) rest here is held = (there paper is.about, from Discussion (discussed-in (phase_of before) is.phase))
+    settled-one stamp more e rest here is held = tt
 
   abbrev pub Settled : Stamped → Type 0
   Settled e = IsSettled H e.stamp.maker e.entry
@@ -153,7 +141,7 @@ module _ (H : History) where
       → AllByRecursion Settled after
   settled-all before [] whole order held = tt
   settled-all before (e ∷ after) whole order held = (
-    settled-one before (e ∷ after) whole order e.stamp e.more e.entry order.0 held.0,
+    settled-one before (e ∷ after) whole order e.stamp e.more e.entry after refl order.0 held.0,
     settled-all (before ++ e ∷ []) after (append_assoc before (e ∷ []) after ∙ whole) order.1 held.1,
   )
 
@@ -186,6 +174,7 @@ reviewing-on Setup h = absurd (true≢false (sym h))
 reviewing-on Submission h = absurd (true≢false (sym h))
 reviewing-on Bidding h = absurd (true≢false (sym h))
 reviewing-on Reviewing h = refl
+reviewing-on Response h = refl
 reviewing-on Discussion h = refl
 reviewing-on Notification h = refl
 reviewing-on Closed h = refl
@@ -195,6 +184,7 @@ reviewing-begun Setup h = absurd (true≢false (sym h))
 reviewing-begun Submission h = absurd (true≢false (sym h))
 reviewing-begun Bidding h = absurd (true≢false (sym h))
 reviewing-begun Reviewing h = refl
+reviewing-begun Response h = refl
 reviewing-begun Discussion h = refl
 reviewing-begun Notification h = refl
 reviewing-begun Closed h = refl
@@ -236,11 +226,20 @@ module _ (u : Option ℕ) (H : History) (legal : Legal H) where
     pub tags-key : has_key (λ page. page.tags) u q H ≡ is_eligible u q H
     tags-key = ap is_some (page_lists_told u q H legal is).tags ∙ known-some (is_eligible u q H) _
 
-    pub reviews-key : has_reviews u q H ≡ (is_notified u q H || discusses u q H || reviews_now u q H || reviews_visiting u q H)
-    reviews-key = ap is_some (reviews_told u q H legal is) ∙ known-some (is_notified u q H || discusses u q H || reviews_now u q H || reviews_visiting u q H) _
+    pub reviews-key : has_reviews u q H ≡ (is_notified u q H || may_respond u q H || discusses u q H || reviews_now u q H || reviews_visiting u q H)
+    reviews-key =
+        ap is_some (reviews_told u q H legal is)
+        ∙ known-some (is_notified u q H || may_respond u q H || discusses u q H || reviews_now u q H || reviews_visiting u q H) _
 
     pub comments-key : has_comments u q H ≡ discusses u q H
     comments-key = ap is_some (comments_told u q H legal is) ∙ known-some (discusses u q H) _
+
+    pub response-key : has_response u q H ≡ ((is_author u q H || discusses u q H) && is_some (response_of q H))
+    response-key = ap is_some (response_answer u q H legal is) ∙ either (is_author u q H || discusses u q H) (response_of q H)
+      where
+        either : (b : Bool) (o : Option (List ℕ)) → is_some (if b then o else None) ≡ (b && is_some o)
+        either true o = refl
+        either false o = refl
 
   at : (paper p : ℕ) (P : ℕ → Bool) → eqb paper p ≡ true → P paper ≡ true → P p ≡ true
   at paper p P same holds = ap P (sym (eqb-true paper p same)) ∙ holds
@@ -255,16 +254,16 @@ module _ (u : Option ℕ) (H : History) (legal : Legal H) where
       → (((k && n) || (((((o && s) && not c) && l) || d) || a)) || ((m || (k && n)) && not ((((o && s) && not c) && l) || d))) ≡ true
   seat-placed m n l o s c d h a k hk told hs hl = grind (arith, hk, told, hs, hl)
 
-  each : (p : ℕ) (before later : History) (stamp : Stamp) (more : Bool) (e : Entry) → IsSettled H stamp.maker e → is_told u H before later stamp.maker e ≡ true
+  each : (p : ℕ) (before later : History) (stamp : Stamp) (more : Bool) (e : Entry) → before ++ stamped stamp more e ∷ later ≡ H → IsSettled H stamp.maker e → is_told u H before later stamp.maker e ≡ true
       → IsTrue (is_number (shown_to u H before later stamp e).paper p)
       → IsTrue (is_placed u p H (shown_to u H before later stamp e).kind (shown_to u H before later stamp e))
-  each p before later stamp more (Withdrawn paper) is told same =
+  each p before later stamp more (Withdrawn paper) whole is told same =
       at paper p (λ n. has_key (λ page. page.withdrawn) u n H) same
       (withdrawn-key paper is.0 ∙ by (is_number u stamp.maker) (is_author u paper H) (serves u H) (reads_visiting u paper H) told (own-so (λ v. is_author v paper H) u stamp.maker is.1))
     where
       by : (m a s v : Bool) → (((m || a) || s) || v) ≡ true → (not m || a) ≡ true → ((a || s) || v) ≡ true
       by m a s v h own = grind (arith, h, own)
-  each p before later stamp more (Conflict paper user on) is told same =
+  each p before later stamp more (Conflict paper user on) whole is told same =
       at paper p
       (λ n. is_number u user || has_key (λ page. page.declared) u n H || has_key (λ page. page.conflicts) u n H || (is_number u stamp.maker && not (is_number u user) && not (oversees u n H))) same
       ((λ i. is_number u user || declared-key paper is i || conflicts-key paper is i || (is_number u stamp.maker && not (is_number u user) && not (oversees u paper H)))
@@ -272,7 +271,7 @@ module _ (u : Option ℕ) (H : History) (legal : Legal H) where
     where
       by : (m n a w o : Bool) → (((n || m) || (a && w)) || o) ≡ true → (((n || a) || o) || ((m && not n) && not o)) ≡ true
       by m n a w o told = grind (arith, told)
-  each p before later stamp more (Bid paper value) is told same =
+  each p before later stamp more (Bid paper value) whole is told same =
       at paper p
       (λ n. has_key (λ page. page.bids) u n H || (is_number u stamp.maker && has_key (λ page. page.bid) u n H) || (is_number u stamp.maker && not (is_eligible u n H))) same
       ((λ i. bids-key paper is i || (is_number u stamp.maker && bid-key paper is i) || (is_number u stamp.maker && not (is_eligible u paper H)))
@@ -280,7 +279,7 @@ module _ (u : Option ℕ) (H : History) (legal : Legal H) where
     where
       by : (m h o : Bool) → (m || o) ≡ true → ((o || (m && h)) || (m && not h)) ≡ true
       by m h o told = grind (arith, told)
-  each p before later stamp more (Assigned paper user review_kind ordinal) is told same =
+  each p before later stamp more (Assigned paper user review_kind ordinal) whole is told same =
       at paper p
       (λ n. is_user u s.user || has_key (λ page. page.reviewers) u n H || ((is_number u stamp.maker || is_user u s.user) && not (oversees u n H || discusses u n H))) same
       ((λ i. user-known u (names stamp.maker paper user) user i || reviewers-key paper is.0 i
@@ -291,7 +290,7 @@ module _ (u : Option ℕ) (H : History) (legal : Legal H) where
     where
       s : Sighting
       s = shown_to u H before later stamp (Assigned paper user review_kind ordinal)
-  each p before later stamp more (Unassigned paper user ordinal) is told same =
+  each p before later stamp more (Unassigned paper user ordinal) whole is told same =
       at paper p
       (λ n. is_user u s.user || has_key (λ page. page.reviewers) u n H || ((is_number u stamp.maker || is_user u s.user) && not (oversees u n H || discusses u n H))) same
       ((λ i. user-known u (names stamp.maker paper user) user i || reviewers-key paper is.0 i
@@ -302,37 +301,47 @@ module _ (u : Option ℕ) (H : History) (legal : Legal H) where
     where
       s : Sighting
       s = shown_to u H before later stamp (Unassigned paper user ordinal)
-  each p before later stamp more (Reviewed paper ordinal version form) is told same =
+  each p before later stamp more (Reviewed paper ordinal version form) whole is told same =
       at paper p
       (λ n. has_reviews u n H || has_key (λ page. page.reviewers) u n H || (is_number u stamp.maker && not (has_before_her u n H))) same
       ((λ i. reviews-key paper is.0 i || reviewers-key paper is.0 i || (is_number u stamp.maker && not (has_before_her u paper H)))
       ∙ by (is_number u stamp.maker) onc (visits u paper H) (is_past_submission (phase_of H)) (has_conflict u paper H) lead (is_past_reviewing (phase_of H)) (is_reviewing_now (phase_of H))
       (is_reviewer u paper H) (is_discussed paper ordinal before later) (not (is_reviewed paper ordinal before)) (is_notified u paper H)
-      (not (is_reviewed paper ordinal later)) (is_answered u paper H) told (reviewing-begun (phase_of H) is.1) (reviewing-on (phase_of H) is.1)
+      (not (is_reviewed paper ordinal later)) (is_answered u paper H) (is_heard u paper H) (is_responded_to paper ordinal before later) (may_respond u paper H)
+      (heard-responds u H paper ordinal before later stamp more (Reviewed paper ordinal version form) whole)
+      told (reviewing-begun (phase_of H) is.1) (reviewing-on (phase_of H) is.1)
       (own-so (λ v. is_reviewer v paper H) u stamp.maker is.2) (leads-serves (role_of u H)))
     where
-      by : (m o v s c l d w r x y n z a : Bool)
-          → (((m || ((((o && s) && not c) && d) && x)) || ((l && not c) && y)) || (n && z)) ≡ true
+      by : (m o v s c l d w r x y n z a h q f : Bool) → (not (h && q) || f) ≡ true
+          → (((m || ((((o && s) && not c) && d) && x)) || ((l && not c) && y)) || ((h && q) || (n && z))) ≡ true
           → s ≡ true → (d || w) ≡ true → (not m || r) ≡ true → (o && l) ≡ l
-          → (((((n || (((o && s) && not c) && d)) || ((((o && s) && not c) && r) && w)) || ((((v && not c) && s) && r) && (w || d)))
+          → ((((((n || f) || (((o && s) && not c) && d)) || ((((o && s) && not c) && r) && w)) || ((((v && not c) && s) && r) && (w || d)))
           || (((((o && s) && not c) && l) || (((o && s) && not c) && d)) || a))
           || (m && not (((o && s) && not c) || ((v && not c) && s)))) ≡ true
-      by m o v s c l d w r x y n z a told hs hd own hl = grind (arith, told, hs, hd, own, hl)
-  each p before later stamp more (Commented paper n ordinal text) is told same =
+      by m o v s c l d w r x y n z a h q f heard told hs hd own hl = grind (arith, heard, told, hs, hd, own, hl)
+  each p before later stamp more (Commented paper n ordinal text) whole is told same =
       at paper p (λ n. has_comments u n H || (is_number u stamp.maker && not (is_eligible u n H))) same
       ((λ i. comments-key paper is.0 i || (is_number u stamp.maker && not (is_eligible u paper H)))
       ∙ by (is_number u stamp.maker) (is_eligible u paper H) (is_past_reviewing (phase_of H)) told (sym (phase-words (phase_of H)).discussion ∙ is.1))
     where
       by : (m h d : Bool) → (m || (h && d)) ≡ true → d ≡ true → ((h && d) || (m && not h)) ≡ true
       by m h d told hd = grind (arith, told, hd)
-  each p before later stamp more (Tagged paper tag on) is told same =
+  each p before later stamp more (Responded paper text) whole is told same =
+      at paper p (λ n. has_response u n H) same
+      (response-key paper is.0
+      ∙ by (is_number u stamp.maker) (is_author u paper H) (discusses u paper H) (is_some (response_of paper H)) told
+      (own-so (λ v. is_author v paper H) u stamp.maker is.1) is.2)
+    where
+      by : (m a d r : Bool) → ((m || a) || d) ≡ true → (not m || a) ≡ true → r ≡ true → ((a || d) && r) ≡ true
+      by m a d r told own hr = grind (arith, told, own, hr)
+  each p before later stamp more (Tagged paper tag on) whole is told same =
       at paper p (λ n. has_key (λ page. page.tags) u n H || (is_number u stamp.maker && not (is_eligible u n H))) same
       ((λ i. tags-key paper is i || (is_number u stamp.maker && not (is_eligible u paper H)))
       ∙ by (is_number u stamp.maker) (is_committees tag) (is_chairs tag) (is_eligible u paper H) lead told)
     where
       by : (m t k h l : Bool) → (m || ((t && h) || (k && (h && l)))) ≡ true → (h || (m && not h)) ≡ true
       by m t k h l told = grind (arith, told)
-  each p before later stamp more (Decided paper decision) is told same =
+  each p before later stamp more (Decided paper decision) whole is told same =
       at paper p (λ n. has_key (λ page. page.decision) u n H || (is_number u stamp.maker && not (is_eligible u n H))) same
       ((λ i. decision-key paper is.0 i || (is_number u stamp.maker && not (is_eligible u paper H)))
       ∙ by (is_number u stamp.maker) (is_eligible u paper H) (is_past_reviewing (phase_of H)) (not (is_decided_again paper later)) (is_notified u paper H) (is_in_programme paper H)
@@ -340,9 +349,9 @@ module _ (u : Option ℕ) (H : History) (legal : Legal H) where
     where
       by : (m h d x n g : Bool) → (((m || (h && d)) || (x && n)) || (x && g)) ≡ true → d ≡ true → ((((h && d) || n) || g) || (m && not h)) ≡ true
       by m h d x n g told hd = grind (arith, told, hd)
-  each p before later stamp more e is told same = refl
+  each p before later stamp more e whole is told same = refl
 
 pub places_told : PlacesTold
 places_told u p H legal =
-    all-view u H (λ (s : Sighting). IsTrue (is_number s.paper p) → IsTrue (is_placed u p H s.kind s)) (λ (e : Stamped). IsSettled H e.stamp.maker e.entry)
+    all-sightings u H (λ (s : Sighting). IsTrue (is_number s.paper p) → IsTrue (is_placed u p H s.kind s)) (λ (e : Stamped). IsSettled H e.stamp.maker e.entry)
     (each u H legal p) (settled H (legal_invariants H legal))

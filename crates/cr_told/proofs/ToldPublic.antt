@@ -12,7 +12,7 @@ use Rattle.cr_base.specs.declared.reply.AccountLine.{AccountLine}
 use Rattle.cr_base.specs.declared.reply.Reply.TheVariants as replies
 use Rattle.cr_base.specs.declared.words.Mode.TheVariants.{Blind}
 use Rattle.cr_base.specs.declared.words.Phase.{Phase}
-use Rattle.cr_base.specs.declared.words.Phase.TheVariants.{Setup, Submission, Bidding, Reviewing, Discussion}
+use Rattle.cr_base.specs.declared.words.Phase.TheVariants.{Setup, Submission, Bidding, Reviewing, Response, Discussion}
 use Rattle.cr_base.specs.declared.words.Role.TheVariants.{Account}
 use Rattle.cr_base.specs.Deadlines.{phase_deadline, deadlines_told as told_of}
 use Rattle.cr_base.specs.History.{History, Registration}
@@ -52,7 +52,7 @@ module _ (u : Option ℕ) (H : History) where
           ≡ (let s : Sighting = shown_to u H before later stamp e in only (shows_phase phase s.phase) (listed s.until))
       one before later stamp (DeadlineSet set until) =
           same (may_have_deadline set) (is_phase set phase) until
-          (λ is. ap (λ n. nat_le 1 n && not (nat_le 5 n)) (eqb-true (phase_rank set) (phase_rank phase) is) ∙ may)
+          (λ is. ap (λ n. nat_le 1 n && not (nat_le 6 n)) (eqb-true (phase_rank set) (phase_rank phase) is) ∙ may)
       one before later stamp (PhaseSet to) = refl
       one before later stamp e = refl
 
@@ -102,17 +102,18 @@ accounts_told u H = ap (λ (lines : List AccountLine). replies.Accounts lines) (
 pub conference_told : ConferenceTold
 conference_told u H = λ i. replies.Conference (record { mode = last_or Blind (modes u H i); papers = length (papers u H i); phase = last_or Setup (phases u H i) })
 
--- four phases may have one
-told_of-same : (D E : Phase → Option ℕ) → D Submission ≡ E Submission → D Bidding ≡ E Bidding → D Reviewing ≡ E Reviewing → D Discussion ≡ E Discussion
-    → told_of D ≡ told_of E
-told_of-same D E s b r d = λ i.
+-- five phases may have one
+told_of-same : (D E : Phase → Option ℕ) → D Submission ≡ E Submission → D Bidding ≡ E Bidding → D Reviewing ≡ E Reviewing → D Response ≡ E Response
+    → D Discussion ≡ E Discussion → told_of D ≡ told_of E
+told_of-same D E s b r a d = λ i.
     listed (option_map (phase_deadline Submission) (s i))
     ++ (listed (option_map (phase_deadline Bidding) (b i))
     ++ (listed (option_map (phase_deadline Reviewing) (r i))
-    ++ (listed (option_map (phase_deadline Discussion) (d i)) ++ [])))
+    ++ (listed (option_map (phase_deadline Response) (a i))
+    ++ (listed (option_map (phase_deadline Discussion) (d i)) ++ []))))
 
 pub deadlines_told : DeadlinesTold
 deadlines_told u H =
     ap (λ lines. replies.Deadlines lines)
     (told_of-same (λ phase. deadline_in_view phase (view u H)) (λ phase. last_or None (deadlines_shown phase (view u H)))
-    (deadlines u H Submission refl) (deadlines u H Bidding refl) (deadlines u H Reviewing refl) (deadlines u H Discussion refl))
+    (deadlines u H Submission refl) (deadlines u H Bidding refl) (deadlines u H Reviewing refl) (deadlines u H Response refl) (deadlines u H Discussion refl))

@@ -33,7 +33,7 @@ use Rattle.cr_policy.specs.ShownTo.{where_known}
 use Rattle.cr_policy.specs.View.{View, view}
 use Rattle.cr_policy.specs.ViewFacts.{only, facts_in_view, shown_in_view, accounts_in_view, papers_in_view, reviewers_in_view, last_form_in_view, seats_in_view, standing_in_view}
 use Rattle.cr_policy.specs.ViewFacts.{is_conflicted_in_view, is_written_in_view, done_seen, discussion_seen, forms_discussed_in_view}
-use Rattle.cr_policy.proofs.BoundsParts.{phase-words}
+use Rattle.cr_policy.proofs.BoundsWords.{phase-words}
 use Rattle.cr_policy.proofs.BoundsWalk.{shown_to}
 use Rattle.cr_policy.proofs.LegalLaws.{legal_invariants}
 use Rattle.cr_policy.proofs.StandingLaws.{papers-seen, standing_from_view}

@@ -1,6 +1,6 @@
 -- A search tells what the page, the reviews and the comments tell.
 use Rattle.std.proofs.Common.{◌≡◌, ℕ, Bool, true, false, List, [], ◌∷◌, refl, sym, ap, ◌∙◌, ◌||◌, Option, Some, eqb, length}
-use Rattle.std.specs.Prelude.{not, map, filter, ◌==◌, unwrap_or, if◌then◌else◌}
+use Rattle.std.specs.Prelude.{not, map, filter, ◌==◌, is_some, unwrap_or, if◌then◌else◌}
 use Rattle.std.specs.List.{flat_map, list_any}
 use Rattle.std.proofs.lemmas.Bool.{true≢false, eq-eqb, or_left, or_right}
 use Rattle.cr_base.specs.declared.command.Query.TheVariants as queries
@@ -15,7 +15,7 @@ use Rattle.cr_base.specs.declared.words.Mode.{Mode}
 use Rattle.cr_base.specs.declared.words.Phase.{Phase}
 use Rattle.cr_base.specs.declared.words.Role.{Role}
 use Rattle.cr_base.specs.declared.words.Role.TheVariants.{Account, Member, Chair}
-use Rattle.cr_base.specs.Answering.{bidder_told, reviewer_told, uploads_told, page_by, reply_or_rule, told_of_paper, reviews_answered as reviews_read, comments_answered as comments_read}
+use Rattle.cr_base.specs.Answering.{bidder_told, reviewer_told, uploads_told, page_by, reply_or_rule, told_of_paper, reviews_answered as reviews_read, comments_answered as comments_read, tells_response}
 use Rattle.cr_base.specs.Checks.{judged, ◌breaks◌}
 use Rattle.cr_base.specs.History.{History, BidTold, Upload}
 use Rattle.cr_base.specs.Lists.{listed}
@@ -27,7 +27,7 @@ use Rattle.cr_policy.specs.Judge.{answer}
 use Rattle.cr_policy.specs.View.{View, view}
 use Rattle.cr_policy.specs.ViewFacts.{facts_in_view, shown_in_view, papers_in_view, standing_in_view, is_accepted_in_view}
 use Rattle.cr_told.specs.ToldPages.{page_answered}
-use Rattle.cr_told.specs.ToldLists.{comments_answered}
+use Rattle.cr_told.specs.ToldLists.{comments_answered, response_answered}
 use Rattle.cr_told.specs.ToldReviews.{reviews_answered}
 use Rattle.cr_told.specs.ToldSearches.{no_page, told_in_answers, papers_found, SearchesTold}
 use Rattle.cr_told.proofs.ToldReports.{conflicted}
@@ -62,6 +62,10 @@ reviews-read reply = refl
 comments-read : (reply : Reply) → comments_read reply ≡ unwrap_or (comments_answered reply) []
 comments-read (replies.Comments lines) = refl
 comments-read reply = refl
+
+response-read : (reply : Reply) → tells_response reply ≡ is_some (response_answered reply)
+response-read (replies.Response text) = refl
+response-read reply = refl
 
 -- ---- the papers
 
@@ -103,6 +107,7 @@ module _ (u : Option ℕ) (H : History) where
     conflicted = conflicted u H p i;
     reviews = reviews-read (answer u V (queries.Reviews (Some p))) i;
     comments = comments-read (answer u V (queries.Comments (Some p))) i;
+    responded = response-read (answer u V (queries.Response (Some p))) i;
   }
     where
       by : Standing

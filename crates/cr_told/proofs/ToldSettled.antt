@@ -7,7 +7,7 @@ use Rattle.std.proofs.lemmas.List.Concat.{flat_map-append}
 use Rattle.std.proofs.lemmas.List.Folds.{list_any-append}
 use Rattle.cr_base.specs.declared.entry.Entry.{Entry}
 use Rattle.cr_base.specs.declared.entry.Entry.TheVariants.{Registered, Named, PhaseSet, ModeSet, Submitted, Coauthor, Revised, Uploaded, Withdrawn, Conflict}
-use Rattle.cr_base.specs.declared.entry.Entry.TheVariants.{Bid, Assigned, Unassigned, Reviewed, Commented, Tagged, Decided, DeadlineSet, Dismissed, Invited, Uninvited}
+use Rattle.cr_base.specs.declared.entry.Entry.TheVariants.{Bid, Assigned, Unassigned, Reviewed, Commented, Tagged, Decided, DeadlineSet, Dismissed, Invited, Uninvited, Responded}
 use Rattle.cr_base.specs.declared.entry.Stamp.{Stamp}
 use Rattle.cr_base.specs.declared.entry.Stamped.{Stamped}
 use Rattle.cr_base.specs.Drawn.{stamped}
@@ -41,6 +41,7 @@ IsThere H maker (DeadlineSet phase until) = may_have_deadline phase ≡ true
 IsThere H maker (Dismissed user) = IsRegistered H user
 IsThere H maker (Invited paper user) = IsSubmitted H paper × IsRegistered H user
 IsThere H maker (Uninvited paper user) = IsSubmitted H paper × IsRegistered H user
+IsThere H maker (Responded paper text) = IsSubmitted H paper
 
 module _ (H : History) where
   module _ (before : History) (e : Stamped) (after : History) (whole : before ++ e ∷ after ≡ H) where
@@ -89,6 +90,7 @@ module _ (H : History) where
   there-one before stamp more (Dismissed v) after whole is = user before _ after whole v is.about
   there-one before stamp more (Invited p v) after whole is = (paper before _ after whole p is.about.0, user before _ after whole v is.about.1)
   there-one before stamp more (Uninvited p v) after whole is = (paper before _ after whole p is.about.0, user before _ after whole v is.about.1)
+  there-one before stamp more (Responded p text) after whole is = paper before _ after whole p is.about
 
   abbrev pub There : Stamped → Type 0
   There e = IsThere H e.stamp.maker e.entry

@@ -1,27 +1,28 @@
--- Of a paper's title, abstract, authors and versions a view of a legal history shows something exactly to those whom the page tells it.
+-- Of a paper's title, abstract, authors and versions, and of its response, a view of a legal history shows something exactly to those
+-- whom an answer tells it.
 use Rattle.std.proofs.Common.{◌≡◌, ℕ, Bool, true, false, List, [], ◌∷◌, ◌++◌, refl, sym, ap, ◌∙◌, ◌||◌, ◌&&◌, Option, Some, eqb, arith}
 use Rattle.std.specs.Prelude.{All, not}
 use Rattle.std.specs.List.{flat_map}
 use Rattle.std.proofs.lemmas.Bool.{eqb-true, true≢false}
 use Rattle.std.proofs.lemmas.List.Elements.{All-head, All-tail}
 use Rattle.cr_base.specs.declared.entry.Entry.{Entry}
-use Rattle.cr_base.specs.declared.entry.Entry.TheVariants.{Submitted, Coauthor, Revised, Uploaded}
+use Rattle.cr_base.specs.declared.entry.Entry.TheVariants.{Submitted, Coauthor, Revised, Uploaded, Responded}
 use Rattle.cr_base.specs.declared.entry.Stamp.{Stamp}
 use Rattle.cr_base.specs.declared.entry.Stamped.{Stamped}
 use Rattle.cr_base.specs.Lists.{listed, is_number}
 use Rattle.cr_base.specs.History.{History}
 use Rattle.cr_base.specs.HistoryFacts.{mode_of, is_author}
 use Rattle.cr_history.specs.Invariants.{IsInOrder, InTurn}
-use Rattle.cr_policy.specs.ShownTo.{serves, reads_visiting, has_before_her, oversees, hides_authors, is_in_programme, appears, is_told, where_known, is_replaced, is_superseded}
+use Rattle.cr_policy.specs.ShownTo.{serves, reads_visiting, has_before_her, oversees, discusses, hides_authors, is_in_programme, appears, is_told, where_known, is_replaced, is_superseded}
 use Rattle.cr_policy.specs.Sighting.{Sighting}
 use Rattle.cr_policy.specs.View.{view}
-use Rattle.cr_policy.specs.ViewFacts.{only, upload_shown, upload_seen, uploads_in_view}
+use Rattle.cr_policy.specs.ViewFacts.{only, upload_shown, upload_seen, uploads_in_view, response_seen}
 use Rattle.cr_policy.proofs.BoundsWalk.{shown_to, all-view}
 use Rattle.cr_told.specs.ToldPages.{shown_on, writers_shown, writer_by}
 use Rattle.cr_told.proofs.ToldMakers.{IsByAuthor, by-authors, not-own}
 
 -- what no sighting shows, the view doesn't
-none-of : {X A : Type 0} (f : X → List A) (xs : List X) → All (λ (x : X). f x ≡ []) xs → flat_map f xs ≡ []
+pub none-of : {X A : Type 0} (f : X → List A) (xs : List X) → All (λ (x : X). f x ≡ []) xs → flat_map f xs ≡ []
 none-of f [] none = refl
 none-of {X} f (x ∷ xs) none =
     let P : X → Type 0 = λ x. f x ≡ [] in
@@ -107,6 +108,19 @@ module _ (u : Option ℕ) (p : ℕ) (H : History) (order : InTurn IsInOrder [] H
       each : Each (upload_seen p)
       each before later stamp more (Uploaded paper version content) right told =
           neither (eqb paper p) _ version content (own-none may stranger hidden paper stamp.maker (λ n. is_superseded n later) right)
+      each before later stamp more e right told = refl
+
+  pub responses-none : is_author u p H ≡ false → discusses u p H ≡ false → flat_map (response_seen p) (view u H) ≡ []
+  responses-none stranger hidden = none-shown (response_seen p) each
+    where
+      each : Each (response_seen p)
+      each before later stamp more (Responded paper text) right told =
+          untold (eqb paper p) _ text told
+          (λ same.
+          let e : paper ≡ p = eqb-true paper p same in
+          ap (λ b. (b || is_author u paper H) || discusses u paper H) (not-own H u paper stamp.maker right (ap (λ n. is_author u n H) e ∙ stranger))
+          ∙ ap (λ n. is_author u n H || discusses u n H) e
+          ∙ (λ i. stranger i || hidden i))
       each before later stamp more e right told = refl
 
   -- who is told of an author

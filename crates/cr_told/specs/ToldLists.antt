@@ -1,6 +1,6 @@
--- Told of lists: what a view shows of bids, reviewers, tags, reviews, comments, contents and accepted papers, and of
--- its reader herself, is what the answers list: who may know it in the words of the bounds, and what it is from the
--- parts that sightings show.
+-- Told of lists: what a view shows of bids, reviewers, tags, reviews, comments, responses, contents and accepted
+-- papers, and of its reader herself, is what the answers list: who may know it in the words of the bounds, and what
+-- it is from the parts that sightings show.
 use Rattle.std.specs.Prelude.{ℕ, Bool, false, not, ◌≡◌, ◌&&◌, ◌||◌, ◌==◌, List, [], ◌∷◌}
 use Rattle.std.specs.Prelude.{length, map, filter, Option, Some, None, is_some, unwrap_or, if◌then◌else◌}
 use Rattle.std.specs.Option.{option_and_then}
@@ -152,6 +152,19 @@ CommentsTold =
     (u : Option ℕ) (p : ℕ) (H : History) → Legal H → IsSubmitted H p
     → comments_answered (answer u (view u H) (queries.Comments (Some p)))
     ≡ where_known (discusses u p H) (comments_listed p (view u H))
+
+-- ---- responses
+
+abbrev pub response_answered : Reply → Option (List ℕ)
+response_answered (replies.Response text) = Some text
+response_answered _ = None
+
+-- what a paper's authors responded is answered exactly where the view shows it
+abbrev pub ResponsesTold : Type 0
+ResponsesTold =
+    (u : Option ℕ) (p : ℕ) (H : History) → Legal H → IsSubmitted H p
+    → response_answered (answer u (view u H) (queries.Response (Some p)))
+    ≡ last (shown_by kinds.Responded p (λ (s : Sighting). s.text) (view u H))
 
 -- ---- accepted papers
 

@@ -39,7 +39,7 @@ use Rattle.cr_policy.specs.View.{View, view}
 use Rattle.cr_policy.specs.ViewFacts.{only, is_user, is_kind, discussion_seen}
 use Rattle.cr_told.specs.ToldPages.{shown_on, page_told, shown_of}
 use Rattle.cr_told.specs.ToldPages.{bids_shown_of, own_bids_shown, ordinal_by, invitation_by, is_shown_accepted}
-use Rattle.cr_told.specs.ToldLists.{name_shown, is_left, knows_reviewers, comments_answered}
+use Rattle.cr_told.specs.ToldLists.{name_shown, is_left, knows_reviewers, comments_answered, response_answered}
 use Rattle.cr_told.specs.ToldLists.{content_answered, accepted_answered, me_answered}
 use Rattle.cr_told.specs.ToldPlaces.{is_left_behind, is_conflict_behind, is_seat_behind, is_form_behind}
 use Rattle.cr_told.specs.ToldReviews.{reviews_answered}
@@ -131,9 +131,12 @@ paper_of s = unwrap_or s.paper 0
 abbrev pub key : {A : Type 0} → (Page → Option A) → Option ℕ → History → Sighting → Option A
 key of u H s = page_told of u (paper_of s) H
 
--- the comments on its paper, and the accepted papers
+-- the comments on its paper, what its authors responded, and the accepted papers
 abbrev pub comments_given : Option ℕ → History → Sighting → Option (List CommentLine)
 comments_given u H s = comments_answered (answer u (view u H) (queries.Comments (Some (paper_of s))))
+
+abbrev pub response_given : Option ℕ → History → Sighting → Option (List ℕ)
+response_given u H s = response_answered (answer u (view u H) (queries.Response (Some (paper_of s))))
 
 abbrev pub accepted_given : Option ℕ → History → Option (List AcceptedPaper)
 accepted_given u H = accepted_answered (answer u (view u H) queries.AcceptedPapers)
@@ -188,9 +191,9 @@ has_deadline u H s test =
 -- an answer tells this part of a sighting of this kind: the accounts who registered, under which name, and in which
 -- role; the conference its phase and mode; the deadlines each phase that has one, and it; the paper's page its title,
 -- abstract, authors, versions, conflicts, bids, reviewers, tags and decision, and the reader's own bid and label; the
--- content of a version; the reviews and the comments their lines; the accepted papers that it is one; and what she is
--- told of herself with which papers she is in conflict, which she reviews, and to which she is invited. A line for
--- each part that a kind has, and nothing else is told
+-- content of a version; the reviews and the comments their lines, and the response its text; the accepted papers that
+-- it is one; and what she is told of herself with which papers she is in conflict, which she reviews, and to which she
+-- is invited. A line for each part that a kind has, and nothing else is told
 abbrev pub is_told : Option ℕ → History → Sighting → EntryKind → Part → Bool
 is_told u H s kinds.Registered part.user = lists (accounts_given u H) (λ line. is_number s.user line.user)
 is_told u H s kinds.Registered part.name =
@@ -253,6 +256,7 @@ is_told u H s kinds.Commented part.ordinal =
     lists (comments_given u H s) (λ line. is_number s.n line.n && agree nat_eq s.ordinal line.label)
 is_told u H s kinds.Commented part.text =
     lists (comments_given u H s) (λ line. is_number s.n line.n && agree bytes_eq s.text (Some line.text))
+is_told u H s kinds.Responded part.text = agree bytes_eq s.text (response_given u H s)
 is_told u H s kinds.Tagged part.tag = is_tag_told u H s
 is_told u H s kinds.Tagged part.on = is_tag_told u H s
 is_told u H s kinds.Decided part.decision =

@@ -15,10 +15,10 @@ use Rattle.cr_policy.specs.Sighting.{Sighting}
 use Rattle.cr_policy.specs.View.{view}
 use Rattle.cr_policy.specs.ViewFacts.{is_user}
 use Rattle.cr_told.specs.ToldPages.{page_told}
-use Rattle.cr_told.specs.ToldLists.{comments_answered}
+use Rattle.cr_told.specs.ToldLists.{comments_answered, response_answered}
 use Rattle.cr_told.specs.ToldReviews.{reviews_answered}
 
--- the key is on the paper's page, its reviews are answered, and so are the comments on it
+-- the key is on the paper's page, its reviews are answered, so are the comments on it, and so is its response
 abbrev pub has_key : {A : Type 0} → (Page → Option A) → Option ℕ → ℕ → History → Bool
 has_key key u p H = is_some (page_told key u p H)
 
@@ -27,6 +27,9 @@ has_reviews u p H = is_some (reviews_answered (answer u (view u H) (queries.Revi
 
 abbrev pub has_comments : Option ℕ → ℕ → History → Bool
 has_comments u p H = is_some (comments_answered (answer u (view u H) (queries.Comments (Some p))))
+
+abbrev pub has_response : Option ℕ → ℕ → History → Bool
+has_response u p H = is_some (response_answered (answer u (view u H) (queries.Response (Some p))))
 
 -- the sighting is the reader's own, on a paper that she isn't eligible for: she came into conflict with it since
 abbrev pub is_left_behind : Option ℕ → ℕ → History → Sighting → Bool
@@ -61,6 +64,7 @@ is_placed u p H kinds.Unassigned s =
 is_placed u p H kinds.Reviewed s =
     has_reviews u p H || has_key (λ page. page.reviewers) u p H || is_form_behind u p H s
 is_placed u p H kinds.Commented s = has_comments u p H || is_left_behind u p H s
+is_placed u p H kinds.Responded s = has_response u p H
 is_placed u p H kinds.Tagged s = has_key (λ page. page.tags) u p H || is_left_behind u p H s
 is_placed u p H kinds.Decided s = has_key (λ page. page.decision) u p H || is_left_behind u p H s
 is_placed u p H _ s = true

@@ -8,11 +8,11 @@ use Rattle.cr_base.specs.declared.reply.Reply.{Reply}
 use Rattle.cr_base.specs.declared.reply.Reply.TheVariants as replies
 use Rattle.cr_base.specs.declared.review.ReviewLine.{ReviewLine}
 use Rattle.cr_base.specs.declared.words.Phase.{Phase}
-use Rattle.cr_base.specs.declared.words.Phase.TheVariants.{Reviewing}
+use Rattle.cr_base.specs.declared.words.Phase.TheVariants.{Reviewing, Response}
 use Rattle.cr_base.specs.Labels.{by_labels, most_labels}
 use Rattle.cr_base.specs.Lists.{listed, last, is_number, until, since}
 use Rattle.cr_base.specs.History.{History}
-use Rattle.cr_base.specs.HistoryFacts.{phase_of, role_of, is_author, is_reviewer, assigned_under}
+use Rattle.cr_base.specs.HistoryFacts.{phase_of, role_of, is_author, is_reviewer, assigned_under, had_response_of}
 use Rattle.cr_history.specs.Invariants.{IsSubmitted}
 use Rattle.cr_policy.specs.Judge.{answer}
 use Rattle.cr_policy.specs.Legal.{Legal}
@@ -57,8 +57,9 @@ own_forms_listed u p V =
     (review_shown false true p V (unwrap_or (label_shown_of u p V) 0) s))
     V
 
--- authors: of each label the last form that is shown, without what is for the committee; else to the committee from the
--- discussion on: of each label the last that stands before the discussion, and all later ones; and else: her own
+-- authors: of each label the last form that is shown, which before the notification is the last that was written before
+-- the response, without what is for the committee; else to the committee from the discussion on: of each label the last
+-- that stands before the discussion, and all later ones; and else: her own
 abbrev pub reviews_listed : Option ℕ → ℕ → History → List ReviewLine
 reviews_listed u p H =
     let V : View = view u H in
@@ -72,12 +73,17 @@ reviews_listed u p H =
     most_labels
     else own_forms_listed u p V)
 
--- it is the reviewing
+-- it is the reviewing, or the response, in which reviewers wait
 abbrev pub is_reviewing_now : Phase → Bool
 is_reviewing_now Reviewing = true
+is_reviewing_now Response = true
 is_reviewing_now _ = false
 
--- she reviews the paper, for which she is eligible, in the reviewing
+-- she wrote the paper, and the response was opened
+abbrev pub may_respond : Option ℕ → ℕ → History → Bool
+may_respond u p H = is_author u p H && had_response_of H
+
+-- she reviews the paper, for which she is eligible, before the discussion
 abbrev pub reviews_now : Option ℕ → ℕ → History → Bool
 reviews_now u p H = is_eligible u p H && is_reviewer u p H && is_reviewing_now (phase_of H)
 
@@ -86,11 +92,12 @@ abbrev pub reviews_visiting : Option ℕ → ℕ → History → Bool
 reviews_visiting u p H =
     reads_visiting u p H && is_reviewer u p H && (is_reviewing_now (phase_of H) || is_past_reviewing (phase_of H))
 
--- the reviews of a paper are answered to authors who are notified, to those who discuss it, in the reviewing to its
--- reviewers, and from then on to those who review it as externals
+-- the reviews of a paper are answered to authors who are notified, and once the response was opened; to those who
+-- discuss it; before the discussion to its reviewers, and from the reviewing on to those who review it as externals
 abbrev pub ReviewsTold : Type 0
 ReviewsTold =
     (u : Option ℕ) (p : ℕ) (H : History) → Legal H → IsSubmitted H p
     → reviews_answered (answer u (view u H) (queries.Reviews (Some p)))
-    ≡ where_known (is_notified u p H || discusses u p H || reviews_now u p H || reviews_visiting u p H)
+    ≡ where_known
+    (is_notified u p H || may_respond u p H || discusses u p H || reviews_now u p H || reviews_visiting u p H)
     (reviews_listed u p H)

@@ -1,6 +1,7 @@
 -- PaperTold of searches: a paper is found exactly where it has a title for the reader and the terms hold of what the
 -- answers tell her of it.
-use Rattle.std.specs.Prelude.{ℕ, true, false, ◌≡◌, List, [], length, map, filter, Option, Some, None, unwrap_or}
+use Rattle.std.specs.Prelude.{ℕ, true, false, ◌≡◌, List, [], length, map, filter, Option, Some, None, is_some}
+use Rattle.std.specs.Prelude.{unwrap_or}
 use Rattle.cr_base.specs.declared.command.Query.TheVariants as queries
 use Rattle.cr_base.specs.declared.found.FoundPaper.{FoundPaper}
 use Rattle.cr_base.specs.declared.page.Page.{Page}
@@ -12,7 +13,7 @@ use Rattle.cr_policy.specs.Judge.{answer}
 use Rattle.cr_policy.specs.View.{view}
 use Rattle.cr_policy.specs.ViewFacts.{papers_in_view}
 use Rattle.cr_told.specs.ToldPages.{page_answered, is_shown_accepted}
-use Rattle.cr_told.specs.ToldLists.{comments_answered}
+use Rattle.cr_told.specs.ToldLists.{comments_answered, response_answered}
 use Rattle.cr_told.specs.ToldReports.{is_hers_or_in_conflict}
 use Rattle.cr_told.specs.ToldReviews.{reviews_answered}
 
@@ -36,8 +37,8 @@ no_page p = record {
   withdrawn = None;
 }
 
--- what the answers tell of a paper: its page, its reviews and its comments, where they are answered; and whether the
--- view shows that it is accepted, and that she is in conflict with it
+-- what the answers tell of a paper: its page, its reviews and its comments, where they are answered; whether its
+-- response is; and whether the view shows that it is accepted, and that she is in conflict with it
 abbrev pub told_in_answers : Option ℕ → History → ℕ → PaperTold
 told_in_answers u H p = record {
   page = unwrap_or (page_answered (answer u (view u H) (queries.Page (Some p)))) (no_page p);
@@ -45,6 +46,7 @@ told_in_answers u H p = record {
   conflicted = is_hers_or_in_conflict u p (view u H);
   reviews = unwrap_or (reviews_answered (answer u (view u H) (queries.Reviews (Some p)))) [];
   comments = unwrap_or (comments_answered (answer u (view u H) (queries.Comments (Some p)))) [];
+  responded = is_some (response_answered (answer u (view u H) (queries.Response (Some p))));
 }
 
 -- the papers of which the search holds, as they are told, by number

@@ -5,7 +5,8 @@
 #![tactic(auto)]
 
 ghost use Rattle.cr_told.specs.ToldPages.{PagesTold};
-ghost use Rattle.cr_told.specs.ToldLists.{PageListsTold, ContentsTold, CommentsTold, AcceptedTold, MeTold};
+ghost use Rattle.cr_told.specs.ToldLists.{PageListsTold, ContentsTold, CommentsTold, ResponsesTold};
+ghost use Rattle.cr_told.specs.ToldLists.{AcceptedTold, MeTold};
 ghost use Rattle.cr_told.specs.ToldParts.{PartsTold};
 ghost use Rattle.cr_told.specs.ToldPlaces.{PlacesTold};
 ghost use Rattle.cr_told.specs.ToldPublic.{AccountsTold, ConferenceTold, DeadlinesTold};
@@ -15,10 +16,10 @@ ghost use Rattle.cr_told.specs.ToldSearches.{SearchesTold};
 
 /// What a view shows, some answer tells, and no more, on a legal history, for every user and for nobody. Each clause
 /// says of an answer when it is given and what it holds, by the parts that the sightings of the caller's view show,
-/// and not by what the answer is made of: each key of a paper's page, contents, reviews, comments, accepted papers,
-/// accounts, the conference, its deadlines, and what the caller is told of herself; the reports, of which the load
-/// reads who reviews, and the letter the forms, as facts of the view; and searches, which find a paper exactly where
-/// their terms hold of what its page, its reviews and its comments tell.
+/// and not by what the answer is made of: each key of a paper's page, contents, reviews, comments, responses,
+/// accepted papers, accounts, the conference, its deadlines, and what the caller is told of herself; the reports, of
+/// which the load reads who reviews, and the letter the forms, as facts of the view; and searches, which find a paper
+/// exactly where their terms hold of what its page, its reviews, its comments and its response tell.
 ///
 /// The last two say that this is all. Each sighting on a paper has its place: the key or the list that tells it is
 /// there, or it is the caller's own on a paper that she isn't eligible for, or, where she did it as a chair, that she
@@ -31,6 +32,7 @@ pub fn law_told()
     ensures contents { ContentsTold }
     ensures reviews { ReviewsTold }
     ensures comments { CommentsTold }
+    ensures responses { ResponsesTold }
     ensures accepted { AcceptedTold }
     ensures me { MeTold }
     ensures accounts { AccountsTold }

@@ -88,9 +88,9 @@ lost_in streams first last (c ∷ cs) served =
 -- ---- connections were served
 
 -- The gates were asked to listen at the address, once and at no other. From the history of the rows at the path on
--- workers served the connections that their doors gave, one door each, and the exit is by how they ended: 0 or 5 where
--- each door gave its share, 7 where one failed, and 9 where memory ran out. The last history is kept, and the output has
--- the number of its entries.
+-- workers served the connections that their doors gave, one door each, and the exit is by how they ended: 0 or 5
+-- where each door gave its share, 7 where one failed, and 9 where memory ran out. The last history is kept, and the
+-- output has the number of its entries.
 pub record ServesMany {I O C : Type 0} (keeps : Keeping) (path : List ℕ) (streams : Streams I O C) (listen : List ℕ)
     (workers connections : ℕ) (exit : Exit) (o o' : Outlet) (s s' : ShelfState)
     (g g' : GatesState I O C) : Type 0 where

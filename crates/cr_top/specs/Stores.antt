@@ -82,8 +82,8 @@ IsWhyShut path (exits.BadStore row kind) s s' = IfSome (s.rows path) (λ there. 
 IsWhyShut path exits.OutOfMemory s s' = Unit {0}
 IsWhyShut path _ s s' = ⊥
 
--- The rows are as they were. Of a shelf whose keepers tell what a stop leaves, one that failed may have left a file half
--- made at the path, where there were no rows.
+-- The rows are as they were. Of a shelf whose keepers tell what a stop leaves, one that failed may have left a file
+-- half made at the path, where there were no rows.
 abbrev pub StaysThere : Bool → List ℕ → Exit → ShelfState → ShelfState → Type 0
 StaysThere tells_stops path exit s s' =
     KeepsRows s s'
@@ -98,8 +98,8 @@ pub record StaysShut (tells_stops : Bool) (path : List ℕ) (exit : Exit) (s s' 
 -- ---- what a run leaves
 
 -- The rows of a history stand at the path, where they were told, once its keeper was shut; or, of one that tells what a
--- stop leaves, these and then those of one command or bulk behind it, whose append failed. At each other path stands
--- what stood there.
+-- stop leaves, these and then those of one command or bulk that is allowed behind it. At each other path stands what
+-- stood there.
 pub record LeavesRows (tells_stops : Bool) (path : List ℕ) (history : History) (s s' : ShelfState) : Type 0 where
   pub there : IfSome (s.rows path) (λ before. (s'.rows path ≡ Some (rows_of history))
       ⊎ (IsTrue tells_stops

@@ -1,5 +1,6 @@
 //! Many connections over a store.
-ghost use Rattle.std.specs.Prelude.{◌≡◌, ◌≢◌, ◌⊎◌, ◌≤◌, ◌*◌, ◌^◌, ℕ, List, length, map, Some, is_ok, IfOk, IfErr, IsTrue};
+ghost use Rattle.std.specs.Prelude.{◌≡◌, ◌≢◌, ◌⊎◌, ◌≤◌, ◌*◌, ◌^◌, ℕ, List, length, map, Some, is_ok, IfOk, IfErr};
+ghost use Rattle.std.specs.Prelude.{IsTrue};
 ghost use Rattle.cr_base.specs.History.{History};
 ghost use Rattle.cr_base.specs.Rows.{rows_of};
 ghost use Rattle.cr_policy.specs.Legal.{Legal};

@@ -20,7 +20,7 @@ use Rattle.cr_base.specs.declared.review.ReviewLine.{ReviewLine}
 use Rattle.cr_base.specs.declared.standing.Standing.{Standing}
 use Rattle.cr_base.specs.Accounts.{account_at, lines_of}
 use Rattle.cr_base.specs.Checks.{Check, judged}
-use Rattle.cr_base.specs.Answering.{query_checks, page_by, content_by, content_asked, reviews_by, comments_by, reply_or_rule, answer_by_role}
+use Rattle.cr_base.specs.Answering.{query_checks, page_by, content_by, content_asked, reviews_by, comments_by, response_by, reply_or_rule, answer_by_role}
 use Rattle.cr_base.specs.Sources.{Facts, Shown, names_in, name_in, standing_at, facts_of_tables, shown_in_tables}
 use Rattle.cr_base.specs.Lists.{listed}
 use Rattle.cr_base.specs.Page.{where_told}
@@ -34,6 +34,7 @@ use Rattle.cr_view.specs.declared.queries.AnswerError.{AnswerError}
 use Rattle.cr_view.specs.declared.queries.AnswerError.TheVariants as errors
 use Rattle.cr_view.specs.Comments.{comments_due}
 use Rattle.cr_view.specs.Replies.{IsNoRefusal, AnswersAsDue, AnswersOrPlans, ShowsAsDue, reader_at, due_at, facts_at, page_due, content_due, content_reply_at}
+use Rattle.cr_view.specs.Responses.{response_due}
 use Rattle.cr_view.specs.Reviews.{reviews_due}
 use Rattle.cr_view.proofs.JudgeLaws.{refused, passed}
 
@@ -191,6 +192,13 @@ content-answered t caller paper version r h =
     shown-answered
     (content_asked facts (shown_in_tables t) paper version) (unwrap_or (content_by facts (shown_in_tables t) paper version) [])
     (λ (c : List ℕ). replies.Content c) (λ c rule e. cc) r h
+
+-- and with a response
+pub response-answered : (t : Tables) (caller paper : Option ℕ) (r : Result (List ℕ) AnswerError) → ShowsAsDue r (response_due t caller paper)
+    → AnswersAsDue (as_reply (λ (text : List ℕ). replies.Response text) r) (answer_by_role t caller (queries.Response paper))
+response-answered t caller paper r h =
+    shown-answered (query_checks (facts_of_tables t caller) (shown_in_tables t) (queries.Response paper)) (response_by (shown_in_tables t) paper)
+    (λ (text : List ℕ). replies.Response text) (λ text rule e. cc) r h
 
 pub conference-told : (t : Tables) (caller : Option ℕ) (query : Query) (conference : Conference) → conference ≡ record { mode = t.stage.mode; papers = paper_count t.papers; phase = t.stage.phase } → query ≡ queries.Phase → replies.Conference conference ≡ answer_by_role t caller query
 conference-told t caller query conference is asked =

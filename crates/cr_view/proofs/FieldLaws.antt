@@ -1,8 +1,8 @@
 -- What single fields tell of a paper, by reads of the tables.
-use Rattle.std.proofs.Common.{ℕ, Bool, true, false, cond, ◌≡◌, ◌<◌, ◌+◌, ◌-◌, ◌||◌, List, [], ◌∷◌, ◌++◌, refl, sym, ap, subst, ◌∙◌, arith, Option, Some, None, Result, Ok, Err, zero, suc}
-use Rattle.std.specs.Prelude.{map, filter, not, is_some, unwrap_or}
+use Rattle.std.proofs.Common.{ℕ, Bool, true, false, cond, ◌≡◌, ◌<◌, ◌+◌, ◌-◌, ◌||◌, ◌&&◌, List, [], ◌∷◌, ◌++◌, refl, sym, ap, subst, ◌∙◌, arith, Option, Some, None, Result, Ok, Err, zero, suc, Bor}
+use Rattle.std.specs.Prelude.{map, filter, not, is_ok, is_some, unwrap_or}
 use Rattle.std.specs.List.{flat_map}
-use Rattle.std.specs.Option.{option_map}
+use Rattle.std.specs.Option.{option_copied, option_map}
 use Rattle.std.proofs.lemmas.Bool.{true≢false}
 use Rattle.cr_base.specs.declared.reply.Reply.{Reply}
 use Rattle.cr_base.specs.declared.reply.Reply.TheVariants as replies
@@ -12,15 +12,15 @@ use Rattle.cr_base.specs.declared.review.WrittenForm.{WrittenForm}
 use Rattle.cr_base.specs.declared.standing.Standing.{Standing}
 use Rattle.cr_base.specs.declared.words.Phase.TheVariants.{Discussion}
 use Rattle.cr_base.specs.Accounts.{lines_of}
-use Rattle.cr_base.specs.Answering.{reply_or_rule, review_told, reviews_answered, uploads_told}
+use Rattle.cr_base.specs.Answering.{reply_or_rule, review_told, reviews_answered, tells_response, uploads_told}
 use Rattle.cr_base.specs.Labels.{by_labels, most_labels}
 use Rattle.cr_base.specs.Checks.{Check, judged, reads_all_forms}
 use Rattle.cr_base.specs.History.{FormTold, Upload}
 use Rattle.cr_base.specs.HistoryFacts.{assigned_under}
 use Rattle.cr_base.specs.Lists.{is_nothing, last, last_from, listed}
 use Rattle.cr_base.specs.Page.{shows_reviewer}
-use Rattle.cr_base.specs.Phases.{is_from}
-use Rattle.cr_base.specs.Reviews.{forms_discussed_in, forms_in, is_written_in, last_form_in, written_told}
+use Rattle.cr_base.specs.Phases.{is_from, authors_read_reviews}
+use Rattle.cr_base.specs.Reviews.{early_form_in, forms_discussed_in, forms_in, is_written_in, last_form_in, written_told}
 use Rattle.cr_base.specs.Seats.{ordinal_in, seats_in}
 use Rattle.cr_base.specs.Tables.{Tables}
 use Rattle.cr_view.specs.Fields.{some_label}
@@ -48,6 +48,23 @@ pub reviews-answered-none : (checks : List Check) (lines : List ReviewLine) (rul
 reviews-answered-none checks lines rule h =
     sym (ap (λ (r : Result Reply Rule). reviews_answered (reply_or_rule r)) (refused checks tt (replies.Reviews lines) rule h))
 
+-- a response is told where no rule is broken
+pub response-told : (checks : List Check) (text : List ℕ)
+    → is_ok {T = Unit {0}} {E = Rule} (judged checks tt) ≡ tells_response (reply_or_rule (judged checks (replies.Response text)))
+response-told [] text = refl
+response-told (check ∷ checks) text = by check.broken (response-told checks text)
+  where
+    asked : Result (Unit {0}) Rule
+    asked = judged checks tt
+
+    told : Result Reply Rule
+    told = judged checks (replies.Response text)
+
+    by : (b : Bool) → is_ok asked ≡ tells_response (reply_or_rule told)
+        → is_ok {T = Unit {0}} {E = Rule} (cond b (Err check.rule) asked) ≡ tells_response (reply_or_rule (cond b (Err check.rule) told))
+    by true rest = refl
+    by false rest = rest
+
 -- ---- lists with something in them
 
 pub some-map : {A B : Type 0} (f : A → B) (xs : List A) → not (is_nothing (map f xs)) ≡ not (is_nothing xs)
@@ -71,9 +88,13 @@ some-listed : {A : Type 0} (o : Option A) → not (is_nothing (listed o)) ≡ is
 some-listed None = refl
 some-listed (Some x) = refl
 
-some-option_map : {A B : Type 0} (f : A → B) (o : Option A) → is_some (option_map f o) ≡ is_some o
+pub some-option_map : {A B : Type 0} (f : A → B) (o : Option A) → is_some (option_map f o) ≡ is_some o
 some-option_map f None = refl
 some-option_map f (Some x) = refl
+
+pub some-copied : {T : Type 0} (o : Option (Bor T)) → is_some o ≡ is_some (option_copied o)
+some-copied None = refl
+some-copied (Some x) = refl
 
 or-true : (b : Bool) → (b || true) ≡ true
 or-true true = refl
@@ -121,6 +142,10 @@ some-labels told written same (suc n) =
     ∙ ap (λ (b : Bool). b || not (is_nothing (told (suc n)))) (some-labels told written same n)
     ∙ ap (λ (b : Bool). some_label written n || b) (same (suc n))
 
+-- where the same is written under each, it is under some
+pub some-same : (written other : ℕ → Bool) → ((o : ℕ) → written o ≡ other o) → (n : ℕ) → some_label written n ≡ some_label other n
+some-same written other same n = ap (λ (w : ℕ → Bool). some_label w n) (λ i o. same o i)
+
 -- ---- forms
 
 -- the last of the forms under a label, and those that are discussed, are there where there is one
@@ -162,23 +187,44 @@ module _ (t : Tables) (user : Option ℕ) (by : Standing) (p : ℕ) where
   abbrev own : Option ℕ → List ReviewLine
   own seat = map (line false (unwrap_or seat 0)) (flat_map (λ (o : ℕ). map written_told (forms_in t.reviews p o)) (listed seat))
 
-  -- what is told to authors, from the discussion on, and before it
-  abbrev told : Bool → Bool → List ReviewLine
-  told author late =
-      cond author (by_labels (under (λ (o : ℕ). listed (option_map written_told (last_form_in t.reviews p o)))) most_labels)
+  -- the last before the response, where that was opened
+  abbrev early : ℕ → Option FormTold
+  early = early_form_in t.stage.had_response t.reviews p
+
+  -- what is told to authors, from the notification on and before it; to members from the discussion on; and before that
+  abbrev told : Bool → Bool → Bool → List ReviewLine
+  told author final late =
+      cond author
+      (by_labels (under (λ (o : ℕ). listed (cond final (option_map written_told (last_form_in t.reviews p o)) (early o)))) most_labels)
       (cond late (by_labels (under (forms_discussed_in t.reviews p)) most_labels) (own (ordinal_in t.seats user p)))
 
-  some-under : (forms : ℕ → List FormTold) → ((o : ℕ) → not (is_nothing (forms o)) ≡ written o) → some_label written 26 ≡ not (is_nothing (by_labels (under forms) most_labels))
+  some-under : (forms : ℕ → List FormTold) (there : ℕ → Bool) → ((o : ℕ) → not (is_nothing (forms o)) ≡ there o)
+      → some_label there 26 ≡ not (is_nothing (by_labels (under forms) most_labels))
   unfolding most_labels
-  some-under forms same = sym (some-labels (under forms) written (λ o. some-map (line (shows_reviewer by) o) (forms o) ∙ same o) 26)
+  some-under forms there same = sym (some-labels (under forms) there (λ o. some-map (line (shows_reviewer by) o) (forms o) ∙ same o) 26)
 
-  some-all : (author late : Bool) → (author || late) ≡ true → some_label written 26 ≡ not (is_nothing (told author late))
-  some-all true late h = some-under (λ (o : ℕ). listed (option_map written_told (last_form_in t.reviews p o))) (λ o. some-last-form (forms_in t.reviews p o))
-  some-all false true h =
-      some-under (forms_discussed_in t.reviews p)
+  some-all : (author final late : Bool) → (author && not final) ≡ false → (author || late) ≡ true
+      → some_label written 26 ≡ not (is_nothing (told author final late))
+  some-all true true late end h =
+      some-under (λ (o : ℕ). listed (option_map written_told (last_form_in t.reviews p o))) written (λ o. some-last-form (forms_in t.reviews p o))
+  some-all true false late end h = absurd (true≢false end)
+  some-all false final true end h =
+      some-under (forms_discussed_in t.reviews p) written
       (λ o. some-map written_told (discussed (forms_in t.reviews p o)) ∙ some-discussed (forms_in t.reviews p o))
-  some-all false false h = absurd (true≢false (sym h))
+  some-all false final false end h = absurd (true≢false (sym h))
 
-  -- to authors, and to members from the discussion on, something is told where there is a form
-  pub some-reviews : (by.author || reads_all_forms by) ≡ true → some_label written 26 ≡ not (is_nothing (reviews_at t user by p))
-  some-reviews h = some-all by.author (reads_all_forms by) h
+  -- to authors in the end, and to members from the discussion on, something is told where there is a form
+  pub some-reviews : (by.author && not (authors_read_reviews by.phase)) ≡ false → (by.author || reads_all_forms by) ≡ true
+      → some_label written 26 ≡ not (is_nothing (reviews_at t user by p))
+  some-reviews end h = some-all by.author (authors_read_reviews by.phase) (reads_all_forms by) end h
+
+  some-early-all : (author final late : Bool) → (author && not final) ≡ true
+      → some_label (λ (o : ℕ). is_some (early o)) 26 ≡ not (is_nothing (told author final late))
+  some-early-all true false late h = some-under (λ (o : ℕ). listed (early o)) (λ (o : ℕ). is_some (early o)) (λ o. some-listed (early o))
+  some-early-all true true late h = absurd (true≢false (sym h))
+  some-early-all false final late h = absurd (true≢false (sym h))
+
+  -- to authors before the notification, where there is one that was written before the response
+  pub some-early : (by.author && not (authors_read_reviews by.phase)) ≡ true
+      → some_label (λ (o : ℕ). is_some (early o)) 26 ≡ not (is_nothing (reviews_at t user by p))
+  some-early h = some-early-all by.author (authors_read_reviews by.phase) (reads_all_forms by) h

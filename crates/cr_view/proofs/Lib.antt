@@ -8,6 +8,7 @@ pub mod MeLaws
 pub mod NobodyLaws
 pub mod PageLaws
 pub mod ReportLaws
+pub mod ResponseLaws
 pub mod PlanLaws
 pub mod ReviewLaws
 pub mod ReviewingLaws

@@ -14,19 +14,20 @@ use Rattle.cr_base.specs.declared.review.WrittenForm.{WrittenForm}
 use Rattle.cr_base.specs.declared.seat.Seat.{Seat}
 use Rattle.cr_base.specs.declared.standing.Standing.{Standing}
 use Rattle.cr_base.specs.declared.words.Phase.{Phase}
-use Rattle.cr_base.specs.declared.words.Phase.TheVariants.{Setup, Submission, Bidding, Reviewing, Discussion, Notification, Closed}
+use Rattle.cr_base.specs.declared.words.Phase.TheVariants.{Setup, Submission, Bidding, Reviewing, Response, Discussion, Notification, Closed}
 use Rattle.cr_base.specs.Accounts.{account_at, lines_of}
+use Rattle.cr_base.specs.Answering.{authors_form}
 use Rattle.cr_base.specs.Labels.{by_labels, most_labels}
 use Rattle.cr_base.specs.History.{SeatTold, FormTold}
 use Rattle.cr_base.specs.HistoryFacts.{assigned_under}
 use Rattle.cr_base.specs.Lists.{is_nothing, last, listed}
-use Rattle.cr_base.specs.Phases.{is_from}
-use Rattle.cr_base.specs.Reviews.{forms_in, last_form_in, last_form_before, forms_discussed_in, is_written_in, written_told}
+use Rattle.cr_base.specs.Phases.{is_from, authors_read_reviews}
+use Rattle.cr_base.specs.Reviews.{forms_in, last_form_before, forms_discussed_in, is_written_in, written_told}
 use Rattle.cr_base.specs.Filed.{filed_of}
 use Rattle.cr_base.specs.Page.{where_told}
 use Rattle.cr_base.specs.Pairs.{ties_of}
 use Rattle.cr_base.specs.Seats.{told_seat, ordinal_in, seats_in}
-use Rattle.cr_base.specs.Sources.{name_in}
+use Rattle.cr_base.specs.Sources.{name_in, shown_in_tables}
 use Rattle.cr_base.specs.Tables.{Tables}
 use Rattle.cr_base.proofs.ListLaws.{name_in-lines_of}
 use Rattle.cr_view.specs.declared.reviews.Heading.{Heading}
@@ -101,6 +102,7 @@ from-setup Setup = refl
 from-setup Submission = refl
 from-setup Bidding = refl
 from-setup Reviewing = refl
+from-setup Response = refl
 from-setup Discussion = refl
 from-setup Notification = refl
 from-setup Closed = refl
@@ -113,6 +115,20 @@ all-from (w ∷ forms) =
 
 -- ---- the forms of one label
 
+told-listed : (form : Option WrittenForm) → map written_told (listed form) ≡ listed (option_map written_told form)
+told-listed None = refl
+told-listed (Some w) = refl
+
+-- an author is told one
+pub label-authors : (t : Tables) (by : Standing) (p o : ℕ) (heading : Heading) (form : Option WrittenForm) (before : List ReviewLine)
+    → by.author ≡ true → option_map written_told form ≡ authors_form (shown_in_tables t) by p o
+    → before ++ lines heading (listed form) ≡ before ++ map (review_line heading) (forms_shown t by p o)
+label-authors t by p o heading form before author is =
+    let shown : Bool → List FormTold =
+    λ b. cond b (listed (authors_form (shown_in_tables t) by p o)) (forms_discussed_in t.reviews p o) in
+    ap (λ (fs : List FormTold). before ++ map (review_line heading) fs)
+    (told-listed form ∙ ap (λ (f : Option FormTold). listed f) is ∙ sym (ap shown author))
+
 -- who is no author is told the last before the discussion, and all later ones
 pub label-discussed : (t : Tables) (by : Standing) (p o : ℕ) (heading : Heading) (form : Option WrittenForm) (forms : List WrittenForm)
     (before middle : List ReviewLine) → by.author ≡ false → form ≡ last_form_before t.reviews p o Discussion
@@ -122,7 +138,7 @@ label-discussed t by p o heading form forms before middle other is are pushed =
     let first : List ReviewLine = lines heading (listed form) in
     let later : List WrittenForm = forms_under o Discussion forms in
     let shown : Bool → List FormTold =
-    λ author. cond author (listed (option_map written_told (last_form_in t.reviews p o))) (forms_discussed_in t.reviews p o) in
+    λ author. cond author (listed (authors_form (shown_in_tables t) by p o)) (forms_discussed_in t.reviews p o) in
     ap (λ (l : List ReviewLine). l ++ lines heading later) pushed
     ∙ append_assoc before first (lines heading later)
     ∙ ap (λ (l : List ReviewLine). before ++ l)
@@ -155,16 +171,21 @@ module _ (t : Tables) (user : Option ℕ) (by : Standing) (p : ℕ) where
 
 -- a label under which there is no form adds nothing
 pub label-unwritten : (t : Tables) (by : Standing) (p o : ℕ) → is_written_in t.reviews p o ≡ false → [] ≡ label_reviews t by p o
-label-unwritten t by p o none = split (forms_in t.reviews p o) by.author none
+label-unwritten t by p o none = split (forms_in t.reviews p o) by.author (authors_read_reviews by.phase) t.stage.had_response none
   where
-    split : (forms : List WrittenForm) (author : Bool) → not (is_nothing forms) ≡ false
+    split : (forms : List WrittenForm) (author final opened : Bool) → not (is_nothing forms) ≡ false
         → [] ≡ map (review_line (heading_at t by p o))
-        (cond author (listed (option_map written_told (last forms)))
+        (cond author
+        (listed
+        (cond final (option_map written_told (last forms))
+        (cond opened (option_map written_told (last (filter (λ (w : WrittenForm). not (is_from Response w.phase)) forms))) None)))
         (map written_told (listed (last (filter (λ (w : WrittenForm). not (is_from Discussion w.phase)) forms))
         ++ filter (λ (w : WrittenForm). is_from Discussion w.phase) forms)))
-    split [] true h = refl
-    split [] false h = refl
-    split (w ∷ forms) author h = absurd (true≢false h)
+    split [] true true opened h = refl
+    split [] true false true h = refl
+    split [] true false false h = refl
+    split [] false final opened h = refl
+    split (w ∷ forms) author final opened h = absurd (true≢false h)
 
 -- one more label
 pub labels-step : {A : Type 0} (told : ℕ → List A) (n : ℕ) (before after : List A) → before ≡ by_labels told n → after ≡ before ++ told (n + 1)

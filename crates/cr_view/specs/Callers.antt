@@ -17,6 +17,7 @@ HasAsker caller (queries.Content paper) = Unit {0}
 HasAsker caller (queries.Version paper version) = Unit {0}
 HasAsker caller (queries.Reviews paper) = Unit {0}
 HasAsker caller (queries.Comments paper) = Unit {0}
+HasAsker caller (queries.Response paper) = Unit {0}
 HasAsker caller (queries.Search search only_count) = ⊥
 HasAsker caller (queries.Report report) = ⊥
 HasAsker caller (queries.Plan per_paper load) = ⊥

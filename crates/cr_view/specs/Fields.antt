@@ -1,17 +1,19 @@
 -- What single fields tell of a paper, by the tables.
-use Rattle.std.specs.Prelude.{ℕ, Bool, false, not, ◌||◌, zero, suc, List, [], Option, Some, None, unwrap_or}
+use Rattle.std.specs.Prelude.{ℕ, Bool, false, not, ◌||◌, zero, suc, List, [], Option, Some, None, is_some}
+use Rattle.std.specs.Prelude.{unwrap_or}
 use Rattle.std.specs.Option.{option_map_or}
 use Rattle.cr_base.specs.declared.comment.CommentLine.{CommentLine}
 use Rattle.cr_base.specs.declared.reply.Reply.TheVariants as replies
 use Rattle.cr_base.specs.declared.review.ReviewLine.{ReviewLine}
 use Rattle.cr_base.specs.declared.standing.Standing.{Standing}
 use Rattle.cr_base.specs.Accounts.{lines_of}
-use Rattle.cr_base.specs.Answering.{comments_answered, reply_or_rule, reviews_answered}
-use Rattle.cr_base.specs.Checks.{comments_checks, judged, of_there, reviews_checks}
+use Rattle.cr_base.specs.Answering.{comments_answered, reply_or_rule, reviews_answered, tells_response}
+use Rattle.cr_base.specs.Checks.{comments_checks, judged, of_there, response_checks, reviews_checks}
 use Rattle.cr_base.specs.Lists.{is_nothing}
 use Rattle.cr_base.specs.Page.{shows_author, where_told}
 use Rattle.cr_base.specs.Sources.{facts_of_tables, has_paper, names_in}
 use Rattle.cr_base.specs.Tables.{Tables}
+use Rattle.cr_base.specs.Talk.{response_in}
 use Rattle.cr_base.specs.Ties.{authors_in}
 use Rattle.cr_view.specs.Comments.{comments_at}
 use Rattle.cr_view.specs.Reviews.{reviews_at}
@@ -35,10 +37,19 @@ abbrev pub reviews_told : Tables → Option ℕ → Standing → ℕ → List Re
 reviews_told t user by p =
     let there = has_paper (facts_of_tables t None) (Some p) in
     reviews_answered
-    (reply_or_rule (judged (reviews_checks by (of_there there)) (replies.Reviews (reviews_at t user by p))))
+    (reply_or_rule
+    (judged (reviews_checks by t.stage.had_response (of_there there)) (replies.Reviews (reviews_at t user by p))))
 
 abbrev pub comments_told : Tables → Standing → ℕ → List CommentLine
 comments_told t by p =
     let there = has_paper (facts_of_tables t None) (Some p) in
     comments_answered
     (reply_or_rule (judged (comments_checks by (of_there there)) (replies.Comments (comments_at t None by p))))
+
+-- whether she is answered what its authors responded
+abbrev pub response_told : Tables → Standing → ℕ → Bool
+response_told t by p =
+    let there = has_paper (facts_of_tables t None) (Some p) in
+    tells_response
+    (reply_or_rule (judged (response_checks by (of_there there) (is_some (response_in t.talk p)))
+    (replies.Response (unwrap_or (response_in t.talk p) []))))

@@ -5,6 +5,7 @@ pub mod Fields
 pub mod PaperSeen
 pub mod Plans
 pub mod Replies
+pub mod Responses
 pub mod Reports
 pub mod Reviews
 pub mod Room

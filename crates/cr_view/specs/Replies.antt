@@ -87,6 +87,7 @@ facts_at t user by = record {
   own_comments = 0;
   accepted = is_accepted_in t;
   deadline = deadline_in t.stage.deadlines;
+  had_response = t.stage.had_response;
 }
 
 -- the page that is due to a user, or the first broken rule

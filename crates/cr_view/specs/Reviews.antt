@@ -2,7 +2,7 @@
 use Rattle.std.specs.Prelude.{ℕ, Bool, not, ◌&&◌, ◌==◌, List, map, Option}
 use Rattle.std.specs.Prelude.{Some, None, unwrap_or, Result, if◌then◌else◌}
 use Rattle.std.specs.List.{flat_map}
-use Rattle.std.specs.Option.{option_map, option_and_then}
+use Rattle.std.specs.Option.{option_and_then}
 use Rattle.cr_base.specs.declared.command.Query.TheVariants as queries
 use Rattle.cr_base.specs.declared.reply.Rule.{Rule}
 use Rattle.cr_base.specs.declared.review.ReviewLine.{ReviewLine}
@@ -10,13 +10,13 @@ use Rattle.cr_base.specs.declared.review.WrittenForm.{WrittenForm}
 use Rattle.cr_base.specs.declared.standing.Standing.{Standing}
 use Rattle.cr_base.specs.declared.words.Phase.{Phase}
 use Rattle.cr_base.specs.Accounts.{lines_of}
-use Rattle.cr_base.specs.Answering.{reviews_by}
+use Rattle.cr_base.specs.Answering.{authors_form, reviews_by}
 use Rattle.cr_base.specs.History.{FormTold}
 use Rattle.cr_base.specs.HistoryFacts.{assigned_under}
 use Rattle.cr_base.specs.Lists.{listed}
 use Rattle.cr_base.specs.Page.{shows_reviewer, where_told}
 use Rattle.cr_base.specs.Phases.{is_from}
-use Rattle.cr_base.specs.Reviews.{last_form_in, forms_discussed_in, written_told}
+use Rattle.cr_base.specs.Reviews.{forms_discussed_in}
 use Rattle.cr_base.specs.Seats.{ordinal_in, seats_in}
 use Rattle.cr_base.specs.Sources.{own_forms_in, shown_in_tables, name_in}
 use Rattle.cr_base.specs.Tables.{Tables}
@@ -56,7 +56,7 @@ heading_at t by p o = record { to_author = by.author; label = o; user = label_na
 -- the forms under it that she is told
 abbrev pub forms_shown : Tables → Standing → ℕ → ℕ → List FormTold
 forms_shown t by p o =
-    if by.author then listed (option_map written_told (last_form_in t.reviews p o))
+    if by.author then listed (authors_form (shown_in_tables t) by p o)
     else forms_discussed_in t.reviews p o
 
 abbrev pub label_reviews : Tables → Standing → ℕ → ℕ → List ReviewLine

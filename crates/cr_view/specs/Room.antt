@@ -8,7 +8,7 @@ use Rattle.cr_papers.specs.Room.{PapersHaveRoom}
 use Rattle.cr_papers.specs.Seen.{PapersRooms}
 use Rattle.cr_reviews.specs.Room.{ReviewsHaveRoom}
 use Rattle.cr_tags.specs.Room.{TagsHaveRoom}
-use Rattle.cr_talk.specs.Room.{TalkHasRoom}
+use Rattle.cr_talk.specs.Room.{TalkRooms, TalkHasRoom}
 
 -- the room of each table: for how many more accounts; and of each paper, and each user, for how many more of what the
 -- table keeps together
@@ -18,7 +18,7 @@ pub record Rooms : Type 0 where
   pub ties : TiesRooms
   pub seats : SeatsRooms
   pub reviews : List ℕ
-  pub talk : List ℕ
+  pub talk : TalkRooms
   pub tags : List ℕ
   pub decisions : List ℕ
 

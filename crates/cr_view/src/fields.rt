@@ -1,17 +1,19 @@
 //! Single lists and fields of what a caller is told of a paper, beside what its facts tell, each read alone, for
 //! whoever asks for no more: what it costs is told at each, and none takes memory.
-ghost use Rattle.std.specs.Prelude.{◌≡◌, ◌≤◌, [], Some, not, if◌then◌else◌};
+ghost use Rattle.std.specs.Prelude.{◌≡◌, ◌≤◌, [], Some, is_some, not, if◌then◌else◌};
 ghost use Rattle.cr_base.specs.Lists.{is_nothing};
 ghost use Rattle.cr_base.specs.Page.{gets_tags};
 ghost use Rattle.cr_base.specs.Page.{gets_versions, shows_reviewer, where_told};
 ghost use Rattle.cr_base.specs.Papers.{paper_count};
 ghost use Rattle.cr_base.specs.Pairs.{ties_of};
-ghost use Rattle.cr_base.specs.Reviews.{is_written_in};
+ghost use Rattle.cr_base.specs.Reviews.{early_form_in, is_written_in};
 ghost use Rattle.cr_base.specs.Searching.{has_tag};
 ghost use Rattle.cr_base.specs.Tags.{tags_in};
 ghost use Rattle.cr_base.specs.Words.{is_chair};
 ghost use Rattle.cr_base.specs.declared.pairs.Order.TheVariants.{ByPaper};
-ghost use Rattle.cr_view.specs.Fields.{authors_named, comments_told, reviews_told, some_label, tells_some};
+ghost use Rattle.cr_reviews.specs.Labels.{has_label};
+ghost use Rattle.cr_view.specs.Fields.{authors_named, comments_told, response_told, reviews_told};
+ghost use Rattle.cr_view.specs.Fields.{some_label, tells_some};
 ghost use Rattle.cr_view.specs.PaperSeen.{accepted_seen, paper_seen_at};
 ghost use Rattle.cr_view.specs.Replies.{names_of, versions_at};
 ghost use Rattle.cr_view.specs.Reviews.{reviews_at};
@@ -20,9 +22,11 @@ use crate::comments::comments_rule;
 use crate::facts::PaperFacts;
 use crate::live::Live;
 use crate::page::{gets_tags, gets_versions};
+use crate::responses::response_rule;
 use crate::reviews::reviews_rule;
 use cr_anonymity::{shows_author, shows_reviewer};
-use cr_base::{MOST_LABELS, Ordinal, PaperNo, Seat, Steps, Tag, Tie, UserNo};
+use cr_base::{MOST_LABELS, Ordinal, PaperNo, Phase, Seat, Steps, Tag, Tie, UserNo};
+use cr_reviews::Labels;
 
 /// How many papers there are.
 impl Live {
@@ -92,7 +96,7 @@ impl Live {
     }
 }
 
-/// Whether its reviews and its comments tell anything.
+/// Whether its reviews, its comments and its response tell anything.
 impl Live {
     /// Whether the user of whom this is asked is answered a review, where she asks for them: no rule is in the way,
     /// and there is one for her. A walk over the paper's forms.
@@ -101,7 +105,8 @@ impl Live {
         ensures { result ≡ not (is_nothing
             (reviews_told self.now.tables user.now facts.now.by facts.now.paper)) }
     {
-        match reviews_rule(facts.by(), self.papers.has(facts.paper())) {
+        let opened = self.stage.had_response();
+        match reviews_rule(facts.by(), opened, self.papers.has(facts.paper())) {
             Ok(()) => self.has_review(user, facts),
             Err(_) => false,
         }
@@ -114,6 +119,9 @@ impl Live {
             (reviews_at self.now.tables user.now facts.now.by facts.now.paper)) }
     {
         let by = facts.by();
+        if by.author && !by.phase.authors_read_reviews() {
+            return self.has_early_form(facts.paper());
+        }
         if by.author || by.reads_all_forms() {
             return self.has_any_form(facts.paper());
         }
@@ -129,13 +137,19 @@ impl Live {
     fn has_any_form(&self, paper: PaperNo) -> bool
         ensures { result ≡ some_label (is_written_in self.now.tables.reviews paper) 26 }
     {
-        let written = self.reviews.labels(paper, &mut Steps::uncounted());
-        for before in 0..MOST_LABELS {
-            if written.has(Ordinal::new(before + 1)) {
-                return true;
-            }
+        has_some(&self.reviews.labels(paper, &mut Steps::uncounted()))
+    }
+
+    /// Whether the response was opened, and there is a form under some label that was written before it.
+    fn has_early_form(&self, paper: PaperNo) -> bool
+        ensures { result ≡ some_label
+            (λ o. is_some (early_form_in self.now.tables.stage.had_response self.now.tables.reviews paper o)) 26 }
+    {
+        if !self.stage.had_response() {
+            return false;
         }
-        false
+        let steps = &mut Steps::uncounted();
+        has_some(&self.reviews.labels_before(paper, Phase::Response, steps))
     }
 
     /// Whether she is answered a comment, where she asks for them. Reads none.
@@ -150,4 +164,25 @@ impl Live {
             Err(_) => false,
         }
     }
+
+    /// Whether she is answered what its authors responded, where she asks for it. One read by number.
+    pub fn tells_response(&self, facts: &PaperFacts<'_>) -> bool
+        ensures { result ≡ response_told self.now.tables facts.now.by facts.now.paper }
+    {
+        let paper = facts.paper();
+        let responded = self.talk.response(paper, &mut Steps::uncounted()).is_some();
+        response_rule(facts.by(), self.papers.has(paper), responded).is_ok()
+    }
+}
+
+/// Whether one of the labels is among these.
+fn has_some(labels: &Labels) -> bool
+    ensures { result ≡ some_label (has_label labels.now) 26 }
+{
+    for before in 0..MOST_LABELS {
+        if labels.has(Ordinal::new(before + 1)) {
+            return true;
+        }
+    }
+    false
 }

@@ -15,6 +15,7 @@ mod page_lists;
 mod plans;
 mod queries;
 mod reports;
+mod responses;
 mod reviewing;
 mod reviews;
 

@@ -130,7 +130,7 @@ impl Live {
     }
 
     /// One more entry, for which there is room. It is taken whole, since one table keeps its texts or its
-    /// content: that of papers, of reviews or of comments. Takes no memory.
+    /// content: that of papers, of reviews, or of comments and responses. Takes no memory.
     pub fn apply(&mut self, stamped: Stamped)
         requires room { RoomFor (stamped ∷ []) self.old.rooms }
         requires fits { Fits self.old.tables stamped }
@@ -145,7 +145,7 @@ impl Live {
         self.decisions.apply(&stamped);
         match &stamped.entry {
             Entry::PhaseSet { .. } | Entry::Reviewed { .. } => self.reviews.apply(stamped),
-            Entry::Commented { .. } => self.talk.apply(stamped),
+            Entry::Commented { .. } | Entry::Responded { .. } => self.talk.apply(stamped),
             _ => self.papers.apply(stamped),
         }
     }
@@ -256,7 +256,7 @@ impl Live {
         &self.reviews
     }
 
-    /// The table of comments.
+    /// The table of comments, and of what authors respond.
     pub fn comment_table(&self) -> &Talk
         ensures { result.now.talk ≡ self.now.tables.talk }
     {

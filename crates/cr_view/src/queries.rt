@@ -54,12 +54,12 @@ fn may_see_page(facts: &PaperFacts<'_>) -> bool
 impl Live {
     /// Whether a user, or nobody, may ask this, or the first broken rule of its kind: of a page
     /// `NoPaper` where there is no such paper, else `NotMember` where she is neither a member of the
-    /// committee nor an external or an author of the paper, and it isn't accepted; of a content, of reviews and of
-    /// comments as `content_for`, `reviews_for` and `comments_for` tell it; of a report as it is told at `Report`:
-    /// `NotMember` or `NotChair`, of a letter `NoPaper` and then `NotAuthor`, and last `WrongPhase`; of a plan
-    /// `NotChair`, `WrongPhase` and `PlanTooLarge`, but not `NoPlan`, which memory finds. Takes no memory; a few
-    /// reads by number, of a content one look-up besides, and of a plan a walk over all papers and one over the
-    /// accounts.
+    /// committee nor an external or an author of the paper, and it isn't accepted; of a content, of reviews, of a
+    /// response and of comments as `content_for`, `reviews_for`, `response_for` and `comments_for` tell it; of a
+    /// report as it is told at `Report`: `NotMember` or `NotChair`, of a letter `NoPaper` and then `NotAuthor`, and
+    /// last `WrongPhase`; of a plan `NotChair`, `WrongPhase` and `PlanTooLarge`, but not `NoPlan`, which memory finds.
+    /// Takes no memory; a few reads by number, of a content one look-up besides, and of a plan a walk over all papers
+    /// and one over the accounts.
     pub fn may(&self, user: &Option<UserNo>, query: &Query) -> Result<(), Rule>
         ensures { result ≡ judged (query_checks (facts_of_tables self.now.tables user.now)
             (shown_in_tables self.now.tables) query.now) tt }
@@ -72,6 +72,7 @@ impl Live {
             Query::Version { paper, version } => self.may_read(user, paper, Some(*version)),
             Query::Reviews { paper } => self.reviews_reader(user, paper).and(Ok(())),
             Query::Comments { paper } => self.comments_reader(user, paper).and(Ok(())),
+            Query::Response { paper } => self.may_read_response(user, paper),
             Query::Report { report } => self.may_have(user, report),
             Query::Plan { per_paper, .. } => self.may_plan(user, *per_paper),
         }
@@ -154,8 +155,8 @@ impl Live {
     /// version and each tag that is told, and, where reviewers are told, one for each who was ever assigned, at
     /// most 26, and a walk over the paper's forms; what she is told of herself a walk over her own papers, over
     /// those with which she is in conflict and over those that she reviews; a content one look-up, whatever its
-    /// length; the deadlines four reads; the accepted papers, reviews and comments as `accepted_papers`,
-    /// `reviews_for` and `comments_for` tell it.
+    /// length; the deadlines five reads; the accepted papers, reviews, response and comments as
+    /// `accepted_papers`, `reviews_for`, `response_for` and `comments_for` tell it.
     pub fn answer(
         &self,
         alloc: Global,
@@ -177,6 +178,7 @@ impl Live {
             Query::Version { paper, version } => self.content_reply(caller, paper, Some(*version)),
             Query::Reviews { paper } => self.reviews_reply(alloc, caller, paper),
             Query::Comments { paper } => self.comments_reply(alloc, caller, paper),
+            Query::Response { paper } => self.response_reply(caller, paper),
             Query::Search { .. } | Query::Report { .. } | Query::Plan { .. } => unreachable!(),
         }
     }
@@ -197,6 +199,7 @@ impl Live {
         self.push_deadline(&mut told, Phase::Submission)?;
         self.push_deadline(&mut told, Phase::Bidding)?;
         self.push_deadline(&mut told, Phase::Reviewing)?;
+        self.push_deadline(&mut told, Phase::Response)?;
         self.push_deadline(&mut told, Phase::Discussion)?;
         Ok(PhaseDeadlines::from_vec(told))
     }

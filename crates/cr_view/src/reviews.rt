@@ -2,12 +2,13 @@
 ghost use Rattle.std.specs.Prelude.{◌≡◌, ◌++◌, ◌==◌, IfOk, OnOk, map, find};
 ghost use Rattle.std.specs.Option.{option_map, option_copied};
 ghost use Rattle.cr_base.specs.declared.command.Query.TheVariants as queries;
-ghost use Rattle.cr_base.specs.Answering.{answer_by_role};
+ghost use Rattle.cr_base.specs.Answering.{answer_by_role, authors_form};
 ghost use Rattle.cr_base.specs.Labels.{by_labels, most_labels};
 ghost use Rattle.cr_base.specs.Checks.{judged, of_there, reviews_checks};
 ghost use Rattle.cr_base.specs.Lists.{listed};
 ghost use Rattle.cr_base.specs.Page.{shows_reviewer};
 ghost use Rattle.cr_base.specs.Reviews.{written_told};
+ghost use Rattle.cr_base.specs.Sources.{shown_in_tables};
 ghost use Rattle.cr_view.specs.Replies.{AnswersAsDue, ShowsAsDue, reader_at};
 ghost use Rattle.cr_view.specs.Reviews.{review_line, forms_under, form_under, label_name};
 ghost use Rattle.cr_view.specs.Reviews.{label_reviews, own_reviews, reviews_at, reviews_due};
@@ -113,15 +114,16 @@ fn user_under(seats: &[Tie<Seat>], label: Ordinal) -> Option<UserNo>
     Some(seat.pair.user)
 }
 
-/// Whether one who stands so to a paper, which is there or isn't, may ask for its reviews, or the first broken rule.
-pub(crate) fn reviews_rule(by: &Standing, there: bool) -> Result<(), Rule>
-    ensures { result ≡ judged (reviews_checks by.now (of_there there)) tt }
+/// Whether one who stands so to a paper, which is there or isn't, may ask for its reviews, where the response was
+/// opened or wasn't, or the first broken rule.
+pub(crate) fn reviews_rule(by: &Standing, opened: bool, there: bool) -> Result<(), Rule>
+    ensures { result ≡ judged (reviews_checks by.now opened (of_there there)) tt }
 {
     if !there {
         return Err(Rule::NoPaper);
     }
     if by.author {
-        if !by.phase.authors_read_reviews() {
+        if !by.phase.authors_read_reviews() && !opened {
             return Err(Rule::WrongPhase);
         }
         return Ok(());
@@ -144,9 +146,10 @@ pub(crate) fn reviews_rule(by: &Standing, there: bool) -> Result<(), Rule>
 /// Who is answered.
 impl Live {
     /// The reviews of a paper as a user, or nobody, is told them, or the first broken rule: `NoPaper` where
-    /// there is no such paper; of its authors `WrongPhase` before the notification; of others `NotMember`, else
-    /// `Conflict` where she is in conflict with it, else `WrongPhase`: of a member before the discussion, unless it is
-    /// the reviewing and she reviews it; of an external who doesn't review it, or before the reviewing.
+    /// there is no such paper; of its authors `WrongPhase` before the notification, unless the response was opened; of
+    /// others `NotMember`, else `Conflict` where she is in conflict with it, else `WrongPhase`: of a member before the
+    /// discussion, unless the reviewing has begun and she reviews it; of an external who doesn't review it, or before
+    /// the reviewing.
     /// An error for lack of memory only where no rule is broken. Shares the texts that are told, and no others.
     /// Authors, and members from the discussion on, cost a walk over the paper's forms, and two more at most for each
     /// label under which there is one; a reviewer before it costs one.
@@ -192,7 +195,7 @@ impl Live {
         ensures { result ≡ reader_at queries.Reviews self.now.tables user.now paper.now }
     {
         let by = self.standing(user, paper);
-        match reviews_rule(&by, self.has_paper(paper)) {
+        match reviews_rule(&by, self.stage.had_response(), self.has_paper(paper)) {
             Ok(()) => Ok(by),
             Err(rule) => Err(rule),
         }
@@ -237,8 +240,8 @@ impl Live {
         Ok(ReviewLines::from_vec(lines))
     }
 
-    /// Adds the forms of a label that are told: to authors the last one; to others the last that was written
-    /// before the discussion, and all later ones.
+    /// Adds the forms of a label that are told: to authors one; to others the last that was written before the
+    /// discussion, and all later ones.
     fn push_label(
         &self,
         lines: &mut Vec<ReviewLine>,
@@ -254,11 +257,7 @@ impl Live {
             user: self.label_name(by, paper, label),
         };
         if by.author {
-            return push_form(
-                lines,
-                &heading,
-                self.reviews.last(paper, label, &mut Steps::uncounted()),
-            );
+            return push_form(lines, &heading, self.authors_form(by, paper, label));
         }
         let before = self
             .reviews
@@ -266,6 +265,23 @@ impl Live {
         push_form(lines, &heading, before)?;
         let forms = self.reviews.forms(paper, &mut Steps::uncounted());
         push_forms(lines, &heading, forms, Phase::Discussion)
+    }
+
+    /// The form of a label that its paper's authors are told: from the notification on the last; and before it the last
+    /// that was written before the response, where that was opened.
+    fn authors_form(&self, by: &Standing, paper: PaperNo, label: Ordinal) -> Option<&WrittenForm>
+        ensures { option_map written_told (option_copied result)
+            ≡ authors_form (shown_in_tables self.now.tables) by.now paper label }
+    {
+        let steps = &mut Steps::uncounted();
+        if by.phase.authors_read_reviews() {
+            return self.reviews.last(paper, label, steps);
+        }
+        if !self.stage.had_response() {
+            return None;
+        }
+        self.reviews
+            .last_before(paper, label, Phase::Response, steps)
     }
 
     /// The name of whoever was assigned under the label, where it is told. Found by number: a walk over the

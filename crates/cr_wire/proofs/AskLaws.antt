@@ -84,6 +84,9 @@ given asks.Review paper body =
     of_each asks.Review (grade_under (codes "confidence") d) _ (λ confidence.
     of_each asks.Review (review_text_under (codes "to_authors") d) _ (λ to_authors.
     of_each asks.Review (review_text_under (codes "to_pc") d) _ (λ to_pc. refl)))))
+given asks.Respond paper body =
+    of_each asks.Respond (json_of body) (command_in asks.Respond paper) (λ d.
+    of_each asks.Respond (comment_under (codes "text") d) _ (λ text. refl))
 given asks.Comment paper body =
     of_each asks.Comment (json_of body) (command_in asks.Comment paper) (λ d.
     of_each asks.Comment (comment_under (codes "text") d) _ (λ text. refl))
@@ -136,6 +139,7 @@ ask_by_ask asks.Bid found key query body = by_body asks.Bid found key body
 ask_by_ask asks.Assign found key query body = by_body asks.Assign found key body
 ask_by_ask asks.Invite found key query body = by_body asks.Invite found key body
 ask_by_ask asks.Review found key query body = by_body asks.Review found key body
+ask_by_ask asks.Respond found key query body = by_body asks.Respond found key body
 ask_by_ask asks.Comment found key query body = by_body asks.Comment found key body
 ask_by_ask asks.Decide found key query body = by_body asks.Decide found key body
 ask_by_ask asks.Tag found key query body = by_tag asks.Tag found key true (λ tag. refl)

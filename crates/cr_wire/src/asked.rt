@@ -158,6 +158,7 @@ fn asked(
             Ok(request.giving(Command::Dismiss { user }))
         }
         Ask::Reviews => Ok(What::Query(Query::Reviews { paper })),
+        Ask::Response => Ok(What::Query(Query::Response { paper })),
         Ask::Comments => Ok(What::Query(Query::Comments { paper })),
         Ask::Tag => Ok(tagged(ask, found, request, true)),
         Ask::Untag => Ok(tagged(ask, found, request, false)),
@@ -175,9 +176,10 @@ fn asked(
         Ask::SetDeadline | Ask::Submit | Ask::Revise | Ask::SetConflict | Ask::Bid => {
             command(alloc, ask, found, request)
         }
-        Ask::Assign | Ask::Invite | Ask::Review | Ask::Comment | Ask::Decide => {
+        Ask::Assign | Ask::Invite | Ask::Review | Ask::Respond => {
             command(alloc, ask, found, request)
         }
+        Ask::Comment | Ask::Decide => command(alloc, ask, found, request),
     }
 }
 

@@ -77,11 +77,11 @@ impl What {
     }
 
     /// Whether a login is wanted, so that nobody is answered `unauthorized`: by each command but a registration and by
-    /// a bulk, also where its number or its body is a bad one, by a paper's page, content, reviews and comments, by
-    /// searches and plans, also by bad ones, by reports, and by what the caller is told of herself. Registration, the
-    /// list of accounts, the state of the conference, its deadlines and the accepted papers want none, and what is no
-    /// request of these is refused alike to everybody. That a published paper's page and content are served to nobody
-    /// too isn't looked at here: the request doesn't tell which papers are.
+    /// a bulk, also where its number or its body is a bad one, by a paper's page, content, reviews, response and
+    /// comments, by searches and plans, also by bad ones, by reports, and by what the caller is told of herself.
+    /// Registration, the list of accounts, the state of the conference, its deadlines and the accepted papers want
+    /// none, and what is no request of these is refused alike to everybody. That a published paper's page and content
+    /// are served to nobody too isn't looked at here: the request doesn't tell which papers are.
     pub fn wants_login(&self) -> bool
         ensures { result ≡ wants_login self.now }
     {

@@ -60,12 +60,12 @@ fn asks_close(head: &Head<'_>) -> bool
 }
 
 /// The wish of a request, by its head, its body and the moment at which the clock was asked. Fails only for lack of
-/// memory, which the reading of a JSON body, of the rows of a bulk or of a search and the keeping of an upload alone
-/// take. Reads the target's path, the fields' names and the field Connection once, the body and the query string only
-/// where the method and the path want them, the field Authorization only where `reads_credentials` says so, and the
-/// field Command-Number only of commands but registrations, and of bulks. Where that tells a number and the body is a
-/// good one, the digest of method, path and body is computed, and else never. A command that is wished is within the
-/// bounds on commands, and a bulk has at most 512 rows.
+/// memory, which the reading of a JSON body, of the rows of a bulk, of a search or of a plan and the keeping of an
+/// upload alone take. Reads the target's path, the fields' names and the field Connection once, the body and the
+/// query string only where the method and the path want them, the field Authorization only where `reads_credentials`
+/// says so, and the field Command-Number only of commands but registrations, and of bulks. Where that tells a number
+/// and the body is a good one, the digest of method, path and body is computed, and else never. A command that is
+/// wished is within the bounds on commands, and a bulk has at most 512 rows.
 pub fn wish_of(
     alloc: Global,
     routes: &Routes,

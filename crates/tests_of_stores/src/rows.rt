@@ -120,7 +120,7 @@ fn add_each_kind(alloc: Global, rows: &mut Vec<Row>, end: u64) -> Result<(), All
 }
 
 /// The rows of a first registration, and a row of each kind before `end`, the last one first. A store takes the kinds
-/// before 22; one of version 2 took those before 19, one of version 1 those before 18.
+/// before 23; one of version 2 took those before 19, one of version 1 those before 18.
 pub(crate) fn of_each_kind(alloc: Global, end: u64) -> Result<Vec<Row>, AllocError> {
     let mut rows = Vec::new(alloc);
     add_each_kind(alloc, &mut rows, end)?;

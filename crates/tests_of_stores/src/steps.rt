@@ -80,7 +80,7 @@ fn appends<S: Alter>(keeper: &mut SqliteKeeper<S>, rows: &[Row]) -> bool {
 fn appended<S: Alter>(keeper: &mut SqliteKeeper<S>) -> [(bool, Option<u64>); 3] {
     let none = appends(keeper, &[]);
     let none_len = keeper.len().ok();
-    let unknown = appends(keeper, [of_kind(1), of_kind(22)].as_slice());
+    let unknown = appends(keeper, [of_kind(1), of_kind(23)].as_slice());
     let unknown_len = keeper.len().ok();
     let one = appends(keeper, [of_kind(1)].as_slice());
     [

@@ -40,7 +40,7 @@ fn come_back_in_memory(alloc: Global, rows: &[Row]) -> bool {
 
 #[test]
 fn rows_outlive_the_connection(rt: HostRuntime) -> Result<(), Fail> {
-    let rows = of_each_kind(rt.alloc(), 22)?;
+    let rows = of_each_kind(rt.alloc(), 23)?;
     assert!(rt; come_back_in_memory(rt.alloc(), rows.as_slice()));
     Ok(())
 }

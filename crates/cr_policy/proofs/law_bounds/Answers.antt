@@ -4,7 +4,7 @@ use Rattle.cr_policy.proofs.BoundsWalk.{contents-shown, switches-shown, values-s
 use Rattle.cr_policy.proofs.BoundsWalk.{scores-shown, confidences-shown, texts-to-authors-shown, texts-to-pc-shown, done-shown, numbers-shown}
 use Rattle.cr_policy.proofs.BoundsWalk.{comments-shown, tags-shown, decisions-shown, outcomes-shown, accepted-shown}
 use Rattle.cr_policy.proofs.BoundsSeats.{own-bids, reviewers-from-authors, reviewers-early, reviewers-unnamed}
-use Rattle.cr_policy.proofs.BoundsWritten.{forms-early, forms-from-authors, comments-from-authors, writers-unnamed, private-tags, chairs-tags}
+use Rattle.cr_policy.proofs.BoundsWritten.{forms-early, forms-from-authors, comments-from-authors, responses-shown, writers-unnamed, private-tags, chairs-tags}
 use Rattle.cr_policy.proofs.BoundsWritten.{decisions-early, decisions-untold}
 use Rattle.cr_policy.proofs.BoundsTexts.{one-title, one-abstract, one-content, one-decision}
 use Rattle.cr_policy.proofs.BoundsLeft.{outsiders-shown}
@@ -53,6 +53,7 @@ returns c = record {
   forms_early = forms-early;
   forms_from_authors = forms-from-authors;
   comments_from_authors = comments-from-authors;
+  responses = responses-shown;
   writers_unnamed = writers-unnamed;
   private_tags = private-tags;
   chairs_tags = chairs-tags;

@@ -7,6 +7,8 @@ use Rattle.cr_policy.proofs.HiddenPairProofs.{writer-hidden, decision-hidden, de
 use Rattle.cr_policy.proofs.HiddenPairProofs.{comment-removable, version-removable}
 use Rattle.cr_policy.proofs.HiddenPairProofs.{dismisser-hidden, invited-hidden, inviter-hidden, uninvited-hidden, uninviter-hidden}
 use Rattle.cr_policy.proofs.HiddenPairProofs.{seat-hidden_from_external, bid-hidden_from_external, tag-hidden_from_external, comment-hidden_from_external}
+use Rattle.cr_policy.proofs.HiddenPairProofs.{early_to_pc-hidden, early_reviewer-hidden, late_form-hidden}
+use Rattle.cr_policy.proofs.HiddenPairProofs.{response-hidden, response-hidden_from_accounts, responder-hidden}
 use Rattle.cr_policy.proofs.law_hidden_pairs.Goals as goal
 
 pub returns : goal.returns
@@ -52,6 +54,12 @@ returns c = record {
   forms_to_members = form-hidden_from_members;
   to_pc = to_pc-hidden;
   reviewers = reviewer-hidden;
+  early_to_pc = early_to_pc-hidden;
+  early_reviewers = early_reviewer-hidden;
+  late_forms = late_form-hidden;
+  responses = response-hidden;
+  responses_to_accounts = response-hidden_from_accounts;
+  responders = responder-hidden;
   comments = comment-hidden;
   writers = writer-hidden;
   decisions = decision-hidden;

@@ -1,6 +1,6 @@
 use Rattle.cr_policy.proofs.ConferenceProofs.{conference-legal}
 use Rattle.cr_policy.proofs.ConferenceSeen.{views-before, views-bidding, views-reviewing, views-discussion, views-notification, views-close}
-use Rattle.cr_policy.proofs.ConferenceSeen.{views-reversed, twins-alike, asides-hidden}
+use Rattle.cr_policy.proofs.ConferenceSeen.{views-reversed, views-response, views-behind, views-told, twins-alike, responded-alike, asides-hidden}
 use Rattle.cr_policy.proofs.ConferenceVerdicts.{verdicts-hidden}
 use Rattle.cr_policy.proofs.law_views.Goals as goal
 
@@ -14,7 +14,11 @@ returns c = record {
   notification = views-notification;
   closed = views-close;
   reversed = views-reversed;
+  response = views-response;
+  behind_response = views-behind;
+  told = views-told;
   twins = twins-alike;
+  responded_twins = responded-alike;
   asides = asides-hidden;
   verdicts = verdicts-hidden;
 }

@@ -1,4 +1,4 @@
-use Rattle.cr_told.proofs.ToldLists.{page_lists_told, contents_told, comments_told, accepted_told, me_told}
+use Rattle.cr_told.proofs.ToldLists.{page_lists_told, contents_told, comments_told, responses_told, accepted_told, me_told}
 use Rattle.cr_told.proofs.ToldPages.{pages_told}
 use Rattle.cr_told.proofs.ToldPartsAll.{parts_told}
 use Rattle.cr_told.proofs.ToldPlaces.{places_told}
@@ -15,6 +15,7 @@ returns c = record {
   contents = contents_told;
   reviews = reviews_told;
   comments = comments_told;
+  responses = responses_told;
   accepted = accepted_told;
   me = me_told;
   accounts = accounts_told;

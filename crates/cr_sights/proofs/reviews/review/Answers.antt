@@ -3,6 +3,7 @@ use Rattle.std.specs.Option.{option_map}
 use Rattle.cr_base.specs.declared.entry.Entry.{Entry}
 use Rattle.cr_base.specs.declared.entry.Entry.TheVariants.{Reviewed}
 use Rattle.cr_base.specs.declared.texts.Text.{Text}
+use Rattle.cr_base.specs.Stage.{StageState}
 use Rattle.cr_policy.specs.Sighting.{Sighting}
 use Rattle.cr_policy.specs.Triggers.{position_of, user_named}
 use Rattle.cr_sights.specs.Readers.{reader_in}
@@ -17,9 +18,10 @@ returns c at placed =
     let here : position_of at x ≡ c.args.position = sym (ap (λ (y : Entry). position_of at y) c.in-Reviewed.is) ∙ placed in
     let mine = c.eq-mine.ensures in
     let mine' = mine ∙ last-row (user_named r e.stamp.maker) in
-    let seen = sym (rw (c.standing-by.ensures, mine', ← here) at c.if-not-tells_review.ensures) in
+    let opened = c.had_response-opened.ensures ∙ ap (λ (s : StageState). s.had_response) c.stage_table.ensures in
+    let seen = sym (rw (c.standing-by.ensures, opened, mine', ← here) at c.if-not-tells_review.ensures) in
     let all = rw (c.standing-by.ensures, mine', ← here) at c.shows_all-all.ensures in
-    let grades = rw (c.standing-by.ensures, mine', ← here) at c.shows_grades-grades.ensures in
+    let grades = rw (c.standing-by.ensures, opened, mine', ← here) at c.shows_grades-grades.ensures in
     let done = rw (c.standing-by.ensures, ← here) at (c.is_done_for.ensures ∙ last-row _) in
     let version = part-shown _ _ _ _ c.then_some-sighting-inside.ensures all in
     let score = part-shown _ _ _ _ c.then_some-sighting-inside-2.ensures grades in

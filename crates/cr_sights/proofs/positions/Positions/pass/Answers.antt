@@ -8,9 +8,11 @@ returns-clause-position c =
     let noted = c.requires.noted in
     let positions = c.args.self.now in
     stands_so c.args.log.now c.args.at c.index-log-at.result c.requires.within c.series-series.result c.series-series.ensures.same c.series-series.ensures.alike
-    positions.passed.places.items positions.all.places.items positions.early.places.items positions.opened noted.passed noted.all noted.early noted.opened _
+    positions.passed.places.items positions.all.places.items positions.heard.places.items positions.early.places.items
+    positions.answered positions.opened noted.passed noted.all noted.heard noted.answered noted.early noted.opened _
     c.is_last_at.ensures c.is_last_at-2.ensures
-    (rw (c.is_last_before.ensures, c.is_last_at-last_early.ensures) refl) refl
+    (rw (c.is_last_before.ensures, c.is_last_at-last_heard.ensures) refl)
+    (rw (c.is_last_before-2.ensures, c.is_last_at-last_early.ensures) refl) refl
 
 pub returns-clause-noted : goal.returns-clause-noted
 returns-clause-noted c =
@@ -19,6 +21,8 @@ returns-clause-noted c =
       passed = noted-here c.args.log.now c.args.at c.index-log-at.result c.requires.within c.args.self.now.passed.places.items c.note.new.self.places.items
           c.series-series.result c.series-series.ensures.same c.in_ok-note.ensures noted.passed;
       all = noted.all;
+      heard = noted.heard;
       early = noted.early;
+      answered = noted.answered;
       opened = noted.opened;
     }

@@ -16,3 +16,6 @@ returns-in-Content-clause-answered c = subst (λ (q : Query). AnswersAsDue c.con
 
 pub returns-in-Version-clause-answered : goal.returns-in-Version-clause-answered
 returns-in-Version-clause-answered c = subst (λ (q : Query). AnswersAsDue c.content_reply-in-Version.result (answer_by_role c.args.self.now.tables c.args.caller.now q)) (sym c.in-Version.is) c.content_reply-in-Version.ensures
+
+pub returns-in-Response-clause-answered : goal.returns-in-Response-clause-answered
+returns-in-Response-clause-answered c = subst (λ (q : Query). AnswersAsDue c.response_reply.result (answer_by_role c.args.self.now.tables c.args.caller.now q)) (sym c.in-Response.is) c.response_reply.ensures

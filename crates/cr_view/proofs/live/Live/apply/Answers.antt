@@ -9,13 +9,13 @@ use Rattle.cr_base.proofs.TieLaws.{within-after}
 use Rattle.cr_rooms.proofs.GroupRooms.{room-for-behind}
 use Rattle.cr_papers.proofs.RoomLaws as of_papers
 use Rattle.cr_reviews.specs.Room.{paper_reviewed}
-use Rattle.cr_talk.specs.Room.{paper_commented}
+use Rattle.cr_talk.specs.Room.{paper_commented, paper_responded}
 use Rattle.cr_view.specs.Room.{RoomFor}
 use Rattle.cr_view.specs.Seen.{SeenTables}
 use Rattle.cr_view.proofs.live.Live.apply.Goals as goal
 
-pub invariant_of-self-in-Registered-1 : goal.invariant_of-self-in-Registered-1
-invariant_of-self-in-Registered-1 c =
+pub invariant_of-self : goal.invariant_of-self
+invariant_of-self c =
     let x = c.self.inside in
     let maker = c.args.stamped.stamp.maker in
     let entry = c.args.stamped.entry in
@@ -42,7 +42,10 @@ returns-in-PhaseSet-clause-room c rest has =
       ties = c.apply-3.ensures.room rest here.ties;
       seats = c.apply-4.ensures.room rest here.seats;
       reviews = c.apply-in-PhaseSet.ensures.room rest here.reviews;
-      talk = room-for-behind paper_commented c.args.stamped rest c.self.inside.talk.rooms here.talk;
+      talk = record {
+        comments = room-for-behind paper_commented c.args.stamped rest c.self.inside.talk.rooms.comments here.talk.comments;
+        responses = room-for-behind paper_responded c.args.stamped rest c.self.inside.talk.rooms.responses here.talk.responses;
+      };
       tags = c.apply-5.ensures.room rest here.tags;
       decisions = c.apply-6.ensures.room rest here.decisions;
     }
@@ -70,7 +73,10 @@ returns-in_default-clause-room c rest has =
       ties = c.apply-3.ensures.room rest here.ties;
       seats = c.apply-4.ensures.room rest here.seats;
       reviews = room-for-behind paper_reviewed c.args.stamped rest c.self.inside.reviews.rooms here.reviews;
-      talk = room-for-behind paper_commented c.args.stamped rest c.self.inside.talk.rooms here.talk;
+      talk = record {
+        comments = room-for-behind paper_commented c.args.stamped rest c.self.inside.talk.rooms.comments here.talk.comments;
+        responses = room-for-behind paper_responded c.args.stamped rest c.self.inside.talk.rooms.responses here.talk.responses;
+      };
       tags = c.apply-5.ensures.room rest here.tags;
       decisions = c.apply-6.ensures.room rest here.decisions;
     }

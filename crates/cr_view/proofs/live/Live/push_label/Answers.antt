@@ -1,5 +1,6 @@
 use Rattle.std.proofs.Common.{◌≡◌, List, ◌++◌, ◌∙◌, Option, ℕ, ap, map, subst}
 use Rattle.std.specs.Prelude.{OnOk}
+use Rattle.std.specs.Option.{option_copied}
 use Rattle.cr_base.specs.declared.review.ReviewLine.{ReviewLine}
 use Rattle.cr_base.specs.declared.words.Phase.TheVariants.{Discussion}
 use Rattle.cr_base.specs.Filed.{filed_of}
@@ -7,7 +8,7 @@ use Rattle.cr_base.specs.Reviews.{last_form_before}
 use Rattle.cr_view.specs.declared.reviews.Heading.{Heading}
 use Rattle.cr_view.specs.Reviews.{review_line, forms_shown}
 use Rattle.cr_view.specs.Seen.{SeenTables}
-use Rattle.cr_view.proofs.ReviewLaws.{label-discussed}
+use Rattle.cr_view.proofs.ReviewLaws.{label-authors, label-discussed}
 use Rattle.cr_view.proofs.live.Live.push_label.Goals as goal
 
 pub returns : goal.returns
@@ -25,3 +26,16 @@ returns c =
     c.if-by.false last forms c.in_ok-push_form.ensures
     ∙ ap (λ (name : Option (List ℕ)). told ++ map (review_line (heading name)) (forms_shown t by p o)) c.label_name.ensures)
     c.push_forms.ensures
+
+pub returns-then-by : goal.returns-then-by
+returns-then-by c =
+    let t = c.args.self.now.tables in
+    let by = c.args.by.now in
+    let p : ℕ = c.args.paper in
+    let o : ℕ = c.args.label in
+    let told : List ReviewLine = c.args.lines.now.items in
+    let heading : Option (List ℕ) → Heading = λ name. record { to_author = by.author; label = o; user = name } in
+    subst (λ (l : List ReviewLine). OnOk c.push_form.result (c.push_form.new.lines.items ≡ l))
+    (label-authors t by p o (heading c.label_name.result) (option_copied c.authors_form.result) told c.if-by.true c.authors_form.ensures
+    ∙ ap (λ (name : Option (List ℕ)). told ++ map (review_line (heading name)) (forms_shown t by p o)) c.label_name.ensures)
+    c.push_form.ensures
