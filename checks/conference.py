@@ -77,9 +77,15 @@ EXTERNALS = (
     (0, request("DELETE", "/papers/2/externals/dave", "carol")), (1, post("/members", "carol", name="dave", role="member")),
 )  # fmt: skip
 
-# From the reviewing to the close: what the committee writes, and every question.
-JUDGING = (
-    phase("reviewing"), (1, request("PUT", "/papers/2/review", "bob", FORM)),
+# The reviewing, and the response of the authors, which may be left out.
+REVIEWING = (phase("reviewing"), (1, request("PUT", "/papers/2/review", "bob", FORM)))
+RESPONSE = (
+    phase("response"), (0, get("/papers/2/reviews", "erin")),
+    (1, raw("PUT", "/papers/2/response", "erin", b'{"text":"Thanks."}')), (0, get("/papers/2/response", "erin")),
+)  # fmt: skip
+
+# From the discussion to the close: what the committee writes, and every question.
+DECIDING = (
     phase("discussion"), (1, raw("POST", "/papers/2/comments", "dave", b'{"text":"Why?"}')),
     (0, get("/papers/2/reviews", "dave")), (0, get("/papers/2/comments", "bob")),
     (1, request("PUT", "/papers/2/decision", "carol", {"decision": "accept"})), phase("notification"),
@@ -97,7 +103,9 @@ REFUSALS = (
     (0, b"GET /phase HTTP/1.0\r\n\r\n"),
 )  # fmt: skip
 
-COMMITTEE = BIDDING + JUDGING
+JUDGING = REVIEWING + RESPONSE + DECIDING
+# As before there were responses.
+COMMITTEE = BIDDING + REVIEWING + DECIDING
 EVERY_ROUTE = BEGINNING + DEADLINES + RETRIES + BIDDING + EXTERNALS + JUDGING + REFUSALS
 
 # A question, a registration, and another whose body is cut.

@@ -11,14 +11,16 @@ import os
 import subprocess
 import sys
 
-from model import Conference, PHASES
+from model import Conference
 from model_views import view_lines
 
 TOP = os.path.dirname(os.path.dirname(os.path.abspath(__file__)))
 CONFD = os.path.join(TOP, "crates/confd/out/confd")
 CAST = [f"u{number}" for number in range(1, 9)]
 KINDS = ["registered", "named", "phase", "mode", "submitted", "coauthor", "revised", "uploaded", "withdrawn", "conflict", "bid",
-         "assigned", "unassigned", "reviewed", "commented", "tagged", "decided", "deadline", "dismissed", "invited", "uninvited"]
+         "assigned", "unassigned", "reviewed", "commented", "tagged", "decided", "deadline", "dismissed", "invited", "uninvited",
+         "responded"]
+PATH = ["setup", "submission", "bidding", "reviewing", "discussion", "notification", "closed"]  # a drill skips the response
 DRILLS = [(1, 4), (0, 1), (2147483647, 2), (5, 3), (1, 5), (2, 7), (3, 40), (4, 41), (11, 150), (12, 300), (13, 600)]
 
 
@@ -51,11 +53,11 @@ class Drill:
 
     def move_to(self, phase):
         while self.model.phase != phase:
-            self.ask("u1", "POST", "/phase", {"phase": PHASES[PHASES.index(self.model.phase) + 1]})
+            self.ask("u1", "POST", "/phase", {"phase": PATH[PATH.index(self.model.phase) + 1]})
 
     def step(self, number):
         """Whether the step's command is accepted."""
-        phase = PHASES[1 + 4 * number // self.steps]
+        phase = PATH[1 + 4 * number // self.steps]
         self.move_to(phase)
         user = 1 + self.dice.draw() % 8
         action = self.dice.draw() % 4

@@ -308,7 +308,7 @@ def bad_rows(program, folder):
     path, (chair, phase, bob, paper) = named(folder), small()
     for groups, at in (
         ([phase], 0), ([chair, phase, phase], 3), ([chair, phase, bob, paper, [row(9, n1=2)]], 6), ([chair[:1]], 0),
-        ([chair, phase, bob, paper[:1]], 4), ([chair, [row(22)]], 2), ([chair, [row(3, n1=1, more=1)]], 2),
+        ([chair, phase, bob, paper[:1]], 4), ([chair, [row(23)]], 2), ([chair, [row(3, n1=1, more=1)]], 2),
     ):  # fmt: skip
         write(path, spelled(groups))
         kind = [row for group in groups for row in group][at].kind

@@ -19,6 +19,8 @@ EMPTY = MAGIC + CLOSED
 LAST_MOMENT, LAST_NUMBER, LAST_USER = 253_402_300_799, 10**18 - 1, 9_999
 NAME = re.compile(rb"[a-z0-9-]{1,32}")
 MODES = ["open", "blind", "anonymous"]
+# The phases by their numbers in rows, of which the response has the last.
+NUMBERED = [phase for phase in PHASES if phase != "response"] + ["response"]
 ROLES = {1: "member", 2: "chair"}
 # The most authors of a paper beside the one who submits it.
 COAUTHORS = 19
@@ -227,12 +229,12 @@ class Judged:
         """The request that adds this row; none where none does, or where it is about papers."""
         if row.kind == 2 and uses(row, "n1", "n2") and row.n1 in names and row.n2 in ROLES:
             return "POST", "/members", {"name": names[row.n1], "role": ROLES[row.n2]}
-        if row.kind == 3 and uses(row, "n1") and row.n1 < len(PHASES):
-            return "POST", "/phase", {"phase": PHASES[row.n1]}
+        if row.kind == 3 and uses(row, "n1") and row.n1 < len(NUMBERED):
+            return "POST", "/phase", {"phase": NUMBERED[row.n1]}
         if row.kind == 4 and uses(row, "n1") and row.n1 < len(MODES):
             return "POST", "/mode", {"mode": MODES[row.n1]}
-        if row.kind == 18 and uses(row, "n1", "n2") and 1 <= row.n1 <= 4 and row.n2 == 0:
-            return "POST", "/deadlines", {"phase": PHASES[row.n1], "until": None}
+        if row.kind == 18 and uses(row, "n1", "n2") and row.n1 in (1, 2, 3, 4, 7) and row.n2 == 0:
+            return "POST", "/deadlines", {"phase": NUMBERED[row.n1], "until": None}
         if row.kind == 19 and uses(row, "n1") and row.n1 in names:
             return "DELETE", f"/members/{names[row.n1]}", None
         return None

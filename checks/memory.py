@@ -19,7 +19,7 @@ import shutil
 import sys
 import tempfile
 
-from conference import BEGINNING, COMMITTEE, CUT, DEADLINES, EVERY_ROUTE, RETRIES, beginnings, codes_of, rows_behind, text_of
+from conference import BEGINNING, BIDDING, CUT, DEADLINES, EVERY_ROUTE, JUDGING, RETRIES, beginnings, codes_of, rows_behind, text_of
 from edge import NO_TIME
 from serve import Client, serving
 from shim import DATE, MOMENT, Orders, chosen, in_turn, sample, shim_for
@@ -119,7 +119,7 @@ def a_cut(program, _folder):
 
 def a_store(program, _folder):
     """A conference on a store: what was answered is in it, and besides at most the one command that was not."""
-    steps = BEGINNING + DEADLINES + RETRIES + COMMITTEE
+    steps = BEGINNING + DEADLINES + RETRIES + BIDDING + JUDGING
     whole = Whole(program, ["pipe", "--store", "store"], text_of(steps))
     ends, counts = beginnings(steps, whole.out), rows_behind(steps)
     expect((whole.status, len(whole.rows)) == (0, counts[-1]), f"status {whole.status}, {len(whole.rows)} rows")

@@ -25,7 +25,7 @@ import sys
 import tempfile
 import time
 
-from conference import BEGINNING, COMMITTEE, DEADLINES, text_of
+from conference import BEGINNING, COMMITTEE, DEADLINES, DECIDING, RESPONSE, text_of
 from serve import APART
 from shim import FILES, Shim, chosen, in_turn, sample
 from store import (
@@ -36,10 +36,10 @@ from store import (
 HERE = os.path.dirname(os.path.abspath(__file__))
 DATA = os.path.join(HERE, "../crates/confd/data")
 USERS = ("alice", "bob", "carol", "dave", "erin")
-# The tables of rows of each version, and their kinds of entry; an older version has none of the last three.
+# The tables of rows of each version, and their kinds of entry; an older version has none of the last four.
 OLDER = {1: ("people", "papers", "ties", "talk"), 2: ("people_v2", "papers_v2", "ties_v2", "talk_v2")}
 VERSIONS = {**OLDER, VERSION: TABLES}
-KINDS = ({*range(1, 5), 18, 19}, {*range(5, 10)}, {*range(10, 14), 20, 21}, {*range(14, 18)})
+KINDS = ({*range(1, 5), 18, 19}, {*range(5, 10)}, {*range(10, 14), 20, 21}, {*range(14, 18), 22})
 # The fields of a row of this version, its place first; those that an older one lacks, and what stands for them in SQL.
 FIELDS = ("place", "kind", "maker", "more", "at", "num", "mark", "n1", "n2", "n3", "n4", "n5", "b1", "b2")
 LACKED = {1: {"at": "0", "num": "0", "mark": "x''"}, 2: {"num": "0", "mark": "x''"}, VERSION: {}}
@@ -181,7 +181,7 @@ def of_earlier_confds(program, folder):
     for version, requests in REQUESTS.items():
         store = kept(version, folder)
         found, due = stands_in(store)
-        kinds = set().union(*KINDS) - {19, 20, 21} - ({18} if version == 1 else set())
+        kinds = set().union(*KINDS) - {19, 20, 21, 22} - ({18} if version == 1 else set())
         expect((found, {row[1] for row in due}) == (version, kinds), f"version {found}, or a kind is missing")
         with open(os.path.join(HERE, f"version_{version}.views")) as file:
             views = json.load(file)
@@ -203,6 +203,37 @@ def timeless(rows):
     """Rows without their moments."""
     at = FIELDS.index("at")
     return [row[:at] + row[at + 1 :] for row in rows]
+
+
+# What RESPONSE adds, without place and moment: the phase that older versions hadn't, and what erin responds in it.
+RESPONDED = [
+    (3, 1, 0, 0, b"", 7, 0, 0, 0, 0, b"", b""), (22, 5, 0, 0, b"", 2, 0, 0, 0, 0, b"Thanks.", b""),
+]  # fmt: skip
+# What is answered there.
+ANSWERED = (
+    (200, b'{"phase":"response"}'),
+    (200, b'{"reviews":[{"confidence":3,"label":"A","score":4,"to_authors":"Good."}]}'),
+    (201, b'{"paper":2}'),
+    (200, b'{"text":"Thanks."}'),
+)
+
+
+def into_the_response(program, folder):
+    """Such a store as it stood in the reviewing: authors respond then, and all goes on as it did without that."""
+    kind, n1 = FIELDS.index("kind"), FIELDS.index("n1")
+    for version in OLDER:
+        due = stands_in(kept(version, folder, "due"))[1]
+        end = next(place for place, row in enumerate(due) if (row[kind], row[n1]) == (3, 4))
+        store = os.path.join(folder, f"reviewing-{version}")
+        make_older(store, version, due[:end])
+        told, status = program.pipe(store, text_of(RESPONSE + DECIDING))
+        expect((status, tuple(told[: len(ANSWERED)])) == (0, ANSWERED), f"status {status}, {told}")
+        refused = [answer for answer in told if answer[0] >= 400]
+        expect(len(told) == len(RESPONSE + DECIDING) and not refused, f"{len(told)} answers, refused {refused}")
+        found_in, found = stands_in(store)
+        expect((found_in, found[:end]) == (VERSION, due[:end]), f"version {found_in}, or other rows ahead")
+        behind = [row[1:] for row in timeless(found[end:])]
+        expect(behind == RESPONDED + [row[1:] for row in timeless(due[end:])], f"{behind}")
 
 
 # The bidding gets a deadline: a kind that version 1 hadn't.
@@ -425,7 +456,7 @@ def allocations(program, folder):
     refused_in_turn(program, folder, "allocations", lambda at: {"refuse_allocation": at}, (0, 9))
 
 
-CHECKS = (of_earlier_confds, goes_on, bad_ones, a_million, kills, full_disk)
+CHECKS = (of_earlier_confds, into_the_response, goes_on, bad_ones, a_million, kills, full_disk)
 
 # Those that refuse calls of the system, by what cc builds.
 CHECKS_BY_SHIM = (writes, syncs, allocations)

@@ -1,10 +1,11 @@
 """A small model of confd, written from docs/API.md, STORE.md and VIEWS.md and from nothing else.
 
 A conference is a list of entries; each answer, each rule and each line of a view is read off that list anew, with no table
-beside it but the answers to commands that had a number. The lines of a view are made in `model_views.py`. It is slow and short,
-and stands against the program in `random_runs.py`, `drills.py` and `retries.py`. It answers requests whose bodies are well formed;
-what is wrong with a body or a head stands in cases. Whoever asks it sets the moment of the request. Below, `u` and `v` are users'
-numbers, `p` is a paper's, and `t` is the user whom a command names; nobody's number is None.
+beside it but the answers to commands that had a number. The lines of a view are made in `model_views.py`, reports in
+`model_reports.py`. It is slow and short, and stands against the program in `random_runs.py`, `drills.py` and `retries.py`. It
+answers requests whose bodies are well formed; what is wrong with a body or a head stands in cases. Whoever asks it sets the moment
+of the request. Below, `u` and `v` are users' numbers, `p` is a paper's, and `t` is the user whom a command names; nobody's number
+is None.
 """
 import csv
 import datetime
@@ -16,8 +17,9 @@ import urllib.parse
 
 import searches
 from best_plans import best_plan
+from model_reports import Reports
 
-PHASES = ["setup", "submission", "bidding", "reviewing", "discussion", "notification", "closed"]
+PHASES = ["setup", "submission", "bidding", "reviewing", "response", "discussion", "notification", "closed"]
 
 
 def dump(x):
@@ -49,11 +51,11 @@ def number_told(fields):
     return int(value) if len(fields) == 1 and re.fullmatch("[1-9][0-9]{0,17}", value) else None
 
 
-CODE = {"no_user": 404, "no_paper": 404, "no_content": 404, "not_chair": 403, "not_member": 403, "not_author": 403,
+CODE = {"no_user": 404, "no_paper": 404, "no_content": 404, "no_response": 404, "not_chair": 403, "not_member": 403, "not_author": 403,
         "conflict": 403, "not_reviewer": 403}
 
 
-class Conference:
+class Conference(Reports):
     def __init__(self):
         self.history = []  # (maker, kind, fields)
         self.moments = {}  # when an entry's request came, by the entry's place; 0 of those that a drill makes up
@@ -77,6 +79,15 @@ class Conference:
 
     def is_from(self, phase):
         return PHASES.index(self.phase) >= PHASES.index(phase)
+
+    def may_follow(self, to):
+        """Whether this phase may be opened now: the next, or the discussion where the response is skipped."""
+        step = PHASES.index(to) - PHASES.index(self.phase)
+        return step == 1 or (self.phase, to) == ("reviewing", "discussion")
+
+    def opening(self, phase):
+        """How many entries stand before the first that opens this phase; None where none does."""
+        return next((i for i, (m, k, f) in enumerate(self.history) if (k, f) == ("phase", phase)), None)
 
     def deadline(self, phase):
         """The last that was set of a phase; 0 where there is none, or none any more."""
@@ -180,8 +191,20 @@ class Conference:
 
     def forms_discussed(self, p, o):
         """Of a label the last form before the discussion, and all later ones."""
-        at = next((i for i, (m, k, f) in enumerate(self.history) if k == "phase" and f == "discussion"), len(self.history))
+        at = self.opening("discussion")
+        at = len(self.history) if at is None else at
         return self.forms(p, o, self.history[:at])[-1:] + self.forms(p, o, self.history[at:])
+
+    def forms_for_authors(self, p, o):
+        """Of a label the last form, and before the notification the last before the response, where that was opened."""
+        if self.is_from("notification"):
+            return self.forms(p, o)[-1:]
+        at = self.opening("response")
+        return [] if at is None else self.forms(p, o, self.history[:at])[-1:]
+
+    def response(self, p):
+        """What a paper's authors responded; None where they didn't."""
+        return next((f[1] for m, f in self.entries_of("responded") if f[0] == p), None)
 
     def comments(self, p):
         return [(m, f) for m, f in self.entries_of("commented") if f[0] == p]
@@ -280,7 +303,7 @@ class Conference:
         if rest[0] == "tags":
             return self.tag(u, p, rest[1], method == "PUT")
         told = {"content": self.upload, "conflicts": self.conflict, "bid": self.set_bid, "reviewers": self.assign, "review": self.review,
-                "comments": self.comment, "decision": self.decide, "externals": self.invite}
+                "response": self.respond, "comments": self.comment, "decision": self.decide, "externals": self.invite}
         return told[rest[0]](u, p, body)
 
     def told_of(self, u, path, query):
@@ -301,7 +324,7 @@ class Conference:
             return self.content(u, p, None)
         if rest[0] == "content":
             return self.content(u, p, int(rest[1]) if re.match(r"^[1-9][0-9]*$", rest[1]) else 0)
-        return self.reviews(u, p) if rest == ["reviews"] else self.comments_page(u, p)
+        return {"reviews": self.reviews, "response": self.response_page, "comments": self.comments_page}[rest[0]](u, p)
 
     def paper_told(self, text):
         """The paper's number that a segment tells, where it tells one."""
@@ -328,7 +351,7 @@ class Conference:
 
     def set_phase(self, u, to):
         r = self.first((self.role_of(u) != "chair", "not_chair"),
-                       (PHASES.index(to) != PHASES.index(self.phase) + 1, "wrong_phase"))
+                       (not self.may_follow(to), "wrong_phase"))
         if r:
             return r
         self.history.append((u, "phase", to))
@@ -544,67 +567,6 @@ class Conference:
             return err(409, "no_plan")
         return 200, "text: paper,action,user,tag\n" + "".join(f"{p},pcreview,{self.name_of(v)},\n" for p, v in plan)
 
-    # ---- reports
-    def report(self, u, parts):
-        """A report's text; the lines are those of docs/API.md."""
-        chair, member = self.role_of(u) == "chair", self.role_of(u) != "account"
-        if parts[0] == "letter":
-            p = self.paper_told(parts[1])
-            author = self.is_there(p) and u in self.authors(p)
-            r = self.first((not self.is_there(p), "no_paper"), (not author, "not_author"), (not self.is_from("notification"), "wrong_phase"))
-            return r or (200, "text: " + self.letter(p))
-        first = "discussion" if parts[0] in ("scores", "decisions") else "bidding"
-        who = (not chair, "not_chair") if parts[0] == "load" else (not member, "not_member")
-        r = self.first(who, (not self.is_from(first), "wrong_phase"))
-        return r or (200, "text: " + getattr(self, f"{parts[0]}_report")(u))
-
-    def title(self, p):
-        return self.last_texts(p)[0]
-
-    def papers_report(self, u):
-        mark = lambda p: "W" if self.withdrawn(p) else "C" if self.conflicted(u, p) else "-"
-        return "".join(f"{p:4} {mark(p)} {self.title(p)}\n" for p in self.papers()) + f"{len(self.papers())} papers\n"
-
-    def listed(self, u):
-        """The papers that a report of scores or of decisions lists."""
-        return [p for p in self.papers() if not self.conflicted(u, p) and not self.withdrawn(p)]
-
-    def last_forms(self, p):
-        """The last form of each label that has one, with its label's number."""
-        return [(o, self.forms(p, o)[-1][1]) for o in range(1, self.labels(p) + 1) if self.forms(p, o)]
-
-    def scores_report(self, u):
-        lines = []
-        for p in self.listed(u):
-            scores = [form["score"] for o, form in self.last_forms(p)]
-            if scores:
-                h = (200 * sum(scores) + len(scores)) // (2 * len(scores))
-                lines.append(f"{p:4} {len(scores):2} {h // 100}.{h % 100:02} {self.title(p)}\n")
-        return "".join(lines)
-
-    def load_report(self, u):
-        seats = [(seat[1], seat[2], bool(self.forms(p, seat[3]))) for p in self.papers() if not self.conflicted(u, p) for seat in self.reviewers(p)]
-        lines = []
-        for v, name in self.users():
-            if self.role_of(v) != "account":
-                counts = [len([1 for w, k, _ in seats if (w, k) == (v, kind)]) for kind in ("primary", "secondary", "pc")]
-                counts.append(len([1 for w, _, done in seats if w == v and done]))
-                lines.append(f"{name:32}" + "".join(f" {count:4}" for count in counts) + "\n")
-        return "".join(lines)
-
-    def decisions_report(self, u):
-        listed = [(p, self.decision(p)) for p in self.listed(u)]
-        count = lambda word: len([1 for p, told in listed if told == word])
-        lines = "".join(f"{p:4} {told:6} {self.title(p)}\n" for p, told in listed)
-        return lines + f"accept {count('accept')}, reject {count('reject')}, none {count('none')}\n"
-
-    def letter(self, p):
-        text = f"Paper {p}: {self.title(p)}\nDecision: {self.decision(p)}\n"
-        for o, form in self.last_forms(p):
-            by = f" by {self.name_of(self.assigned_to(p, o))}" if self.mode == "open" else ""
-            text += f"\nReview {chr(64 + o)}{by}\nScore {form['score']}, confidence {form['confidence']}\n{form['to_authors']}\n"
-        return text
-
     def members_rules(self, u, p):
         return ((not self.is_there(p), "no_paper"), (self.role_of(u) == "account", "not_member"), (self.conflicted(u, p), "conflict"))
 
@@ -625,8 +587,9 @@ class Conference:
     def reviews(self, u, p):
         author = self.is_there(p) and u in self.authors(p)
         ordinal, member = self.ordinal_of(u, p), self.role_of(u) != "account"
-        own = ordinal is not None and (self.phase == "reviewing" if member else self.is_from("reviewing"))
-        r = self.first((not self.is_there(p), "no_paper"), (author and not self.is_from("notification"), "wrong_phase"),
+        own = ordinal is not None and (self.phase in ("reviewing", "response") if member else self.is_from("reviewing"))
+        early = not self.is_from("notification") and self.opening("response") is None
+        r = self.first((not self.is_there(p), "no_paper"), (author and early, "wrong_phase"),
                        (not author and self.stranger(u, p), "not_member"), (not author and self.conflicted(u, p), "conflict"),
                        (not author and not (member and self.is_from("discussion")) and not own, "wrong_phase"))
         if r:
@@ -642,12 +605,27 @@ class Conference:
         all_keys = authors_keys + ["to_pc", "version"]
         for o in range(1, self.labels(p) + 1):
             if author:
-                add(o, self.forms(p, o)[-1:], authors_keys, self.mode == "open")
+                add(o, self.forms_for_authors(p, o), authors_keys, self.mode == "open" and self.is_from("notification"))
             elif member and self.is_from("discussion"):
                 add(o, self.forms_discussed(p, o), all_keys, self.role_of(u) == "chair" or self.mode != "anonymous")
             elif o == ordinal:
                 add(o, self.forms(p, o), all_keys, False)
         return 200, dump({"reviews": out})
+
+    def respond(self, u, p, body):
+        r = self.first((not self.is_there(p), "no_paper"), (u not in self.authors(p), "not_author"), (self.phase != "response", "wrong_phase"),
+                       self.late(), (self.withdrawn(p), "withdrawn"), (self.response(p) is not None, "already_responded"))
+        if r:
+            return r
+        self.history.append((u, "responded", (p, body["text"])))
+        return 201, dump({"paper": p})
+
+    def response_page(self, u, p):
+        author = self.is_there(p) and u in self.authors(p)
+        r = self.first((not self.is_there(p), "no_paper"), (not author and self.role_of(u) == "account", "not_member"),
+                       (not author and self.conflicted(u, p), "conflict"), (not author and not self.is_from("discussion"), "wrong_phase"),
+                       (self.response(p) is None, "no_response"))
+        return r or (200, dump({"text": self.response(p)}))
 
     def comment(self, u, p, body):
         r = self.first(*self.members_rules(u, p), (self.phase != "discussion", "wrong_phase"), self.late(),
@@ -698,7 +676,8 @@ class Conference:
             "papers": [p for p in ps if u in self.authors(p)], "role": self.role_of(u), "user": u})
 
     def told(self, u, p):
-        """What a user is told of a paper, as the terms of a search ask: by her page and by what she is answered of reviews and comments."""
+        """What a user is told of a paper, as the terms of a search ask: by her page and by what she is answered of reviews, of a response
+        and of comments."""
 
         def listed(answer, key):
             return json.loads(answer[1])[key] if answer[0] == 200 else []
@@ -706,7 +685,8 @@ class Conference:
         code, page = self.page(u, p)
         return {
             "page": json.loads(page) if code == 200 else {}, "accepted": self.accepted(p), "conflicted": self.conflicted(u, p),
-            "reviews": listed(self.reviews(u, p), "reviews"), "comments": listed(self.comments_page(u, p), "comments")}
+            "reviews": listed(self.reviews(u, p), "reviews"), "comments": listed(self.comments_page(u, p), "comments"),
+            "responded": self.response_page(u, p)[0] == 200}
 
     def search(self, u, query):
         pairs = urllib.parse.parse_qsl(query, keep_blank_values=True, errors="replace")

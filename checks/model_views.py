@@ -26,12 +26,13 @@ def view_lines(c, who):
     def last_form(i, p, o):
         return not c.forms(p, o, c.history[i + 1:])
 
-    def opening(entries):
-        return next((i for i, (m, k, f) in enumerate(entries) if k == "phase" and f == "discussion"), None)
+    discussed, responded = c.opening("discussion"), c.opening("response")
 
     def discussed_form(i, p, o):
-        later = c.history[i + 1:]
-        return opening(c.history[:i]) is not None or not c.forms(p, o, later[:opening(later)])
+        return discussed is not None and i > discussed or not c.forms(p, o, c.history[i + 1:discussed])
+
+    def early_form(i, p, o):
+        return responded is not None and i < responded and not c.forms(p, o, c.history[i + 1:responded])
 
     def last_upload(i, p):
         return not any(k == "uploaded" and f[0] == p for m, k, f in c.history[i + 1:])
@@ -108,7 +109,10 @@ def view_lines(c, who):
                 form = {"paper": p, "ordinal": f[1], "version": f[2], **f[3]}
                 row(mine or (discussed_form(i, p, f[1]) and cm and disc), form)
                 row(first_form(i, p, f[1]) and cc, {"paper": p, "ordinal": f[1], "done": True})
-                row(last_form(i, p, f[1]) and author and notif, {x: form[x] for x in ("paper", "ordinal", "score", "confidence", "to_authors")})
+                told = author and (last_form(i, p, f[1]) and notif or early_form(i, p, f[1]) and c.is_from("response"))
+                row(told, {x: form[x] for x in ("paper", "ordinal", "score", "confidence", "to_authors")})
+            if k == "responded":
+                row(mine or author or (cm and disc), {"paper": p, "text": f[1]})
             if k == "commented":
                 row(mine, {"paper": p, "n": f[1], "ordinal": f[2], "text": f[3]})
                 row(cm and disc, {"paper": p, "n": f[1], "text": f[3], **({"writer": m} if chair or not anon else {"ordinal": f[2]})})

@@ -62,8 +62,11 @@ class Run:
                 self.ask("alice", "POST", "/members", {"name": name, "role": role})
         if self.random.random() < 0.7:
             self.ask("alice", "POST", "/mode", {"mode": self.random.choice(["open", "blind", "anonymous"])})
-        steps = {"setup": 5, "submission": 90, "bidding": 160, "reviewing": 80, "discussion": 130, "notification": 60, "closed": 100}
+        steps = {"setup": 5, "submission": 90, "bidding": 160, "reviewing": 80, "response": 70, "discussion": 130, "notification": 60, "closed": 100}
+        skipped = "response" if self.random.random() < 0.4 else None
         for phase in PHASES:
+            if phase == skipped:
+                continue
             if phase != "setup":
                 self.ask(self.model.name_of(self.model.chairs()[0]), "POST", "/phase", {"phase": phase})
             for _ in range(self.random.randint(steps[phase] // 2, steps[phase])):
@@ -173,7 +176,7 @@ class Run:
         terms = [value, f"ti:{value}", f"ab:{value}"] * 2 + [f"{key}:{part}" for key in ("au", "re") for part in (choose.choice(NAMES), choose.choice(NAMES)[1:3])] * 3
         terms += [f"#{tag}" for tag in ("hot", "a-1", "~hot", "~mine", "~~hot", "~~chairs")]
         terms += [f"dec:{word}" for word in ("accept", "reject", "none")] * 2 + [f"status:{word}" for word in ("active", "withdrawn", "accepted")] * 2
-        terms += [f"has:{word}" for word in ("content", "review", "comment", "decision", "conflict", "mine")] * 2
+        terms += [f"has:{word}" for word in ("content", "review", "comment", "response", "decision", "conflict", "mine")] * 2
         return choose.choice(terms) if choose.random() < 0.98 else choose.choice(["dec:maybe", "re:", "AND", '"x', "has:mine:"])
 
     def search(self, depth=3):
@@ -197,13 +200,15 @@ class Run:
 
     def deeds(self):
         """What is asked for, as often as the phase suggests."""
-        asked = ["page"] * 6 + ["reviews", "comments"] * 3 + ["search"] * 6 + ["report"] * 4
+        asked = ["page"] * 6 + ["reviews", "response", "comments"] * 3 + ["search"] * 6 + ["report"] * 4
         asked += ["me", "conflict", "content", "version", "member", "accounts", "phase", "back", "tag", "decide", "accepted", "deadlines", "plan"]
-        asked += ["deadline"] * (3 if self.model.late()[0] else 4) + ["dismiss", "invite", "uninvite"]
+        asked += ["deadline"] * (3 if self.model.late()[0] else 4) + ["dismiss", "invite", "uninvite", "respond"]
         if self.model.phase == "submission":
             return asked + ["submit"] * 6 + ["upload", "revise", "conflict"] * 3 + ["withdraw", "bid", "assign", "unassign"]
         if self.model.phase == "bidding":
             return asked + ["bid", "assign", "tag"] * 5 + ["unassign", "conflict", "bulk", "plan", "invite"] * 3 + ["submit", "upload", "revise", "withdraw", "review"]
+        if self.model.phase == "response":
+            return asked + ["respond"] * 8 + ["reviews", "response"] * 5 + ["assign", "tag", "unassign", "conflict", "bulk"] * 2 + ["bid", "submit", "upload", "revise", "withdraw", "review", "comment", "decide"]
         if self.model.phase == "discussion":
             return asked + ["review", "comment", "tag"] * 6 + ["decide"] * 10 + ["assign", "unassign", "conflict", "bulk"] * 2 + ["bid", "submit", "upload", "revise", "withdraw"]
         if self.model.is_from("notification"):
@@ -261,6 +266,10 @@ class Run:
             reviewer = self.caller(lambda user: p.isdigit() and self.model.ordinal_of(user, int(p)) is not None)
             form = {"score": choose.randint(1, 5), "confidence": choose.randint(1, 5), "to_authors": choose.choice(["", "Good.", "Two\nlines."]), "to_pc": choose.choice(["", "ok"])}
             self.ask(reviewer, "PUT", f"/papers/{p}/review", form)
+        elif deed == "respond":
+            self.ask(self.author(p), "PUT", f"/papers/{p}/response", {"text": choose.choice(["x", "Thanks.", "Übung"])})
+        elif deed == "response":
+            self.ask(choose.choice([anybody, self.author(p), self.member(p)]), read, f"/papers/{p}/response")
         elif deed == "comment":
             self.ask(self.member(p), "POST", f"/papers/{p}/comments", {"text": choose.choice(["x", "Shall we?", "Übung"])})
         elif deed == "tag":
@@ -271,7 +280,7 @@ class Run:
         elif deed == "accepted":
             self.ask(self.reader(), read, "/accepted")
         elif deed == "reviews":
-            self.ask(anybody, read, f"/papers/{p}/reviews")
+            self.ask(choose.choice([anybody, anybody, self.author(p)]), read, f"/papers/{p}/reviews")
         elif deed == "comments":
             self.ask(anybody, read, f"/papers/{p}/comments")
         elif deed == "content":
@@ -288,7 +297,7 @@ class Run:
             self.ask(anybody, read, "/deadlines")
         elif deed == "deadline":
             phase = self.model.phase if choose.random() < 0.6 else choose.choice(PHASES)
-            phase = phase if phase in PHASES[1:5] else choose.choice(PHASES[1:5])
+            phase = phase if phase in PHASES[1:6] else choose.choice(PHASES[1:6])
             self.ask(self.chair(), "POST", "/deadlines", {"phase": phase, "until": self.until()})
         else:
             self.ask(anybody, "POST", "/phase", {"phase": "setup"})

@@ -32,7 +32,7 @@ def due(text):
     tree = searches.read(text.encode())
     if isinstance(tree, int):
         return 400, {"error": "bad_query", "place": tree}
-    told = [{"page": {"title": title, "abstract": ""}, "reviews": [], "comments": [], "accepted": False, "conflicted": True} for title in TITLES]
+    told = [{"page": {"title": title, "abstract": ""}, "reviews": [], "comments": [], "responded": False, "accepted": False, "conflicted": True} for title in TITLES]
     found = [{"paper": number + 1, "title": title} for number, title in enumerate(TITLES) if searches.holds(tree, told[number])]
     return 200, {"count": len(found), "papers": found}
 

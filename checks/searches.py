@@ -13,7 +13,7 @@ MOST_BYTES, MOST_DEEP, MOST_TERMS = 1024, 64, 128
 VALUES = {
     b"dec": {b"accept", b"reject", b"none"},
     b"status": {b"active", b"withdrawn", b"accepted"},
-    b"has": {b"content", b"review", b"comment", b"decision", b"conflict", b"mine"},
+    b"has": {b"content", b"review", b"comment", b"response", b"decision", b"conflict", b"mine"},
 }
 TAG = re.compile(rb"^~{0,2}[a-z0-9-]{1,32}$")
 
@@ -182,7 +182,8 @@ def has(value, text):
 
 
 def holds(tree, told):
-    """Whether a search holds of a paper, by what its asker is told: a record of `page`, `reviews`, `comments`, `accepted`, `conflicted`."""
+    """Whether a search holds of a paper, by what its asker is told: a record of `page`, `reviews`, `comments`, `responded`,
+    `accepted`, `conflicted`."""
     if tree is None:
         return True
     kind, page = tree[0], told["page"]
@@ -213,6 +214,7 @@ def holds(tree, told):
         b"content": bool(page.get("versions")),
         b"review": bool(told["reviews"]),
         b"comment": bool(told["comments"]),
+        b"response": told["responded"],
         b"decision": page.get("decision", "none") != "none",
         b"conflict": told["conflicted"],
         b"mine": "label" in page,

@@ -206,15 +206,37 @@ due 403 '{"error":"not_chair"}'
 ask carol GET /reports/load
 due 200 "$(printf '%-32s %4s %4s %4s %4s\n' alice 0 0 0 0 bob 2 0 1 1 carol 0 0 0 0 dave 1 0 1 1 fay 0 0 1 1)"$'\n'
 
+part "Response: the authors answer the reviews"
+ask alice POST /phase '{"phase":"response"}'
+due 200 '{"phase":"response"}'
+ask erin GET /papers/1/reviews
+due 200 '{"reviews":[{"confidence":3,"label":"A","score":4,"to_authors":"Good."},{"confidence":2,"label":"B","score":2,"to_authors":"Fair."}]}'
+ask gus PUT /papers/1/response '{"text":"Proof 3 is new."}'
+due 201 '{"paper":1}'
+ask erin PUT /papers/1/response '{"text":"Thanks."}'
+due 409 '{"error":"already_responded"}'
+ask erin GET /papers/1/response
+due 200 '{"text":"Proof 3 is new."}'
+ask fay GET /papers/1/response
+due 409 '{"error":"wrong_phase"}'
+ask fay PUT /papers/1/review '{"score":4,"confidence":2,"to_authors":"Fair, now.","to_pc":""}'
+due 409 '{"error":"wrong_phase"}'
+
 part "Discussion: the committee talks, and decides"
 ask alice POST /phase '{"phase":"discussion"}'
 due 200 '{"phase":"discussion"}'
 ask bob GET /papers/1/reviews
 due 200 '{"reviews":[{"confidence":3,"label":"A","score":4,"to_authors":"Good.","to_pc":"ok","version":1},{"confidence":2,"label":"B","score":2,"to_authors":"Fair.","to_pc":"","version":1}]}'
+ask fay GET /papers/1/response
+due 200 '{"text":"Proof 3 is new."}'
+ask dave GET /papers/1/response
+due 403 '{"error":"conflict"}'
 ask bob POST /papers/1/comments '{"text":"Accept?"}'
 due 201 '{"comment":1}'
 ask fay PUT /papers/1/review '{"score":4,"confidence":2,"to_authors":"Fair, now.","to_pc":"convinced"}'
 due 200 '{"version":2}'
+ask erin GET /papers/1/reviews
+due 200 '{"reviews":[{"confidence":3,"label":"A","score":4,"to_authors":"Good."},{"confidence":2,"label":"B","score":2,"to_authors":"Fair."}]}'
 ask bob GET /reports/scores
 due 200 $'   1  2 4.00 Proofs, again\n   2  2 2.00 Types\n'
 ask dave GET /reports/scores

@@ -32,7 +32,7 @@ NONE, some = asked.NONE, asked.some
 CALLERS = [NONE] + [some(n) for n in range(1, 10)]
 DIGESTS = {name: (n,) * 32 for n, name in enumerate(asked.NAMES)}
 ASIDES = {"tag": asked.words("a"), "to_pc": asked.words("New."), "comment": asked.words("Take it.")}
-CASES = ("OfTheConference", "OfPapers", "OfConflicts", "OfReviewers", "OfExternals", "OfTheDiscussion", "OfQueries", "OfBulks")
+CASES = ("OfTheConference", "OfPapers", "OfConflicts", "OfReviewers", "OfExternals", "OfTheDiscussion", "OfTheResponse", "OfQueries", "OfBulks")
 # what is computed of the rows of a topic
 ASKS = {"commands": ("commands", "adds"), "queries": ("queries",), "added": ("commands", "adds"), "bulks": ("bulks",)}
 EVERY = ("commands", "adds", "queries", "bulks")

@@ -24,7 +24,8 @@ from planted.specs import BUILT_IN, MEMO, PAPERS, History, Specs, applied, arity
 
 POLICY = "crates/cr_policy"
 NOBODY, USERS = ("None",), [("Some", n) for n in range(1, 10)]
-PHASES = ["Submission", "Bidding", "Reviewing", "Discussion", "Notification", "Closed"]
+PHASES = ["Submission", "Bidding", "Reviewing", "Response", "Discussion", "Notification", "Closed"]
+SKIPPING = [phase for phase in PHASES if phase != "Response"]
 MODES = [("Overt",), ("Blind",), ("Anonymous",)]
 BUILT_IN["values"] = lambda xs: tuple(x for x in xs if x is not False and x != NOBODY)
 
@@ -36,14 +37,15 @@ def clauses(law):
     return dict(re.findall(r"ensures (\w+) \{ (\w+) \}", text))
 
 
-LAWS = {law: clauses(law) for law in ("law_bounds", "law_views")}
+LAWS = {law: clauses(law) for law in ("law_bounds", "law_response_bound", "law_views")}
 # of law_views, what rests on judgement and isn't computed
 UNCOMPUTED = {"legal"}
 
 
 def named(row):
     """The law and the clauses that a row says are false."""
-    return [("law_bounds", clause) for clause in row.words("clauses")] + [("law_views", clause) for clause in row.words("views")]
+    laws = (("clauses", "law_bounds"), ("response", "law_response_bound"), ("views", "law_views"))
+    return [(law, clause) for word, law in laws for clause in row.words(word)]
 
 
 # ---- histories
@@ -67,11 +69,13 @@ def made_up(seed):
         lambda: ("Tagged", paper(), words(dice.choice(["hot", "~own", "~~odd"])), dice.random() < 0.7),
         lambda: ("Decided", paper(), (dice.choice(["Accept", "Reject"]),)), lambda: ("Dismissed", user()),
         lambda: ("Invited", paper(), user()), lambda: ("Invited", paper(), dice.randint(6, 8)), lambda: ("Uninvited", paper(), dice.randint(6, 8)),
-        lambda: ("DeadlineSet", (dice.choice(PHASES[:4]),), dice.choice([NOBODY, ("Some", dice.randint(1, 2_000))]))]
+        lambda: ("DeadlineSet", (dice.choice(PHASES[:5]),), dice.choice([NOBODY, ("Some", dice.randint(1, 2_000))])),
+        lambda: ("Responded", paper(), text()), lambda: ("Reviewed", paper(), dice.randint(1, 2), dice.randint(1, 4), form())]
     entries = [(1, ("Registered", n, text(), text())) for n in (1, 2)] + [
         (1, ("Named", n, (role,))) for n, role in ((1, "Chair"), (2, "Chair"), (3, "Member"), (4, "Member"), (5, "Member"))]
     entries += [(1, ("ModeSet", dice.choice(MODES))), (6, ("Submitted", 1, text(), text())), (7, ("Submitted", 2, text(), text()))]
-    for phase in PHASES[:dice.randint(0, 6)]:
+    phases = dice.choice([PHASES, PHASES, SKIPPING])
+    for phase in phases[:dice.randint(0, len(phases))]:
         entries += [(1, ("PhaseSet", (phase,)))] + [(user(), dice.choice(kinds)()) for _ in range(dice.randint(2, 9))]
     return stamped(entries)
 
@@ -84,16 +88,19 @@ def stamped(entries):
 
 def by_hand():
     """What is rarely made up: a paper that is accepted though it was withdrawn, once the conference is closed; a tag in the submission; an
-    external of a withdrawn paper in it; and one in the bidding who is in conflict with it."""
+    external of a withdrawn paper in it; one in the bidding who is in conflict with it; and a form that is written in the response."""
     closed = [("Submitted", 3, words("a"), words("b")), ("Uploaded", 3, 1, words("c")), ("Withdrawn", 3), ("Decided", 3, ("Accept",)), ("PhaseSet", ("Closed",))]
     early = [("Named", 4, ("Member",)), ("PhaseSet", ("Submission",)), ("Submitted", 1, words("a"), words("b")), ("Tagged", 1, words("hot"), True)]
     invited = [("PhaseSet", ("Submission",)), ("Submitted", 3, words("a"), words("b")), ("Withdrawn", 3), ("Invited", 3, 5)]
     barred = [*invited, ("Conflict", 3, 5, True), ("PhaseSet", ("Bidding",))]
-    return [stamped([(6, entry) for entry in entries]) for entries in (closed, early, invited, barred)]
+    form = lambda score: {"score": score, "confidence": 3, "to_authors": words(f"a {score}"), "to_pc": words(f"p {score}")}
+    answered = [("Submitted", 1, words("a"), words("b")), ("Coauthor", 1, 7), ("Assigned", 1, 3, ("Pc",), 1), ("PhaseSet", ("Reviewing",)),
+                ("Reviewed", 1, 1, 1, form(1)), ("PhaseSet", ("Response",)), ("Reviewed", 1, 1, 2, form(2)), ("Responded", 1, words("c"))]
+    return [stamped([(6, entry) for entry in entries]) for entries in (closed, early, invited, barred, answered)]
 
 
-def outside(mode, ending):
-    """A conference with users 7 and 8 from outside, up to a phase: 8 reviews paper 1, is in conflict with 2, and is invited to 3, which
+def outside(mode, phases, ending):
+    """A conference with users 7 and 8 from outside, in these phases up to one: 8 reviews paper 1, is in conflict with 2, and is invited to 3, which
     is withdrawn; 4 is dismissed behind a bid, and invited to paper 1; 7 is invited to it no longer; and of the members 5 is invited."""
     form = lambda score: {"score": score, "confidence": 3, "to_authors": words(f"for authors {score}"), "to_pc": words(f"for us {score}")}
     roles = [(1, ("Named", n, (role,))) for n, role in ((1, "Chair"), (2, "Chair"), (3, "Member"), (4, "Member"), (5, "Member"))]
@@ -108,11 +115,12 @@ def outside(mode, ending):
                     (1, ("Assigned", 1, 3, ("Primary",), 1)), (1, ("Assigned", 1, 8, ("Pc",), 2)), (3, ("Tagged", 1, words("hot"), True)),
                     (1, ("Tagged", 1, words("~~odd"), True)), (1, ("Assigned", 1, 5, ("Pc",), 3)), (1, ("Unassigned", 1, 5, 3))],
         "Reviewing": [(3, ("Reviewed", 1, 1, 1, form(1))), (8, ("Reviewed", 1, 2, 1, form(2))), (3, ("Reviewed", 1, 1, 2, form(3)))],
+        "Response": [(6, ("Responded", 1, words("p"))), (7, ("Responded", 2, words("q")))],
         "Discussion": [(3, ("Commented", 1, 1, ("Some", 1), words("n"))), (5, ("Commented", 1, 2, NOBODY, words("o"))), (8, ("Reviewed", 1, 2, 2, form(4))),
                        (1, ("Decided", 1, ("Reject",))), (1, ("Decided", 1, ("Accept",))), (1, ("Decided", 2, ("Reject",)))],
         "Notification": [], "Closed": []}
     entries = roles + [(1, ("ModeSet", mode))]
-    for phase in PHASES[:PHASES.index(ending) + 1]:
+    for phase in phases[:phases.index(ending) + 1]:
         entries += [(1, ("PhaseSet", (phase,)))] + parts[phase]
     return stamped(entries)
 
@@ -149,7 +157,8 @@ class Computed:
             self.specs.changed[file] = text.replace(told, "values (map seen (view u H)) ≡ values (each_told u H (part u H) [] H)")
             self.digests, self.asides, self.verdicts, conference = small_conference(self.specs)
             self.histories = by_hand() + [made_up(seed) for seed in range(40)] + conference
-            self.histories += [outside(mode, ending) for mode in MODES for ending in PHASES]
+            self.histories += [outside(mode, SKIPPING, ending) for mode in MODES for ending in SKIPPING]
+            self.histories += [outside(mode, PHASES, ending) for mode in MODES for ending in PHASES[3:]]
 
     def holds_of(self, clause, history):
         if arity(clause) == 1:
@@ -158,8 +167,42 @@ class Computed:
             return all(clause(u, history) for u in [NOBODY, *USERS])
         return all(clause(u, p, history) for u in [NOBODY, *USERS] for p in PAPERS)
 
+    def twins(self):
+        """Histories in which a form that is unheard has other grades and texts, and such without one that was written when the response had
+        been opened; each with a user to whom they are to look the same."""
+        is_author = self.specs.get("cr_base.specs.HistoryFacts", "is_author")
+        is_heard = self.specs.get("cr_policy.specs.ShownTo", "is_responded_to")
+        begins = self.specs.get("cr_policy.specs.ShownTo", "begins_response")
+        over = self.specs.get("cr_policy.specs.ShownTo", "is_past_discussion")
+        phase_of = self.specs.get("cr_base.specs.HistoryFacts", "phase_of")
+        other = {"score": 5, "confidence": 1, "to_authors": words("other"), "to_pc": words("another")}
+        for history in self.histories:
+            for at, e in enumerate(() if over(phase_of(history)) else history):
+                if e["entry"][0] != "Reviewed":
+                    continue
+                _, paper, ordinal, version, _ = e["entry"]
+                before, after = History(history[:at]), History(history[at + 1:])
+                for u in USERS:
+                    if not is_author(u, paper, history) or u[1] == e["stamp"]["maker"] or is_heard(paper, ordinal, before, after):
+                        continue
+                    changed = {**e, "entry": ("Reviewed", paper, ordinal, version, other)}
+                    yield "unheard", u, history, History([*before, changed, *after])
+                    if any(begins(s["entry"]) for s in before):
+                        yield "later", u, history, History([*before, *after])
+
+    def holds_of_twins(self, name):
+        view = self.specs.get("cr_policy.specs.View", "view")
+        return all(view(u, history) == view(u, twin) for clause, u, history, twin in self.twins() if clause == name)
+
     def holds(self, law, name):
         """Whether the clause holds wherever it is computed."""
+        if law == "law_response_bound":
+            if name in ("unheard", "later"):
+                return self.holds_of_twins(name)
+            clause = self.specs.get("cr_policy.specs.ResponseBounds", LAWS[law][name])
+            if name == "one":
+                return all(clause(u, p, o, history) for history in self.histories for u in [NOBODY, *USERS] for p in PAPERS for o in (1, 2, 3))
+            return all(self.holds_of(clause, history) for history in self.histories)
         if law == "law_bounds":
             clause = self.specs.get("cr_policy.specs.ViewBounds", LAWS[law][name])
             return all(self.holds_of(clause, history) for history in self.histories)

@@ -7,7 +7,7 @@ NONE = ("None",)
 # When all is asked: the moment of the small conference (`morning` in Witness.antt of cr_policy).
 MORNING = 1_772_442_000
 NAMES = ("alice", "bob", "carol", "dave", "erin", "fay", "gus", "hal", "ivy")
-PHASES = ("Setup", "Submission", "Bidding", "Reviewing", "Discussion", "Notification", "Closed")
+PHASES = ("Setup", "Submission", "Bidding", "Reviewing", "Response", "Discussion", "Notification", "Closed")
 
 
 def some(value):
@@ -90,6 +90,11 @@ TWINS = {
     "erin has reviewed": ("reviewing", [(some(1), ("Invite", some(1), named("erin"))), (some(1), ("Assign", some(1), named("erin"), ("Pc",))),
                                         (some(5), ("Review", some(1), form(4))), (some(1), ("SetPhase", ("Discussion",))),
                                         (some(1), ("SetPhase", ("Notification",)))]),
+    "authors respond": ("reviewing", [(some(1), ("SetPhase", ("Response",))), (some(7), ("Respond", some(2), words("We do.")))]),
+    "responses are discussed": ("reviewing", [(some(1), ("SetPhase", ("Response",))), (some(2), ("Respond", some(1), words("Thanks."))),
+                                              (some(1), ("SetPhase", ("Discussion",))), (some(4), ("Review", some(1), form(2)))]),
+    "responses are read at the end": ("reviewing", [(some(1), ("SetPhase", ("Response",))), (some(2), ("Respond", some(1), words("Thanks.")))]
+                                      + [(some(1), ("SetPhase", (phase,))) for phase in PHASES[5:7]]),
     "some papers": ("submitted", [(some(5), ("Submit", words("P"), (), ()))] * 2),
     "many papers": ("submitted", [(some(7), ("Submit", words("P"), (), ()))] * 17),
     "many bytes": ("submitted", [(some(7), ("Upload", some(2), Bytes(33554432))), (some(7), ("Upload", some(1), Bytes(33554000)))]),
@@ -99,6 +104,7 @@ TWINS = {
     "the bidding is due": ("bidding", [(some(1), ("SetDeadline", ("Bidding",), some(MORNING - 1)))]),
     "the bidding has no deadline any more": ("bidding", [(some(1), ("SetDeadline", ("Bidding",), until)) for until in (some(MORNING - 1), NONE)]),
     "the reviewing is due": ("reviewing", [(some(1), ("SetDeadline", ("Reviewing",), some(MORNING - 1)))]),
+    "the response is due": ("reviewing", [(some(1), ("SetPhase", ("Response",))), (some(1), ("SetDeadline", ("Response",), some(MORNING - 1)))]),
     "the discussion is due, in the reviewing": ("reviewing", [(some(1), ("SetDeadline", ("Discussion",), some(MORNING - 1)))]),
     "the discussion is due": ("discussion", [(some(1), ("SetDeadline", ("Discussion",), some(MORNING - 1)))]),
 }
@@ -135,12 +141,12 @@ def commands():
     given += [("Name", user, (role,)) for user in users for role in ("Member", "Chair")]
     given += [("Dismiss", user) for user in users]
     given += [("SetMode", (mode,)) for mode in ("Overt", "Anonymous")] + [("SetPhase", (phase,)) for phase in PHASES]
-    given += [("SetDeadline", (phase,), until) for phase in PHASES[1:5] for until in (NONE, some(MORNING + 60))]
+    given += [("SetDeadline", (phase,), until) for phase in PHASES[1:6] for until in (NONE, some(MORNING + 60))]
     told = ((), (named("erin"), named("erin"), named("bob"), named("erin"), named("hal")), (named("gus"), named("dave")), (named("zoe"),))
     given += [("Submit", words("T"), words("a"), authors) for authors in told]
     for p in papers:
         given += [("Revise", p, words("T"), words("a")), ("Upload", p, words("xyz")), ("Upload", p, Bytes(4194304)), ("Withdraw", p), ("Bid", p, 23),
-                  ("Review", p, form(1)), ("Comment", p, words("c"))]
+                  ("Review", p, form(1)), ("Respond", p, words("r")), ("Comment", p, words("c"))]
         given += [("Tag", p, words(tag), on) for tag in ("hot", "~x", "~~x") for on in (True, False)]
         given += [("Decide", p, (decision,)) for decision in ("Accept", "Reject")]
         for user in users if p in (some(1), some(3)) else [named(name) for name in ("dave", "hal", "zoe")]:
@@ -152,7 +158,7 @@ def commands():
 def queries():
     asked = [("Accounts",), ("Phase",), ("Deadlines",), ("AcceptedPapers",), ("Me",), ("Search", (), True), ("Search", (), False)]
     for p in [NONE] + [some(n) for n in (1, 2, 3, 9)]:
-        asked += [(kind, p) for kind in ("Page", "Content", "Reviews", "Comments")]
+        asked += [(kind, p) for kind in ("Page", "Content", "Reviews", "Response", "Comments")]
         asked += [("Report", ("Letter", p))] + [("Version", p, version) for version in range(4)]
     return asked + [("Report", (report,)) for report in ("Papers", "Scores", "Load", "Decisions")]
 
