@@ -36,7 +36,7 @@ from serve import SOON, Client, Server, serving
 from shim import FILES, MOMENT, AT_ONCE, Orders, Shim, chosen
 from store import LASTING, PASSING, TAKEN_AGAIN, answers, ask, ended, expect, line_of, opening, read, register, request, run_all, said
 from store import submit
-from sync import QUESTION, Kind, appends, each, registrations
+from sync import NAMES, QUESTION, Kind, appends, each, registrations
 
 NO_JOURNAL = "the file is no journal"
 BUSY = "another process has the file open"
@@ -419,8 +419,9 @@ def counted(program, words, text, name, folder, **numbers):
 
 
 def syncs(program, folder):
-    """Each sync fails, once or from then on: 503 until a restart, and told so; what was answered is kept."""
+    """A command is synced twice. Each sync fails, once or from then on: 503 until a restart, told so; what was answered is kept."""
     count, _ = counted(program, WORDS, registrations(), "syncs", folder)
+    expect(count >= 2 * len(NAMES), f"{count} syncs in {len(NAMES)} commands")
 
     def fail(number, room):
         once = number <= count
