@@ -443,11 +443,13 @@ def words_of(path, **changes):
 
 def refused_addresses(program, folder):
     """An address that is not loopback, or none, or taken: status 7, and a line that says why."""
+    elsewhere = ("0.0.0.0:0", "[::]:0", "192.0.2.1:8080")
     with serving(program, os.path.join(folder, "other")) as server:
-        for listen in ("0.0.0.0:0", "[::]:0", "192.0.2.1:8080", "127.0.0.1", "127.0.0.1:x", f"127.0.0.1:{server.port}"):
+        for listen in (*elsewhere, "127.0.0.1", "127.0.0.1:x", f"127.0.0.1:{server.port}"):
             out, status, err = program.run(words_of(os.path.join(folder, "store"), listen=listen))
             expect((out, status) == (b"", 7), f"{listen}: {out} {status}")
             expect(err.startswith(b"confd: ") and err.count(b"\n") == 1, f"{listen}: {err}")
+            expect((b"not a loopback address" in err) == (listen in elsewhere), f"{listen}: {err}")
     out, status, err = program.run(words_of(os.path.join(folder, "no", "such", "folder")))
     expect((out, status) == (b"", 6) and b"listening" not in err, f"{out} {status} {err}")
 
