@@ -165,10 +165,10 @@ impl<T: Stands> HistoryLock<T> {
     /// Waits until it is this pass's turn, calls the act on the value, and gives what the act answers.
     ///
     /// The act is lent a value `x` that stands for a history which begins with what the pass had seen, and leaves a
-    /// value `y`. It may only append to the list, may not lower the count of faults, and leaves the root as it was. What
-    /// it promises of `x`, `y` and its answer holds. The pass has then seen what `y` stands for, and its turns are longer
-    /// by one: the length of the history at `x`, what was added, by how much the count of faults rose, and the mark, set
-    /// exactly where it rose or stands at its last value. Beside what the act takes it takes no memory.
+    /// value `y`. It may only append to the list, may not lower the count of faults, and leaves the root as it was.
+    /// What it promises of `x`, `y` and its answer holds. The pass has then seen what `y` stands for, and its turns
+    /// are longer by one: the length of the history at `x`, what was added, by how much the count of faults rose, and
+    /// the mark, set exactly where it rose or stands at its last value. Beside what the act takes it takes no memory.
     ///
     /// A pass makes fewer than 2^40 turns, so all passes together draw fewer tickets than a word can count.
     ///
