@@ -305,7 +305,7 @@ uninvite_checks by paper target invited =
     ∷ target_is (λ (user : Target). user.reviewer) target breaks rules.StillAssigned
     ∷ []
 
--- ---- reviews, comments and tags: the caller's standing at the paper, and the paper
+-- ---- reviews, responses, comments and tags: the caller's standing at the paper, and the paper
 
 -- review: and whether it is too late
 abbrev pub review_checks : Standing → NamedPaper → Bool → List Check

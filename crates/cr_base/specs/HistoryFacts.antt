@@ -168,7 +168,7 @@ is_written p o H = not (is_nothing (forms_of p o H))
 abbrev pub own_forms_of : Option ℕ → ℕ → History → List FormTold
 own_forms_of u p H = all_told_by (own_form_told u p) H
 
--- ---- comments and tags
+-- ---- comments, responses and tags
 
 -- the comments on the paper, in the order in which they were written, which is that of their numbers
 abbrev pub comments_of : ℕ → History → List CommentTold

@@ -1,5 +1,5 @@
--- The stage of the conference: what an entry makes of its phase (CoCon's phases), its mode (the HotCRP manual's
--- anonymity) and its deadlines.
+-- The stage of the conference: what an entry makes of its phase (CoCon's phases), of whether the response was opened,
+-- of its mode (the HotCRP manual's anonymity) and of its deadlines.
 use Rattle.std.specs.Prelude.{ℕ, Bool, false, ◌||◌}
 use Rattle.cr_base.specs.declared.deadline.Deadlines.{Deadlines}
 use Rattle.cr_base.specs.declared.words.Phase.{Phase}

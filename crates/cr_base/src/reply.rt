@@ -42,8 +42,8 @@ pub enum Rule {
     /// conflict with it or takes that back, an external of the paper.
     NotAMember,
     /// The caller is no member of the committee, and bids, declares a conflict of her own, comments, tags, or asks for
-    /// comments; or she is no author of the paper either, and asks for its response; or no external of it, and reviews
-    /// it; or neither, and asks for its reviews, or for its page or its content where it isn't accepted or published.
+    /// comments or a report; or nor an author of the paper, and asks for its response; or nor an external of it, and
+    /// reviews it; or none of all these, and asks for its reviews, or for its page or content, unless all may read it.
     NotMember,
     /// The caller is in conflict with the paper.
     Conflict,

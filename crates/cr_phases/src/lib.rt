@@ -1,4 +1,4 @@
-//! The stage of the conference: which phase it is in, in which mode, and until when what each phase opens may be done.
+//! The stage of the conference: its phase and mode, whether the response was opened, and each phase's deadline.
 #![tactic(auto)]
 
 mod stage;

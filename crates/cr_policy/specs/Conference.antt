@@ -1,6 +1,6 @@
--- A small conference, from its first registration to its close: nine users, three papers, and every kind of entry. In
--- its twin alice assigns another member to paper 1. What the committee says that no author reads is whatever it is,
--- and its chairs may decide otherwise than they do.
+-- A small conference, from its first registration to its close: nine users, three papers, and every kind of entry but
+-- a response. In its twin alice assigns another member to paper 1. What the committee says that no author reads is
+-- whatever it is, and its chairs may decide otherwise than they do.
 use Rattle.std.specs.Prelude.{ℕ, ◌≡◌, ◌+◌, true, false, List, [], ◌∷◌, ◌++◌, length}
 use Rattle.std.specs.Prelude.{Option, Some, None, codes, ◌==◌, if◌then◌else◌, IsTrue}
 use Rattle.cr_base.specs.declared.entry.Entry.{Entry}

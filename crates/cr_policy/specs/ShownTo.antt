@@ -57,12 +57,12 @@ abbrev pub is_past_discussion : Phase → Bool
 is_past_discussion Notification = true
 is_past_discussion phase = is_over phase
 
--- it is the discussion, or later: all reviewing is behind
+-- it is the discussion, or later: the reviewing is behind, and forms may still be written
 abbrev pub is_past_reviewing : Phase → Bool
 is_past_reviewing Discussion = true
 is_past_reviewing phase = is_past_discussion phase
 
--- authors respond, or could have: it is the response, or later
+-- it is the response, or later, where it was opened or left out
 abbrev pub is_past_writing : Phase → Bool
 is_past_writing Response = true
 is_past_writing phase = is_past_reviewing phase

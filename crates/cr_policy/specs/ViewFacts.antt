@@ -372,7 +372,7 @@ seats_in_view p V = flat_map (assigned_seen p) V
 abbrev pub reviewers_in_view : ℕ → View → List SeatTold
 reviewers_in_view p V = seats_left (flat_map (unassigned_seen p) V) (seats_in_view p V)
 
--- ---- reviews, comments and tags
+-- ---- reviews, responses, comments and tags
 
 -- FormsOf: of each label's forms that are shown the last, which the paper's authors read in the end; the last before
 -- the response, where it was opened, which they read before the end; the last before the discussion and all later ones,

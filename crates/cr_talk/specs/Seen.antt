@@ -1,4 +1,4 @@
--- What contracts see of the table of comments.
+-- What contracts see of the table of comments and responses.
 use Rattle.cr_base.specs.Talk.{TalkState}
 use Rattle.cr_talk.specs.Room.{TalkRooms}
 
