@@ -15,13 +15,13 @@ use Rattle.cr_lock.specs.declared.pass_state.PassState.{PassState}
 use Rattle.cr_lock.specs.Counts.{last_count, within, total}
 use Rattle.cr_lock.specs.Turns.{groups_with, marks}
 use Rattle.cr_lock.specs.PassStates.{first_state, spent_state}
-use Rattle.cr_lock.specs.Rule.{holds_ticket, has_value, FitsActivity, FitsLock, Risen, Home, Away, OneHistory}
+use Rattle.cr_lock.specs.Rule.{holds_ticket, has_value, FitsActivity, FitsLock, IsOutside, LeftHome, Risen, Home, Away, OneHistory}
 use Rattle.cr_lock.specs.Steps.{Drew}
 use Rattle.cr_lock.proofs.Prefixes.{prefix_self, prefix_trans}
-use Rattle.cr_lock.proofs.Sums.{total_set, within_join, within_out}
+use Rattle.cr_lock.proofs.Sums.{total_set, total_two, within_join, within_out}
 
 -- what a pass knows stays so where the history goes on, unless it has the value
-fits_activity : {E Root : Type 0} (start : ℕ) (log more : List E) (serving next : ℕ) (risen risen' : ℕ → Root → Type 0) (v : PassState E Root) (activity : Activity E Root)
+fits_activity : {T E Root : Type 0} (start : ℕ) (log more : List E) (serving next : ℕ) (risen risen' : ℕ → Root → Type 0) (v : PassState T E Root) (activity : Activity E Root)
     → IsPrefix log more
     → ((t n : ℕ) (origin : Root) → activity ≡ Holding t n origin → (t ≡ serving) × (v.seen ≡ log) × risen n origin
     → (t ≡ next) × (v.seen ≡ more) × risen' n origin)
@@ -31,7 +31,7 @@ fits_activity start log more serving next risen risen' v (Waiting u) p on f = tt
 fits_activity start log more serving next risen risen' v (Holding u n origin) p on f = on u n origin refl f
 fits_activity start log more serving next risen risen' v (Joined a b m o) p on f = (prefix_trans a log more f.0 p, prefix_trans b log more f.1 p, f.2)
 
-pub fits_on : {E Root : Type 0} (start : ℕ) (log more : List E) (serving next : ℕ) (risen risen' : ℕ → Root → Type 0) (v : PassState E Root) → IsPrefix log more
+pub fits_on : {T E Root : Type 0} (start : ℕ) (log more : List E) (serving next : ℕ) (risen risen' : ℕ → Root → Type 0) (v : PassState T E Root) → IsPrefix log more
     → ((t n : ℕ) (origin : Root) → v.activity ≡ Holding t n origin → (t ≡ serving) × (v.seen ≡ log) × risen n origin
     → (t ≡ next) × (v.seen ≡ more) × risen' n origin)
     → FitsLock start log serving risen v → FitsLock start more next risen' v
@@ -45,7 +45,7 @@ fits_on start log more serving next risen risen' v p on f = record {
 }
 
 -- the turns of few passes are few
-products : {E Root : Type 0} (most : ℕ) (vs : List (PassState E Root)) → ((j : ℕ) (u : PassState E Root) → get_elem? vs j ≡ some u → u.turns ≤ most)
+products : {T E Root : Type 0} (most : ℕ) (vs : List (PassState T E Root)) → ((j : ℕ) (u : PassState T E Root) → get_elem? vs j ≡ some u → u.turns ≤ most)
     → total (λ u. u.share * u.turns) vs ≤ total (λ u. u.share) vs * most
 products most [] few = omega arith
 products most (u ∷ us) few =
@@ -56,7 +56,7 @@ products most (u ∷ us) few =
 
 module _ {T E Root : Type 0} (list : T → List E) (faults : T → ℕ) (root : T → Root) (first : T) where
   abbrev V : Type 0
-  V = PassState E Root
+  V = PassState T E Root
 
   abbrev St : Type 0
   St = State (Option T) V
@@ -109,6 +109,13 @@ module _ {T E Root : Type 0} (list : T → List E) (faults : T → ℕ) (root : 
       let q = r.drawn in let h = r.shares in
       let e : total (λ (u : V). u.share) s.views * 1099511627776 ≡ 64 * 1099511627776 = ap (λ (k : ℕ). k * 1099511627776) h in omega arith
 
+  -- where one pass has a share, no other has the whole
+  pub not_alone : (s : St) (r : Rule s) (id : ℕ) (v : V) → get_elem? s.views id ≡ some v → 0 < v.share
+      → (j : ℕ) (u : V) → j ≢ id → get_elem? s.views j ≡ some u → u.share ≡ 64 → ⊥
+  not_alone s r id v at some_share j u ne a whole =
+      let two : u.share + v.share ≤ total (λ (z : V). z.share) s.views = total_two (λ (z : V). z.share) s.views j id u v ne a at in
+      let all = r.shares in omega arith
+
   -- one state changes, and the rule is kept
   pub change : (s : St) (r : Rule s) (id : ℕ) (v w : V) → get_elem? s.views id ≡ some v
       → (log : List E) (ticket serving : ℕ) (ws : List ℕ) (homes : List (mathlib.Core.Option.Option (Option T)))
@@ -122,10 +129,11 @@ module _ {T E Root : Type 0} (list : T → List E) (faults : T → ℕ) (root : 
       → FitsLock start log serving (Rose (set s.views id w)) w
       → ((j : ℕ) (u : V) → j ≢ id → get_elem? s.views j ≡ some u → (t n : ℕ) (origin : Root) → u.activity ≡ Holding t n origin
       → (t ≡ r.serving) × (u.seen ≡ r.log) × Rose s.views n origin → (t ≡ serving) × (u.seen ≡ log) × Rose (set s.views id w) n origin)
+      → 0 < v.share → LeftHome homes w
       → Home list faults root first log record { words = ws; homes = homes; views = set s.views id w }
       ⊎ Away list faults root first record { words = ws; homes = homes; views = set s.views id w }
       → Rule record { words = ws; homes = homes; views = set s.views id w }
-  change s r id v w at log ticket serving ws homes words order grows tick share drawn grp fits others value = record {
+  change s r id v w at log ticket serving ws homes words order grows tick share drawn grp fits others some_share left value = record {
     log = log;
     ticket = ticket;
     serving = serving;
@@ -144,11 +152,13 @@ module _ {T E Root : Type 0} (list : T → List E) (faults : T → ℕ) (root : 
         + groups_with k w.mine = total_set (λ (u : V). groups_with k u.mine) s.views id v w at in omega arith);
     each = each_set (FitsLock start r.log r.serving (Rose s.views)) (FitsLock start log serving (Rose (set s.views id w))) s.views id w fits
         (λ j u ne e f. fits_on start r.log log r.serving serving (Rose s.views) (Rose (set s.views id w)) u grows (others j u ne e) f) r.each;
+    lone = each_set (LeftHome s.homes) (LeftHome homes) s.views id w left
+        (λ j u ne e f whole. absurd (not_alone s r id v at some_share j u ne e whole)) r.lone;
     value = value;
   }
 
-  opens_each : (j : ℕ) (u : V) → get_elem? (first_state (list first) ∷ []) j ≡ some u → FitsLock start (list first) 0 (Rose (first_state (list first) ∷ [])) u
-  opens_each zero u e = subst (FitsLock start (list first) 0 (Rose (first_state (list first) ∷ []))) (some-injective (first_state (list first)) u e) (record {
+  opens_each : (j : ℕ) (u : V) → get_elem? (first_state first (list first) ∷ []) j ≡ some u → FitsLock start (list first) 0 (Rose (first_state first (list first) ∷ [])) u
+  opens_each zero u e = subst (FitsLock start (list first) 0 (Rose (first_state first (list first) ∷ []))) (some-injective (first_state first (list first)) u e) (record {
     seen = prefix_self (list first);
     few = omega arith;
     stand = tt;
@@ -158,7 +168,11 @@ module _ {T E Root : Type 0} (list : T → List E) (faults : T → ℕ) (root : 
   })
   opens_each (suc j) u e = absurd (some-ne-none u (sym e))
 
-  pub opens : (ws : List ℕ) → ws ≡ 0 ∷ 0 ∷ length (list first) ∷ [] → Rule (opening ws (Some first ∷ []) (first_state (list first)))
+  opens_lone : (j : ℕ) (u : V) → get_elem? (first_state first (list first) ∷ []) j ≡ some u → LeftHome (some (Some first) ∷ []) u
+  opens_lone zero u e = subst (LeftHome (some (Some first) ∷ [])) (some-injective (first_state first (list first)) u e) (λ whole outside. refl)
+  opens_lone (suc j) u e = absurd (some-ne-none u (sym e))
+
+  pub opens : (ws : List ℕ) → ws ≡ 0 ∷ 0 ∷ length (list first) ∷ [] → Rule (opening ws (Some first ∷ []) (first_state first (list first)))
   opens ws e = record {
     log = list first;
     ticket = 0;
@@ -171,6 +185,7 @@ module _ {T E Root : Type 0} (list : T → List E) (faults : T → ℕ) (root : 
     drawn = omega arith;
     groups = λ k. sym (within_out start start k (dite (dec_le start k) (λ a. inl a) (λ a. inr (omega arith))));
     each = opens_each;
+    lone = opens_lone;
     value = inl (first, refl, refl, record { count = omega arith; marks = inl (omega arith); stays = refl }, refl);
   }
 
@@ -220,6 +235,8 @@ module _ {T E Root : Type 0} (list : T → List E) (faults : T → ℕ) (root : 
             (λ (a : v ≡ spent_state). absurd (let z : v.share ≡ 0 = ap (λ (u : V). u.share) a in omega arith)) f.alive;
       })
       (λ j u ne e t n origin is' g. (g.0, g.1, risen_same s.views (set s.views id w) n origin same g.2))
+      some_share
+      (λ whole outside. r.lone id v at whole (subst IsOutside (sym idle) tt))
       (value_same r.log s (set s.words 0 ((m + 1) % 2 ^ 64)) (set s.views id w) same' same r.value)
 
   pub draws : (slots id : ℕ) (v : V) (cs : List (ℕ × Option T)) → v.activity ≡ Idle → 0 < v.share → v.turns < 1099511627776

@@ -1,5 +1,5 @@
 -- Splits, joins and the end keep the rule.
-use Rattle.std.proofs.Common.{◌≡◌, ◌≢◌, ◌⊎◌, inl, inr, ⊎_elim, ℕ, ◌+◌, ◌-◌, ◌*◌, ◌/◌, ◌<◌, ◌≤◌, Bool, true, false, nat_lt, if◌then◌else◌, Option, Some, List}
+use Rattle.std.proofs.Common.{◌≡◌, ◌≢◌, ◌⊎◌, inl, inr, ⊎_elim, ℕ, ◌+◌, ◌-◌, ◌*◌, ◌/◌, ◌<◌, ◌≤◌, Bool, true, false, nat_lt, if◌then◌else◌, Option, Some, None, List}
 use Rattle.std.proofs.Common.{[], ◌∷◌, ◌++◌, length, get_or, set, max, refl, ap, sym, ◌∙◌, subst, arith, add-mul, mul-le-mul_left, length-append}
 use Rattle.std.proofs.lemmas.Bool.Decides.{nat_tests}
 use mathlib.Core.Logic.{dite}
@@ -20,14 +20,15 @@ use Rattle.cr_lock.specs.Turns.{InOrder, end_of, groups_with, marks, rises, Stan
 use Rattle.cr_lock.specs.PassStates.{left_half, right_half, joining, spent_state}
 use Rattle.cr_lock.specs.Passes.{Known}
 use Rattle.cr_lock.specs.Closing.{Closes}
-use Rattle.cr_lock.specs.Rule.{holds_ticket, has_value, FitsActivity, FitsLock, Home, Away}
+use Rattle.cr_lock.specs.Rule.{holds_ticket, has_value, FitsActivity, FitsLock, IsOutside, LeftHome, Home, Away}
 use Rattle.cr_lock.specs.Steps.{LookedAfterJoin}
 use Rattle.cr_lock.proofs.Prefixes.{prefix_self, prefix_shorter, prefix_length, prefix_either, prefix_whole, prefix_drop, every_longer}
 use Rattle.cr_lock.proofs.Order.{follows, merged_in_order}
 use Rattle.cr_lock.proofs.Sums.{total_append, total_set, total_at, total_two, total_only, total_merged, every_merged, within_one, within_in, within_is}
-use Rattle.cr_lock.proofs.Changes.{Rule, Rose, WeighAlike, change, alike_set, risen_same, value_same, fits_on}
+use Rattle.cr_lock.proofs.Changes.{Rule, Rose, WeighAlike, change, alike_set, not_alone, risen_same, value_same, fits_on}
+use Rattle.cr_lock.proofs.Turns.{same_home}
 
-unmoved_risen : {E Root : Type 0} (P Q : ℕ → Root → Type 0) (serving : ℕ) (v : PassState E Root) (log : List E)
+unmoved_risen : {T E Root : Type 0} (P Q : ℕ → Root → Type 0) (serving : ℕ) (v : PassState T E Root) (log : List E)
     → ((n : ℕ) (origin : Root) → P n origin → Q n origin) → (t n : ℕ) (origin : Root) → v.activity ≡ Holding t n origin
     → (t ≡ serving) × (v.seen ≡ log) × P n origin → (t ≡ serving) × (v.seen ≡ log) × Q n origin
 unmoved_risen P Q serving v log on t n origin is g = (g.0, g.1, on n origin g.2)
@@ -62,7 +63,7 @@ longer_of xs ys zs p q = longer_is xs ys zs (nat_lt (length xs) (length ys)) (λ
 
 module _ {T E Root : Type 0} (list : T → List E) (faults : T → ℕ) (root : T → Root) (first : T) where
   abbrev V : Type 0
-  V = PassState E Root
+  V = PassState T E Root
 
   abbrev St : Type 0
   St = State (Option T) V
@@ -127,6 +128,13 @@ module _ {T E Root : Type 0} (list : T → List E) (faults : T → ℕ) (root : 
             (at_set s.views id j l u a))
             (λ (a : o ≡ u). subst (FitsLock start r.log r.serving (Up vs')) a (fits_idle o idle refl refl tt tt (omega arith)))
             (at_snoc (set s.views id l) o u j e);
+        lone = λ j u e. ⊎_elim
+            (λ (a : get_elem? (set s.views id l) j ≡ some u). ⊎_elim
+            (λ (b : (j ≡ id) × (l ≡ u)). subst (LeftHome s.homes) b.1 (λ whole outside. tt))
+            (λ (b : (j ≢ id) × (get_elem? s.views j ≡ some u)) whole. absurd (not_alone list faults root first s r id v at (omega arith) j u b.0 b.1 whole))
+            (at_set s.views id j l u a))
+            (λ (a : o ≡ u). subst (LeftHome s.homes) a (λ whole outside. tt))
+            (at_snoc (set s.views id l) o u j e);
         value = value_same list faults root first r.log s s.words vs' holders same r.value;
       }
 
@@ -138,7 +146,7 @@ module _ {T E Root : Type 0} (list : T → List E) (faults : T → ℕ) (root : 
       total_set F (set vs id b) other w spent_state at' in
       let q : total F (set vs id b) + F v ≡ total F vs + F b = total_set F vs id v b at in omega arith
 
-  spent_fits : (log : List E) (serving : ℕ) (risen : ℕ → Root → Type 0) → FitsLock start log serving risen spent_state
+  spent_fits : (log : List E) (serving : ℕ) (risen : ℕ → Root → Type 0) → FitsLock {T = T} start log serving risen spent_state
   spent_fits log serving risen = record { seen = (log, refl); few = omega arith; stand = tt; sorted = tt; activity = tt; alive = inr refl }
 
   -- a list in which each group stands and that has what was there at first, where each later entry is in a group, has all entries
@@ -208,14 +216,23 @@ module _ {T E Root : Type 0} (list : T → List E) (faults : T → ℕ) (root : 
             (unmoved_risen (Up s.views) (Up vs') r.serving u r.log (λ n origin. risen_same list faults root first s.views vs' n origin same)) (r.each j u c.1))
             (at_set s.views id j b u a.1))
             (at_set (set s.views id b) other j spent_state u e);
+        lone = λ j u e. ⊎_elim
+            (λ (a : (j ≡ other) × (spent_state ≡ u)). subst (LeftHome s.homes) a.1 (λ whole outside. tt))
+            (λ (a : (j ≢ other) × (get_elem? (set s.views id b) j ≡ some u)). ⊎_elim
+            (λ (c : (j ≡ id) × (b ≡ u)). subst (LeftHome s.homes) c.1 (λ whole outside. tt))
+            (λ (c : (j ≢ id) × (get_elem? s.views j ≡ some u)) whole. absurd (not_alone list faults root first s r id v at some_share j u c.0 c.1 whole))
+            (at_set s.views id j b u a.1))
+            (at_set (set s.views id b) other j spent_state u e);
         value = value_same list faults root first r.log s s.words vs' holders same r.value;
       }
 
   settle_keeps : (s : St) (r : R s) (id : ℕ) (v : V) (a b : List E) (m o : List (Turn E)) → get_elem? s.views id ≡ some v → v.activity ≡ Joined a b m o
-      → R record { words = set s.words 1 (get_or s.words 1 0); homes = s.homes; views = set s.views id (record v { activity = Idle }) }
+      → R record { words = set s.words 1 (get_or s.words 1 0); homes = s.homes; views = set s.views id (record v { left = None; activity = Idle }) }
   settle_keeps s r id v a b m o at is =
-      let w : V = record v { activity = Idle } in
+      let w : V = record v { left = None; activity = Idle } in
       let f = r.each id v at in
+      let alive = ⊎_elim (λ (h : (0 < v.share) × (start ≤ length v.seen)). h)
+      (λ (h : v ≡ spent_state). absurd (let e : v.activity ≡ Idle = ap (λ (u : V). u.activity) h in cc (e, is))) f.alive in
       let vs' = set s.views id w in
       let no : has_value v.activity ≡ 0 = ap has_value is in
       let same = alike_set list faults root first s.views id v w at refl in
@@ -236,11 +253,12 @@ module _ {T E Root : Type 0} (list : T → List E) (faults : T → ℕ) (root : 
         stand = f.stand;
         sorted = f.sorted;
         activity = tt;
-        alive = inl (⊎_elim (λ (h : (0 < v.share) × (start ≤ length v.seen)). h)
-            (λ (h : v ≡ spent_state). absurd (let e : v.activity ≡ Idle = ap (λ (u : V). u.activity) h in cc (e, is))) f.alive);
+        alive = inl alive;
       })
       (λ j u ne e t n origin is' g. unmoved_risen (Up s.views) (Up vs') r.serving u r.log
       (λ k o. risen_same list faults root first s.views vs' k o same) t n origin is' g)
+      alive.0
+      (λ whole outside. tt)
       (value_same list faults root first r.log s (set s.words 1 (get_or s.words 1 0)) vs' holders same r.value)
 
   same_four : (a b : List E) (m o : List (Turn E)) (a' b' : List E) (m' o' : List (Turn E)) {activity : Activity E Root} → activity ≡ Joined a b m o
@@ -256,7 +274,7 @@ module _ {T E Root : Type 0} (list : T → List E) (faults : T → ℕ) (root : 
       let g : FitsActivity start r.log r.serving (Up s.views) v (Joined a b m o) = subst (FitsActivity start r.log r.serving (Up s.views) v) is f.activity in
       let share : v.share ≤ total (λ (u : V). u.share) s.views = total_at (λ (u : V). u.share) s.views id v at in
       let all = r.shares in (
-        record v { activity = Idle },
+        record v { left = None; activity = Idle },
         keeps,
         tt,
         settle_keeps s r id v a b m o at is,
@@ -275,8 +293,8 @@ module _ {T E Root : Type 0} (list : T → List E) (faults : T → ℕ) (root : 
       (λ i. (me.0, sym held i)) (settles_at slots id me.0 a b m o is)
 
   -- the end
-  abbrev known : TableId → V → Known E
-  known lock v = record { lock = lock; share = v.share; turns = v.turns; seen = v.seen; mine = v.mine }
+  abbrev known : TableId → V → Known T E
+  known lock v = record { lock = lock; share = v.share; turns = v.turns; seen = v.seen; mine = v.mine; left = v.left }
 
   pub ends : (lock : TableId) (id : ℕ) (v : V) (ws : List ℕ) (xs : List (Option T)) → v.activity ≡ Idle → v.share ≡ 64 → Final (Seen R id v) ws xs
       → (x : T) × (get_elem? xs 0 ≡ some (Some x)) × Closes list faults root first (known lock v) x
@@ -309,6 +327,7 @@ module _ {T E Root : Type 0} (list : T → List E) (faults : T → ℕ) (root : 
           marks = ⊎_elim (λ (a : faults first + total (λ (u : V). marks u.mine) s.views ≤ faults x). inl (omega arith))
               (λ (a : last_count ≤ faults x). inr a) home.3.marks;
           root = home.3.stays;
+          left = same_home v.left x s.homes home.1 (r.lone id v at whole (subst IsOutside (sym idle) tt));
           count = home.3.count ∙ ap (λ (k : ℕ). faults first + k) (only (λ (u : V). rises u.mine) refl);
         },
       )

@@ -1,10 +1,10 @@
 -- The steps of a turn keep the rule.
-use Rattle.std.proofs.Common.{◌≡◌, ◌≢◌, ◌⊎◌, inl, inr, ⊎_elim, ℕ, ◌+◌, ◌-◌, ◌%◌, ◌^◌, ◌<◌, ◌≤◌, if◌then◌else◌, Option, Some, None, List, [], ◌∷◌, ◌++◌}
+use Rattle.std.proofs.Common.{◌≡◌, ◌≢◌, ◌⊎◌, inl, inr, ⊎_elim, ℕ, ◌+◌, ◌-◌, ◌%◌, ◌^◌, ◌<◌, ◌≤◌, if◌then◌else◌, Option, Some, None, IfSome, List, [], ◌∷◌, ◌++◌}
 use Rattle.std.proofs.Common.{length, get_or, set, drop, refl, ap, sym, ◌∙◌, subst, arith, mod-eq_of_lt, append-nil, length-drop}
 use Rattle.std.proofs.lemmas.Bool.Decides.{nat_tests}
 use mathlib.Core.Logic.{dite}
 use mathlib.Core.List.{IsPrefix}
-use mathlib.Core.Option.{some, none}
+use mathlib.Core.Option.{some, none, some-injective}
 use native.Mathlib.Decide.{ℕ_discrete, dec_le}
 use lib.ListN.{get_elem?}
 use lib.Seq.{set-get_or}
@@ -17,19 +17,32 @@ use Rattle.cr_lock.specs.declared.pass_state.PassState.{PassState}
 use Rattle.cr_lock.specs.Counts.{last_count, has_risen, within, total, Every}
 use Rattle.cr_lock.specs.Turns.{turn_at, end_of, groups_with, marks, rises, StandsIn}
 use Rattle.cr_lock.specs.PassStates.{spent_state}
-use Rattle.cr_lock.specs.Rule.{holds_ticket, has_value, FitsActivity, FitsLock, Home, Away}
+use Rattle.cr_lock.specs.Rule.{holds_ticket, has_value, FitsActivity, FitsLock, IsOutside, Home, Away}
 use Rattle.cr_lock.specs.Steps.{Looked, Noted, noted_at, WentOn}
 use Rattle.cr_lock.proofs.Prefixes.{prefix_self, prefix_length, prefix_drop, every_longer, every_snoc}
 use Rattle.cr_lock.proofs.Order.{snoc_in_order, places_below}
 use Rattle.cr_lock.proofs.Sums.{total_append, total_set, total_at, total_two, total_gap, within_join, within_one, within_in, within_is}
 use Rattle.cr_lock.proofs.Changes.{Rule, Rose, has, change, alike_set, risen_same, ticket_small}
 
--- a turn on a value that stood for the list xs and stands for ys
-abbrev pub after_turn : {E Root : Type 0} → PassState E Root → List E → List E → ℕ → ℕ → PassState E Root
-after_turn v xs ys m n = record v { turns = v.turns + 1; seen = ys; mine = v.mine ++ turn_at (length xs) (drop (length xs) ys) m n ∷ [] }
+-- a turn that left the value y, which stood for the list xs and stands for ys
+abbrev pub after_turn : {T E Root : Type 0} → PassState T E Root → T → List E → List E → ℕ → ℕ → PassState T E Root
+after_turn v y xs ys m n = record v {
+  turns = v.turns + 1;
+  seen = ys;
+  mine = v.mine ++ turn_at (length xs) (drop (length xs) ys) m n ∷ [];
+  left = Some y;
+}
+
+-- what is at home is one value
+pub same_home : {T : Type 0} (left : Option T) (x : T) (homes : List (mathlib.Core.Option.Option (Option T))) → homes ≡ some (Some x) ∷ []
+    → IfSome left (λ value. homes ≡ some (Some value) ∷ []) → IfSome left (λ value. x ≡ value)
+same_home None x homes is left = tt
+same_home (Some y) x homes is left =
+    let heads : some (Some x) ≡ some (Some y) = cc (is, left) in
+    let values : Some x ≡ Some y = some-injective (Some x) (Some y) heads in cc (values)
 
 -- a pass that has the value holds the ticket that is served
-has_at_most : {E Root : Type 0} (start : ℕ) (log : List E) (serving : ℕ) (risen : ℕ → Root → Type 0) (v : PassState E Root) (activity : Activity E Root)
+has_at_most : {T E Root : Type 0} (start : ℕ) (log : List E) (serving : ℕ) (risen : ℕ → Root → Type 0) (v : PassState T E Root) (activity : Activity E Root)
     → FitsActivity start log serving risen v activity → has_value activity ≤ holds_ticket serving activity
 has_at_most start log serving risen v Idle f = omega arith
 has_at_most start log serving risen v (Waiting u) f = omega arith
@@ -37,7 +50,7 @@ has_at_most start log serving risen v (Holding u n origin) f = let e : within u 
     (let z = f.0 in within_in u (u + 1) serving (omega arith) (omega arith)) in omega arith
 has_at_most start log serving risen v (Joined a b m o) f = omega arith
 
-served : {E Root : Type 0} (start : ℕ) (log : List E) (serving : ℕ) (risen : ℕ → Root → Type 0) (v : PassState E Root) (t n : ℕ) (origin : Root)
+served : {T E Root : Type 0} (start : ℕ) (log : List E) (serving : ℕ) (risen : ℕ → Root → Type 0) (v : PassState T E Root) (t n : ℕ) (origin : Root)
     → v.activity ≡ Holding t n origin → FitsLock start log serving risen v → (t ≡ serving) × (v.seen ≡ log) × risen n origin
 served start log serving risen v t n origin e f = subst (λ activity. FitsActivity start log serving risen v activity) e f.activity
 
@@ -48,7 +61,7 @@ marked_more a n c le h = ⊎_elim (λ (p : a ≤ n). dite (dec_le last_count c) 
 
 module _ {T E Root : Type 0} (list : T → List E) (faults : T → ℕ) (root : T → Root) (first : T) where
   abbrev V : Type 0
-  V = PassState E Root
+  V = PassState T E Root
 
   abbrev St : Type 0
   St = State (Option T) V
@@ -117,6 +130,8 @@ module _ {T E Root : Type 0} (list : T → List E) (faults : T → ℕ) (root : 
       (λ j u ne a k n origin is' g. absurd (let h : has_value u.activity ≡ 1 = ap has_value is' in
       let q : has_value u.activity ≤ total (λ (z : V). has_value z.activity) s.views = total_at (λ (z : V). has_value z.activity) s.views j u a in
       omega arith))
+      alive.0
+      (λ whole outside. absurd outside)
       (inr (ap (λ hs. set hs 0 none) home, one))
 
   look_finds : (s : St) (r : R s) (id : ℕ) (v : V) (t : ℕ) → get_elem? s.views id ≡ some v → v.activity ≡ Waiting t → t ≡ r.serving
@@ -147,6 +162,7 @@ module _ {T E Root : Type 0} (list : T → List E) (faults : T → ℕ) (root : 
           λ is. (
             x,
             subst (λ z. IsPrefix v.seen z) (sym h.2) f.seen,
+            λ whole. same_home v.left x s.homes h.1 (r.lone id v at whole (subst IsOutside (sym waits) tt)),
             ap (λ (k : ℕ). (record v { seen = list x; activity = Holding k (faults x) (root x) }, (0, Some x) ∷ [])) (yes_is t u waits e),
           ),
           λ no. absurd (no (yes ∙ yes_is t u waits e)),
@@ -247,6 +263,8 @@ module _ {T E Root : Type 0} (list : T → List E) (faults : T → ℕ) (root : 
         alive = inl (alive.0, (let a = alive.1 in omega arith));
       })
       (λ j u ne a i m o is g. absurd (no_other s id v t n origin at has out.1 j u ne a i m o is))
+      alive.0
+      (λ whole outside. absurd outside)
       (inr (out.0, one))
 
   notes_at : (slots id : ℕ) (v : V) (t n : ℕ) (origin : Root) (x : T) (k : ℕ) → v.activity ≡ Holding t n origin → IsPrefix v.seen (list x)
@@ -262,13 +280,13 @@ module _ {T E Root : Type 0} (list : T → List E) (faults : T → ℕ) (root : 
   )
 
   next_keeps : (s : St) (r : R s) (id : ℕ) (v : V) (t : ℕ) (x : T) → get_elem? s.views id ≡ some v → v.activity ≡ Holding t (faults x) (root x)
-      → list x ≡ v.seen
+      → list x ≡ v.seen → v.left ≡ Some x
       → R record {
         words = set s.words 1 ((get_or s.words 1 0 + 1) % 2 ^ 64);
         homes = set s.homes 0 (some (Some x));
         views = set s.views id (record v { activity = Idle });
       }
-  next_keeps s r id v t x at has stands =
+  next_keeps s r id v t x at has stands left =
       let w : V = record v { activity = Idle } in
       let f = r.each id v at in
       let mine = served start r.log r.serving (Up s.views) v t (faults x) (root x) has f in
@@ -309,6 +327,9 @@ module _ {T E Root : Type 0} (list : T → List E) (faults : T → ℕ) (root : 
         alive = inl (alive_share v (λ idle. absurd (cc (idle, has))) f.alive);
       })
       (λ j u ne a i m o is g. absurd (no_other s id v t (faults x) (root x) at has out.1 j u ne a i m o is))
+      (alive_share v (λ idle. absurd (cc (idle, has))) f.alive).0
+      (λ whole outside. subst (λ (o : Option T). IfSome o (λ value. set s.homes 0 (some (Some x)) ≡ some (Some value) ∷ [])) (sym left)
+      (ap (λ hs. set hs 0 (some (Some x))) out.0))
       (inl (
         x,
         ap (λ hs. set hs 0 (some (Some x))) out.0,
@@ -318,10 +339,10 @@ module _ {T E Root : Type 0} (list : T → List E) (faults : T → ℕ) (root : 
         nobody,
       ))
 
-  goes_on_at : (slots id : ℕ) (v : V) (t : ℕ) (x : T) → v.activity ≡ Holding t (faults x) (root x) → list x ≡ v.seen
+  goes_on_at : (slots id : ℕ) (v : V) (t : ℕ) (x : T) → v.activity ≡ Holding t (faults x) (root x) → list x ≡ v.seen → v.left ≡ Some x
       → Allows R slots id (v, (0, Some x) ∷ []) 1 (λ m. (m + 1) % 2 ^ 64) (WentOn (step slots 1 1 0 none) (v, (0, Some x) ∷ []))
-  goes_on_at slots id v t x has stands s r _ at _ =
-      (record v { activity = Idle }, gives, tt, next_keeps s r id v t x at has stands, (refl, (r.each id v at).stand))
+  goes_on_at slots id v t x has stands left s r _ at _ =
+      (record v { activity = Idle }, gives, tt, next_keeps s r id v t x at has stands left, (refl, (r.each id v at).stand))
 
   pub looks : (slots id : ℕ) (me : Me (Option T) V) (t : ℕ) → me.0.activity ≡ Waiting t → me.1 ≡ []
       → Allows R slots id me 1 (λ n. n) (Looked list faults root (step slots 1 0 0 none) me)
@@ -336,11 +357,11 @@ module _ {T E Root : Type 0} (list : T → List E) (faults : T → ℕ) (root : 
       (notes_at slots id me.0 t n origin x k has seen le kept len small)
 
   pub goes_on : (slots id : ℕ) (me : Me (Option T) V) (t : ℕ) (x : T) → me.0.activity ≡ Holding t (faults x) (root x) → me.1 ≡ (0, Some x) ∷ []
-      → list x ≡ me.0.seen
+      → list x ≡ me.0.seen → me.0.left ≡ Some x
       → Allows R slots id me 1 (λ m. (m + 1) % 2 ^ 64) (WentOn (step slots 1 1 0 none) me)
-  goes_on slots id me t x has held stands = subst
+  goes_on slots id me t x has held stands left = subst
       (λ (m : Me (Option T) V). Allows R slots id m 1 (λ m. (m + 1) % 2 ^ 64) (WentOn (step slots 1 1 0 none) m)) (λ i. (me.0, sym held i))
-      (goes_on_at slots id me.0 t x has stands)
+      (goes_on_at slots id me.0 t x has stands left)
 
   -- the pass with the value, as it has been given back to the slot
   pub put_back : (v w : V) (held : List (ℕ × Option T)) (me : Me (Option T) V) (y : T) → w ≡ v → held ≡ (0, None) ∷ [] → me ≡ (w, (0, Some y) ∷ rest held)
@@ -359,23 +380,23 @@ module _ {T E Root : Type 0} (list : T → List E) (faults : T → ℕ) (root : 
   pub noted_from : (me next : Me (Option T) V) (v : V) (t k slots found : ℕ) (x y : T)
       → me ≡ (record v { turns = v.turns + 1; seen = list x; activity = Holding t (faults x) (root x) }, (0, Some y) ∷ [])
       → Noted list faults root (step slots 2 k 0 none) me found next
-      → next ≡ (record (after_turn v (list x) (list y) (faults x) (faults y)) { activity = Holding t (faults y) (root y) }, (0, Some y) ∷ [])
+      → next ≡ (record (after_turn v y (list x) (list y) (faults x) (faults y)) { activity = Holding t (faults y) (root y) }, (0, Some y) ∷ [])
   noted_from me next v t k slots found x y is told = told t (faults x) (root x) y (ap (λ (m : Me (Option T) V). m.0.activity) is) (ap (λ (m : Me (Option T) V). m.1) is)
       ∙ ap (λ (m : Me (Option T) V). (noted_at list faults root t (faults x) m.0 y, m.1)) is
 
   pub goes_on_from : (slots id : ℕ) (me : Me (Option T) V) (v : V) (t : ℕ) (x y : T)
-      → me ≡ (record (after_turn v (list x) (list y) (faults x) (faults y)) { activity = Holding t (faults y) (root y) }, (0, Some y) ∷ [])
+      → me ≡ (record (after_turn v y (list x) (list y) (faults x) (faults y)) { activity = Holding t (faults y) (root y) }, (0, Some y) ∷ [])
       → Allows R slots id me 1 (λ m. (m + 1) % 2 ^ 64) (WentOn (step slots 1 1 0 none) me)
   goes_on_from slots id me v t x y is = goes_on slots id me t y (ap (λ (m : Me (Option T) V). m.0.activity) is)
-      (ap (λ (m : Me (Option T) V). m.1) is) (sym (ap (λ (m : Me (Option T) V). m.0.seen) is))
+      (ap (λ (m : Me (Option T) V). m.1) is) (sym (ap (λ (m : Me (Option T) V). m.0.seen) is)) (ap (λ (m : Me (Option T) V). m.0.left) is)
 
   -- after next the pass rests
   pub went_from : (me end : Me (Option T) V) (v : V) (t slots found : ℕ) (x y : T) → v.activity ≡ Idle
-      → me ≡ (record (after_turn v (list x) (list y) (faults x) (faults y)) { activity = Holding t (faults y) (root y) }, (0, Some y) ∷ [])
+      → me ≡ (record (after_turn v y (list x) (list y) (faults x) (faults y)) { activity = Holding t (faults y) (root y) }, (0, Some y) ∷ [])
       → WentOn (step slots 1 1 0 none) me found end
-      → (end ≡ (after_turn v (list x) (list y) (faults x) (faults y), [])) × Every (StandsIn end.0.seen) end.0.mine
+      → (end ≡ (after_turn v y (list x) (list y) (faults x) (faults y), [])) × Every (StandsIn end.0.seen) end.0.mine
   went_from me end v t slots found x y idle is told = (
     told.0 ∙ (ap (λ (m : Me (Option T) V). (record m.0 { activity = Idle }, [])) is
-        ∙ ap (λ (r : Activity E Root). (record (after_turn v (list x) (list y) (faults x) (faults y)) { activity = r }, [])) (sym idle)),
+        ∙ ap (λ (r : Activity E Root). (record (after_turn v y (list x) (list y) (faults x) (faults y)) { activity = r }, [])) (sym idle)),
     subst (λ (m : Me (Option T) V). Every (StandsIn m.0.seen) m.0.mine) (sym told.0) told.1,
   )

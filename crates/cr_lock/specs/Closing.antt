@@ -1,12 +1,12 @@
 -- What the value is when the lock is closed.
-use Rattle.std.specs.Prelude.{◌≡◌, ℕ, ◌+◌, ◌≤◌, ◌⊎◌, List, ◌++◌, length}
+use Rattle.std.specs.Prelude.{◌≡◌, ℕ, ◌+◌, ◌≤◌, ◌⊎◌, List, ◌++◌, length, IfSome}
 use mathlib.Core.List.{IsPrefix}
 use Rattle.cr_lock.specs.Counts.{last_count, within}
 use Rattle.cr_lock.specs.Turns.{groups_with, marks, rises, groups_of}
 use Rattle.cr_lock.specs.Passes.{Known, Stand}
 
 -- x is the value of a lock that was made with `first`, and p the one pass that is left
-module _ {T E Root : Type 0} (list : T → List E) (faults : T → ℕ) (root_of : T → Root) (first : T) (p : Known E) where
+module _ {T E Root : Type 0} (list : T → List E) (faults : T → ℕ) (root_of : T → Root) (first : T) (p : Known T E) where
   pub record Closes (x : T) : Type 0 where
     -- the value stands for what the pass has seen
     pub stands : list x ≡ p.seen
@@ -24,3 +24,5 @@ module _ {T E Root : Type 0} (list : T → List E) (faults : T → ℕ) (root_of
     pub marks : (faults first + marks p.mine ≤ faults x) ⊎ (last_count ≤ faults x)
     -- what it remembers of its beginning is what the first one did
     pub root : root_of x ≡ root_of first
+    -- it is as the pass left it, unless that was split or joined since
+    pub left : IfSome p.left (λ value. x ≡ value)

@@ -1,6 +1,6 @@
 -- The rule of the table, which is a ticket lock (Mellor-Crummey and Scott, 1991). Its words are the next ticket to be
 -- drawn, the ticket that is served and the length of the history. Its slot has the value.
-use Rattle.std.specs.Prelude.{◌≡◌, ℕ, ◌+◌, ◌*◌, ◌<◌, ◌≤◌, ◌⊎◌, List, [], ◌∷◌, length, Option, Some}
+use Rattle.std.specs.Prelude.{◌≡◌, ℕ, ◌+◌, ◌*◌, ◌<◌, ◌≤◌, ◌⊎◌, List, [], ◌∷◌, length, Option, Some, IfSome, ⊤}
 use mathlib.Core.Option.{some, none}
 use mathlib.Core.List.{IsPrefix}
 use lib.ListN.{get_elem?}
@@ -29,8 +29,8 @@ module _ {E Root : Type 0} where
 
 -- of a state v, where `log` is the history, of which `start` entries were there at first, `serving` the ticket that is
 -- served, and n may be the count of faults and `origin` the root where `risen n origin`
-module _ {E Root : Type 0} (start : ℕ) (log : List E) (serving : ℕ) (risen : ℕ → Root → Type 0)
-    (v : PassState E Root) where
+module _ {T E Root : Type 0} (start : ℕ) (log : List E) (serving : ℕ) (risen : ℕ → Root → Type 0)
+    (v : PassState T E Root) where
   -- what the pass is doing agrees with what the table has
   abbrev pub FitsActivity : Activity E Root → Type 0
   FitsActivity Idle = Unit {0}
@@ -52,9 +52,20 @@ module _ {E Root : Type 0} (start : ℕ) (log : List E) (serving : ℕ) (risen :
     -- it has a share and has seen what was there at first, or it was joined to another
     pub alive : ((0 < v.share) × (start ≤ length v.seen)) ⊎ (v ≡ spent_state)
 
+-- the pass rests, or waits for its turn
+abbrev pub IsOutside : {E Root : Type 0} → Activity E Root → Type 0
+IsOutside Idle = ⊤
+IsOutside (Waiting u) = ⊤
+IsOutside (Holding u n origin) = ⊥
+IsOutside (Joined a b m o) = ⊥
+
+-- the value that the pass left is at home, where it has the whole share and isn't at a turn
+abbrev pub LeftHome : {T E Root : Type 0} → List (mathlib.Core.Option.Option (Option T)) → PassState T E Root → Type 0
+LeftHome homes v = v.share ≡ 64 → IsOutside v.activity → IfSome v.left (λ value. homes ≡ some (Some value) ∷ [])
+
 module _ {T E Root : Type 0} (list : T → List E) (faults : T → ℕ) (root : T → Root) (first : T) where
   -- n may be the count of faults, and `origin` the root
-  pub record Risen (states : List (PassState E Root)) (n : ℕ) (origin : Root) : Type 0 where
+  pub record Risen (states : List (PassState T E Root)) (n : ℕ) (origin : Root) : Type 0 where
     -- it has risen since `first` by what it rose in the turns of all passes
     pub count : n ≡ faults first + total (λ v. rises v.mine) states
     -- so by no less than there are marks, unless it ends at its last value
@@ -63,17 +74,17 @@ module _ {T E Root : Type 0} (list : T → List E) (faults : T → ℕ) (root : 
     pub stays : origin ≡ root first
 
   -- the value is in the slot and stands for the history, and no pass has it
-  abbrev pub Home : List E → State (Option T) (PassState E Root) → Type 0
+  abbrev pub Home : List E → State (Option T) (PassState T E Root) → Type 0
   Home log s =
       (x : T) × (s.homes ≡ some (Some x) ∷ []) × (list x ≡ log) × Risen s.views (faults x) (root x)
       × (total (λ v. has_value v.activity) s.views ≡ 0)
 
   -- the value is not in the slot, and one pass has it
-  abbrev pub Away : State (Option T) (PassState E Root) → Type 0
+  abbrev pub Away : State (Option T) (PassState T E Root) → Type 0
   Away s = (s.homes ≡ none ∷ []) × (total (λ v. has_value v.activity) s.views ≡ 1)
 
   -- there is one history, of which each pass has seen a beginning and in which its turns stand
-  pub record OneHistory (s : State (Option T) (PassState E Root)) : Type 0 where
+  pub record OneHistory (s : State (Option T) (PassState T E Root)) : Type 0 where
     pub log : List E
     pub ticket : ℕ
     pub serving : ℕ
@@ -88,6 +99,8 @@ module _ {T E Root : Type 0} (list : T → List E) (faults : T → ℕ) (root : 
     pub drawn : ticket ≤ total (λ v. v.share * v.turns) s.views
     -- each entry behind what was there at first is in one group of one pass
     pub groups : (k : ℕ) → total (λ v. groups_with k v.mine) s.views ≡ within (length (list first)) (length log) k
-    pub each : (j : ℕ) (v : PassState E Root) → get_elem? s.views j ≡ some v
+    pub each : (j : ℕ) (v : PassState T E Root) → get_elem? s.views j ≡ some v
         → FitsLock (length (list first)) log serving (Risen s.views) v
+    -- what a pass left that has the whole share is at home
+    pub lone : (j : ℕ) (v : PassState T E Root) → get_elem? s.views j ≡ some v → LeftHome s.homes v
     pub value : Home log s ⊎ Away s

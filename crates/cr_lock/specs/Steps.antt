@@ -1,6 +1,6 @@
 -- What each kind of step tells the pass that makes it: of what it knew before and the number that
 -- it found, what it knows after.
-use Rattle.std.specs.Prelude.{◌≡◌, ◌≢◌, ℕ, ◌+◌, ◌<◌, ◌≤◌, List, [], ◌∷◌, ◌++◌, length, drop, Option, Some}
+use Rattle.std.specs.Prelude.{◌≡◌, ◌≢◌, ℕ, ◌+◌, ◌<◌, ◌≤◌, List, [], ◌∷◌, ◌++◌, length, drop, Option, Some, None, IfSome}
 use mathlib.Core.List.{IsPrefix}
 use Rattle.atomic_table.specs.Table.{Me, Step}
 use Rattle.atomic_table.specs.declared.shared.Seat.{Seat}
@@ -12,17 +12,17 @@ use Rattle.cr_lock.specs.Turns.{turn_at, StandsIn, InCommon}
 
 -- a state, and the slots that are out with it
 abbrev pub Holder : Type 0 → Type 0 → Type 0 → Type 0
-Holder T E Root = Me (Option T) (PassState E Root)
+Holder T E Root = Me (Option T) (PassState T E Root)
 
 module _ {T E Root : Type 0} where
   -- between turns, with this share and count of turns
-  abbrev pub Rests : Seat (Option T) (PassState E Root) → ℕ → ℕ → Type 0
+  abbrev pub Rests : Seat (Option T) (PassState T E Root) → ℕ → ℕ → Type 0
   Rests seat share turns =
       (seat.me.1 ≡ []) × (seat.me.0.activity ≡ Idle) × (seat.me.0.share ≡ share)
       × (seat.me.0.turns ≡ turns) × (0 < share)
       × Every (StandsIn seat.me.0.seen) seat.me.0.mine
 
-  abbrev pub state : Seat (Option T) (PassState E Root) → PassState E Root
+  abbrev pub state : Seat (Option T) (PassState T E Root) → PassState T E Root
   state seat = seat.me.0
 
   -- draw: it waits with the ticket that it found
@@ -34,14 +34,16 @@ module _ {T E Root : Type 0} where
     abbrev pub Looked : Step (Option T) → Holder T E Root → ℕ → Holder T E Root → Type 0
     Looked st m r m' = (t : ℕ) → m.0.activity ≡ Waiting t
         → (r ≡ t → (x : T) × IsPrefix m.0.seen (list x)
+        × (m.0.share ≡ 64 → IfSome m.0.left (λ value. x ≡ value))
         × (m' ≡ (record m.0 { seen = list x; activity = Holding t (faults x) (root x) }, (0, Some x) ∷ m.1)))
         × (r ≢ t → m' ≡ m)
 
     -- a state with ticket t that took the value at the count n of faults, and has noted that it stands at x now
-    abbrev pub noted_at : ℕ → ℕ → PassState E Root → T → PassState E Root
+    abbrev pub noted_at : ℕ → ℕ → PassState T E Root → T → PassState T E Root
     noted_at t n v x = record v {
       seen = list x;
       mine = v.mine ++ turn_at (length v.seen) (drop (length v.seen) (list x)) n (faults x) ∷ [];
+      left = Some x;
       activity = Holding t (faults x) (root x);
     }
 
@@ -59,4 +61,4 @@ module _ {T E Root : Type 0} where
   abbrev pub LookedAfterJoin : Step (Option T) → Holder T E Root → ℕ → Holder T E Root → Type 0
   LookedAfterJoin st m r m' = (a b : List E) (t u : List (Turn E)) → m.0.activity ≡ Joined a b t u
       → InCommon a b t u × (m.0.share ≤ 64) × Every (StandsIn m.0.seen) m.0.mine
-      × (m' ≡ (record m.0 { activity = Idle }, m.1))
+      × (m' ≡ (record m.0 { left = None; activity = Idle }, m.1))

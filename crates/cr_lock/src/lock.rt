@@ -1,11 +1,11 @@
 //! The lock.
 ghost use Rattle.std.specs.Prelude.{◌≡◌, ℕ, Some, None, ◌+◌, ◌-◌, ◌/◌, ◌^◌, ◌<◌, ◌≤◌};
-ghost use Rattle.std.specs.Prelude.{◌⊎◌, [], ◌∷◌, List, length, IfOk, IfErr, MatchResult};
+ghost use Rattle.std.specs.Prelude.{◌⊎◌, [], ◌∷◌, List, length, IfOk, IfErr, IfSome, MatchResult};
 ghost use Rattle.std.specs.Fn.{FnOnceReturnsAtMut, FnOnceTakesAtMut};
 ghost use mathlib.Core.List.{IsPrefix};
 ghost use Rattle.cr_lock.specs.declared.pass_state.Activity.TheVariants.{Idle, Holding};
 ghost use Rattle.cr_lock.specs.Steps.{state};
-ghost use Rattle.cr_lock.specs.Passes.{first_pass, larger_half, smaller_half, united, after_turn, Agree, Stand};
+ghost use Rattle.cr_lock.specs.Passes.{first_pass, larger_half, smaller_half, united, after_turn, Agree, IsAsLeft, Stand};
 ghost use Rattle.cr_lock.specs.Closing.{Closes};
 
 use crate::pass::Pass;
@@ -38,7 +38,7 @@ const WHOLE: u64 = 64;
 /// The words and the slot, as the passes step on them.
 type Board<T> = Shared<
     Option<T>,
-    PassState<<T as Stands>::Entry, <T as Stands>::Root>,
+    PassState<T, <T as Stands>::Entry, <T as Stands>::Root>,
     Snapshot<T>,
     HistoryRule<T>,
 >;
@@ -49,7 +49,7 @@ type Board<T> = Shared<
 /// each of them knows is in its [`Pass`]. The crate's page tells a turn step by step.
 #[derive(Drop)]
 pub struct HistoryLock<T: Stands> {
-    table: Table<Option<T>, PassState<T::Entry, T::Root>, Snapshot<T>, HistoryRule<T>, Global>,
+    table: Table<Option<T>, PassState<T, T::Entry, T::Root>, Snapshot<T>, HistoryRule<T>, Global>,
     // Where passes wait. Who has it draws a ticket and makes the turn, so each ticket is
     // served as soon as it is drawn.
     gate: Mutex<()>,
@@ -96,7 +96,7 @@ fn one_slot<T>(alloc: Global, value: T) -> Result<Vec<Option<T>, Global>, T>
 fn wait_and_take<T: Stands, R: Wait>(
     rt: &R,
     shared: &Board<T>,
-    seat: &mut Seat<Option<T>, PassState<T::Entry, T::Root>>,
+    seat: &mut Seat<Option<T>, PassState<T, T::Entry, T::Root>>,
 ) -> T
     requires own { (seat.old.table_id ≡ shared.now.table_id) × (seat.old.me.1 ≡ []) × (shared.now.table_id.words ≡ 3) }
     requires rests { ((state seat.old).activity ≡ Idle) × (0 < (state seat.old).share)
@@ -108,6 +108,7 @@ fn wait_and_take<T: Stands, R: Wait>(
       activity = Holding t (T.faults result) (T.root result);
     }) }
     ensures seen { IsPrefix (state seat.old).seen (T.list result) }
+    ensures as_left { (state seat.old).share ≡ 64 → IfSome (state seat.old).left (λ value. result ≡ value) }
 {
     let ticket = shared.fetch_add::<DrawTicket>(seat, TICKET, 1);
     for _ in rt.forever() {
@@ -125,7 +126,7 @@ impl<T: Stands> HistoryLock<T> {
     /// stands for. Without memory the value comes back.
     pub fn new(alloc: Global, value: T) -> Result<(HistoryLock<T>, Pass<T>), (AllocError, T)>
         ensures { MatchResult result
-            (λ made. (made.0.first ≡ value) × (made.1 ≡ first_pass made.0.lock (T.list value)))
+            (λ made. (made.0.first ≡ value) × (made.1 ≡ first_pass made.0.lock value (T.list value)))
             (λ refused. refused.1 ≡ value) }
     {
         let about = Snapshot::of(&value);
@@ -165,10 +166,12 @@ impl<T: Stands> HistoryLock<T> {
     /// Waits until it is this pass's turn, calls the act on the value, and gives what the act answers.
     ///
     /// The act is lent a value `x` that stands for a history which begins with what the pass had seen, and leaves a
-    /// value `y`. It may only append to the list, may not lower the count of faults, and leaves the root as it was.
-    /// What it promises of `x`, `y` and its answer holds. The pass has then seen what `y` stands for, and its turns
-    /// are longer by one: the length of the history at `x`, what was added, by how much the count of faults rose, and
-    /// the mark, set exactly where it rose or stands at its last value. Beside what the act takes it takes no memory.
+    /// value `y`. It may only append to the list, may not lower the count of faults, and leaves the root as it was. What
+    /// it promises of `x`, `y` and its answer holds. The pass has then seen what `y` stands for, and its turns are
+    /// longer by one: the length of the history at `x`, what was added, by how much the count of faults rose, and the
+    /// mark, set exactly where it rose or stands at its last value. Where the pass has the whole share, so that there
+    /// is no other, `x` is the value that it left in its last turn, or that the lock was made with, unless it was split
+    /// or joined since. Beside what the act takes it takes no memory.
     ///
     /// A pass makes fewer than 2^40 turns, so all passes together draw fewer tickets than a word can count.
     ///
@@ -182,9 +185,10 @@ impl<T: Stands> HistoryLock<T> {
             → IsPrefix (T.list x) (T.list y) × (T.faults x ≤ T.faults y) × (T.root x ≡ T.root y) }
         ensures turn { (x y : T)
             × IsPrefix pass.old.seen (T.list x)
+            × IsAsLeft pass.old x
             × IsPrefix (T.list x) (T.list y)
             × FnOnceReturnsAtMut F.FnOnce act x result y
-            × (pass.new ≡ after_turn pass.old (T.list x) (T.list y) (T.faults x) (T.faults y)) }
+            × (pass.new ≡ after_turn pass.old y (T.list x) (T.list y) (T.faults x) (T.faults y)) }
         ensures stand { Stand pass.new }
     {
         let shared = &self.table.shared;

@@ -13,7 +13,7 @@ use std::marker::Model;
 /// A pass that is dropped takes its share along, so the lock can no longer be closed.
 #[derive(Drop)]
 pub struct Pass<T: Stands> {
-    pub(crate) seat: Seat<Option<T>, PassState<T::Entry, T::Root>>,
+    pub(crate) seat: Seat<Option<T>, PassState<T, T::Entry, T::Root>>,
     pub(crate) share: u64,
     pub(crate) turns: u64,
 }
@@ -22,7 +22,7 @@ impl<T: Stands> Model for Pass<T> {
     ghost use Rattle.cr_lock.specs.Steps.{Rests};
     ghost use Rattle.cr_lock.specs.Passes.{Known, known_of};
 
-    ghost Value = { Known T.Entry };
+    ghost Value = { Known T T.Entry };
 
     ghost view = { λ p. known_of p.seat };
 

@@ -45,7 +45,7 @@ pub enum Activity<E, R> {
 }
 
 /// What one pass knows, and what it is doing.
-pub struct PassState<E, R> {
+pub struct PassState<T, E, R> {
     /// How many of the 64 parts of the right to the whole history it has.
     pub share: u64,
     /// At least how many turns it has made; after a join the greater count of the two.
@@ -54,6 +54,8 @@ pub struct PassState<E, R> {
     pub seen: LinkedList<E>,
     /// Its turns, in the order of their places.
     pub mine: LinkedList<Turn<E>>,
+    /// The value as it left it in its last turn, or as the lock was made with it; none since it was split or joined.
+    pub left: Option<T>,
     /// What it is doing.
     pub activity: Activity<E, R>,
 }

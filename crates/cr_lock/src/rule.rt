@@ -11,11 +11,12 @@ pub(crate) struct HistoryRule<T> {
     of: PhantomData<T>,
 }
 
-impl<T: Stands> TableRule<Option<T>, PassState<T::Entry, T::Root>, Snapshot<T>> for HistoryRule<T> {
+impl<T: Stands> TableRule<Option<T>, PassState<T, T::Entry, T::Root>, Snapshot<T>>
+    for HistoryRule<T> {
     ghost use Rattle.cr_lock.specs.PassStates.{first_state};
     ghost use Rattle.cr_lock.specs.Rule.{OneHistory};
 
     ghost holds = { λ key. OneHistory T.list T.faults T.root key.value };
 
-    ghost first = { λ key. first_state (T.list key.value) };
+    ghost first = { λ key. first_state key.value (T.list key.value) };
 }

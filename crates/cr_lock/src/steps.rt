@@ -10,7 +10,7 @@ use std::marker::PhantomData;
 /// Draws a ticket: `fetch_add` on the tickets.
 pub(crate) struct DrawTicket;
 
-impl<T, E, R> Play<Option<T>, PassState<E, R>> for DrawTicket {
+impl<T, E, R> Play<Option<T>, PassState<T, E, R>> for DrawTicket {
     ghost then = { Drew };
 }
 
@@ -19,7 +19,7 @@ pub(crate) struct LookForTurn<T> {
     of: PhantomData<T>,
 }
 
-impl<T: Stands> Play<Option<T>, PassState<T::Entry, T::Root>> for LookForTurn<T> {
+impl<T: Stands> Play<Option<T>, PassState<T, T::Entry, T::Root>> for LookForTurn<T> {
     ghost then = { Looked T.list T.faults T.root };
 }
 
@@ -28,28 +28,28 @@ pub(crate) struct Note<T> {
     of: PhantomData<T>,
 }
 
-impl<T: Stands> Play<Option<T>, PassState<T::Entry, T::Root>> for Note<T> {
+impl<T: Stands> Play<Option<T>, PassState<T, T::Entry, T::Root>> for Note<T> {
     ghost then = { Noted T.list T.faults T.root };
 }
 
 /// Serves the next ticket: `fetch_add` on the ticket that is served.
 pub(crate) struct Next;
 
-impl<T, E, R> Play<Option<T>, PassState<E, R>> for Next {
+impl<T, E, R> Play<Option<T>, PassState<T, E, R>> for Next {
     ghost then = { WentOn };
 }
 
 /// Looks after a join: a load, by which the pass learns what the two had in common.
 pub(crate) struct LookAfterJoin;
 
-impl<T, E, R> Play<Option<T>, PassState<E, R>> for LookAfterJoin {
+impl<T, E, R> Play<Option<T>, PassState<T, E, R>> for LookAfterJoin {
     ghost then = { LookedAfterJoin };
 }
 
 /// Cuts a pass in two.
 pub(crate) struct Halve;
 
-impl<E, R> Split<PassState<E, R>> for Halve {
+impl<T, E, R> Split<PassState<T, E, R>> for Halve {
     ghost left = { left_half };
 
     ghost right = { right_half };
@@ -58,7 +58,7 @@ impl<E, R> Split<PassState<E, R>> for Halve {
 /// Makes two passes one.
 pub(crate) struct Unite;
 
-impl<E, R> Join<PassState<E, R>> for Unite {
+impl<T, E, R> Join<PassState<T, E, R>> for Unite {
     ghost both = { joining };
 
     ghost spent = { spent_state };

@@ -12,5 +12,5 @@ load-serving-requires g c = let i = c.loop.invariant.1 in (search rules, search 
 
 pub exchange-requires : goal.exchange-requires
 exchange-requires g c = let i = c.loop.invariant.1 in
-    let u = (c.load-serving.ensures.2 c.fetch_add-ticket.result (ap (λ m. m.0.activity) i)).0 c.if-serving-ticket.true in let e = ap (λ m. m.1) u.2 in
+    let u = (c.load-serving.ensures.2 c.fetch_add-ticket.result (ap (λ m. m.0.activity) i)).0 c.if-serving-ticket.true in let e = ap (λ m. m.1) u.3 in
     (search rules, (Some u.0, e ∙ ap (λ r. (0, Some u.0) ∷ r) (sym (ap rest e))))

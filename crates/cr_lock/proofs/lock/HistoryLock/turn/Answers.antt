@@ -1,7 +1,7 @@
 use Rattle.std.proofs.Common.{rules, refl, arith, ap, subst, ◌∙◌, ◌+◌}
 use Rattle.std.specs.Fn.{FnOnceReturnsAtMut}
 use mathlib.Core.List.{IsPrefix}
-use Rattle.cr_lock.specs.Passes.{after_turn}
+use Rattle.cr_lock.specs.Passes.{after_turn, IsAsLeft}
 use Rattle.cr_lock.proofs.Prefixes.{prefix_length}
 use Rattle.cr_lock.proofs.Turns.{put_back, notes_from, noted_from, goes_on_from, went_from}
 use Rattle.cr_lock.proofs.lock.HistoryLock.turn.Goals as goal
@@ -65,8 +65,16 @@ returns-clause-turn g c =
       x,
       y,
       subst (λ seen. IsPrefix seen (g.T.Stands.list x)) (ap (λ p. p.seen) c.pass.view_is) c.wait_and_take-value.ensures.seen,
+      subst (λ p. IsAsLeft p x) c.pass.view_is c.wait_and_take-value.ensures.as_left,
       (c.requires.appends _ _ _ called).0,
       called,
-      (λ i. record { lock = id i; share = (last.0 i).0.share; turns = (last.0 i).0.turns; seen = (last.0 i).0.seen; mine = (last.0 i).0.mine })
-          ∙ ap (λ p. after_turn p (g.T.Stands.list x) (g.T.Stands.list y) (g.T.Stands.faults x) (g.T.Stands.faults y)) c.pass.view_is,
+      (λ i. record {
+        lock = id i;
+        share = (last.0 i).0.share;
+        turns = (last.0 i).0.turns;
+        seen = (last.0 i).0.seen;
+        mine = (last.0 i).0.mine;
+        left = (last.0 i).0.left;
+      })
+          ∙ ap (λ p. after_turn p y (g.T.Stands.list x) (g.T.Stands.list y) (g.T.Stands.faults x) (g.T.Stands.faults y)) c.pass.view_is,
     )
