@@ -1,6 +1,6 @@
 -- A body that is read beside the buffer, into a block of its own.
 use Rattle.std.proofs.Common.{◌≡◌, ◌∙◌, ℕ, ◌+◌, ◌<◌, ◌≤◌, List, [], ◌++◌, length, take, drop, Option, refl, sym, ap, inl, inr, arith, append_assoc}
-use Rattle.std.proofs.Common.{append-nil, length-append, length-drop}
+use Rattle.std.proofs.Common.{append-nil, length-append, length-drop, length-take}
 use Rattle.std.specs.Prelude.{replicate}
 use Rattle.std.proofs.lemmas.List.{drop-append-le, take-append-le, take-append-drop, length-replicate}
 use Rattle.std.proofs.Math.Seq.{drop-append_seam}
@@ -39,6 +39,26 @@ behind head old block got b =
 
 before : (head : ℕ) (old got : List ℕ) → head ≤ length old → take head old ≡ take head (old ++ got)
 before head old got w = sym (take-append-le head old got w)
+
+-- the block put in the place of the buffer goes no further than to this end
+pub put_back_within : (head end : ℕ) (old now kept : List ℕ) → kept ≡ take head old ++ drop head now → head ≤ end → length now ≤ end → length kept ≤ end
+put_back_within head end old now kept is h n =
+    let l = ap length is ∙ length-append (take head old) (drop head now) in
+    let t = length-take head old in
+    let d = length-drop head now in
+    omega (arith, l, t, d, h, n)
+
+-- nor does what the buffer has, once the body is whole
+pub keeps_within : (head end : ℕ) (old now kept : List ℕ) (answer : BodyFill) → head ≤ end → length now ≤ end → KeepsBlock answer head now old kept
+    → length kept ≤ end
+keeps_within head end old now kept fills.Buffer h n is = put_back_within head end old now kept is h n
+keeps_within head end old now kept (fills.Block blob) h n is =
+    let l = ap length is.1 in
+    let t = length-take head old in
+    omega (arith, l, t, h)
+keeps_within head end old now kept fills.Ended h n is = absurd is
+keeps_within head end old now kept fills.Failed h n is = absurd is
+keeps_within head end old now kept fills.OutOfMemory h n is = absurd is
 
 module _ {S : Type 0} (left : S → Option (List ℕ)) (gives : S → S → List ℕ → Type 0) where
   -- what is read into the block while that is too short

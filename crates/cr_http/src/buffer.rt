@@ -190,10 +190,13 @@ impl Buffer {
         self.block.resize(len + len.max(WINDOW), 0)
     }
 
-    /// Makes room behind the bytes.
+    /// Makes room behind the bytes. A block that is longer than they are by twice the least room is kept, so that it
+    /// stops growing however many requests go through it.
     fn make_room(&mut self) -> Result<(), AllocError>
         ensures text { text_of self.new ≡ text_of self.old }
         ensures room { OnOk result (self.new.end < vec_len self.new.block) }
+        ensures kept { length (text_of self.old) + 8192 ≤ vec_len self.old.block →
+            vec_len self.new.block ≡ vec_len self.old.block }
     {
         if self.block.len() - self.end >= LEAST_ROOM {
             return Ok(());

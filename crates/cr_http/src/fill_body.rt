@@ -1,5 +1,5 @@
 //! Reads on, until a body is whole.
-ghost use Rattle.std.specs.Prelude.{◌≡◌, ◌≢◌, ◌≤◌, ◌<◌, ◌++◌, length, take, drop};
+ghost use Rattle.std.specs.Prelude.{◌≡◌, ◌≢◌, ◌≤◌, ◌<◌, ◌-◌, ◌++◌, length, take, drop};
 ghost use Rattle.cr_ports.specs.Count.{Rises};
 ghost use Rattle.cr_http.specs.Buffer.{text_of};
 ghost use Rattle.cr_http.specs.BodyFill.{FillsBody, KeepsBlock};
@@ -65,6 +65,7 @@ fn fill_block<S: Source>(source: &mut S, buffer: &mut Buffer, head: usize, end: 
     requires short { length (text_of buffer.old) < end }
     ensures fills { FillsBody S.left S.read_gives source.old source.new (text_of buffer.old)
         (text_of buffer.new) head end result }
+    ensures exact { length (text_of buffer.new) ≤ end }
     ensures ended { result ≡ BodyFill.Ended → IsAtEnd (S.left source.new) }
     ensures count { S.faults source.old ≤ S.faults source.new }
     ensures failed { result ≡ BodyFill.Failed → Rises (S.faults source.old) (S.faults source.new) }
@@ -90,7 +91,8 @@ fn fill_block<S: Source>(source: &mut S, buffer: &mut Buffer, head: usize, end: 
     }
 }
 
-/// Reads on until the body is whole that lies between these two offsets.
+/// Reads on until the body is whole that lies between these two offsets. Where it has `LARGE_BODY` bytes or more and
+/// isn't whole yet, nothing behind it is read.
 pub fn fill_body<S: Source>(
     source: &mut S,
     buffer: &mut Buffer,
@@ -101,6 +103,7 @@ pub fn fill_body<S: Source>(
     requires ordered { head ≤ end }
     ensures fills { FillsBody S.left S.read_gives source.old source.new (text_of buffer.old)
         (text_of buffer.new) head end result }
+    ensures exact { 16384 ≤ end - head → length (text_of buffer.old) < end → length (text_of buffer.new) ≤ end }
     ensures ended { result ≡ BodyFill.Ended → IsAtEnd (S.left source.new) }
     ensures count { S.faults source.old ≤ S.faults source.new }
     ensures failed { result ≡ BodyFill.Failed → Rises (S.faults source.old) (S.faults source.new) }
