@@ -1,5 +1,5 @@
 //! The book: one history, its tables and its keeper.
-ghost use Rattle.std.specs.Prelude.{◌≡◌, ◌≢◌, ◌≤◌, ◌++◌, ℕ, length, IsTrue};
+ghost use Rattle.std.specs.Prelude.{◌≡◌, ◌≢◌, ◌≤◌, ◌++◌, ℕ, List, length, IsTrue};
 ghost use Rattle.std.specs.Prelude.{IfOk, IfErr, IsOk, IsSome, OnOk, OnErr, IfSome, Ok, Err, None, Some};
 ghost use Rattle.cr_base.specs.declared.bulk.Broken.{Broken};
 ghost use Rattle.cr_base.specs.declared.reply.Receipt.{Receipt};
@@ -14,7 +14,9 @@ ghost use Rattle.cr_policy.specs.Judge.{decide, decide_bulk, judge, judge_bulk, 
 ghost use Rattle.cr_policy.specs.View.{view};
 ghost use Rattle.cr_base.specs.declared.command.Query.TheVariants as queries;
 ghost use Rattle.cr_policy.specs.Legal.{Legal, IsAllowed, IsBulkAllowed, IsBulkGiven, IsGiven, MayAsk};
+ghost use Rattle.cr_base.specs.Rows.{rows_of};
 ghost use Rattle.cr_ports.specs.Count.{Rises};
+ghost use Rattle.cr_ports.specs.Stopping.{OpensTo};
 ghost use Rattle.cr_ports.specs.Writing.{outlet_of};
 ghost use Rattle.cr_sights.specs.Lines.{lines_text};
 ghost use Rattle.cr_sights.specs.Walks.{WritesView};
@@ -103,6 +105,11 @@ impl<K: Keeper> Book<K> {
         ensures steady { IfOk result (λ book. K.faults book.keeper ≡ K.faults keeper) }
         ensures opened { IfOk result (λ book. book.opened ≡ keeper) }
         ensures still { IsTrue K.tells_stops → IfOk result (λ book. book.keeper ≡ keeper) }
+
+        // What a stop may leave before anything is added, where the keeper tells it.
+        ensures between { IsTrue K.tells_stops → IfOk result (λ book. (image : List ℕ)
+            → K.left_since book.keeper (K.moment book.keeper) image
+            → OpensTo K.opens (rows_of book.log) (K.tried book.keeper) image) }
         ensures given_back { IfErr result (λ e. K.rows e.1 ≡ K.rows keeper) }
         ensures still_back { IsTrue K.tells_stops → IfErr result (λ e. e.1 ≡ keeper) }
         ensures cause { IfErr result (λ e. IsCounted {T = Unit {0}} (K.faults keeper) (K.faults e.1) (Err e.0)) }
@@ -156,7 +163,7 @@ impl<K: Keeper> Book<K> {
     ///
     /// Where the keeper tells what a stop of the machine may leave: one at a moment of the call leaves the rows that
     /// were there, or these and then whole one group: the command's, or one that was tried since the last that was
-    /// kept.
+    /// kept. Where memory runs out, nothing was tried.
     ///
     /// A number costs one look-up, however many there are.
     pub fn command(
@@ -201,6 +208,8 @@ impl<K: Keeper> Book<K> {
         ensures count { K.faults self.old.keeper ≤ K.faults self.new.keeper }
         ensures legal { Legal self.new.log }
         ensures opened { self.new.opened ≡ self.old.opened }
+        ensures untried { IsTrue K.tells_stops → result ≡ Err BookError.OutOfMemory
+            → self.new.keeper ≡ self.old.keeper }
 
         // What a stop may leave while something is added.
         ensures stops { IsTrue K.tells_stops → (drawn : Drawn)
@@ -246,6 +255,8 @@ impl<K: Keeper> Book<K> {
         ensures count { K.faults self.old.keeper ≤ K.faults self.new.keeper }
         ensures legal { Legal self.new.log }
         ensures opened { self.new.opened ≡ self.old.opened }
+        ensures untried { IsTrue K.tells_stops → result ≡ Err BookError.OutOfMemory
+            → self.new.keeper ≡ self.old.keeper }
         ensures stops { IsTrue K.tells_stops → (drawn : Drawn) → judge (view call.caller self.old.log) call ≡ Ok drawn
             → Adding K.rows K.tried K.moment K.left_since K.opens result self.old.log drawn.group self.old.keeper
             self.new.keeper }
@@ -321,6 +332,8 @@ impl<K: Keeper> Book<K> {
         ensures count { K.faults self.old.keeper ≤ K.faults self.new.keeper }
         ensures legal { Legal self.new.log }
         ensures opened { self.new.opened ≡ self.old.opened }
+        ensures untried { IsTrue K.tells_stops → result ≡ Err BookError.OutOfMemory
+            → self.new.keeper ≡ self.old.keeper }
 
         // What a stop may leave while something is added.
         ensures stops { IsTrue K.tells_stops → (drawn : Drawn)
@@ -370,6 +383,8 @@ impl<K: Keeper> Book<K> {
         ensures count { K.faults self.old.keeper ≤ K.faults self.new.keeper }
         ensures legal { Legal self.new.log }
         ensures opened { self.new.opened ≡ self.old.opened }
+        ensures untried { IsTrue K.tells_stops → result ≡ Err BookError.OutOfMemory
+            → self.new.keeper ≡ self.old.keeper }
         ensures stops { IsTrue K.tells_stops → (drawn : Drawn)
             → judge_bulk (view (Some stamp.maker) self.old.log) (record { stamp = stamp; rows = rows }) ≡ Ok drawn
             → Adding K.rows K.tried K.moment K.left_since K.opens result self.old.log drawn.group self.old.keeper
@@ -404,6 +419,8 @@ impl<K: Keeper> Book<K> {
         ensures count { K.faults self.old.keeper ≤ K.faults self.new.keeper }
         ensures legal { Legal self.new.log }
         ensures opened { self.new.opened ≡ self.old.opened }
+        ensures untried { IsTrue K.tells_stops → result ≡ Err BookError.OutOfMemory
+            → self.new.keeper ≡ self.old.keeper }
         ensures stops { IsTrue K.tells_stops → Adding K.rows K.tried K.moment K.left_since K.opens result self.old.log
             group.items self.old.keeper self.new.keeper }
     {

@@ -111,6 +111,7 @@ fn keep_ready<D: Disk>(
     ensures any_moment { IsTrue D.tells → LeavesOnly D.moment D.left_since journal.old.disk journal.new.disk
         (OpensTo rows.old.items (prepared.copies.items ∷ [])) }
     ensures cause { HasCause (D.faults journal.old.disk) (D.faults journal.new.disk) result }
+    ensures memory { result ≢ Err KeeperError.OutOfMemory }
 {
     let Prepared { block, mut copies } = prepared;
     match journal.append(&block) {
@@ -147,6 +148,7 @@ fn keep_group<D: Disk>(
     ensures any_moment { IsTrue D.tells → LeavesOnly D.moment D.left_since journal.old.disk journal.new.disk
         (OpensTo rows.old.items (prepared.copies.items ∷ doubted journal.old.in_doubt doubt.old.items)) }
     ensures cause { HasCause (D.faults journal.old.disk) (D.faults journal.new.disk) result }
+    ensures memory { result ≢ Err KeeperError.OutOfMemory }
 {
     match journal.make_ready() {
         Ok(()) => keep_ready(journal, rows, doubt, prepared),
@@ -250,6 +252,9 @@ impl<D: Disk> Keeper for JournalKeeper<D> {
             (OpensTo self.old.rows (added.now ∷ self.old.doubted)) }
         ensures between { IsTrue D.tells → (image : List ℕ)
             → D.left_since self.new.disk (D.moment self.new.disk) image → OpensTo self.new.rows self.new.doubted image }
+
+        // Memory is taken before anything is tried.
+        ensures memory { result ≡ Err KeeperError.OutOfMemory → self.new ≡ self.old }
     {
         match prepare(self.alloc, &mut self.rows, added) {
             Ok(prepared) => keep_group(

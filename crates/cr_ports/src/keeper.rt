@@ -1,6 +1,6 @@
 //! A list of rows that only grows.
 ghost use Rattle.std.specs.Prelude.{◌≡◌, ◌<◌, ◌∷◌, ℕ, Bool, List, length, Option, IfOk, IfSome, OnOk, OnErr, slice_get};
-ghost use Rattle.std.specs.Prelude.{IsTrue, Some, is_some};
+ghost use Rattle.std.specs.Prelude.{Err, IsTrue, Some, is_some};
 ghost use Rattle.cr_base.specs.declared.row.Row.{Row};
 ghost use Rattle.cr_ports.specs.Keeping.{HasCause, and_rows};
 ghost use Rattle.cr_ports.specs.Stopping.{LeavesOnly, OpensToTold, TriedAfter};
@@ -44,7 +44,8 @@ pub trait Keeper {
     ghost opens: { List ℕ → List Row → Type 0 };
 
     /// Keeps all of `added` behind the rows that are there, or none of them. What a stop at a moment of the call leaves
-    /// opens to the rows that were there, or to these and then whole one group: `added`, or one that was tried.
+    /// opens to the rows that were there, or to these and then whole one group: `added`, or one that was tried. Where
+    /// memory runs out, nothing was tried: a keeper that tells what a stop leaves is as it was.
     ///
     /// `Failed` comes only where the count of faults rose, or stands at its last value, and
     /// `OutOfMemory` only where it is as it was. Costs at most a copy of each row of `added`; an
@@ -57,6 +58,7 @@ pub trait Keeper {
             (OpensToTold opens (rows self.old) (added.now ∷ tried self.old)) }
         ensures between { IsTrue tells_stops → (image : List ℕ) → left_since self.new (moment self.new) image
             → OpensToTold opens (rows self.new) (tried self.new) image }
+        ensures untried { IsTrue tells_stops → result ≡ Err KeeperError.OutOfMemory → self.new ≡ self.old }
         ensures cause { HasCause (faults self.old) (faults self.new) result };
 
     /// How many rows are kept. What a stop leaves before the next call opens to the rows, or to these and then whole

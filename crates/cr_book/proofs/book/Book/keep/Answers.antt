@@ -115,3 +115,7 @@ returns-in-Err-OutOfMemory-clause-stops g c = λ told.
     (c.deref-5.ensures.value ∙ c.in-Ok.ensures ∙ ap rows_of c.deref.ensures.value) c.self.invariant
     (subst (λ (h : History). AddsOne h c.args.group.items) (sym same) c.requires.adds)
     c.append_all.ensures.stops c.append_all.ensures.between errors.OutOfMemory c.in-Err-OutOfMemory.ensures.tried told)
+
+pub returns-in-Err-OutOfMemory-clause-untried : goal.returns-in-Err-OutOfMemory-clause-untried
+returns-in-Err-OutOfMemory-clause-untried g c = λ told is.
+    c.in-Err-OutOfMemory.ensures.untried told (ap Err c.in-Err-OutOfMemory.field-0-is) ∙ ap (λ (v : SeenBook g.row.K.Denot). v.keeper) c.self.view_is

@@ -12,6 +12,12 @@ pub returns-in-Err-clause-exact : goal.returns-in-Err-clause-exact
 returns-in-Err-clause-exact g c =
     opens-not (g.K.Keeper.rows c.args.keeper) c.in-Err.error c.read_all.new.keeper c.in-Err.ensures.bad
 
+pub returns-in-Ok-clause-between : goal.returns-in-Ok-clause-between
+returns-in-Ok-clause-between g c told =
+    let K = g.K.Keeper in
+    (opened_well K.rows K.tried K.moment K.left_since K.opens c.args.keeper c.read_all.new.keeper c.in-Ok.log.entries (K.rows_told told c.args.keeper)
+    c.in-Ok.ensures.legal.0 c.in-Ok.ensures.spelled (c.in-Ok.ensures.still told) (c.in-Ok.ensures.between told)).between
+
 pub invariant_of-result : goal.invariant_of-result
 invariant_of-result g c =
     let K = g.K.Keeper in

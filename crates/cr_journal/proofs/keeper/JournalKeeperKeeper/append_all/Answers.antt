@@ -1,4 +1,4 @@
-use Rattle.std.proofs.Common.{◌∷◌, List, subst, sym}
+use Rattle.std.proofs.Common.{◌∙◌, ◌∷◌, List, ap, subst, sym}
 use Rattle.cr_base.specs.declared.row.Row.{Row}
 use Rattle.cr_journal.specs.Keeping.{OpensTo}
 use Rattle.cr_journal.specs.Standing.{doubted}
@@ -31,3 +31,8 @@ returns-in-Err-clause-between g c = λ told image left.
     subst (λ (rows : List Row). OpensTo rows (doubted inside.journal.in_doubt inside.doubt.items) image) (sym c.prepare.ensures.same)
     (stops_between g.D.Disk.seen g.D.Disk.may_leave inside.journal inside.rows.items inside.doubt.items (c.self.invariant.1 told) image
     (g.met.D.Disk.only_now inside.journal.disk image left))
+
+pub returns-in-Err-clause-memory : goal.returns-in-Err-clause-memory
+returns-in-Err-clause-memory g c = λ is.
+    ap (λ (rows : List Row). record { disk = c.self.inside.journal.disk; rows = rows; doubted = doubted c.self.inside.journal.in_doubt c.self.inside.doubt.items })
+    c.prepare.ensures.same ∙ c.self.view_is
