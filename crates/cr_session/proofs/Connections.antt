@@ -10,6 +10,7 @@ use Rattle.cr_session.specs.declared.serve.Ending.TheVariants as endings
 use Rattle.cr_session.specs.declared.serve.Why.TheVariants as whys
 use Rattle.cr_session.specs.Answering.{Answer, Desk, GivesAnswers, AnswerFails, ClockFails}
 use Rattle.cr_session.specs.Replay.{JudgedWish, answers, answer_of, wishes_of}
+use Rattle.cr_session.specs.Tries.{Tries}
 use Rattle.cr_session.specs.Passing.{KnownPass, TakesTurns}
 use Rattle.cr_session.specs.Turning.{TurnsInVain}
 use Rattle.cr_session.specs.Serving.{World, EndsAs, CountsReads, ConnectionInHistory, GoesOnInHistory, GivesNote, TellsWantOfMemory, ReadsNoFurther}
@@ -60,37 +61,38 @@ noted n js ks None head d e f x (inr is) = inr (stopped n js ks d e f x is)
 
 -- ---- by the ending
 
-ends_on : (ending : Ending) (n : ℕ) (text rest : List ℕ) (js ks : List JudgedWish) (failed : Option JudgedWish) (p p' : KnownPass) (d e f : Desk)
-    → Reaches n text (wishes_of js) rest → GivesAnswers (answers n js) d e
-    → EndsAs TakesTurns TurnsInVain ending (n + length js) rest rest ks failed p p' e f
-    → EndsAs TakesTurns TurnsInVain ending n text text (js ++ ks) failed p p' d f
-ends_on ending n text rest js ks (Some j) p p' d e f reach first x =
-    let number : n + length js + length ks ≡ n + length (js ++ ks) = let l = length-append js ks in omega (arith, l) in (
-      x.0,
-      subst (λ (all : List JudgedWish). Begins n text (wishes_of all)) (sym (append_assoc js ks (j ∷ []))) (begins_on n text rest js (ks ++ j ∷ []) reach x.1),
-      broke_off n js ks (answer_of (n + length (js ++ ks)) j) d e f first
-          (subst (λ (k : ℕ). AnswerFails (answers (n + length js) ks) (answer_of k j) e f) number x.2),
-    )
-ends_on endings.Clean n text rest js ks None p p' d e f reach first x =
-    (spells_on n text rest js ks ended_clean reach x.0, gave_all n js ks d e f first x.1)
-ends_on endings.Cut n text rest js ks None p p' d e f reach first x =
-    (spells_on n text rest js ks ended_cut reach x.0, gave_all n js ks d e f first x.1)
-ends_on (endings.Closed whys.Asked) n text rest js ks None p p' d e f reach first x =
-    (spells_on n text rest js ks asked reach x.0, gave_all n js ks d e f first x.1)
-ends_on (endings.Closed (whys.Refused why)) n text rest js ks None p p' d e f reach first x =
-    (x.0, x.1, spells_on n text rest js ks (closed why x.0) reach x.2, gave_on n js ks (refusal_at why x.0 x.1 ∷ []) d e f first x.3)
-ends_on endings.ReadFault n text rest js ks None p p' d e f reach first x = (which x.0, gave_all n js ks d e f first x.1)
-  where
-    which : Spells (n + length js) rest (wishes_of ks) ended_clean ⊎ Spells (n + length js) rest (wishes_of ks) ended_cut
-        → Spells n text (wishes_of (js ++ ks)) ended_clean ⊎ Spells n text (wishes_of (js ++ ks)) ended_cut
-    which (inl is) = inl (spells_on n text rest js ks ended_clean reach is)
-    which (inr is) = inr (spells_on n text rest js ks ended_cut reach is)
-ends_on endings.WriteFault n text rest js ks None p p' d e f reach first x =
-    (x.0, x.1, x.2, spells_on n text rest js ks (closed x.0 x.1) reach x.3, broke_off n js ks (refusal_at x.0 x.1 x.2) d e f first x.4)
-ends_on endings.ClockFault n text rest js ks None p p' d e f reach first x =
-    (x.0, reaches_on n text rest x.0 js ks reach x.1, x.2, stopped n js ks d e f first x.3)
-ends_on endings.OutOfMemory n text rest js ks None p p' d e f reach first x =
-    (x.0, reaches_on n text rest x.0 js ks reach x.1, x.2, x.3, x.4, x.5, noted n js ks x.2 x.4 d e f first x.6)
+module _ {K : Type 0} (tries : Tries K) where
+  ends_on : (ending : Ending) (n : ℕ) (text rest : List ℕ) (js ks : List JudgedWish) (failed : Option JudgedWish) (p p' : KnownPass K) (d e f : Desk)
+      → Reaches n text (wishes_of js) rest → GivesAnswers (answers n js) d e
+      → EndsAs (TakesTurns tries) (TurnsInVain tries) ending (n + length js) rest rest ks failed p p' e f
+      → EndsAs (TakesTurns tries) (TurnsInVain tries) ending n text text (js ++ ks) failed p p' d f
+  ends_on ending n text rest js ks (Some j) p p' d e f reach first x =
+      let number : n + length js + length ks ≡ n + length (js ++ ks) = let l = length-append js ks in omega (arith, l) in (
+        x.0,
+        subst (λ (all : List JudgedWish). Begins n text (wishes_of all)) (sym (append_assoc js ks (j ∷ []))) (begins_on n text rest js (ks ++ j ∷ []) reach x.1),
+        broke_off n js ks (answer_of (n + length (js ++ ks)) j) d e f first
+            (subst (λ (k : ℕ). AnswerFails (answers (n + length js) ks) (answer_of k j) e f) number x.2),
+      )
+  ends_on endings.Clean n text rest js ks None p p' d e f reach first x =
+      (spells_on n text rest js ks ended_clean reach x.0, gave_all n js ks d e f first x.1)
+  ends_on endings.Cut n text rest js ks None p p' d e f reach first x =
+      (spells_on n text rest js ks ended_cut reach x.0, gave_all n js ks d e f first x.1)
+  ends_on (endings.Closed whys.Asked) n text rest js ks None p p' d e f reach first x =
+      (spells_on n text rest js ks asked reach x.0, gave_all n js ks d e f first x.1)
+  ends_on (endings.Closed (whys.Refused why)) n text rest js ks None p p' d e f reach first x =
+      (x.0, x.1, spells_on n text rest js ks (closed why x.0) reach x.2, gave_on n js ks (refusal_at why x.0 x.1 ∷ []) d e f first x.3)
+  ends_on endings.ReadFault n text rest js ks None p p' d e f reach first x = (which x.0, gave_all n js ks d e f first x.1)
+    where
+      which : Spells (n + length js) rest (wishes_of ks) ended_clean ⊎ Spells (n + length js) rest (wishes_of ks) ended_cut
+          → Spells n text (wishes_of (js ++ ks)) ended_clean ⊎ Spells n text (wishes_of (js ++ ks)) ended_cut
+      which (inl is) = inl (spells_on n text rest js ks ended_clean reach is)
+      which (inr is) = inr (spells_on n text rest js ks ended_cut reach is)
+  ends_on endings.WriteFault n text rest js ks None p p' d e f reach first x =
+      (x.0, x.1, x.2, spells_on n text rest js ks (closed x.0 x.1) reach x.3, broke_off n js ks (refusal_at x.0 x.1 x.2) d e f first x.4)
+  ends_on endings.ClockFault n text rest js ks None p p' d e f reach first x =
+      (x.0, reaches_on n text rest x.0 js ks reach x.1, x.2, stopped n js ks d e f first x.3)
+  ends_on endings.OutOfMemory n text rest js ks None p p' d e f reach first x =
+      (x.0, reaches_on n text rest x.0 js ks reach x.1, x.2, x.3, x.4, x.5, noted n js ks x.2 x.4 d e f first x.6)
 
 counts_on : (ending : Ending) (f g h : ℕ) → g ≡ f → CountsReads ending g h → CountsReads ending f h
 counts_on ending f g h same c = subst (λ (x : ℕ). CountsReads ending x h) same c
@@ -104,15 +106,15 @@ reach_now n a g k js i is = subst (λ (t : List ℕ). Reaches n t (wishes_of js)
 number_of : (c : ℕ) (js : List JudgedWish) → length js ≡ c → c ≡ 0 + length js
 number_of c js e = omega (arith, e)
 
-module _ {S : Type 0} (left : S → Option (List ℕ)) (gives : S → S → List ℕ → Type 0) where
+module _ {K S : Type 0} (tries : Tries K) (left : S → Option (List ℕ)) (gives : S → S → List ℕ → Type 0) where
   -- reads from a request's number on, however the number is told
   from_number : (c k : ℕ) (ks : List JudgedWish) (p q : S) (old new : List ℕ) → c ≡ k → ReadsNoFurther left gives c ks p q old new
       → ReadsNoFurther left gives k ks p q old new
   from_number c k ks p q old new e x = subst (λ (m : ℕ). ReadsNoFurther left gives m ks p q old new) e x
 
   -- what a connection did up to its end, behind what it did before
-  pub ends_after : (ending : Ending) (c : ℕ) (a b : List ℕ) (w v u : World KnownPass S)
-      → GoesOnInHistory left gives c 0 a b w v → ConnectionInHistory left gives ending c b v u → ConnectionInHistory left gives ending 0 a w u
+  pub ends_after : (ending : Ending) (c : ℕ) (a b : List ℕ) (w v u : World (KnownPass K) S)
+      → GoesOnInHistory tries left gives c 0 a b w v → ConnectionInHistory tries left gives ending c b v u → ConnectionInHistory tries left gives ending 0 a w u
   ends_after ending c a b w v u x y =
       let number : c ≡ 0 + length x.answered = number_of c x.answered x.counted in
       record {
@@ -121,12 +123,12 @@ module _ {S : Type 0} (left : S → Option (List ℕ)) (gives : S → S → List
         answered = x.answered ++ y.answered;
         failed = y.failed;
         judged = y.judged;
-        turns = subst (λ (all : List JudgedWish). TakesTurns all w.state y.judged) (sym (append_assoc x.answered y.answered (listed y.failed)))
-            (takes-append x.answered (y.answered ++ listed y.failed) w.state v.state y.judged x.turns y.turns);
+        turns = subst (λ (all : List JudgedWish). TakesTurns tries all w.state y.judged) (sym (append_assoc x.answered y.answered (listed y.failed)))
+            (takes-append tries x.answered (y.answered ++ listed y.failed) w.state v.state y.judged x.turns y.turns);
         settled = y.settled;
-        ends = ends_on ending 0 (a ++ (x.got ++ y.got)) (b ++ y.got) x.answered y.answered y.failed y.judged u.state w.desk v.desk u.desk
+        ends = ends_on tries ending 0 (a ++ (x.got ++ y.got)) (b ++ y.got) x.answered y.answered y.failed y.judged u.state w.desk v.desk u.desk
             (reach_now 0 a x.got y.got x.answered b x.reaches) x.answering
-            (subst (λ (k : ℕ). EndsAs TakesTurns TurnsInVain ending k (b ++ y.got) (b ++ y.got) y.answered y.failed y.judged u.state v.desk u.desk) number
+            (subst (λ (k : ℕ). EndsAs (TakesTurns tries) (TurnsInVain tries) ending k (b ++ y.got) (b ++ y.got) y.answered y.failed y.judged u.state v.desk u.desk) number
             y.ends);
         ended = y.ended;
         counts = counts_on ending w.read_faults v.read_faults u.read_faults x.counts y.counts;
@@ -135,8 +137,8 @@ module _ {S : Type 0} (left : S → Option (List ℕ)) (gives : S → S → List
       }
 
   -- the same up to a request that doesn't close
-  pub goes_after : (c d : ℕ) (a b e : List ℕ) (w v u : World KnownPass S)
-      → GoesOnInHistory left gives c 0 a b w v → GoesOnInHistory left gives d c b e v u → GoesOnInHistory left gives (c + d) 0 a e w u
+  pub goes_after : (c d : ℕ) (a b e : List ℕ) (w v u : World (KnownPass K) S)
+      → GoesOnInHistory tries left gives c 0 a b w v → GoesOnInHistory tries left gives d c b e v u → GoesOnInHistory tries left gives (c + d) 0 a e w u
   goes_after c d a b e w v u x y =
       let number : c ≡ 0 + length x.answered = number_of c x.answered x.counted in
       record {
@@ -144,7 +146,7 @@ module _ {S : Type 0} (left : S → Option (List ℕ)) (gives : S → S → List
         given = x.given ∙ ap (and_left x.got) y.given ∙ and_left-append x.got y.got (left u.source);
         answered = x.answered ++ y.answered;
         counted = let i = x.counted in let j = y.counted in let k = length-append x.answered y.answered in omega (arith, i, j, k);
-        turns = takes-append x.answered y.answered w.state v.state u.state x.turns y.turns;
+        turns = takes-append tries x.answered y.answered w.state v.state u.state x.turns y.turns;
         reaches = reaches_on 0 (a ++ (x.got ++ y.got)) (b ++ y.got) e x.answered y.answered (reach_now 0 a x.got y.got x.answered b x.reaches)
             (subst (λ (k : ℕ). Reaches k (b ++ y.got) (wishes_of y.answered) e) number y.reaches);
         answering = gave_all 0 x.answered y.answered w.desk v.desk u.desk x.answering
@@ -155,7 +157,7 @@ module _ {S : Type 0} (left : S → Option (List ℕ)) (gives : S → S → List
       }
 
   -- nothing has come yet
-  pub started : (w : World KnownPass S) → GoesOnInHistory left gives 0 0 [] [] w w
+  pub started : (w : World (KnownPass K) S) → GoesOnInHistory tries left gives 0 0 [] [] w w
   started w = record {
     got = [];
     given = sym (and_left-nil (left w.source));

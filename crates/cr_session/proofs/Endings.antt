@@ -9,6 +9,8 @@ use Rattle.cr_session.specs.declared.serve.Ending.{Ending}
 use Rattle.cr_session.specs.declared.serve.Ending.TheVariants as endings
 use Rattle.cr_session.specs.declared.serve.Why.TheVariants as whys
 use Rattle.cr_session.specs.Replay.{JudgedWish, Ledger, Replays}
+use Rattle.cr_book.specs.Seen.{SeenBook}
+use Rattle.cr_session.specs.Tries.{Tries}
 use Rattle.cr_session.specs.Passing.{KnownPass, TakesTurns}
 use Rattle.cr_session.specs.Turning.{MayWantMemory, TurnsInVain}
 use Rattle.cr_session.specs.Serving.{World, MayLackMemory, EndsAs, EndsTurns, ConnectionInHistory, ConnectionBytes, WholeBytes, StaysInVain}
@@ -25,7 +27,7 @@ no_turns endings.WriteFault b b' same = same
 no_turns endings.ClockFault b b' same = same
 no_turns endings.OutOfMemory b b' same = tt
 
--- no turn was taken behind those for wishes, or the one for which memory ran out
+-- no turn was taken behind those for wishes, or the one in which memory ran out
 pub behind_judged : {B : Type 0} (Judges : List JudgedWish → B → B → Type 0) (Lacks : Wish → B → B → Type 0)
     (ending : Ending) (n : ℕ) (came text : List ℕ) (answered : List JudgedWish) (failed : Option JudgedWish) (b b' : B) (d d' : Desk)
     → EndsTurns ending b b' → EndsAs Judges Lacks ending n came text answered failed b b' d d' → (b' ≡ b) ⊎ ((w : Wish) × Lacks w b b')
@@ -42,32 +44,33 @@ behind_judged Judges Lacks endings.OutOfMemory n came text answered None b b' d 
     by (inl lacks) = inl lacks.1
     by (inr lacks) = inr (lacks.0, lacks.4)
 
-stays_behind : (ending : Ending) (n : ℕ) (came text : List ℕ) (answered : List JudgedWish) (failed : Option JudgedWish) (q p : KnownPass) (d d' : Desk)
-    → EndsTurns ending q p → EndsAs TakesTurns TurnsInVain ending n came text answered failed q p d d' → StaysBehind q p
-stays_behind ending n came text answered failed q p d d' settled ends =
-    ⊎_elim (λ same. behind-none q p same) (λ turn. behind-vain turn.0 q p turn.1)
-    (behind_judged TakesTurns TurnsInVain ending n came text answered failed q p d d' settled ends)
+module _ {K : Type 0} (tries : Tries K) where
+  pub stays_behind : (ending : Ending) (n : ℕ) (came text : List ℕ) (answered : List JudgedWish) (failed : Option JudgedWish) (q p : KnownPass K) (d d' : Desk)
+      → EndsTurns ending q p → EndsAs (TakesTurns tries) (TurnsInVain tries) ending n came text answered failed q p d d' → StaysBehind q p
+  stays_behind ending n came text answered failed q p d d' settled ends =
+      ⊎_elim (λ same. behind-none q p same) (λ turn. behind-vain tries turn.0 q p turn.1)
+      (behind_judged (TakesTurns tries) (TurnsInVain tries) ending n came text answered failed q p d d' settled ends)
 
--- what is wanted of a pass is wanted of the ledger
-lacks_alike : (read : Option ℕ) (q p : KnownPass) (b : Ledger) (rest : List ℕ) → ((w : Wish) → TurnsInVain w q p → MayWantMemory b.history w)
-    → MayLackMemory TakesTurns TurnsInVain read q p rest → MayLackMemory Replays StaysInVain read b b rest
-lacks_alike read q p b rest vain (inl lacks) = inl (lacks.0, refl)
-lacks_alike read q p b rest vain (inr lacks) = inr (lacks.0, lacks.1, lacks.2, lacks.3, (refl, vain lacks.0 lacks.4))
+  -- what is wanted of a pass is wanted of the ledger
+  lacks_alike : (read : Option ℕ) (q p : KnownPass K) (b : Ledger) (rest : List ℕ) → ((w : Wish) → TurnsInVain tries w q p → MayWantMemory b.history w)
+      → MayLackMemory (TakesTurns tries) (TurnsInVain tries) read q p rest → MayLackMemory Replays StaysInVain read b b rest
+  lacks_alike read q p b rest vain (inl lacks) = inl (lacks.0, refl)
+  lacks_alike read q p b rest vain (inr lacks) = inr (lacks.0, lacks.1, lacks.2, lacks.3, (refl, vain lacks.0 lacks.4))
 
-ends_alike : (ending : Ending) (n : ℕ) (came text : List ℕ) (answered : List JudgedWish) (failed : Option JudgedWish) (q p : KnownPass) (b : Ledger)
-    (d d' : Desk)
-    → ((w : Wish) → TurnsInVain w q p → MayWantMemory b.history w)
-    → EndsAs TakesTurns TurnsInVain ending n came text answered failed q p d d' → EndsAs Replays StaysInVain ending n came text answered failed b b d d'
-ends_alike ending n came text answered (Some failed) q p b d d' vain e = e
-ends_alike endings.Clean n came text answered None q p b d d' vain e = e
-ends_alike endings.Cut n came text answered None q p b d d' vain e = e
-ends_alike (endings.Closed whys.Asked) n came text answered None q p b d d' vain e = e
-ends_alike (endings.Closed (whys.Refused why)) n came text answered None q p b d d' vain e = e
-ends_alike endings.ReadFault n came text answered None q p b d d' vain e = e
-ends_alike endings.WriteFault n came text answered None q p b d d' vain e = e
-ends_alike endings.ClockFault n came text answered None q p b d d' vain e = e
-ends_alike endings.OutOfMemory n came text answered None q p b d d' vain e =
-    (e.0, e.1, e.2, lacks_alike e.2 q p b e.0 vain e.3, e.4, e.5, e.6)
+  pub ends_alike : (ending : Ending) (n : ℕ) (came text : List ℕ) (answered : List JudgedWish) (failed : Option JudgedWish) (q p : KnownPass K) (b : Ledger)
+      (d d' : Desk)
+      → ((w : Wish) → TurnsInVain tries w q p → MayWantMemory b.history w)
+      → EndsAs (TakesTurns tries) (TurnsInVain tries) ending n came text answered failed q p d d' → EndsAs Replays StaysInVain ending n came text answered failed b b d d'
+  ends_alike ending n came text answered (Some failed) q p b d d' vain e = e
+  ends_alike endings.Clean n came text answered None q p b d d' vain e = e
+  ends_alike endings.Cut n came text answered None q p b d d' vain e = e
+  ends_alike (endings.Closed whys.Asked) n came text answered None q p b d d' vain e = e
+  ends_alike (endings.Closed (whys.Refused why)) n came text answered None q p b d d' vain e = e
+  ends_alike endings.ReadFault n came text answered None q p b d d' vain e = e
+  ends_alike endings.WriteFault n came text answered None q p b d d' vain e = e
+  ends_alike endings.ClockFault n came text answered None q p b d d' vain e = e
+  ends_alike endings.OutOfMemory n came text answered None q p b d d' vain e =
+      (e.0, e.1, e.2, lacks_alike e.2 q p b e.0 vain e.3, e.4, e.5, e.6)
 
 -- a ledger stays behind the turns of the wishes
 pub ledger_stays : (ending : Ending) (n : ℕ) (came text : List ℕ) (answered : List JudgedWish) (failed : Option JudgedWish) (b b' : Ledger) (d d' : Desk)
@@ -88,34 +91,35 @@ replayed_whole left ending b w w' c =
     subst (λ (x : Ledger). Replays (c.answered ++ listed c.failed) w.state x)
     (sym (ledger_stays ending 0 c.came b c.answered c.failed c.judged w'.state w.desk w'.desk c.settled c.ends)) c.turns
 
--- On the one pass of a lock that is closed, ConnectionInHistory is ConnectionBytes, from the first ledger to the last.
-module _ {T S Root : Type 0} (list : T → List Stamped) (faults : T → ℕ) (root : T → Root) (first x : T) (left : S → Option (List ℕ)) (gives : S → S → List ℕ → Type 0)
-    (ending : Ending)
-    (p p' : KnownPass) (source source' : S) (f f' : ℕ) (d d' : Desk) where
-  -- the world about the pass, and about the ledger
-  abbrev in_history : KnownPass → S → ℕ → Desk → World KnownPass S
-  in_history state source f d = record { state = state; source = source; read_faults = f; desk = d }
+-- the world about a pass
+abbrev pub in_history : {K S : Type 0} → KnownPass K → S → ℕ → Desk → World (KnownPass K) S
+in_history state source f d = record { state = state; source = source; read_faults = f; desk = d }
 
-  abbrev on_ledger : T → S → ℕ → Desk → World Ledger S
+-- On the one pass of a lock that is closed, ConnectionInHistory is ConnectionBytes, from the first ledger to the last.
+module _ {K S Root : Type 0} (tries : Tries K) (list : SeenBook K → List Stamped) (faults : SeenBook K → ℕ) (root : SeenBook K → Root) (first x : SeenBook K) (left : S → Option (List ℕ)) (gives : S → S → List ℕ → Type 0)
+    (ending : Ending)
+    (p p' : KnownPass K) (source source' : S) (f f' : ℕ) (d d' : Desk) where
+  -- the world about the ledger
+  abbrev on_ledger : SeenBook K → S → ℕ → Desk → World Ledger S
   on_ledger x source f d = record { state = record { history = list x; faults = faults x }; source = source; read_faults = f; desk = d }
 
-  pub bytes-closed : p.seen ≡ list first → p.mine ≡ [] → Closes list faults root first p' x
-      → ConnectionInHistory left gives ending 0 [] (in_history p source f d) (in_history p' source' f' d')
+  unfoldable pub bytes-closed : p.seen ≡ list first → p.mine ≡ [] → Closes list faults root first p' x
+      → ConnectionInHistory tries left gives ending 0 [] (in_history p source f d) (in_history p' source' f' d')
       → ConnectionBytes left gives ending 0 [] (on_ledger first source f d) (on_ledger x source' f' d')
   bytes-closed opens bare closes c =
       let b : Ledger = record { history = list x; faults = faults x } in
-      let behind = stays_behind ending 0 ([] ++ c.got) ([] ++ c.got) c.answered c.failed c.judged p' d d' c.settled c.ends in
-      let vain : (w : Wish) → TurnsInVain w c.judged p' → MayWantMemory (list x) w = λ w v.
-      subst (λ (H : History). MayWantMemory H w) (sym (ap (λ (y : KnownPass). y.seen) v.turn) ∙ sym closes.stands) v.wants in
+      let behind = stays_behind tries ending 0 ([] ++ c.got) ([] ++ c.got) c.answered c.failed c.judged p' d d' c.settled c.ends in
+      let vain : (w : Wish) → TurnsInVain tries w c.judged p' → MayWantMemory (list x) w = λ w v.
+      subst (λ (H : History). MayWantMemory H w) (sym (ap (λ (y : KnownPass K). y.seen) v.turn) ∙ sym closes.stands) v.wants in
       record {
         got = c.got;
         given = c.given;
         answered = c.answered;
         failed = c.failed;
         judged = b;
-        turns = replays-closed list faults root first x p c.judged p' opens bare closes behind (c.answered ++ listed c.failed) c.turns;
+        turns = replays-closed tries list faults root first x p c.judged p' opens bare closes behind (c.answered ++ listed c.failed) c.turns;
         settled = no_turns ending b b refl;
-        ends = ends_alike ending 0 ([] ++ c.got) ([] ++ c.got) c.answered c.failed c.judged p' b d d' vain c.ends;
+        ends = ends_alike tries ending 0 ([] ++ c.got) ([] ++ c.got) c.answered c.failed c.judged p' b d d' vain c.ends;
         ended = c.ended;
         counts = c.counts;
         needed = c.needed;

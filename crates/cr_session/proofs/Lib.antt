@@ -7,6 +7,9 @@ pub mod Turns
 pub mod Passes
 pub mod Alone
 pub mod Endings
+pub mod StopLaws
+pub mod Stops
+pub mod TryLaws
 pub mod TurnLaws
 pub mod Accepting
 pub mod Repeating

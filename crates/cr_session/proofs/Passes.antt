@@ -9,10 +9,10 @@ use Rattle.cr_base.specs.Drawn.{Drawn}
 use Rattle.cr_lock.specs.declared.pass_state.Turn.{Turn}
 use Rattle.cr_lock.specs.Counts.{has_risen, last_count}
 use Rattle.cr_lock.specs.Turns.{turn_at, marks}
-use Rattle.cr_lock.specs.Passes.{after_turn}
 use Rattle.cr_lock.proofs.Prefixes.{prefix_self}
 use Rattle.cr_session.specs.Told.{drawn, and_drawn}
 use Rattle.cr_session.specs.Replay.{JudgedWish, CountsLoss, history_after, lost_count}
+use Rattle.cr_session.specs.Tries.{Tries}
 use Rattle.cr_session.specs.Passing.{KnownPass, TakesTurn, TakesTurns, StaysPass}
 
 -- ---- what a turn adds
@@ -32,33 +32,28 @@ after-begins j = after-drawn j.lost j.seen (drawn j.seen j.wish)
 
 -- ---- turns behind turns
 
--- one wish was judged
-pub takes-one : (j : JudgedWish) (p q : KnownPass) → TakesTurn j p q → TakesTurns (j ∷ []) p q
-takes-one j p q turn = (q, turn, refl)
+module _ {K : Type 0} (tries : Tries K) where
+  -- one wish was judged
+  pub takes-one : (j : JudgedWish) (p q : KnownPass K) → TakesTurn tries j p q → TakesTurns tries (j ∷ []) p q
+  takes-one j p q turn = (q, turn, refl)
 
--- what was judged then, behind what was judged before
-pub takes-append : (js ks : List JudgedWish) (p q r : KnownPass) → TakesTurns js p q → TakesTurns ks q r → TakesTurns (js ++ ks) p r
-takes-append [] ks p q r first then = subst (λ (x : KnownPass). TakesTurns ks x r) first then
-takes-append (j ∷ js) ks p q r first then = (first.0, first.1, takes-append js ks first.0 q r first.2 then)
+  -- what was judged then, behind what was judged before
+  pub takes-append : (js ks : List JudgedWish) (p q r : KnownPass K) → TakesTurns tries js p q → TakesTurns tries ks q r → TakesTurns tries (js ++ ks) p r
+  takes-append [] ks p q r first then = subst (λ (x : KnownPass K). TakesTurns tries ks x r) first then
+  takes-append (j ∷ js) ks p q r first then = (first.0, first.1, takes-append js ks first.0 q r first.2 then)
 
 -- ---- the pass stays
 
-pub stays-now : (p : KnownPass) → StaysPass 0 p p
-stays-now p = record { lock = refl; share = refl; few = omega arith }
+module _ {K : Type 0} where
+  pub stays-now : (p : KnownPass K) → StaysPass 0 p p
+  stays-now p = record { lock = refl; share = refl; few = omega arith }
 
-pub stays-turn : (p p' : KnownPass) (H H' : History) (f g : ℕ) → p' ≡ after_turn p H H' f g → StaysPass 1 p p'
-stays-turn p p' H H' f g is = record {
-  lock = ap (λ (x : KnownPass). x.lock) is;
-  share = ap (λ (x : KnownPass). x.share) is;
-  few = (let t = ap (λ (x : KnownPass). x.turns) is in omega (arith, t));
-}
-
-pub stays-then : (m n : ℕ) (p q r : KnownPass) → StaysPass m p q → StaysPass n q r → StaysPass (m + n) p r
-stays-then m n p q r x y = record {
-  lock = y.lock ∙ x.lock;
-  share = y.share ∙ x.share;
-  few = (let a = x.few in let b = y.few in omega (arith, a, b));
-}
+  pub stays-then : (m n : ℕ) (p q r : KnownPass K) → StaysPass m p q → StaysPass n q r → StaysPass (m + n) p r
+  stays-then m n p q r x y = record {
+    lock = y.lock ∙ x.lock;
+    share = y.share ∙ x.share;
+    few = (let a = x.few in let b = y.few in omega (arith, a, b));
+  }
 
 -- ---- marks
 
@@ -79,17 +74,18 @@ pub marks-snoc : (ts : List (Turn Stamped)) (t : Turn Stamped) → marks (ts ++ 
 marks-snoc [] t = omega arith
 marks-snoc (u ∷ us) t = let i = marks-snoc us t in omega (arith, i)
 
-marks-turn : (j : JudgedWish) (p q : KnownPass) → TakesTurn j p q → marks p.mine + cond j.lost 1 0 ≤ marks q.mine
-marks-turn j p q t =
-    let n = ap (λ (x : KnownPass). marks x.mine) t.turn ∙ marks-snoc p.mine
-    (turn_at (length j.seen) (drop (length j.seen) (history_after j)) t.faults t.faults') in
-    let m = marks-one j.lost t.faults t.faults' t.counted in
-    omega (arith, n, m)
+module _ {K : Type 0} (tries : Tries K) where
+  marks-turn : (j : JudgedWish) (p q : KnownPass K) → TakesTurn tries j p q → marks p.mine + cond j.lost 1 0 ≤ marks q.mine
+  marks-turn j p q t =
+      let n = ap (λ (x : KnownPass K). marks x.mine) t.turn ∙ marks-snoc p.mine
+      (turn_at (length j.seen) (drop (length j.seen) (history_after j)) t.faults t.faults') in
+      let m = marks-one j.lost t.faults t.faults' t.counted in
+      omega (arith, n, m)
 
--- at most as many are lost as there are marks more
-pub marked_losses : (js : List JudgedWish) (p q : KnownPass) → TakesTurns js p q → marks p.mine + lost_count js ≤ marks q.mine
-marked_losses [] p q r = let e = ap (λ (x : KnownPass). marks x.mine) r in omega (arith, e)
-marked_losses (j ∷ js) p q r =
-    let one = marks-turn j p r.0 r.1 in
-    let more = marked_losses js r.0 q r.2 in
-    omega (arith, one, more)
+  -- at most as many are lost as there are marks more
+  pub marked_losses : (js : List JudgedWish) (p q : KnownPass K) → TakesTurns tries js p q → marks p.mine + lost_count js ≤ marks q.mine
+  marked_losses [] p q r = let e = ap (λ (x : KnownPass K). marks x.mine) r in omega (arith, e)
+  marked_losses (j ∷ js) p q r =
+      let one = marks-turn j p r.0 r.1 in
+      let more = marked_losses js r.0 q r.2 in
+      omega (arith, one, more)

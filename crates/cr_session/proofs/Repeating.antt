@@ -12,7 +12,7 @@ use Rattle.cr_base.specs.declared.entry.Stamped.{Stamped}
 use Rattle.cr_base.specs.declared.reply.Receipt.{Receipt}
 use Rattle.cr_base.specs.declared.reply.Receipt.TheVariants as receipts
 use Rattle.cr_base.specs.declared.retry.RetryKey.{RetryKey}
-use Rattle.cr_base.specs.Calls.{BulkCall, stamp_by, call_of, bulk_by, maker_of}
+use Rattle.cr_base.specs.Calls.{BulkCall, call_of, bulk_by, maker_of}
 use Rattle.cr_base.specs.Drawn.{Drawn, grouped}
 use Rattle.cr_base.specs.History.{History}
 use Rattle.cr_base.specs.Keys.{has_number, kept_under}

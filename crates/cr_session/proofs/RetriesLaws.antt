@@ -1,5 +1,5 @@
 -- A wish that repeats an act adds nothing, and is told what the act's group tells. So without the repeats all ends the same.
-use Rattle.std.proofs.Common.{ℕ, Bool, true, false, cond, ◌≡◌, ◌&&◌, List, [], ◌∷◌, ◌++◌, length, eqb, refl, sym, ap, subst, ◌∙◌, append-nil, Option, Some, None}
+use Rattle.std.proofs.Common.{ℕ, Bool, true, false, cond, ◌≡◌, List, [], ◌∷◌, ◌++◌, length, eqb, refl, sym, ap, subst, ◌∙◌, append-nil, Option, Some, None}
 use Rattle.std.specs.Prelude.{IfSome, find, is_none, not}
 use Rattle.std.specs.List.{All}
 use Rattle.std.specs.Option.{option_map}

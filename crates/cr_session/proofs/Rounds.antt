@@ -17,6 +17,7 @@ use Rattle.cr_session.specs.declared.serve.Why.TheVariants as whys
 use Rattle.cr_session.specs.Reading.{ReadsWish, StandsWish}
 use Rattle.cr_base.specs.Lists.{listed}
 use Rattle.cr_session.specs.Replay.{JudgedWish, answer_to, wishes_of}
+use Rattle.cr_session.specs.Tries.{Tries}
 use Rattle.cr_session.specs.Passing.{KnownPass, TakesTurns}
 use Rattle.cr_session.specs.Answering.{ClockState, Desk, GivesMoments, FailsBehind}
 use Rattle.cr_session.specs.Serving.{World, ConnectionInHistory, GoesOnInHistory, WritesRefusal, NotesNoMemory, EndsAs, EndsSource, CountsReads}
@@ -63,18 +64,18 @@ spells-none n text end s = record { requests = []; wish = tt; spells = s }
 to_wish : (text : List ℕ) (w : Wish) (rest : List ℕ) → StandsWish text w rest → IsToHead text w.is_head
 to_wish text w rest s = to_head_of text (whole s.request.head s.request.body rest) w.is_head s.stands (ap (λ (x : Wish). x.is_head) s.wish)
 
-module _ {S : Type 0} (left : S → Option (List ℕ)) (gives : S → S → List ℕ → Type 0) where
+module _ {K S : Type 0} (tries : Tries K) (left : S → Option (List ℕ)) (gives : S → S → List ℕ → Type 0) where
   -- ---- a whole request
 
-  pub round_goes : (n : ℕ) (wish : Wish) (i i' : List ℕ) (w w' : World KnownPass S) → ReadsWish left gives w.source w'.source i i' (reads.Wish wish)
-      → GivesMoments (wish.at ∷ []) w.desk.clock w'.desk.clock → ServesRequest served.Goes n wish w.state w'.state w.desk.sink w'.desk.sink
-      → w'.read_faults ≡ w.read_faults → GoesOnInHistory left gives 1 n i i' w w'
+  pub round_goes : (n : ℕ) (wish : Wish) (i i' : List ℕ) (w w' : World (KnownPass K) S) → ReadsWish left gives w.source w'.source i i' (reads.Wish wish)
+      → GivesMoments (wish.at ∷ []) w.desk.clock w'.desk.clock → ServesRequest tries served.Goes n wish w.state w'.state w.desk.sink w'.desk.sink
+      → w'.read_faults ≡ w.read_faults → GoesOnInHistory tries left gives 1 n i i' w w'
   round_goes n wish i i' w w' x timed y counts = record {
     got = x.got;
     given = x.given;
     answered = y.0.judged ∷ [];
     counted = refl;
-    turns = takes-one y.0.judged w.state w'.state y.0.turned;
+    turns = takes-one tries y.0.judged w.state w'.state y.0.turned;
     reaches = record {
       requests = x.says.request ∷ [];
       wish = one_wish y.0.judged wish x.says.request y.0.wish x.says.wish;
@@ -85,16 +86,16 @@ module _ {S : Type 0} (left : S → Option (List ℕ)) (gives : S → S → List
     needed = no_further-one left gives n (y.0.judged ∷ []) w.source w'.source i (i ++ x.got) x.needed;
   }
 
-  pub round_closes : (n : ℕ) (wish : Wish) (i i' : List ℕ) (w w' : World KnownPass S) → ReadsWish left gives w.source w'.source i i' (reads.Wish wish)
-      → GivesMoments (wish.at ∷ []) w.desk.clock w'.desk.clock → ServesRequest served.Closes n wish w.state w'.state w.desk.sink w'.desk.sink
-      → w'.read_faults ≡ w.read_faults → ConnectionInHistory left gives (endings.Closed whys.Asked) n i w w'
+  pub round_closes : (n : ℕ) (wish : Wish) (i i' : List ℕ) (w w' : World (KnownPass K) S) → ReadsWish left gives w.source w'.source i i' (reads.Wish wish)
+      → GivesMoments (wish.at ∷ []) w.desk.clock w'.desk.clock → ServesRequest tries served.Closes n wish w.state w'.state w.desk.sink w'.desk.sink
+      → w'.read_faults ≡ w.read_faults → ConnectionInHistory tries left gives (endings.Closed whys.Asked) n i w w'
   round_closes n wish i i' w w' x timed y counts = record {
     got = x.got;
     given = x.given;
     answered = y.0.judged ∷ [];
     failed = None;
     judged = w'.state;
-    turns = takes-one y.0.judged w.state w'.state y.0.turned;
+    turns = takes-one tries y.0.judged w.state w'.state y.0.turned;
     settled = refl;
     ends = (
       record {
@@ -109,16 +110,16 @@ module _ {S : Type 0} (left : S → Option (List ℕ)) (gives : S → S → List
     needed = no_further-one left gives n (y.0.judged ∷ []) w.source w'.source i (i ++ x.got) x.needed;
   }
 
-  pub round_write_fault : (n : ℕ) (wish : Wish) (i i' : List ℕ) (w w' : World KnownPass S) → ReadsWish left gives w.source w'.source i i' (reads.Wish wish)
-      → GivesMoments (wish.at ∷ []) w.desk.clock w'.desk.clock → ServesRequest served.WriteFault n wish w.state w'.state w.desk.sink w'.desk.sink
-      → w'.read_faults ≡ w.read_faults → ConnectionInHistory left gives endings.WriteFault n i w w'
+  pub round_write_fault : (n : ℕ) (wish : Wish) (i i' : List ℕ) (w w' : World (KnownPass K) S) → ReadsWish left gives w.source w'.source i i' (reads.Wish wish)
+      → GivesMoments (wish.at ∷ []) w.desk.clock w'.desk.clock → ServesRequest tries served.WriteFault n wish w.state w'.state w.desk.sink w'.desk.sink
+      → w'.read_faults ≡ w.read_faults → ConnectionInHistory tries left gives endings.WriteFault n i w w'
   round_write_fault n wish i i' w w' x timed y counts = record {
     got = x.got;
     given = x.given;
     answered = [];
     failed = Some y.0.judged;
     judged = w'.state;
-    turns = takes-one y.0.judged w.state w'.state y.0.turned;
+    turns = takes-one tries y.0.judged w.state w'.state y.0.turned;
     settled = refl;
     ends = (
       refl,
@@ -140,32 +141,32 @@ module _ {S : Type 0} (left : S → Option (List ℕ)) (gives : S → S → List
   -- ---- no memory
 
   -- a request was read, and memory ran out in its turn
-  pub round_no_memory : (ending : Ending) (n : ℕ) (wish : Wish) (i i' : List ℕ) (w w' : World KnownPass S) (desk : Desk) → ending ≡ endings.OutOfMemory
+  pub round_no_memory : (ending : Ending) (n : ℕ) (wish : Wish) (i i' : List ℕ) (w w' : World (KnownPass K) S) (desk : Desk) → ending ≡ endings.OutOfMemory
       → ReadsWish left gives w.source w'.source i i' (reads.Wish wish) → GivesMoments (wish.at ∷ []) w.desk.clock desk.clock
-      → ServesRequest served.OutOfMemory n wish w.state w'.state w.desk.sink desk.sink → NotesNoMemory (Some wish.at) wish.is_head desk w'.desk
-      → w'.read_faults ≡ w.read_faults → ConnectionInHistory left gives ending n i w w'
+      → ServesRequest tries served.OutOfMemory n wish w.state w'.state w.desk.sink desk.sink → NotesNoMemory (Some wish.at) wish.is_head desk w'.desk
+      → w'.read_faults ≡ w.read_faults → ConnectionInHistory tries left gives ending n i w w'
   round_no_memory ending n wish i i' w w' desk is x timed y notes counts =
-      no_memory TakesTurns TurnsInVain (λ p. refl) left gives ending n i x.got (Some wish.at) wish.is_head w w' is
+      no_memory (TakesTurns tries) (TurnsInVain tries) (λ p. refl) left gives ending n i x.got (Some wish.at) wish.is_head w w' is
       (to_wish (i ++ x.got) wish i' x.says) (inr (wish, i', x.says, refl, y.1))
       x.given (noted-read (Some wish.at) wish.is_head w.desk desk w'.desk y.0 timed notes) counts
       (no_further-one left gives n [] w.source w'.source i (i ++ x.got) x.needed)
 
   -- memory ran out in reading
-  pub round_unread : (ending : Ending) (n : ℕ) (head : Bool) (read : Option ℕ) (i i' : List ℕ) (w w' : World KnownPass S) (desk : Desk)
+  pub round_unread : (ending : Ending) (n : ℕ) (head : Bool) (read : Option ℕ) (i i' : List ℕ) (w w' : World (KnownPass K) S) (desk : Desk)
       → ending ≡ endings.OutOfMemory → ReadsWish left gives w.source w'.source i i' (reads.OutOfMemory head read)
       → GivesMoments (listed read) w.desk.clock desk.clock → desk.sink ≡ w.desk.sink → w'.state ≡ w.state
-      → NotesNoMemory read head desk w'.desk → w'.read_faults ≡ w.read_faults → ConnectionInHistory left gives ending n i w w'
+      → NotesNoMemory read head desk w'.desk → w'.read_faults ≡ w.read_faults → ConnectionInHistory tries left gives ending n i w w'
   round_unread ending n head read i i' w w' desk is x timed unwritten same notes counts =
-      no_memory TakesTurns TurnsInVain (λ p. refl) left gives ending n i x.got read head w w' is x.says.0 (inl (x.says.1, same)) x.given
+      no_memory (TakesTurns tries) (TurnsInVain tries) (λ p. refl) left gives ending n i x.got read head w w' is x.says.0 (inl (x.says.1, same)) x.given
       (noted-read read head w.desk desk w'.desk unwritten timed notes) counts
       (no_further-one left gives n [] w.source w'.source i (i ++ x.got) x.needed)
 
   -- ---- no request
 
   -- no wish was judged: what stands there, or a fault, ended the connection
-  unanswered : (ending : Ending) (n : ℕ) (i i' : List ℕ) (w w' : World KnownPass S) (read : WishRead) (x : ReadsWish left gives w.source w'.source i i' read)
-      → EndsAs TakesTurns TurnsInVain ending n (i ++ x.got) (i ++ x.got) [] None w.state w'.state w.desk w'.desk → EndsSource ending (left w'.source)
-      → CountsReads ending w.read_faults w'.read_faults → w'.state ≡ w.state → ConnectionInHistory left gives ending n i w w'
+  unanswered : (ending : Ending) (n : ℕ) (i i' : List ℕ) (w w' : World (KnownPass K) S) (read : WishRead) (x : ReadsWish left gives w.source w'.source i i' read)
+      → EndsAs (TakesTurns tries) (TurnsInVain tries) ending n (i ++ x.got) (i ++ x.got) [] None w.state w'.state w.desk w'.desk → EndsSource ending (left w'.source)
+      → CountsReads ending w.read_faults w'.read_faults → w'.state ≡ w.state → ConnectionInHistory tries left gives ending n i w w'
   unanswered ending n i i' w w' read x ends ended counts same = record {
     got = x.got;
     given = x.given;
@@ -180,10 +181,10 @@ module _ {S : Type 0} (left : S → Option (List ℕ)) (gives : S → S → List
     needed = no_further-one left gives n [] w.source w'.source i (i ++ x.got) x.needed;
   }
 
-  pub round_refused : (ending : Ending) (n : ℕ) (why : Refusal) (head : Bool) (at : ℕ) (i i' : List ℕ) (w w' : World KnownPass S)
+  pub round_refused : (ending : Ending) (n : ℕ) (why : Refusal) (head : Bool) (at : ℕ) (i i' : List ℕ) (w w' : World (KnownPass K) S)
       → ReadsWish left gives w.source w'.source i i' (reads.Malformed why head at) → GivesMoments (at ∷ []) w.desk.clock w'.desk.clock
       → WritesRefusal ending why head at w.desk.sink w'.desk.sink → w'.state ≡ w.state → w'.read_faults ≡ w.read_faults
-      → ConnectionInHistory left gives ending n i w w'
+      → ConnectionInHistory tries left gives ending n i w w'
   round_refused endings.Clean n why head at i i' w w' x timed y same counts = absurd y
   round_refused endings.Cut n why head at i i' w w' x timed y same counts = absurd y
   round_refused endings.ReadFault n why head at i i' w w' x timed y same counts = absurd y
@@ -206,25 +207,25 @@ module _ {S : Type 0} (left : S → Option (List ℕ)) (gives : S → S → List
       (why, head, at, spells-none n (i ++ x.got) (closed why head) (refused why head, x.says, refl), record { timed = timed; broken = y })
       tt counts same
 
-  pub round_cut : (n : ℕ) (i i' : List ℕ) (w w' : World KnownPass S) → ReadsWish left gives w.source w'.source i i' reads.Cut
+  pub round_cut : (n : ℕ) (i i' : List ℕ) (w w' : World (KnownPass K) S) → ReadsWish left gives w.source w'.source i i' reads.Cut
       → GivesMoments [] w.desk.clock w'.desk.clock → w'.state ≡ w.state → w'.desk.sink ≡ w.desk.sink
-      → w'.read_faults ≡ w.read_faults → ConnectionInHistory left gives endings.Cut n i w w'
+      → w'.read_faults ≡ w.read_faults → ConnectionInHistory tries left gives endings.Cut n i w w'
   round_cut n i i' w w' x timed same sink counts =
       unanswered endings.Cut n i i' w w' reads.Cut x
       (spells-none n (i ++ x.got) ended_cut (cut, x.says, refl), gives-none w.desk w'.desk sink timed)
       x.ended counts same
 
-  pub round_clean : (n : ℕ) (i i' : List ℕ) (w w' : World KnownPass S) → ReadsWish left gives w.source w'.source i i' reads.Clean
+  pub round_clean : (n : ℕ) (i i' : List ℕ) (w w' : World (KnownPass K) S) → ReadsWish left gives w.source w'.source i i' reads.Clean
       → GivesMoments [] w.desk.clock w'.desk.clock → w'.state ≡ w.state → w'.desk.sink ≡ w.desk.sink
-      → w'.read_faults ≡ w.read_faults → ConnectionInHistory left gives endings.Clean n i w w'
+      → w'.read_faults ≡ w.read_faults → ConnectionInHistory tries left gives endings.Clean n i w w'
   round_clean n i i' w w' x timed same sink counts =
       unanswered endings.Clean n i i' w w' reads.Clean x
       (spells-none n (i ++ x.got) ended_clean (clean, x.says, refl), gives-none w.desk w'.desk sink timed)
       x.ended counts same
 
-  pub round_read_fault : (n : ℕ) (i i' : List ℕ) (w w' : World KnownPass S) → ReadsWish left gives w.source w'.source i i' reads.ReadFault
+  pub round_read_fault : (n : ℕ) (i i' : List ℕ) (w w' : World (KnownPass K) S) → ReadsWish left gives w.source w'.source i i' reads.ReadFault
       → GivesMoments [] w.desk.clock w'.desk.clock → CountsReads endings.ReadFault w.read_faults w'.read_faults
-      → w'.state ≡ w.state → w'.desk.sink ≡ w.desk.sink → ConnectionInHistory left gives endings.ReadFault n i w w'
+      → w'.state ≡ w.state → w'.desk.sink ≡ w.desk.sink → ConnectionInHistory tries left gives endings.ReadFault n i w w'
   round_read_fault n i i' w w' x timed rises same sink =
       unanswered endings.ReadFault n i i' w w' reads.ReadFault x (which x.says, gives-none w.desk w'.desk sink timed) tt rises same
     where
@@ -232,9 +233,9 @@ module _ {S : Type 0} (left : S → Option (List ℕ)) (gives : S → S → List
       which (inl is) = inl (spells-none n (i ++ x.got) ended_clean (clean, is, refl))
       which (inr is) = inr (spells-none n (i ++ x.got) ended_cut (cut, is, refl))
 
-  pub round_clock_fault : (n : ℕ) (i i' : List ℕ) (w w' : World KnownPass S) → ReadsWish left gives w.source w'.source i i' reads.ClockFault
+  pub round_clock_fault : (n : ℕ) (i i' : List ℕ) (w w' : World (KnownPass K) S) → ReadsWish left gives w.source w'.source i i' reads.ClockFault
       → FailsBehind [] w.desk.clock w'.desk.clock → w'.state ≡ w.state → w'.desk.sink ≡ w.desk.sink
-      → w'.read_faults ≡ w.read_faults → ConnectionInHistory left gives endings.ClockFault n i w w'
+      → w'.read_faults ≡ w.read_faults → ConnectionInHistory tries left gives endings.ClockFault n i w w'
   round_clock_fault n i i' w w' x failed same sink counts =
       unanswered endings.ClockFault n i i' w w' reads.ClockFault x (
         i ++ x.got,
@@ -246,7 +247,7 @@ module _ {S : Type 0} (left : S → Option (List ℕ)) (gives : S → S → List
 
   -- ---- the last request that may come closes
 
-  pub not_last : (n : ℕ) (i i' : List ℕ) (w w' : World KnownPass S) → GoesOnInHistory left gives 1 n i i' w w' → n ≡ 1048575 → ⊥
+  pub not_last : (n : ℕ) (i i' : List ℕ) (w w' : World (KnownPass K) S) → GoesOnInHistory tries left gives 1 n i i' w w' → n ≡ 1048575 → ⊥
   not_last n i i' w w' x last = one x.answered x.reaches.requests x.counted x.reaches.wish x.reaches.reaches
     where
       or_true : (p q : Bool) → q ≡ true → p || q ≡ false → ⊥

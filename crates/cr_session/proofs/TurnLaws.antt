@@ -1,5 +1,5 @@
 -- What one turn does is what Told and Step say.
-use Rattle.std.proofs.Common.{◌≡◌, ◌∙◌, ℕ, Bool, List, true, false, cond, Option, Some, None, Ok, Err, refl, sym, ap, subst, append-nil, IsSome, [], ◌++◌, ◌≤◌, arith}
+use Rattle.std.proofs.Common.{◌≡◌, ◌∙◌, ℕ, Bool, List, true, false, cond, Option, Some, None, Ok, Err, refl, sym, ap, subst, append-nil, IsSome, [], ◌≤◌, arith}
 use mathlib.Core.List.{IsPrefix}
 use Rattle.std.proofs.lemmas.Bool.{true≢false}
 use Rattle.cr_base.specs.declared.command.Command.TheVariants.{Register, Tag}
@@ -97,6 +97,12 @@ unauthorized w b u by is =
       stepped = sym (ap (λ t. and_drawn old (cond t None (drawn_of (caller old w) (view (caller old w) old) w.at w.what))) now);
       steady = refl;
     }
+
+-- and nothing is drawn then
+pub unauthorized-draws : (w : Wish) (H : History) (u : Option ℕ) → u ≡ caller H w → is_unauthorized u (view u H) w.what ≡ true → drawn H w ≡ None
+unfolding drawn
+unauthorized-draws w H u by is =
+    ap (λ t. cond t None (drawn_of (caller H w) (view (caller H w) H) w.at w.what)) (ap (λ v. is_unauthorized v (view v H) w.what) (sym by) ∙ is)
 
 -- ---- what is no command and no query
 

@@ -3,9 +3,11 @@ pub mod Answering
 pub mod TwoRuns
 pub mod HiddenBytes
 pub mod Replay
+pub mod Tries
 pub mod Passing
 pub mod Wishes
 pub mod Turning
 pub mod Retries
 pub mod Reading
 pub mod Serving
+pub mod Stopping

@@ -3,18 +3,20 @@
 use Rattle.std.specs.Prelude.{ℕ, ◌≡◌, ◌≤◌, ◌+◌, List, [], ◌∷◌, IsSome, MatchBool}
 use mathlib.Core.List.{IsPrefix}
 use Rattle.cr_base.specs.declared.entry.Stamped.{Stamped}
-use Rattle.cr_lock.specs.Passes.{Known, after_turn}
+use Rattle.cr_book.specs.Seen.{SeenBook}
+use Rattle.cr_lock.specs.Passes.{Known, IsAsLeft, after_turn}
 use Rattle.cr_session.specs.Told.{drawn}
 use Rattle.cr_session.specs.Replay.{JudgedWish, CountsLoss, history_after}
+use Rattle.cr_session.specs.Tries.{Tries, TriesWish}
 
--- what a pass of a book's lock knows
-abbrev pub KnownPass : Type 0
-KnownPass = Known Stamped
+-- what a pass of the lock of a book over such a keeper knows
+abbrev pub KnownPass : Type 0 → Type 0
+KnownPass K = Known (SeenBook K) Stamped
 
 -- A wish was judged in one turn of the pass. The turn's group is what the wish adds to the history at the turn's
 -- place, and nothing where that was lost. It is marked where something was lost, and elsewhere only where the keeper's
--- count of faults stands at its last value.
-pub record TakesTurn (j : JudgedWish) (p p' : KnownPass) : Type 0 where
+-- count of faults stands at its last value. The book is the one that the pass left, where it has the whole share.
+pub record TakesTurn {K : Type 0} (tries : Tries K) (j : JudgedWish) (p p' : KnownPass K) : Type 0 where
   -- the history at the turn's place holds all that the pass had seen
   pub saw : IsPrefix p.seen j.seen
   -- only what Judge accepts can be lost
@@ -23,15 +25,21 @@ pub record TakesTurn (j : JudgedWish) (p p' : KnownPass) : Type 0 where
   pub faults : ℕ
   pub faults' : ℕ
   pub counted : CountsLoss j.lost faults faults'
-  pub turn : p' ≡ after_turn p j.seen (history_after j) faults faults'
+  -- the book as the turn found it, and as it left it
+  pub found : SeenBook K
+  pub leaves : SeenBook K
+  pub as_left : IsAsLeft p found
+  pub tried : TriesWish tries j found.keeper leaves.keeper
+  pub turn : p' ≡ after_turn p leaves j.seen (history_after j) faults faults'
 
 -- a turn for each of the wishes, in order, and no other turn of this pass
-abbrev pub TakesTurns : List JudgedWish → KnownPass → KnownPass → Type 0
-TakesTurns [] p p' = p' ≡ p
-TakesTurns (j ∷ js) p p' = (next : KnownPass) × TakesTurn j p next × TakesTurns js next p'
+abbrev pub TakesTurns : {K : Type 0} → Tries K → List JudgedWish → KnownPass K → KnownPass K → Type 0
+TakesTurns tries [] p p' = p' ≡ p
+TakesTurns {K} tries (j ∷ js) p p' =
+    (next : KnownPass K) × TakesTurn tries j p next × TakesTurns tries js next p'
 
 -- it is of the same lock and has the same share, and took so many turns at most
-pub record StaysPass (most : ℕ) (p p' : KnownPass) : Type 0 where
+pub record StaysPass {K : Type 0} (most : ℕ) (p p' : KnownPass K) : Type 0 where
   pub lock : p'.lock ≡ p.lock
   pub share : p'.share ≡ p.share
   pub few : p'.turns ≤ p.turns + most

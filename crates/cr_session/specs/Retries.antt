@@ -1,6 +1,6 @@
 -- RetriesActOnce: a command or a bulk that its caller sends again, with the number and the mark that it had, acts
 -- once. What was sent again could as well be left out: the history ends the same, and it is answered as the first was.
-use Rattle.std.specs.Prelude.{◌≡◌, ◌==◌, ◌&&◌, not, ℕ, List, [], ◌∷◌, ◌++◌, Bool, true, false}
+use Rattle.std.specs.Prelude.{◌≡◌, ◌==◌, ◌&&◌, not, List, [], ◌∷◌, ◌++◌, Bool, true, false}
 use Rattle.std.specs.Prelude.{Option, Some, None, is_none, IfSome, find}
 use Rattle.std.specs.List.{AllByRecursion}
 use Rattle.std.specs.Option.{option_map}

@@ -17,6 +17,7 @@ use Rattle.cr_session.specs.Reading.{StandsWish, MayWantToRead}
 use Rattle.cr_session.specs.Answering.{Answer, Desk, desk_of, GivesMoments, FailsBehind, GivesAnswers, AnswerFails}
 use Rattle.cr_session.specs.Answering.{ClockFails}
 use Rattle.cr_session.specs.Replay.{JudgedWish, Ledger, Replays, answers, answer_of, wishes_of}
+use Rattle.cr_session.specs.Tries.{Tries}
 use Rattle.cr_session.specs.Passing.{KnownPass, TakesTurns}
 use Rattle.cr_session.specs.Turning.{MayWantMemory, TurnsInVain}
 use Rattle.cr_session.specs.Wishes.{Spells, Begins, Reaches}
@@ -236,29 +237,25 @@ module _ {B : Type 0} (Judges : List JudgedWish → B → B → Type 0) (Lacks :
 
 -- ---- the turns of a pass: between them others may take theirs
 
-abbrev pub ConnectionInHistory : {S : Type 0} → (S → Option (List ℕ)) → (S → S → List ℕ → Type 0) → Ending → ℕ → List ℕ
-    → World KnownPass S → World KnownPass S
-    → Type 0
-ConnectionInHistory left gives ending n inbox w w' = Connection TakesTurns TurnsInVain left gives ending n inbox w w'
+module _ {K S : Type 0} (tries : Tries K) (left : S → Option (List ℕ)) where
+  -- the same of the whole text that the source had left
+  abbrev pub WholeInHistory : Ending → List ℕ → World (KnownPass K) S → World (KnownPass K) S → Type 0
+  WholeInHistory ending b w w' = WholeText (TakesTurns tries) (TurnsInVain tries) left ending b w w'
 
--- the same of the whole text that the source had left
-abbrev pub WholeInHistory : {S : Type 0} → (S → Option (List ℕ)) → Ending → List ℕ → World KnownPass S
-    → World KnownPass S → Type 0
-WholeInHistory left ending b w w' = WholeText TakesTurns TurnsInVain left ending b w w'
+  module _ (gives : S → S → List ℕ → Type 0) where
+    abbrev pub ConnectionInHistory : Ending → ℕ → List ℕ → World (KnownPass K) S → World (KnownPass K) S → Type 0
+    ConnectionInHistory ending n inbox w w' =
+        Connection (TakesTurns tries) (TurnsInVain tries) left gives ending n inbox w w'
 
--- up to a request that doesn't close
-abbrev pub GoesOnInHistory : {S : Type 0} → (S → Option (List ℕ)) → (S → S → List ℕ → Type 0) → ℕ → ℕ → List ℕ → List ℕ
-    → World KnownPass S → World KnownPass S
-    → Type 0
-GoesOnInHistory left gives count n inbox inbox' w w' =
-    GoesOn TakesTurns TurnsInVain left gives count n inbox inbox' w w'
+    -- up to a request that doesn't close
+    abbrev pub GoesOnInHistory : ℕ → ℕ → List ℕ → List ℕ → World (KnownPass K) S → World (KnownPass K) S → Type 0
+    GoesOnInHistory count n inbox inbox' w w' =
+        GoesOn (TakesTurns tries) (TurnsInVain tries) left gives count n inbox inbox' w w'
 
--- what one round of the loop did
-abbrev pub OneRound : {S : Type 0} → (S → Option (List ℕ)) → (S → S → List ℕ → Type 0) → Option Ending → ℕ → List ℕ
-    → List ℕ → World KnownPass S
-    → World KnownPass S → Type 0
-OneRound left gives None n inbox inbox' w w' = GoesOnInHistory left gives 1 n inbox inbox' w w'
-OneRound left gives (Some ending) n inbox inbox' w w' = ConnectionInHistory left gives ending n inbox w w'
+    -- what one round of the loop did
+    abbrev pub OneRound : Option Ending → ℕ → List ℕ → List ℕ → World (KnownPass K) S → World (KnownPass K) S → Type 0
+    OneRound None n inbox inbox' w w' = GoesOnInHistory 1 n inbox inbox' w w'
+    OneRound (Some ending) n inbox inbox' w w' = ConnectionInHistory ending n inbox w w'
 
 -- ---- turns on a ledger, one from where the other left it
 

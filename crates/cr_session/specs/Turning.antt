@@ -1,6 +1,6 @@
 -- What one turn and one request do.
 use mathlib.Core.List.{IsPrefix}
-use Rattle.std.specs.Prelude.{◌≡◌, ℕ, List, [], ◌∷◌, ◌++◌, Bool, true, false}
+use Rattle.std.specs.Prelude.{◌≡◌, ℕ, List, [], ◌∷◌, Bool, true, false}
 use Rattle.std.specs.Prelude.{Option, Some, None, IsSome, Err}
 use Rattle.cr_base.specs.declared.bulk.Broken.{Broken}
 use Rattle.cr_base.specs.declared.bulk.Broken.TheVariants as broken
@@ -10,6 +10,7 @@ use Rattle.cr_base.specs.declared.retry.RetryKey.{RetryKey}
 use Rattle.cr_base.specs.Answering.{MayTakeMemory}
 use Rattle.cr_base.specs.Calls.{call_of, bulk_by, maker_of}
 use Rattle.cr_base.specs.Moments.{IsMoment}
+use Rattle.cr_base.specs.Drawn.{Drawn}
 use Rattle.cr_base.specs.Retries.{Outcome, Judged, drawn_by}
 use Rattle.cr_policy.specs.Judge.{decide, decide_bulk, answer}
 use Rattle.cr_policy.specs.Legal.{IsBulkGiven}
@@ -31,8 +32,9 @@ use Rattle.cr_session.specs.declared.turn.TurnResult.TheVariants as turns
 use Rattle.cr_session.specs.declared.serve.RequestOutcome.{RequestOutcome}
 use Rattle.cr_session.specs.declared.serve.RequestOutcome.TheVariants as served
 use Rattle.cr_session.specs.Told.{sending_of, told, is_unauthorized, drawn, after_wish}
-use Rattle.cr_lock.specs.Passes.{after_turn}
+use Rattle.cr_lock.specs.Passes.{IsAsLeft, after_turn}
 use Rattle.cr_session.specs.Replay.{JudgedWish, Ledger, CountsLoss, answer_to, ledger_of}
+use Rattle.cr_session.specs.Tries.{Tries}
 use Rattle.cr_session.specs.Passing.{KnownPass, TakesTurn}
 use Rattle.cr_ports.specs.Writing.{Outlet, WritesAnswers, AnswerBreaksOff}
 use Rattle.cr_wire.specs.Wishes.{closes}
@@ -101,6 +103,15 @@ Turns (turns.Answered reply) w b b' =
 Turns turns.Lost w b b' = IsSome (drawn b.history w) × (b'.history ≡ b.history) × CountsLoss true b.faults b'.faults
 Turns turns.OutOfMemory w b b' = (b' ≡ b) × MayWantMemory b.history w
 
+-- What it did with the keeper, on this history, of what was drawn. Nothing was tried where memory ran out, nor for a
+-- query, for whose answer it may run out later.
+abbrev pub TurnTries : {K : Type 0} → Tries K → TurnResult → History → Option Drawn → K → K → Type 0
+TurnTries tries (turns.Refused refused) H d old new = tries false H d old new
+TurnTries tries (turns.Accepted receipt) H d old new = tries false H d old new
+TurnTries tries (turns.Answered reply) H d old new = tries false H d old new × tries true H None old new
+TurnTries tries turns.Lost H d old new = tries true H d old new
+TurnTries tries turns.OutOfMemory H d old new = tries true H None old new
+
 -- how what breaks a rule is refused
 abbrev pub refused_for : Broken → Refused
 refused_for (broken.Rule rule) = refused.Rule rule
@@ -159,27 +170,33 @@ Sends served.WriteFault close reply s s' = AnswerBreaksOff [] reply s s'
 Sends served.OutOfMemory close reply s s' = ⊥
 
 -- a wish was judged in one turn of the pass
-pub record JudgesInTurn (w : Wish) (p p' : KnownPass) : Type 0 where
+pub record JudgesInTurn {K : Type 0} (tries : Tries K) (w : Wish) (p p' : KnownPass K) : Type 0 where
   pub judged : JudgedWish
   pub wish : judged.wish ≡ w
-  pub turned : TakesTurn judged p p'
+  pub turned : TakesTurn tries judged p p'
 
--- memory ran out in the turn of a wish, at this history: nothing was added, and no count rose
-pub record TurnsInVain (w : Wish) (p p' : KnownPass) : Type 0 where
+-- memory ran out in the turn of a wish, at this history: nothing was added or tried, and no count rose
+pub record TurnsInVain {K : Type 0} (tries : Tries K) (w : Wish) (p p' : KnownPass K) : Type 0 where
   pub seen : History
   pub saw : IsPrefix p.seen seen
   pub wants : MayWantMemory seen w
   -- the keeper's count in this turn
   pub faults : ℕ
-  pub turn : p' ≡ after_turn p seen seen faults faults
+  -- the book as the turn found it, and as it left it
+  pub found : SeenBook K
+  pub leaves : SeenBook K
+  pub as_left : IsAsLeft p found
+  pub tried : tries true seen None found.keeper leaves.keeper
+  pub turn : p' ≡ after_turn p leaves seen seen faults faults
 
 -- what one request did, as number n: it was judged once and answered once, or its answer's write failed, or memory was
 -- wanting where it may be, and then nothing was added, begun or written
-abbrev pub ServesRequest : RequestOutcome → ℕ → Wish → KnownPass → KnownPass → Outlet → Outlet → Type 0
-ServesRequest served.Goes n w p p' s s' =
-    (j : JudgesInTurn w p p') × (closes n w ≡ false) × WritesAnswers (answer_to n j.judged ∷ []) s s'
-ServesRequest served.Closes n w p p' s s' =
-    (j : JudgesInTurn w p p') × (closes n w ≡ true) × WritesAnswers (answer_to n j.judged ∷ []) s s'
-ServesRequest served.WriteFault n w p p' s s' =
-    (j : JudgesInTurn w p p') × AnswerBreaksOff [] (answer_to n j.judged) s s'
-ServesRequest served.OutOfMemory n w p p' s s' = (s' ≡ s) × TurnsInVain w p p'
+abbrev pub ServesRequest : {K : Type 0} → Tries K → RequestOutcome → ℕ → Wish → KnownPass K → KnownPass K → Outlet
+    → Outlet → Type 0
+ServesRequest tries served.Goes n w p p' s s' =
+    (j : JudgesInTurn tries w p p') × (closes n w ≡ false) × WritesAnswers (answer_to n j.judged ∷ []) s s'
+ServesRequest tries served.Closes n w p p' s s' =
+    (j : JudgesInTurn tries w p p') × (closes n w ≡ true) × WritesAnswers (answer_to n j.judged ∷ []) s s'
+ServesRequest tries served.WriteFault n w p p' s s' =
+    (j : JudgesInTurn tries w p p') × AnswerBreaksOff [] (answer_to n j.judged) s s'
+ServesRequest tries served.OutOfMemory n w p p' s s' = (s' ≡ s) × TurnsInVain tries w p p'

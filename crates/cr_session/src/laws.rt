@@ -1,11 +1,14 @@
 //! Laws over the definitions alone.
 ghost use Rattle.std.specs.Prelude.{◌≡◌, ◌≤◌, ◌<◌, ◌+◌, ◌-◌, ◌^◌, List};
 ghost use Rattle.cr_lock.specs.Turns.{marks};
+ghost use Rattle.cr_session.specs.Tries.{tries_of};
 ghost use Rattle.cr_session.specs.Passing.{KnownPass, TakesTurns};
 ghost use Rattle.cr_session.specs.Replay.{JudgedWish, Ledger, Replays, lost_count};
 ghost use Rattle.cr_session.specs.HiddenBytes.{HiddenBytes};
 ghost use Rattle.cr_session.specs.Retries.{RetriesActOnce};
 ghost use Rattle.cr_session.specs.TwoRuns.{TwoRuns};
+
+use cr_ports::Keeper;
 
 /// Two runs that agree in a user's wishes, with their moments, and in what she sees at each of them agree in every byte
 /// that she is answered. A run opens with any history; whoever else may ask whatever else in it, at whatever moments;
@@ -44,7 +47,8 @@ pub fn law_counted_faults()
 {}
 
 /// Over any turns of a pass at most as many commands are lost as the pass has marks more.
-pub fn law_marked_losses()
-    ensures { (judged : List JudgedWish) (p p' : KnownPass) → TakesTurns judged p p'
+pub fn law_marked_losses<K: Keeper>()
+    ensures { let tries = tries_of K.tells_stops K.rows K.tried K.moment K.left_since K.opens in
+        (judged : List JudgedWish) (p p' : KnownPass K) → TakesTurns tries judged p p'
         → marks p.mine + lost_count judged ≤ marks p'.mine }
 {}

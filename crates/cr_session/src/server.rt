@@ -27,7 +27,7 @@ impl<'a, R, K: Keeper> Server<'a, R, K> {
         book: Book<K>,
     ) -> Result<(Server<'a, R, K>, Pass<Book<K>>), Book<K>>
         ensures { MatchResult result
-            (λ made. (made.0.lock.first ≡ book) × (made.1 ≡ first_pass made.0.lock.lock book.log))
+            (λ made. (made.0.lock.first ≡ book) × (made.1 ≡ first_pass made.0.lock.lock book book.log))
             (λ same. same ≡ book) }
     {
         match HistoryLock::new(alloc, book) {

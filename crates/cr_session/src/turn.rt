@@ -1,16 +1,19 @@
 //! One turn: a wish is judged or answered by the book.
 ghost use Rattle.std.specs.Prelude.{◌≡◌, ◌≤◌, ◌<◌, ◌^◌, [], Some, None, OnOk, OnErr, vec_capacity};
 ghost use mathlib.Core.List.{IsPrefix};
-ghost use Rattle.cr_lock.specs.Passes.{after_turn};
+ghost use Rattle.cr_lock.specs.Passes.{IsAsLeft, after_turn};
+ghost use Rattle.cr_book.specs.Seen.{SeenBook};
 ghost use Rattle.cr_policy.specs.Judge.{decide, decide_bulk, needs_login};
 ghost use Rattle.cr_policy.specs.Legal.{IsGiven, IsBulkGiven, MayAsk};
 ghost use Rattle.cr_policy.specs.View.{view};
 ghost use Rattle.cr_base.specs.Calls.{call_of, bulk_by, maker_of};
+ghost use Rattle.cr_base.specs.Retries.{drawn_by};
 ghost use Rattle.cr_json.specs.Put.{HasRoom};
 ghost use Rattle.cr_wire.specs.Caller.{caller};
-ghost use Rattle.cr_session.specs.Replay.{Ledger, ledger_of};
-ghost use Rattle.cr_session.specs.Told.{as_bulk, is_unauthorized};
-ghost use Rattle.cr_session.specs.Turning.{IsBoundedWish, Turns, IsBulkCaller, ChangesBook, AnswersQuery};
+ghost use Rattle.cr_session.specs.Replay.{ledger_of};
+ghost use Rattle.cr_session.specs.Told.{as_bulk, drawn, is_unauthorized};
+ghost use Rattle.cr_session.specs.Tries.{tries_of};
+ghost use Rattle.cr_session.specs.Turning.{IsBoundedWish, Turns, TurnTries, IsBulkCaller, ChangesBook, AnswersQuery};
 ghost use Rattle.cr_session.specs.Turning.{refused_for, turn_block, turn_front, MayWantToPrint};
 
 use crate::server::Server;
@@ -38,7 +41,8 @@ pub(crate) enum TurnResult {
     OutOfMemory,
 }
 
-/// Judges or answers a wish in one turn of the lock, on a history that begins with what the pass had seen.
+/// Judges or answers a wish in one turn of the lock, on a history that begins with what the pass had seen; where it has
+/// the whole share, over the book as it left it.
 #[tactic(auto, using(crate::proofs::TurnLaws::turns_grow))]
 pub(crate) fn in_turn<R: Wait, K: Keeper>(
     server: &Server<'_, R, K>,
@@ -48,10 +52,13 @@ pub(crate) fn in_turn<R: Wait, K: Keeper>(
     requires own { pass.old.lock ≡ server.now.lock.lock }
     requires few { pass.old.turns < 2 ^ 40 }
     requires bounded { IsBoundedWish wish }
-    ensures { (b b' : Ledger)
-        × IsPrefix pass.old.seen b.history
-        × Turns result wish b b'
-        × (pass.new ≡ after_turn pass.old b.history b'.history b.faults b'.faults) }
+    ensures { let tries = tries_of K.tells_stops K.rows K.tried K.moment K.left_since K.opens in
+        (b b' : SeenBook K)
+        × IsPrefix pass.old.seen b.log
+        × IsAsLeft pass.old b
+        × Turns result wish (ledger_of K.faults b) (ledger_of K.faults b')
+        × TurnTries tries result b.log (drawn b.log wish) b.keeper b'.keeper
+        × (pass.new ≡ after_turn pass.old b' b.log b'.log (K.faults b.keeper) (K.faults b'.keeper)) }
 {
     let lock = &server.lock;
     lock.turn(server.rt, pass, |book: &mut Book<K>| take_turn(book, wish))
@@ -64,6 +71,8 @@ pub(crate) fn in_turn<R: Wait, K: Keeper>(
 pub(crate) fn take_turn<K: Keeper>(book: &mut Book<K>, wish: Wish) -> TurnResult
     requires { IsBoundedWish wish }
     ensures turns { Turns result wish (ledger_of K.faults book.old) (ledger_of K.faults book.new) }
+    ensures tried { let tries = tries_of K.tells_stops K.rows K.tried K.moment K.left_since K.opens in
+        TurnTries tries result book.old.log (drawn book.old.log wish) book.old.keeper book.new.keeper }
     ensures opened { book.new.opened ≡ book.old.opened }
 {
     let caller = caller_of(book, &wish);
@@ -121,6 +130,10 @@ fn judge<K: Keeper>(
     requires { IsGiven book.old.log (call_of caller.now at key command) }
     ensures changes { ChangesBook K.faults result
         (as_bulk (decide (view caller.now book.old.log) (call_of caller.now at key command))) book.old book.new }
+    ensures tried { let tries = tries_of K.tells_stops K.rows K.tried K.moment K.left_since K.opens in
+        TurnTries tries result book.old.log
+        (drawn_by (decide (view caller.now book.old.log) (call_of caller.now at key command)))
+        book.old.keeper book.new.keeper }
     ensures opened { book.new.opened ≡ book.old.opened }
 {
     match book.command(caller, command, at, key) {
@@ -142,6 +155,10 @@ fn judge_bulk<K: Keeper>(
     requires { IsBulkCaller book.old.log caller.now at key rows }
     ensures changes { ChangesBook K.faults result
         (decide_bulk (view caller.now book.old.log) (bulk_by (maker_of caller.now) at key rows)) book.old book.new }
+    ensures tried { let tries = tries_of K.tells_stops K.rows K.tried K.moment K.left_since K.opens in
+        TurnTries tries result book.old.log
+        (drawn_by (decide_bulk (view caller.now book.old.log) (bulk_by (maker_of caller.now) at key rows)))
+        book.old.keeper book.new.keeper }
     ensures opened { book.new.opened ≡ book.old.opened }
 {
     match caller {
@@ -162,6 +179,10 @@ fn judge_rows<K: Keeper>(
     requires { IsBulkGiven book.old.log (bulk_by user at key rows) }
     ensures changes { ChangesBook K.faults result
         (decide_bulk (view (Some user) book.old.log) (bulk_by user at key rows)) book.old book.new }
+    ensures tried { let tries = tries_of K.tells_stops K.rows K.tried K.moment K.left_since K.opens in
+        TurnTries tries result book.old.log
+        (drawn_by (decide_bulk (view (Some user) book.old.log) (bulk_by user at key rows)))
+        book.old.keeper book.new.keeper }
     ensures opened { book.new.opened ≡ book.old.opened }
 {
     match book.bulk(user, rows, at, key) {

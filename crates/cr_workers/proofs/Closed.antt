@@ -9,6 +9,7 @@ use Rattle.cr_lock.specs.Turns.{groups_with, marks, rises}
 use Rattle.cr_lock.specs.Closing.{Closes}
 use Rattle.cr_lock.proofs.Prefixes.{prefix_self}
 use Rattle.cr_lock.proofs.Sums.{within_out}
+use Rattle.cr_book.specs.Seen.{SeenBook}
 use Rattle.cr_session.specs.Passing.{KnownPass}
 use Rattle.cr_session.specs.Replay.{Ledger}
 use Rattle.cr_workers.specs.Connections.{Streams, ServedConnection, IsServedWithin}
@@ -22,29 +23,29 @@ none-within : (n k : ℕ) → within n n k ≡ 0
 none-within n k = dite (dec_le n k) (λ le. within_out n n k (inl le)) (λ more. within_out n n k (inr (omega (arith, more))))
 
 -- without a lock no door was asked
-pub history-unasked : {I O C : Type 0} (streams : Streams I O C) (doors : List (SeenDoor I O C)) (b : Ledger)
+pub history-unasked : {K I O C : Type 0} (streams : Streams K I O C) (doors : List (SeenDoor I O C)) (b : Ledger)
     → ServesHistory streams worked.OutOfMemory doors doors b b
-history-unasked {I} {O} {C} streams doors b = record {
-  works = unasked doors;
-  before = unasked-before doors;
-  after = unasked-after doors;
-  each = unasked-each doors;
+history-unasked {K} {I} {O} {C} streams doors b = record {
+  works = unasked K doors;
+  before = unasked-before K doors;
+  after = unasked-after K doors;
+  each = unasked-each K doors;
   cause = tt;
   served = subst (λ cs. Every (IsServedWithin streams b.history b.history) cs) none tt;
   begins = prefix_self b.history;
-  once = λ k. sym (ap (λ cs. total (λ (c : ServedConnection I O C). groups_with k c.turns) cs) none) ∙ sym (none-within (length b.history) k);
-  counted = (let z = ap (λ cs. total (λ (c : ServedConnection I O C). rises c.turns) cs) none in omega (arith, z));
-  marked = inl (let z = ap (λ cs. total (λ (c : ServedConnection I O C). marks c.turns) cs) none in omega (arith, z));
+  once = λ k. sym (ap (λ cs. total (λ (c : ServedConnection K I O C). groups_with k c.turns) cs) none) ∙ sym (none-within (length b.history) k);
+  counted = (let z = ap (λ cs. total (λ (c : ServedConnection K I O C). rises c.turns) cs) none in omega (arith, z));
+  marked = inl (let z = ap (λ cs. total (λ (c : ServedConnection K I O C). marks c.turns) cs) none in omega (arith, z));
 }
   where
-    none : [] ≡ connections_of (unasked doors)
-    none = unasked-connections doors
+    none : ◌≡◌ {A = List (ServedConnection K I O C)} [] (connections_of (unasked K doors))
+    none = unasked-connections K doors
 
 -- the one pass of a closed lock has the turns of all connections, and the closed value stands for what it has seen
-pub history-closed : {T I O C Root : Type 0} (list : T → History) (faults : T → ℕ) (root : T → Root) (streams : Streams I O C) (ended : Worked) (doors doors' : List (SeenDoor I O C))
-    (first last : T) (p₀ p : KnownPass) → p₀.seen ≡ list first → p₀.mine ≡ [] → ServesDoors streams ended doors doors' p₀ p → Closes list faults root first p last
+pub history-closed : {K I O C Root : Type 0} (list : SeenBook K → History) (faults : SeenBook K → ℕ) (root : SeenBook K → Root) (streams : Streams K I O C) (ended : Worked) (doors doors' : List (SeenDoor I O C))
+    (first last : SeenBook K) (p₀ p : KnownPass K) → p₀.seen ≡ list first → p₀.mine ≡ [] → ServesDoors streams ended doors doors' p₀ p → Closes list faults root first p last
     → ServesHistory streams ended doors doors' (record { history = list first; faults = faults first }) (record { history = list last; faults = faults last })
-history-closed {T} {I} {O} {C} {Root} list faults root streams ended doors doors' first last p₀ p saw none x closes = record {
+history-closed {K} {I} {O} {C} {Root} list faults root streams ended doors doors' first last p₀ p saw none x closes = record {
   works = x.works;
   before = x.before;
   after = x.after;

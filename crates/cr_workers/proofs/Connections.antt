@@ -28,10 +28,10 @@ longer-is xs ys false up down (inr p) = (prefix_self xs, p)
 longer-begins : {A : Type 0} (xs ys : List A) → IsPrefix xs ys ⊎ IsPrefix ys xs → IsPrefix xs (longer xs ys) × IsPrefix ys (longer xs ys)
 longer-begins xs ys either = longer-is xs ys (nat_lt (length xs) (length ys)) (λ e. grind (arith, nat_tests)) (λ e. grind (arith, nat_tests)) either
 
-module _ {I O C : Type 0} (streams : Streams I O C) where
+module _ {K I O C : Type 0} (streams : Streams K I O C) where
   -- ---- between earlier and later moments
 
-  widened : (first first' last last' : History) → IsPrefix first' first → IsPrefix last last' → (cs : List (ServedConnection I O C))
+  widened : (first first' last last' : History) → IsPrefix first' first → IsPrefix last last' → (cs : List (ServedConnection K I O C))
       → Every (IsServedWithin streams first last) cs → Every (IsServedWithin streams first' last') cs
   widened first first' last last' a b [] each = tt
   widened first first' last last' a b (c ∷ cs) each = (
@@ -45,10 +45,10 @@ module _ {I O C : Type 0} (streams : Streams I O C) where
 
   -- ---- none, one, one after another, side by side
 
-  pub serve-none : (p : KnownPass) → ServeAll streams [] p p
+  pub serve-none : (p : KnownPass K) → ServeAll streams [] p p
   serve-none p = record { each = tt; seen = prefix_self p.seen; groups = λ k. omega arith; marked = omega arith; rose = omega arith }
 
-  pub serve-one : (c : ServedConnection I O C) → IsServed streams c → ServeAll streams (c ∷ []) c.before c.after
+  pub serve-one : (c : ServedConnection K I O C) → IsServed streams c → ServeAll streams (c ∷ []) c.before c.after
   serve-one c is = record {
     each = (record { served = is; begins = prefix_self c.before.seen; ends = prefix_self c.after.seen }, tt);
     seen = is.seen;
@@ -58,7 +58,7 @@ module _ {I O C : Type 0} (streams : Streams I O C) where
     rose = (let e = ap rises is.mine ∙ total_append (λ (t : Turn Stamped). t.rise) c.before.mine c.turns in omega (arith, e));
   }
 
-  pub serve-then : (cs ds : List (ServedConnection I O C)) (p q r : KnownPass) → ServeAll streams cs p q → ServeAll streams ds q r
+  pub serve-then : (cs ds : List (ServedConnection K I O C)) (p q r : KnownPass K) → ServeAll streams cs p q → ServeAll streams ds q r
       → ServeAll streams (cs ++ ds) p r
   serve-then cs ds p q r a b = record {
     each = every-append (IsServedWithin streams p.seen r.seen) cs ds
@@ -66,12 +66,12 @@ module _ {I O C : Type 0} (streams : Streams I O C) where
         (widened q.seen p.seen r.seen r.seen a.seen (prefix_self r.seen) ds b.each);
     seen = prefix_trans p.seen q.seen r.seen a.seen b.seen;
     groups = λ k. (
-        let x = a.groups k in let y = b.groups k in let z = total_append (λ (c : ServedConnection I O C). groups_with k c.turns) cs ds in omega (arith, x, y, z));
-    marked = (let x = a.marked in let y = b.marked in let z = total_append (λ (c : ServedConnection I O C). marks c.turns) cs ds in omega (arith, x, y, z));
-    rose = (let x = a.rose in let y = b.rose in let z = total_append (λ (c : ServedConnection I O C). rises c.turns) cs ds in omega (arith, x, y, z));
+        let x = a.groups k in let y = b.groups k in let z = total_append (λ (c : ServedConnection K I O C). groups_with k c.turns) cs ds in omega (arith, x, y, z));
+    marked = (let x = a.marked in let y = b.marked in let z = total_append (λ (c : ServedConnection K I O C). marks c.turns) cs ds in omega (arith, x, y, z));
+    rose = (let x = a.rose in let y = b.rose in let z = total_append (λ (c : ServedConnection K I O C). rises c.turns) cs ds in omega (arith, x, y, z));
   }
 
-  pub serve-both : (cs ds : List (ServedConnection I O C)) (p q r : KnownPass) → ServeAll streams cs (larger_half p) q → ServeAll streams ds (smaller_half p) r
+  pub serve-both : (cs ds : List (ServedConnection K I O C)) (p q r : KnownPass K) → ServeAll streams cs (larger_half p) q → ServeAll streams ds (smaller_half p) r
       → Agree q r
       → ServeAll streams (cs ++ ds) p (united q r)
   serve-both cs ds p q r a b agree =
@@ -83,13 +83,13 @@ module _ {I O C : Type 0} (streams : Streams I O C) where
         groups = λ k. (
             let x = a.groups k in let y = b.groups k in
             let m = total_merged (λ (t : Turn Stamped). within t.place (end_of t) k) q.mine r.mine in
-            let z = total_append (λ (c : ServedConnection I O C). groups_with k c.turns) cs ds in omega (arith, x, y, z, m));
+            let z = total_append (λ (c : ServedConnection K I O C). groups_with k c.turns) cs ds in omega (arith, x, y, z, m));
         marked = (
             let x = a.marked in let y = b.marked in
             let m = total_merged (λ (t : Turn Stamped). if t.marked then 1 else 0) q.mine r.mine in
-            let z = total_append (λ (c : ServedConnection I O C). marks c.turns) cs ds in omega (arith, x, y, z, m));
+            let z = total_append (λ (c : ServedConnection K I O C). marks c.turns) cs ds in omega (arith, x, y, z, m));
         rose = (
             let x = a.rose in let y = b.rose in
             let m = total_merged (λ (t : Turn Stamped). t.rise) q.mine r.mine in
-            let z = total_append (λ (c : ServedConnection I O C). rises c.turns) cs ds in omega (arith, x, y, z, m));
+            let z = total_append (λ (c : ServedConnection K I O C). rises c.turns) cs ds in omega (arith, x, y, z, m));
       }

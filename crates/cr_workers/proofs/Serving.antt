@@ -3,6 +3,7 @@ use Rattle.std.proofs.Common.{◌≡◌, ◌∙◌, ℕ, ◌+◌, ◌*◌, ◌^�
 use Rattle.std.proofs.Common.{refl, sym, ap, subst, arith, append_assoc, length-append}
 use Rattle.cr_ports.specs.Doors.{DoorLog, and_answer, and_back}
 use Rattle.cr_ports.specs.declared.door.NextConnection.TheVariants as next
+use Rattle.cr_ports.specs.declared.door.Served.{Served}
 use Rattle.cr_session.specs.declared.serve.Ending.{Ending}
 use Rattle.cr_session.specs.Passing.{KnownPass, StaysPass}
 use Rattle.cr_session.proofs.Passes.{stays-now, stays-then}
@@ -15,7 +16,7 @@ use Rattle.cr_workers.proofs.Grown.{append-nil, every-append}
 use Rattle.cr_workers.proofs.Connections.{serve-none, serve-one, serve-then}
 use Rattle.cr_workers.proofs.Halves.{map-append}
 
-stays-within : (m n : ℕ) (p q : KnownPass) → m ≤ n → StaysPass m p q → StaysPass n p q
+stays-within : {K : Type 0} (m n : ℕ) (p q : KnownPass K) → m ≤ n → StaysPass m p q → StaysPass n p q
 stays-within m n p q le x = record { lock = x.lock; share = x.share; few = (let a = x.few in omega (arith, a, le)) }
 
 module _ {I O C : Type 0} where
@@ -25,63 +26,63 @@ module _ {I O C : Type 0} where
   tells-none None = tt
   tells-none (Some log) = append-nil log.served
 
-  tells-then : (cs ds : List (ServedConnection I O C)) (a b c : Option (DoorLog I O C)) → TellsMore cs a b → TellsMore ds b c → TellsMore (cs ++ ds) a c
+  tells-then : (cs ds : List (Served I O C)) (a b c : Option (DoorLog I O C)) → TellsMore cs a b → TellsMore ds b c → TellsMore (cs ++ ds) a c
   tells-then cs ds None None None x y = tt
   tells-then cs ds None None (Some c) x y = elim y [ ]
   tells-then cs ds None (Some b) c x y = elim x [ ]
   tells-then cs ds (Some a) None c x y = elim x [ ]
   tells-then cs ds (Some a) (Some b) None x y = elim y [ ]
-  tells-then cs ds (Some a) (Some b) (Some c) x y =
-      y ∙ (ap (λ s. s ++ ends_of ds) x ∙ (append_assoc a.served (ends_of cs) (ends_of ds)
-      ∙ ap (λ s. a.served ++ s) (sym (map-append (λ (z : ServedConnection I O C). z.ends) cs ds))))
+  tells-then cs ds (Some a) (Some b) (Some c) x y = y ∙ (ap (λ s. s ++ ds) x ∙ append_assoc a.served cs ds)
 
+module _ {K I O C : Type 0} where
   -- one connection was given and came back
-  pub tells-one : (c : ServedConnection I O C) (a b z : Option (DoorLog I O C)) → b ≡ and_answer a (next.Conn c.ends.given.0 c.ends.given.1 c.ends.given.2)
-      → z ≡ and_back b c.ends.back.0 c.ends.back.1 c.ends.back.2 → TellsMore (c ∷ []) a z
+  pub tells-one : (c : ServedConnection K I O C) (a b z : Option (DoorLog I O C)) → b ≡ and_answer a (next.Conn c.ends.given.0 c.ends.given.1 c.ends.given.2)
+      → z ≡ and_back b c.ends.back.0 c.ends.back.1 c.ends.back.2 → TellsMore (ends_of (c ∷ [])) a z
   tells-one c a b z gave back =
-      subst (λ (l : Option (DoorLog I O C)). TellsMore (c ∷ []) a l) (sym (back ∙ ap (λ l. and_back l c.ends.back.0 c.ends.back.1 c.ends.back.2) gave)) (at a)
+      subst (λ (l : Option (DoorLog I O C)). TellsMore (ends_of (c ∷ [])) a l) (sym (back ∙ ap (λ l. and_back l c.ends.back.0 c.ends.back.1 c.ends.back.2) gave)) (at a)
     where
-      at : (l : Option (DoorLog I O C)) → TellsMore (c ∷ []) l
+      at : (l : Option (DoorLog I O C)) → TellsMore (ends_of (c ∷ [])) l
           (and_back (and_answer l (next.Conn c.ends.given.0 c.ends.given.1 c.ends.given.2)) c.ends.back.0 c.ends.back.1 c.ends.back.2)
       at None = tt
       at (Some log) = refl
 
-  visits-none : (d : SeenDoor I O C) → d.is_out ≡ false → Visits [] d d
+  visits-none : (d : SeenDoor I O C) → d.is_out ≡ false → Visits {K = K} [] d d
   visits-none d back = record { left = omega arith; back = back; faults = refl; log = tells-none d.log }
 
-  visits-then : (cs ds : List (ServedConnection I O C)) (d e f : SeenDoor I O C) → Visits cs d e → Visits ds e f → Visits (cs ++ ds) d f
+  visits-then : (cs ds : List (ServedConnection K I O C)) (d e f : SeenDoor I O C) → Visits cs d e → Visits ds e f → Visits (cs ++ ds) d f
   visits-then cs ds d e f x y = record {
     left = (let a = x.left in let b = y.left in let n = length-append cs ds in omega (arith, a, b, n));
     back = y.back;
     faults = y.faults ∙ x.faults;
-    log = tells-then cs ds d.log e.log f.log x.log y.log;
+    log = subst (λ (ends : List (Served I O C)). TellsMore ends d.log f.log) (sym (map-append (λ (z : ServedConnection K I O C). z.ends) cs ds))
+        (tells-then (ends_of cs) (ends_of ds) d.log e.log f.log x.log y.log);
   }
 
   -- ---- a worker so far
 
   -- it served these connections, of which one ended for lack of memory or none did
-  pub record ServesSoFar (streams : Streams I O C) (lacked : Bool) (d d' : SeenDoor I O C) (p p' : KnownPass) : Type 0 where
-    pub connections : List (ServedConnection I O C)
+  pub record ServesSoFar (streams : Streams K I O C) (lacked : Bool) (d d' : SeenDoor I O C) (p p' : KnownPass K) : Type 0 where
+    pub connections : List (ServedConnection K I O C)
     pub visits : Visits connections d d'
     pub served : ServeAll streams connections p p'
     pub none : lacked ≡ false → NoneLacked connections
     pub stays : StaysPass (1048576 * length connections) p p'
 
-  pub serves-none : (streams : Streams I O C) (d : SeenDoor I O C) (p : KnownPass) → d.is_out ≡ false → ServesSoFar streams false d d p p
+  pub serves-none : (streams : Streams K I O C) (d : SeenDoor I O C) (p : KnownPass K) → d.is_out ≡ false → ServesSoFar streams false d d p p
   serves-none streams d p back = record { connections = []; visits = visits-none d back; served = serve-none streams p; none = λ e. tt; stays = stays-now p }
 
-  none-then : (lacked : Bool) (cs : List (ServedConnection I O C)) (c : ServedConnection I O C) → (lacked ≡ false → NoneLacked cs)
+  none-then : (lacked : Bool) (cs : List (ServedConnection K I O C)) (c : ServedConnection K I O C) → (lacked ≡ false → NoneLacked cs)
       → (lacked || lacks c.ending) ≡ false → NoneLacked (cs ++ c ∷ [])
   none-then true cs c none is = absurd (cc (is))
-  none-then false cs c none is = every-append (λ (z : ServedConnection I O C). lacks z.ending ≡ false) cs (c ∷ []) (none refl) (is, tt)
+  none-then false cs c none is = every-append (λ (z : ServedConnection K I O C). lacks z.ending ≡ false) cs (c ∷ []) (none refl) (is, tt)
 
-  pub serves-next : (streams : Streams I O C) (lacked : Bool) (ending : Ending) (d e f : SeenDoor I O C) (p q r : KnownPass)
+  pub serves-next : (streams : Streams K I O C) (lacked : Bool) (ending : Ending) (d e f : SeenDoor I O C) (p q r : KnownPass K)
       → ServesSoFar streams lacked d e p q → ServesNext streams (Ok ending) e f q r → StaysPass 1048576 q r
       → ServesSoFar streams (lacked || lacks ending) d f p r
   serves-next streams lacked ending d e f p q r so next stays =
       let c = next.0 in
-      let one : ServeAll streams (c ∷ []) q r = subst (λ (x : KnownPass). ServeAll streams (c ∷ []) x r) next.3
-      (subst (λ (x : KnownPass). ServeAll streams (c ∷ []) c.before x) next.4 (serve-one streams c next.1)) in
+      let one : ServeAll streams (c ∷ []) q r = subst (λ (x : KnownPass K). ServeAll streams (c ∷ []) x r) next.3
+      (subst (λ (x : KnownPass K). ServeAll streams (c ∷ []) c.before x) next.4 (serve-one streams c next.1)) in
       let n = length-append so.connections (c ∷ []) in record {
         connections = so.connections ++ c ∷ [];
         visits = visits-then so.connections (c ∷ []) d e f so.visits next.5;
@@ -91,39 +92,39 @@ module _ {I O C : Type 0} where
             (stays-then (1048576 * length so.connections) 1048576 p q r so.stays stays);
       }
 
-  worked-by : (lacked : Bool) (last : Last) (w : DoorWork I O C) → Works last w.connections w.before w.after → (lacked ≡ false → NoneLacked w.connections)
+  worked-by : (lacked : Bool) (last : Last) (w : DoorWork K I O C) → Works last w.connections w.before w.after → (lacked ≡ false → NoneLacked w.connections)
       → IsWorkedOn (ended_by lacked last) w
   worked-by true lasts.Done w works none = inl works
   worked-by true lasts.Failed w works none = inr (inl works)
   worked-by false lasts.Done w works none = (works, none refl)
   worked-by false lasts.Failed w works none = (inr works, none refl)
 
-  cause-by : (lacked : Bool) (last : Last) (w : DoorWork I O C) → Works last w.connections w.before w.after → HasFailedDoor (ended_by lacked last) (w ∷ [])
+  cause-by : (lacked : Bool) (last : Last) (w : DoorWork K I O C) → Works last w.connections w.before w.after → HasFailedDoor (ended_by lacked last) (w ∷ [])
   cause-by true last w works = tt
   cause-by false lasts.Done w works = tt
   cause-by false lasts.Failed w works = inl works
 
-  pub serves-end : (streams : Streams I O C) (lacked : Bool) (last : Last) (d e f : SeenDoor I O C) (p q r : KnownPass)
+  pub serves-end : (streams : Streams K I O C) (lacked : Bool) (last : Last) (d e f : SeenDoor I O C) (p q r : KnownPass K)
       → ServesSoFar streams lacked d e p q → ServesNext streams (Err last) e f q r
       → ServesDoors streams (ended_by lacked last) (d ∷ []) (f ∷ []) p r
   serves-end streams lacked last d e f p q r so next =
-      let w : DoorWork I O C = record { before = d; after = f; connections = so.connections } in
+      let w : DoorWork K I O C = record { before = d; after = f; connections = so.connections } in
       let works : Works last so.connections d f = (e, so.visits, next.1) in record {
         works = w ∷ [];
         before = refl;
         after = refl;
         each = (worked-by lacked last w works so.none, tt);
         cause = cause-by lacked last w works;
-        served = subst (λ (cs : List (ServedConnection I O C)). ServeAll streams cs p r) (append-nil so.connections)
-            (subst (λ (x : KnownPass). ServeAll streams so.connections p x) (sym next.0) so.served);
+        served = subst (λ (cs : List (ServedConnection K I O C)). ServeAll streams cs p r) (append-nil so.connections)
+            (subst (λ (x : KnownPass K). ServeAll streams so.connections p x) (sym next.0) so.served);
       }
 
   -- not more connections than the door had to give
-  pub so-few : (streams : Streams I O C) (lacked : Bool) (d e : SeenDoor I O C) (p q : KnownPass) → ServesSoFar streams lacked d e p q
+  pub so-few : (streams : Streams K I O C) (lacked : Bool) (d e : SeenDoor I O C) (p q : KnownPass K) → ServesSoFar streams lacked d e p q
       → StaysPass (1048576 * d.left) p q
   so-few streams lacked d e p q so = (let n = so.visits.left in
       stays-within (1048576 * length so.connections) (1048576 * d.left) p q (omega (arith, n)) so.stays)
 
-  pub so-enough : (streams : Streams I O C) (lacked : Bool) (d e : SeenDoor I O C) (p q : KnownPass) → ServesSoFar streams lacked d e p q
+  pub so-enough : (streams : Streams K I O C) (lacked : Bool) (d e : SeenDoor I O C) (p q : KnownPass K) → ServesSoFar streams lacked d e p q
       → p.turns + 1048576 * d.left ≤ 2 ^ 40 → q.turns + 1048576 * e.left ≤ 2 ^ 40
   so-enough streams lacked d e p q so few = (let n = so.visits.left in let t = so.stays.few in omega (arith, n, t, few))

@@ -48,16 +48,16 @@ door_of left is_out faults log door =
     record { left = left door; is_out = is_out door; faults = faults door; log = log door }
 
 -- the sources, sinks and clocks of connections, as they were given and came back
-abbrev pub ends_of : {I O C : Type 0} → List (ServedConnection I O C) → List (Served I O C)
-ends_of {I} {O} {C} connections = map (λ (c : ServedConnection I O C). c.ends) connections
+abbrev pub ends_of : {K I O C : Type 0} → List (ServedConnection K I O C) → List (Served I O C)
+ends_of {K} {I} {O} {C} connections = map (λ (c : ServedConnection K I O C). c.ends) connections
 
 -- where the door tells them, the connections that it took back are more by these
-abbrev pub TellsMore : {I O C : Type 0} → List (ServedConnection I O C) → Option (DoorLog I O C)
-    → Option (DoorLog I O C) → Type 0
-TellsMore connections None None = Unit {0}
-TellsMore connections None (Some log') = ⊥
-TellsMore connections (Some log) None = ⊥
-TellsMore connections (Some log) (Some log') = log'.served ≡ log.served ++ ends_of connections
+abbrev pub TellsMore : {I O C : Type 0} → List (Served I O C) → Option (DoorLog I O C) → Option (DoorLog I O C)
+    → Type 0
+TellsMore ends None None = Unit {0}
+TellsMore ends None (Some log') = ⊥
+TellsMore ends (Some log) None = ⊥
+TellsMore ends (Some log) (Some log') = log'.served ≡ log.served ++ ends
 
 -- where the door tells it, this was its last answer
 abbrev pub TellsLast : {I O C : Type 0} → DoorAnswer → Option (DoorLog I O C) → Type 0
@@ -65,11 +65,12 @@ TellsLast answer None = Unit {0}
 TellsLast answer (Some log) = log.last ≡ Some answer
 
 -- the door gave these connections, and took them back
-pub record Visits {I O C : Type 0} (connections : List (ServedConnection I O C)) (d d' : SeenDoor I O C) : Type 0 where
-  pub left : d.left ≡ d'.left + length connections
-  pub back : d'.is_out ≡ false
-  pub faults : d'.faults ≡ d.faults
-  pub log : TellsMore connections d.log d'.log
+pub record Visits {K I O C : Type 0} (connections : List (ServedConnection K I O C)) (d d' : SeenDoor I O C) : Type 0
+  where
+    pub left : d.left ≡ d'.left + length connections
+    pub back : d'.is_out ≡ false
+    pub faults : d'.faults ≡ d.faults
+    pub log : TellsMore (ends_of connections) d.log d'.log
 
 -- how its state tells that it has no further one: its share was given, or it failed
 abbrev pub StopsBy : {I O C : Type 0} → Last → SeenDoor I O C → SeenDoor I O C → Type 0
@@ -83,8 +84,9 @@ pub record Stops {I O C : Type 0} (last : Last) (d d' : SeenDoor I O C) : Type 0
   pub log : TellsMore [] d.log d'.log
 
 -- what a worker did with its door, from end to end: it served these connections, and then there was no further one
-abbrev pub Works : {I O C : Type 0} → Last → List (ServedConnection I O C) → SeenDoor I O C → SeenDoor I O C → Type 0
-Works {I} {O} {C} last connections d d' =
+abbrev pub Works : {K I O C : Type 0} → Last → List (ServedConnection K I O C) → SeenDoor I O C → SeenDoor I O C
+    → Type 0
+Works {K} {I} {O} {C} last connections d d' =
     (between : SeenDoor I O C) × Visits connections d between × Stops last between d'
 
 -- a connection ended for lack of memory
@@ -98,20 +100,20 @@ lacks endings.ClockFault = false
 lacks endings.OutOfMemory = true
 
 -- none of them did
-abbrev pub NoneLacked : {I O C : Type 0} → List (ServedConnection I O C) → Type 0
-NoneLacked {I} {O} {C} connections = Every (λ (c : ServedConnection I O C). lacks c.ending ≡ false) connections
+abbrev pub NoneLacked : {K I O C : Type 0} → List (ServedConnection K I O C) → Type 0
+NoneLacked {K} {I} {O} {C} connections = Every (λ (c : ServedConnection K I O C). lacks c.ending ≡ false) connections
 
 -- ---- all doors
 
 -- a door with the connections that were served by it
-pub record DoorWork (I O C : Type 0) : Type 0 where
+pub record DoorWork (K I O C : Type 0) : Type 0 where
   pub before : SeenDoor I O C
   pub after : SeenDoor I O C
-  pub connections : List (ServedConnection I O C)
+  pub connections : List (ServedConnection K I O C)
 
 -- By how workers ended: each door gave its share; or it did, or failed; or, for lack of memory, it did, or failed, or
 -- wasn't asked.
-abbrev pub IsWorkedOn : {I O C : Type 0} → Worked → DoorWork I O C → Type 0
+abbrev pub IsWorkedOn : {K I O C : Type 0} → Worked → DoorWork K I O C → Type 0
 IsWorkedOn worked.Done w = Works lasts.Done w.connections w.before w.after × NoneLacked w.connections
 IsWorkedOn worked.DoorFailed w =
     (Works lasts.Done w.connections w.before w.after ⊎ Works lasts.Failed w.connections w.before w.after)
@@ -121,33 +123,33 @@ IsWorkedOn worked.OutOfMemory w =
     ⊎ ((w.connections ≡ []) × (w.after ≡ w.before))
 
 -- one of them failed
-abbrev pub OneFailed : {I O C : Type 0} → List (DoorWork I O C) → Type 0
+abbrev pub OneFailed : {K I O C : Type 0} → List (DoorWork K I O C) → Type 0
 OneFailed [] = ⊥
 OneFailed (w ∷ ws) = Works lasts.Failed w.connections w.before w.after ⊎ OneFailed ws
 
 -- where they ended by a door's failure, one of them failed
-abbrev pub HasFailedDoor : {I O C : Type 0} → Worked → List (DoorWork I O C) → Type 0
+abbrev pub HasFailedDoor : {K I O C : Type 0} → Worked → List (DoorWork K I O C) → Type 0
 HasFailedDoor worked.Done works = Unit {0}
 HasFailedDoor worked.DoorFailed works = OneFailed works
 HasFailedDoor worked.OutOfMemory works = Unit {0}
 
 -- the connections of all doors
-abbrev pub connections_of : {I O C : Type 0} → List (DoorWork I O C) → List (ServedConnection I O C)
-connections_of {I} {O} {C} works = flat_map (λ (w : DoorWork I O C). w.connections) works
+abbrev pub connections_of : {K I O C : Type 0} → List (DoorWork K I O C) → List (ServedConnection K I O C)
+connections_of {K} {I} {O} {C} works = flat_map (λ (w : DoorWork K I O C). w.connections) works
 
 -- What workers did with these doors, who began with one pass and ended with one.
-pub record ServesDoors {I O C : Type 0} (streams : Streams I O C) (ended : Worked)
-    (doors doors' : List (SeenDoor I O C)) (p p' : KnownPass) : Type 0 where
-  pub works : List (DoorWork I O C)
-  pub before : map (λ (w : DoorWork I O C). w.before) works ≡ doors
-  pub after : map (λ (w : DoorWork I O C). w.after) works ≡ doors'
+pub record ServesDoors {K I O C : Type 0} (streams : Streams K I O C) (ended : Worked)
+    (doors doors' : List (SeenDoor I O C)) (p p' : KnownPass K) : Type 0 where
+  pub works : List (DoorWork K I O C)
+  pub before : map (λ (w : DoorWork K I O C). w.before) works ≡ doors
+  pub after : map (λ (w : DoorWork K I O C). w.after) works ≡ doors'
   pub each : Every (IsWorkedOn ended) works
   pub cause : HasFailedDoor ended works
   pub served : ServeAll streams (connections_of works) p p'
 
 -- the same of doors of which this is seen
-abbrev pub ServesSeen : {D I O C : Type 0} → (D → SeenDoor I O C) → Streams I O C → Worked → List D → List D
-    → KnownPass → KnownPass → Type 0
+abbrev pub ServesSeen : {D K I O C : Type 0} → (D → SeenDoor I O C) → Streams K I O C → Worked → List D → List D
+    → KnownPass K → KnownPass K → Type 0
 ServesSeen seen streams ended doors doors' p p' = ServesDoors streams ended (map seen doors) (map seen doors') p p'
 
 -- so many connections take at most so many turns
@@ -163,8 +165,8 @@ AreReady left is_out doors turns =
 -- ---- one worker's steps
 
 -- the next connection of a door was served and given back, or there was none
-abbrev pub ServesNext : {I O C : Type 0} → Streams I O C → Result Ending Last → SeenDoor I O C → SeenDoor I O C
-    → KnownPass → KnownPass → Type 0
-ServesNext {I} {O} {C} streams (Ok ending) d d' p p' = (c : ServedConnection I O C)
+abbrev pub ServesNext : {K I O C : Type 0} → Streams K I O C → Result Ending Last → SeenDoor I O C → SeenDoor I O C
+    → KnownPass K → KnownPass K → Type 0
+ServesNext {K} {I} {O} {C} streams (Ok ending) d d' p p' = (c : ServedConnection K I O C)
     × IsServed streams c × (c.ending ≡ ending) × (c.before ≡ p) × (c.after ≡ p') × Visits (c ∷ []) d d'
 ServesNext streams (Err last) d d' p p' = (p' ≡ p) × Stops last d d'

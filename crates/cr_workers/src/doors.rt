@@ -4,6 +4,7 @@ ghost use Rattle.std.specs.Prelude.{◌++◌, length, false, vec_capacity, IfOk,
 ghost use Rattle.std.specs.Thread.{IsSync};
 ghost use Rattle.cr_lock.specs.Counts.{Every, total};
 ghost use Rattle.cr_session.specs.Passing.{StaysPass};
+ghost use Rattle.cr_session.specs.Tries.{tries_of};
 ghost use Rattle.cr_workers.specs.Connections.{streams_of};
 ghost use Rattle.cr_workers.specs.Doors.{AreReady, door_of, ServesSeen, turns_for};
 
@@ -25,8 +26,9 @@ fn serve_last<R: Wait, K: Keeper, D: Door + Drop>(
     requires own { pass.lock ≡ server.now.lock.lock }
     requires last { length doors.items ≤ 1 }
     requires ready { AreReady D.left D.is_out doors.items pass.turns }
-    ensures serves { ServesSeen (door_of D.left D.is_out D.faults D.log)
-        (streams_of D.In.left D.In.read_gives D.In.faults D.Out.taken D.Out.faults D.Clock.coming D.Clock.faults)
+    ensures serves { let tries = tries_of K.tells_stops K.rows K.tried K.moment K.left_since K.opens in
+        ServesSeen (door_of D.left D.is_out D.faults D.log)
+        (streams_of tries D.In.left D.In.read_gives D.In.faults D.Out.taken D.Out.faults D.Clock.coming D.Clock.faults)
         result.2 doors.items result.1.items pass result.0 }
     ensures pass { StaysPass (turns_for (total D.left doors.items)) pass result.0 }
     ensures len { length result.1.items ≡ length doors.items }
@@ -96,8 +98,9 @@ pub(crate) fn serve_doors<R: Threads + Wait + Sync, K: Keeper + Send, D: Door + 
     requires own { pass.lock ≡ server.now.lock.lock }
     requires share { length doors.items ≤ pass.share }
     requires ready { AreReady D.left D.is_out doors.items pass.turns }
-    ensures serves { ServesSeen (door_of D.left D.is_out D.faults D.log)
-        (streams_of D.In.left D.In.read_gives D.In.faults D.Out.taken D.Out.faults D.Clock.coming D.Clock.faults)
+    ensures serves { let tries = tries_of K.tells_stops K.rows K.tried K.moment K.left_since K.opens in
+        ServesSeen (door_of D.left D.is_out D.faults D.log)
+        (streams_of tries D.In.left D.In.read_gives D.In.faults D.Out.taken D.Out.faults D.Clock.coming D.Clock.faults)
         result.2 doors.items result.1.items pass result.0 }
     ensures pass { StaysPass (turns_for (total D.left doors.items)) pass result.0 }
     ensures len { length result.1.items ≡ length doors.items }
@@ -116,8 +119,10 @@ pub(crate) fn serve_doors<R: Threads + Wait + Sync, K: Keeper + Send, D: Door + 
     let first_half = move || -> (Pass<Book<K>>, Vec<D>, Worked)
         requires { IsSync R.row × (larger.lock ≡ server.now.lock.lock) × (length front.items ≤ larger.share)
             × AreReady D.left D.is_out front.items larger.turns }
-        ensures serves { ServesSeen (door_of D.left D.is_out D.faults D.log)
-            (streams_of D.In.left D.In.read_gives D.In.faults D.Out.taken D.Out.faults D.Clock.coming D.Clock.faults)
+        ensures serves { let tries = tries_of K.tells_stops K.rows K.tried K.moment K.left_since K.opens in
+            ServesSeen (door_of D.left D.is_out D.faults D.log)
+            (streams_of tries D.In.left D.In.read_gives D.In.faults D.Out.taken D.Out.faults D.Clock.coming
+            D.Clock.faults)
             result.2 front.items result.1.items larger result.0 }
         ensures pass { StaysPass (turns_for (total D.left front.items)) larger result.0 }
         ensures len { length result.1.items ≡ length front.items }
@@ -126,8 +131,10 @@ pub(crate) fn serve_doors<R: Threads + Wait + Sync, K: Keeper + Send, D: Door + 
     let second_half = move || -> (Pass<Book<K>>, Vec<D>, Worked)
         requires { IsSync R.row × (smaller.lock ≡ server.now.lock.lock) × (length back.items ≤ smaller.share)
             × AreReady D.left D.is_out back.items smaller.turns }
-        ensures serves { ServesSeen (door_of D.left D.is_out D.faults D.log)
-            (streams_of D.In.left D.In.read_gives D.In.faults D.Out.taken D.Out.faults D.Clock.coming D.Clock.faults)
+        ensures serves { let tries = tries_of K.tells_stops K.rows K.tried K.moment K.left_since K.opens in
+            ServesSeen (door_of D.left D.is_out D.faults D.log)
+            (streams_of tries D.In.left D.In.read_gives D.In.faults D.Out.taken D.Out.faults D.Clock.coming
+            D.Clock.faults)
             result.2 back.items result.1.items smaller result.0 }
         ensures pass { StaysPass (turns_for (total D.left back.items)) smaller result.0 }
         ensures len { length result.1.items ≡ length back.items }

@@ -2,6 +2,7 @@
 ghost use Rattle.std.specs.Prelude.{◌≡◌, ◌≤◌, ◌^◌, length, map, false};
 ghost use Rattle.cr_lock.specs.Counts.{Every, total};
 ghost use Rattle.cr_session.specs.Replay.{ledger_of};
+ghost use Rattle.cr_session.specs.Tries.{tries_of};
 ghost use Rattle.cr_workers.specs.Connections.{streams_of};
 ghost use Rattle.cr_workers.specs.Doors.{door_of, turns_for};
 ghost use Rattle.cr_workers.specs.OneHistory.{ServesHistory};
@@ -35,9 +36,10 @@ pub fn serve_book<R: Threads + Wait + Sync, K: Keeper + Send, D: Door + Drop + S
     requires few { turns_for (total D.left doors.items) ≤ 2 ^ 40 }
     requires back { Every (λ door. D.is_out door ≡ false) doors.items }
     ensures opened { result.1.opened ≡ book.opened }
-    ensures serves { let seen = map (door_of D.left D.is_out D.faults D.log) in
+    ensures serves { let tries = tries_of K.tells_stops K.rows K.tried K.moment K.left_since K.opens in
+        let seen = map (door_of D.left D.is_out D.faults D.log) in
         ServesHistory
-        (streams_of D.In.left D.In.read_gives D.In.faults D.Out.taken D.Out.faults D.Clock.coming D.Clock.faults)
+        (streams_of tries D.In.left D.In.read_gives D.In.faults D.Out.taken D.Out.faults D.Clock.coming D.Clock.faults)
         result.0 (seen doors.items) (seen result.2.items) (ledger_of K.faults book) (ledger_of K.faults result.1) }
 {
     let (server, pass) = match Server::new(rt, alloc, book) {

@@ -1,6 +1,7 @@
 //! One worker: the connections of one door, one after another.
 ghost use Rattle.std.specs.Prelude.{◌≡◌, ◌≤◌, ◌+◌, ◌^◌, [], ◌∷◌, ◌||◌, IsFalse};
 ghost use Rattle.cr_session.specs.Passing.{StaysPass};
+ghost use Rattle.cr_session.specs.Tries.{tries_of};
 ghost use Rattle.cr_workers.specs.Connections.{streams_of};
 ghost use Rattle.cr_workers.specs.Doors.{door_of, ended_by, lacks, ServesNext, ServesSeen, turns_for};
 
@@ -29,9 +30,10 @@ fn serve_next_connection<R: Wait, K: Keeper, D: Door>(
     requires own { pass.old.lock ≡ server.now.lock.lock }
     requires few { pass.old.turns + turns_for (D.left door.old) ≤ 2 ^ 40 }
     requires back { IsFalse (D.is_out door.old) }
-    ensures serves { let seen = door_of D.left D.is_out D.faults D.log in
+    ensures serves { let tries = tries_of K.tells_stops K.rows K.tried K.moment K.left_since K.opens in
+        let seen = door_of D.left D.is_out D.faults D.log in
         ServesNext
-        (streams_of D.In.left D.In.read_gives D.In.faults D.Out.taken D.Out.faults D.Clock.coming D.Clock.faults)
+        (streams_of tries D.In.left D.In.read_gives D.In.faults D.Out.taken D.Out.faults D.Clock.coming D.Clock.faults)
         result (seen door.old) (seen door.new) pass.old pass.new }
     ensures pass { StaysPass (turns_for 1) pass.old pass.new }
 {
@@ -83,8 +85,9 @@ pub(crate) fn serve_door<R: Wait, K: Keeper, D: Door>(
     requires own { pass.old.lock ≡ server.now.lock.lock }
     requires few { pass.old.turns + turns_for (D.left door.old) ≤ 2 ^ 40 }
     requires back { IsFalse (D.is_out door.old) }
-    ensures serves { ServesSeen (door_of D.left D.is_out D.faults D.log)
-        (streams_of D.In.left D.In.read_gives D.In.faults D.Out.taken D.Out.faults D.Clock.coming D.Clock.faults)
+    ensures serves { let tries = tries_of K.tells_stops K.rows K.tried K.moment K.left_since K.opens in
+        ServesSeen (door_of D.left D.is_out D.faults D.log)
+        (streams_of tries D.In.left D.In.read_gives D.In.faults D.Out.taken D.Out.faults D.Clock.coming D.Clock.faults)
         result (door.old ∷ []) (door.new ∷ []) pass.old pass.new }
     ensures pass { StaysPass (turns_for (D.left door.old)) pass.old pass.new }
 {

@@ -1,5 +1,8 @@
+use Rattle.cr_session.specs.Tries.{tries_of}
 use Rattle.cr_session.proofs.Passes.{marked_losses}
 use Rattle.cr_session.proofs.laws.law_marked_losses.Goals as goal
 
 pub returns : goal.returns
-returns c = marked_losses
+returns g c =
+    let K = g.K.Keeper in
+    marked_losses (tries_of K.tells_stops K.rows K.tried K.moment K.left_since K.opens)

@@ -1,13 +1,16 @@
 use Rattle.std.proofs.Common.{◌≤◌, ◌-◌, [], vec_capacity}
 use Rattle.cr_session.specs.Serving.{GoesOnInHistory, world_of}
 use Rattle.cr_session.specs.Passing.{StaysPass}
+use Rattle.cr_session.specs.Tries.{tries_of}
 use Rattle.cr_session.proofs.serve.serve_connection.Given as goal
 
 abbrev pub invariant-serving : goal.invariant-serving
 invariant-serving g l =
     let world = world_of g.S.Source.faults g.O.Sink.taken g.O.Sink.faults g.C.Clock.coming g.C.Clock.faults in
+    let K = g.K.Keeper in
+    let tries = tries_of K.tells_stops K.rows K.tried K.moment K.left_since K.opens in
     record {
-      goes_on : GoesOnInHistory g.S.Source.left g.S.Source.read_gives l.number 0 [] l.space.inbox
+      goes_on : GoesOnInHistory tries g.S.Source.left g.S.Source.read_gives l.number 0 [] l.space.inbox
           (world l.initial.pass l.initial.source l.initial.sink l.initial.clock) (world l.pass l.source l.sink l.clock);
       few : l.number ≤ 1048575;
       pass : StaysPass l.number l.initial.pass l.pass;

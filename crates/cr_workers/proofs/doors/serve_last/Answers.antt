@@ -1,4 +1,5 @@
 use Rattle.std.proofs.Common.{rules, ◌≡◌, length}
+use Rattle.cr_session.specs.Tries.{tries_of}
 use Rattle.cr_workers.specs.Connections.{streams_of}
 use Rattle.cr_workers.proofs.Halves.{doors-none}
 use Rattle.cr_workers.proofs.Lists.{no-door}
@@ -9,4 +10,4 @@ returns-in_default-clause-serves g c =
     let before : length c.args.doors.items ≡ 0 = search rules in
     let after : length c.pop.new.self.items ≡ 0 = search rules in
     rw (no-door c.args.doors.items before) (rw (no-door c.pop.new.self.items after)
-    (doors-none (streams_of g.D.In.Source.left g.D.In.Source.read_gives g.D.In.Source.faults g.D.Out.Sink.taken g.D.Out.Sink.faults g.D.Clock.Clock.coming g.D.Clock.Clock.faults) c.args.pass))
+    (doors-none (streams_of (tries_of g.K.Keeper.tells_stops g.K.Keeper.rows g.K.Keeper.tried g.K.Keeper.moment g.K.Keeper.left_since g.K.Keeper.opens) g.D.In.Source.left g.D.In.Source.read_gives g.D.In.Source.faults g.D.Out.Sink.taken g.D.Out.Sink.faults g.D.Clock.Clock.coming g.D.Clock.Clock.faults) c.args.pass))

@@ -1,0 +1,44 @@
+-- What a stop of the machine may leave of what one connection's wishes added: CrashKeepsGroups, by the wishes.
+use Rattle.std.specs.Prelude.{◌≡◌, ◌⊎◌, ℕ, List, [], ◌∷◌, ◌++◌, Bool, true, Some, IsTrue}
+use Rattle.cr_base.specs.declared.row.Row.{Row}
+use Rattle.cr_base.specs.Drawn.{Drawn}
+use Rattle.cr_base.specs.History.{History}
+use Rattle.cr_base.specs.Rows.{rows_of}
+use Rattle.cr_ports.specs.Stopping.{IsAmong, OpensTo}
+use Rattle.cr_session.specs.Replay.{JudgedWish, history_after}
+use Rattle.cr_session.specs.Told.{drawn}
+
+-- the history behind these wishes, of which the first was judged on this one
+abbrev pub history_behind : History → List JudgedWish → History
+history_behind H [] = H
+history_behind H (j ∷ js) = history_behind (history_after j) js
+
+-- One of these wishes drew the group on this history, and was answered that it wasn't kept.
+pub record IsLostGroup (judged : List JudgedWish) (H group : History) : Type 0 where
+  pub wish : JudgedWish
+  pub among : IsAmong judged wish
+  pub lost : wish.lost ≡ true
+  pub seen : wish.seen ≡ H
+  pub draws : Drawn
+  pub drew : drawn H wish.wish ≡ Some draws
+  pub group_is : group ≡ draws.group
+
+-- What was left opens to the rows of the history that some first of these wishes lead to from the opening one, or to
+-- these and then whole the group of one of the wishes that was lost on that history.
+pub record OpensBehind (opens : List ℕ → List Row → Type 0) (opening : History) (judged : List JudgedWish)
+    (image : List ℕ) : Type 0 where
+  pub first : List JudgedWish
+  pub others : List JudgedWish
+  pub parts : judged ≡ first ++ others
+  pub opens_to : opens image (rows_of (history_behind opening first))
+      ⊎ ((group : History) × IsLostGroup judged (history_behind opening first) group
+      × opens image (rows_of (history_behind opening first ++ group)))
+
+-- Of a keeper that tells what a stop leaves, with which nothing had been tried in vain when these wishes came, on this
+-- history: what a stop at some moment since then may have left.
+abbrev pub KeepsWishes : {K : Type 0} → Bool → (K → List (List Row)) → (K → ℕ) → (K → ℕ → List ℕ → Type 0)
+    → (List ℕ → List Row → Type 0) → K → K → History → List JudgedWish → Type 0
+KeepsWishes tells tried moment left_since opens old new opening judged =
+    IsTrue tells → tried old ≡ []
+    → ((image : List ℕ) → left_since old (moment old) image → OpensTo opens (rows_of opening) (tried old) image)
+    → (image : List ℕ) → left_since new (moment old) image → OpensBehind opens opening judged image
