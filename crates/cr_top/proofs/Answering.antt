@@ -25,7 +25,7 @@ use Rattle.cr_top.specs.declared.exit.Exit.{Exit}
 use Rattle.cr_top.specs.declared.exit.Exit.TheVariants as exits
 use Rattle.cr_top.specs.Exits.{exit_of}
 use Rattle.cr_top.specs.Replayed.{told_along, steps_along, last_words, exit_at}
-use Rattle.cr_top.specs.Runs.{Outside, Pipes, IsFaultless, AnswersAll, desk, world}
+use Rattle.cr_top.specs.Runs.{Keeps, Outside, Pipes, IsFaultless, AnswersAll, desk, world}
 
 -- ---- nothing lost: Replay is Told along Step
 
@@ -149,7 +149,7 @@ nothing_lost judged b b' r idle = last (nat_lt b'.faults (2 ^ 64 - 1)) refl
     last true e = count (below_last b'.faults e) (nat_lt b.faults b'.faults) refl
     last false e = absurd (idle (λ lt. absurd (not_below b'.faults (2 ^ 64 - 1) e lt)))
 
-pub pipe_answers : {K I : Type 0} (rows : K → Option (List Row)) (keeps : History → Type 0) (faults : K → ℕ) (left : I → Option (List ℕ)) (gives : I → I → List ℕ → Type 0)
+pub pipe_answers : {K I : Type 0} (rows : K → Option (List Row)) (keeps : Keeps) (faults : K → ℕ) (left : I → Option (List ℕ)) (gives : I → I → List ℕ → Type 0)
     (opening : History) (ending : Ending) (keeper keeper' : K) (b : List ℕ) (o o' : Outside I)
     → Pipes rows keeps faults left gives opening ending keeper keeper' o o' → left o.input ≡ Some b → IsFaultless o o' → (Rises (faults keeper) (faults keeper') → ⊥)
     → (exit_of ending ≡ exits.OutOfMemory) ⊎ AnswersAll opening (exit_of ending) b o o'

@@ -1,5 +1,5 @@
 -- Doors that workers served: what is told of them, by how the workers ended.
-use Rattle.std.proofs.Common.{◌≡◌, ◌≢◌, ◌∙◌, ℕ, ◌+◌, ◌-◌, ◌^◌, ◌<◌, ◌≤◌, ◌⊎◌, inl, inr, List, [], ◌∷◌, ◌++◌, length, map, Bool, false, Option, Some, None, refl}
+use Rattle.std.proofs.Common.{◌≡◌, ◌≢◌, ◌∙◌, ℕ, ◌+◌, inl, inr, List, [], ◌∷◌, ◌++◌, length, map, Bool, false, Option, Some, None, refl}
 use Rattle.std.proofs.Common.{sym, ap, ap₂, subst, arith}
 use Rattle.std.specs.Prelude.{All, IfSome, IsFalse, sum, sum_by}
 use Rattle.std.proofs.lemmas.List.Elements.{All-nil, All-cons, All-head, All-tail}
@@ -7,7 +7,6 @@ use Rattle.std.proofs.lemmas.List.Sums.{sum_by-cons}
 use Rattle.cr_lock.specs.Counts.{Every, total}
 use Rattle.cr_ports.specs.Count.{Rises}
 use Rattle.cr_ports.specs.Doors.{DoorLog, unasked}
-use Rattle.cr_ports.specs.declared.door.DoorAnswer.{DoorAnswer}
 use Rattle.cr_ports.specs.declared.door.DoorAnswer.TheVariants as answers
 use Rattle.cr_ports.specs.declared.door.Served.{Served}
 use Rattle.cr_workers.specs.Connections.{ServedConnection}
@@ -71,16 +70,16 @@ new_doors {D} left is_out faults log (d ∷ ds) idle fresh asked = (
       (All-tail (λ (x : D). IfSome (log x) (λ l. l ≡ unasked)) d ds asked),
 )
 
-module _ {I O C : Type 0} where
-  abbrev pub befores : List (DoorWork I O C) → List (SeenDoor I O C)
-  befores ws = map (λ (w : DoorWork I O C). w.before) ws
+module _ {K I O C : Type 0} where
+  abbrev pub befores : List (DoorWork K I O C) → List (SeenDoor I O C)
+  befores ws = map (λ (w : DoorWork K I O C). w.before) ws
 
-  abbrev pub afters : List (DoorWork I O C) → List (SeenDoor I O C)
-  afters ws = map (λ (w : DoorWork I O C). w.after) ws
+  abbrev pub afters : List (DoorWork K I O C) → List (SeenDoor I O C)
+  afters ws = map (λ (w : DoorWork K I O C). w.after) ws
 
   -- ---- nothing is out
 
-  back-one : (ended : Worked) (w : DoorWork I O C) → IsWorkedOn ended w → w.before.is_out ≡ false → w.after.is_out ≡ false
+  back-one : (ended : Worked) (w : DoorWork K I O C) → IsWorkedOn ended w → w.before.is_out ≡ false → w.after.is_out ≡ false
   back-one worked.Done w is b = is.0.2.back
   back-one worked.DoorFailed w (inl x, none) b = x.2.back
   back-one worked.DoorFailed w (inr x, none) b = x.2.back
@@ -88,7 +87,7 @@ module _ {I O C : Type 0} where
   back-one worked.OutOfMemory w (inr (inl x)) b = x.2.back
   back-one worked.OutOfMemory w (inr (inr x)) b = ap (λ (d : SeenDoor I O C). d.is_out) x.1 ∙ b
 
-  pub back-works : (ended : Worked) (ws : List (DoorWork I O C)) → Every (IsWorkedOn ended) ws → Every IsNew (befores ws)
+  pub back-works : (ended : Worked) (ws : List (DoorWork K I O C)) → Every (IsWorkedOn ended) ws → Every IsNew (befores ws)
       → Every (λ (d : SeenDoor I O C). d.is_out ≡ false) (afters ws)
   back-works ended [] each new = tt
   back-works ended (w ∷ ws) each new = (back-one ended w each.0 new.0.back, back-works ended ws each.1 new.1)
@@ -96,8 +95,8 @@ module _ {I O C : Type 0} where
   -- ---- what the gates tell
 
   -- the connections of a door that wasn't asked before
-  more-then : (cs : List (ServedConnection I O C)) (a b c : Option (DoorLog I O C)) (l : DoorLog I O C) → IfSome a (λ log. log ≡ unasked)
-      → TellsMore cs a b → TellsMore [] b c → c ≡ Some l → l.served ≡ ends_of cs
+  more-then : (cs : List (ServedConnection K I O C)) (a b c : Option (DoorLog I O C)) (l : DoorLog I O C) → IfSome a (λ log. log ≡ unasked)
+      → TellsMore (ends_of cs) a b → TellsMore [] b c → c ≡ Some l → l.served ≡ ends_of cs
   more-then cs None None None l new x y e = absurd (cc (e))
   more-then cs None None (Some c) l new x y e = elim y [ ]
   more-then cs None (Some b) c l new x y e = elim x [ ]
@@ -107,7 +106,7 @@ module _ {I O C : Type 0} where
       let is : c ≡ l = cc (e) in
       ap (λ (z : DoorLog I O C). z.served) (sym is) ∙ (y ∙ (sym (append-nil b.served) ∙ (x ∙ ap (λ (z : DoorLog I O C). z.served ++ ends_of cs) new)))
 
-  served-one : (ended : Worked) (w : DoorWork I O C) (l : DoorLog I O C) → IsWorkedOn ended w → IsNew w.before → w.after.log ≡ Some l
+  served-one : (ended : Worked) (w : DoorWork K I O C) (l : DoorLog I O C) → IsWorkedOn ended w → IsNew w.before → w.after.log ≡ Some l
       → l.served ≡ ends_of w.connections
   served-one worked.Done w l is new e = more-then w.connections w.before.log is.0.0.log w.after.log l new.log is.0.1.log is.0.2.log e
   served-one worked.DoorFailed w l (inl x, none) new e = more-then w.connections w.before.log x.0.log w.after.log l new.log x.1.log x.2.log e
@@ -117,15 +116,15 @@ module _ {I O C : Type 0} where
   served-one worked.OutOfMemory w l (inr (inr x)) new e =
       let told : w.before.log ≡ Some l = ap (λ (d : SeenDoor I O C). d.log) (sym x.1) ∙ e in
       let fresh : l ≡ unasked = subst (λ (o : Option (DoorLog I O C)). IfSome o (λ log. log ≡ unasked)) told new.log in
-      ap (λ (z : DoorLog I O C). z.served) fresh ∙ ap (λ (cs : List (ServedConnection I O C)). ends_of cs) (sym x.0)
+      ap (λ (z : DoorLog I O C). z.served) fresh ∙ ap (λ (cs : List (ServedConnection K I O C)). ends_of cs) (sym x.0)
 
-  last-one : (ended : Worked) (w : DoorWork I O C) (l : DoorLog I O C) → IsWorkedOn ended w → w.after.log ≡ Some l → DoorEndsBy ended l
+  last-one : (ended : Worked) (w : DoorWork K I O C) (l : DoorLog I O C) → IsWorkedOn ended w → w.after.log ≡ Some l → DoorEndsBy ended l
   last-one worked.Done w l is e = subst (λ (o : Option (DoorLog I O C)). TellsLast answers.Done o) e is.0.2.by.3
   last-one worked.DoorFailed w l (inl x, none) e = inl (subst (λ (o : Option (DoorLog I O C)). TellsLast answers.Done o) e x.2.by.3)
   last-one worked.DoorFailed w l (inr x, none) e = inr (subst (λ (o : Option (DoorLog I O C)). TellsLast answers.Failed o) e x.2.by.2)
   last-one worked.OutOfMemory w l is e = tt
 
-  pub are-told : (ended : Worked) (ws : List (DoorWork I O C)) (logs : List (DoorLog I O C)) → Every (IsWorkedOn ended) ws → Every IsNew (befores ws)
+  pub are-told : (ended : Worked) (ws : List (DoorWork K I O C)) (logs : List (DoorLog I O C)) → Every (IsWorkedOn ended) ws → Every IsNew (befores ws)
       → map (λ (d : SeenDoor I O C). d.log) (afters ws) ≡ map Some logs → AreDoorsTold ended ws logs
   are-told ended [] [] each new e = record { served = refl; last = tt }
   are-told ended [] (l ∷ ls) each new e = absurd (cc (e))
@@ -140,31 +139,31 @@ module _ {I O C : Type 0} where
 
   -- ---- how many connections, and how they ended
 
-  counts-one : (w : DoorWork I O C) → IsWorkedOn worked.Done w → length w.connections ≡ w.before.left
+  counts-one : (w : DoorWork K I O C) → IsWorkedOn worked.Done w → length w.connections ≡ w.before.left
   counts-one w is = (let n = is.0.1.left in let z = is.0.2.by.0 in omega (arith, n, z))
 
-  pub counts-all : (ws : List (DoorWork I O C)) → Every (IsWorkedOn worked.Done) ws
-      → map (λ (w : DoorWork I O C). length w.connections) ws ≡ map (λ (d : SeenDoor I O C). d.left) (befores ws)
+  pub counts-all : (ws : List (DoorWork K I O C)) → Every (IsWorkedOn worked.Done) ws
+      → map (λ (w : DoorWork K I O C). length w.connections) ws ≡ map (λ (d : SeenDoor I O C). d.left) (befores ws)
   counts-all [] each = refl
   counts-all (w ∷ ws) each = ap₂ (λ (n : ℕ) (ns : List ℕ). n ∷ ns) (counts-one w each.0) (counts-all ws each.1)
 
-  none-one : (ended : Worked) → ended ≢ worked.OutOfMemory → (w : DoorWork I O C) → IsWorkedOn ended w → NoneLacked w.connections
+  none-one : (ended : Worked) → ended ≢ worked.OutOfMemory → (w : DoorWork K I O C) → IsWorkedOn ended w → NoneLacked w.connections
   none-one worked.Done some w is = is.1
   none-one worked.DoorFailed some w is = is.1
   none-one worked.OutOfMemory some w is = absurd (some refl)
 
-  pub none-all : (ended : Worked) → ended ≢ worked.OutOfMemory → (ws : List (DoorWork I O C)) → Every (IsWorkedOn ended) ws → NoneLacked (connections_of ws)
+  pub none-all : (ended : Worked) → ended ≢ worked.OutOfMemory → (ws : List (DoorWork K I O C)) → Every (IsWorkedOn ended) ws → NoneLacked (connections_of ws)
   none-all ended some [] each = tt
   none-all ended some (w ∷ ws) each =
-      every-append (λ (c : ServedConnection I O C). lacks c.ending ≡ false) w.connections (connections_of ws) (none-one ended some w each.0)
+      every-append (λ (c : ServedConnection K I O C). lacks c.ending ≡ false) w.connections (connections_of ws) (none-one ended some w each.0)
       (none-all ended some ws each.1)
 
   -- ---- faults
 
-  failed-one : (w : DoorWork I O C) → Works lasts.Failed w.connections w.before w.after → IsNew w.before → Rises 0 w.after.faults
+  failed-one : (w : DoorWork K I O C) → Works lasts.Failed w.connections w.before w.after → IsNew w.before → Rises 0 w.after.faults
   failed-one w x new = λ below. (let rose = x.2.by.1 below in let e = x.1.faults in let z = new.faults in omega (arith, rose, e, z))
 
-  pub failed-counts : (ws : List (DoorWork I O C)) → OneFailed ws → Every IsNew (befores ws) → Rises 0 (total (λ (d : SeenDoor I O C). d.faults) (afters ws))
+  pub failed-counts : (ws : List (DoorWork K I O C)) → OneFailed ws → Every IsNew (befores ws) → Rises 0 (total (λ (d : SeenDoor I O C). d.faults) (afters ws))
   failed-counts [] x new = elim x [ ]
   failed-counts (w ∷ ws) (inl x) new = more-here w.after.faults (total (λ (d : SeenDoor I O C). d.faults) (afters ws)) (failed-one w x new.0)
   failed-counts (w ∷ ws) (inr x) new = more-there w.after.faults (total (λ (d : SeenDoor I O C). d.faults) (afters ws)) (failed-counts ws x new.1)

@@ -1,5 +1,5 @@
 -- Gates that were opened over a store, and what the exits of serving tell.
-use Rattle.std.proofs.Common.{◌≡◌, ◌≢◌, ◌∙◌, ℕ, ◌*◌, ◌^◌, ◌+◌, ◌≤◌, ◌<◌, ◌⊎◌, inl, inr, List, [], ◌∷◌, length, map, Bool, true, false, Option, Some, None, refl}
+use Rattle.std.proofs.Common.{◌≡◌, ◌≢◌, ◌∙◌, ℕ, ◌*◌, ◌^◌, ◌≤◌, ◌⊎◌, inl, inr, List, [], ◌∷◌, length, map, Bool, true, false, Option, Some, None, refl}
 use Rattle.std.proofs.Common.{sym, ap, subst, arith}
 use Rattle.std.specs.Prelude.{All, IfSome, IsFalse, IsTrue, sum, sum_by}
 use Rattle.std.proofs.lemmas.List.{length-map}
@@ -33,10 +33,10 @@ use Rattle.cr_top.proofs.Stored.{count-now, opens-or-memory, risen, same-rows}
 -- ---- doors that were shut
 
 -- none has a connection out
-pub doors-back : {I O C : Type 0} (streams : Streams I O C) (ended : Worked) (doors doors' : List (SeenDoor I O C)) (b b' : Ledger)
+pub doors-back : {K I O C : Type 0} (streams : Streams K I O C) (ended : Worked) (doors doors' : List (SeenDoor I O C)) (b b' : Ledger)
     → ServesHistory streams ended doors doors' b b' → Every IsNew doors
     → Every (λ (d : SeenDoor I O C). d.is_out ≡ false) doors'
-doors-back {I} {O} {C} streams ended doors doors' b b' serves new =
+doors-back {K} {I} {O} {C} streams ended doors doors' b b' serves new =
     subst (λ (ds : List (SeenDoor I O C)). Every (λ (d : SeenDoor I O C). d.is_out ≡ false) ds) serves.after
     (back-works ended serves.works serves.each (subst (λ (ds : List (SeenDoor I O C)). Every IsNew ds) (sym serves.before) new))
 
@@ -77,10 +77,10 @@ few-turns left workers connections doors some most shared =
 -- ---- many connections were served
 
 pub serves-many : {K I O C : Type 0} (tells : Bool) (rows : K → Option (List Row)) (tried : K → List (List Row)) (keeps : Keeping) (faults : K → ℕ)
-    (path : List ℕ) (streams : Streams I O C) (listen : List ℕ) (workers connections : ℕ) (ended : Worked) (written : Bool) (exit : Exit)
+    (path : List ℕ) (streams : Streams K I O C) (listen : List ℕ) (workers connections : ℕ) (ended : Worked) (written : Bool) (exit : Exit)
     → exit ≡ exit_of_workers ended written → (book book' : SeenBook K) (keeper' : K) (doors doors' : List (SeenDoor I O C)) (o o' : Outlet) (s m s' : ShelfState)
     (g h g' : GatesState I O C) → OpensAt listen g h
-    → OpensStore rows faults path book s m → keeper' ≡ book'.keeper → Legal book'.log → keeps book.log book'.log s s'
+    → OpensStore rows faults path book s m → keeper' ≡ book'.keeper → Legal book'.log → keeps.store book.log book'.log s s'
     → IfSome (rows keeper') (λ k. StandsAfter tells k (tried keeper') (m.rows path) (s'.rows path)) → KeepsOthers path m s'
     → Gains m.faults (faults keeper') s'.faults
     → map (λ (d : SeenDoor I O C). d.left) doors ≡ shares workers connections → Every IsNew doors
@@ -178,14 +178,14 @@ ended-by ended written is e = subst EndsServing (sym is ∙ e) (by ended written
     by worked.Done true = tt
     by worked.Done false = tt
 
-module _ {I O C : Type 0} (tells_stops : Bool) (keeps : Keeping) (path : List ℕ) (streams : Streams I O C) (listen : List ℕ) (workers connections : ℕ) (exit : Exit) (o o' : Outlet)
+module _ {K I O C : Type 0} (tells_stops : Bool) (keeps : Keeping) (path : List ℕ) (streams : Streams K I O C) (listen : List ℕ) (workers connections : ℕ) (exit : Exit) (o o' : Outlet)
     (s s' : ShelfState) (g g' : GatesState I O C) where
   abbrev pub Serves : Type 0
   Serves = ServesGates tells_stops keeps path streams listen workers connections exit o o' s s' g g'
 
   -- a door failed, which the gates counted
-  door-counted : (ended : Worked) (works : List (DoorWork I O C)) (doors doors' : List (SeenDoor I O C)) → map (λ (w : DoorWork I O C). w.before) works ≡ doors
-      → map (λ (w : DoorWork I O C). w.after) works ≡ doors'
+  door-counted : (ended : Worked) (works : List (DoorWork K I O C)) (doors doors' : List (SeenDoor I O C)) → map (λ (w : DoorWork K I O C). w.before) works ≡ doors
+      → map (λ (w : DoorWork K I O C). w.after) works ≡ doors'
       → Every IsNew doors → HasFailedDoor ended works → ended ≡ worked.DoorFailed → Gains g.faults (total (λ (d : SeenDoor I O C). d.faults) doors') g'.faults
       → Rises g.faults g'.faults
   door-counted ended works doors doors' before after new cause failed gains =

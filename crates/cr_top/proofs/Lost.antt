@@ -9,6 +9,7 @@ use Rattle.cr_lock.specs.Counts.{Every, total, last_count}
 use Rattle.cr_lock.specs.Turns.{turn_at, marks}
 use Rattle.cr_lock.proofs.Sums.{total_append}
 use Rattle.cr_ports.specs.Count.{Gains}
+use Rattle.cr_session.specs.Tries.{Tries}
 use Rattle.cr_session.specs.Passing.{KnownPass, TakesTurns}
 use Rattle.cr_session.specs.Replay.{lost_count}
 use Rattle.cr_session.specs.Turning.{TurnsInVain}
@@ -20,30 +21,31 @@ use Rattle.cr_top.specs.Serves.{lost_in}
 
 -- ---- the turns behind the wishes that were judged
 
-marks-same : (p q : KnownPass) → q ≡ p → marks p.mine ≤ marks q.mine
-marks-same p q same = let e = ap (λ (x : KnownPass). marks x.mine) same in omega (arith, e)
+module _ {K : Type 0} (tries : Tries K) where
+  marks-same : (p q : KnownPass K) → q ≡ p → marks p.mine ≤ marks q.mine
+  marks-same p q same = let e = ap (λ (x : KnownPass K). marks x.mine) same in omega (arith, e)
 
-marks-vain : (w : Wish) (p q : KnownPass) → TurnsInVain w p q → marks p.mine ≤ marks q.mine
-marks-vain w p q vain =
-    let e = ap (λ (x : KnownPass). marks x.mine) vain.turn
-    ∙ marks-snoc p.mine (turn_at (length vain.seen) (drop (length vain.seen) vain.seen) vain.faults vain.faults) in
-    omega (arith, e)
+  marks-vain : (w : Wish) (p q : KnownPass K) → TurnsInVain tries w p q → marks p.mine ≤ marks q.mine
+  marks-vain w p q vain =
+      let e = ap (λ (x : KnownPass K). marks x.mine) vain.turn
+      ∙ marks-snoc p.mine (turn_at (length vain.seen) (drop (length vain.seen) vain.seen) vain.faults vain.faults) in
+      omega (arith, e)
 
 -- ---- connections
 
-module _ {I O C : Type 0} (streams : Streams I O C) where
-  lost-one : (c : ServedConnection I O C) (x : IsServed streams c) → lost_count (x.connection.answered ++ listed x.connection.failed) ≤ marks c.turns
+module _ {K I O C : Type 0} (streams : Streams K I O C) where
+  lost-one : (c : ServedConnection K I O C) (x : IsServed streams c) → lost_count (x.connection.answered ++ listed x.connection.failed) ≤ marks c.turns
   lost-one c x =
       let k = x.connection in
-      let most = marked_losses (k.answered ++ listed k.failed) c.before k.judged k.turns in
+      let most = marked_losses streams.tries (k.answered ++ listed k.failed) c.before k.judged k.turns in
       let more : marks k.judged.mine ≤ marks c.after.mine =
-      ⊎_elim (λ same. marks-same k.judged c.after same) (λ turn. marks-vain turn.0 k.judged c.after turn.1)
-      (behind_judged TakesTurns TurnsInVain c.ending 0 k.got k.got k.answered k.failed k.judged c.after _ _ k.settled k.ends) in
+      ⊎_elim (λ same. marks-same streams.tries k.judged c.after same) (λ turn. marks-vain streams.tries turn.0 k.judged c.after turn.1)
+      (behind_judged (TakesTurns streams.tries) (TurnsInVain streams.tries) c.ending 0 k.got k.got k.answered k.failed k.judged c.after _ _ k.settled k.ends) in
       let sum = ap marks x.mine ∙ total_append (λ (t : Turn Stamped). if t.marked then 1 else 0) c.before.mine c.turns in
       omega (arith, most, more, sum)
 
-  lost-all : (first last : History) (cs : List (ServedConnection I O C)) (each : Every (IsServedWithin streams first last) cs)
-      → lost_in streams first last cs each ≤ total (λ (c : ServedConnection I O C). marks c.turns) cs
+  lost-all : (first last : History) (cs : List (ServedConnection K I O C)) (each : Every (IsServedWithin streams first last) cs)
+      → lost_in streams first last cs each ≤ total (λ (c : ServedConnection K I O C). marks c.turns) cs
   lost-all first last [] each = omega arith
   lost-all first last (c ∷ cs) each = (
       let one = lost-one c each.0.served in
@@ -51,12 +53,12 @@ module _ {I O C : Type 0} (streams : Streams I O C) where
       omega (arith, one, more))
 
   -- the shelf's count rose by as many at least as were lost
-  pub lost-count : (first last : History) (cs : List (ServedConnection I O C)) (each : Every (IsServedWithin streams first last) cs) (faults n n' : ℕ)
-      → (0 + total (λ (c : ServedConnection I O C). marks c.turns) cs ≤ faults) ⊎ (last_count ≤ faults) → Gains n faults n'
+  pub lost-count : (first last : History) (cs : List (ServedConnection K I O C)) (each : Every (IsServedWithin streams first last) cs) (faults n n' : ℕ)
+      → (0 + total (λ (c : ServedConnection K I O C). marks c.turns) cs ≤ faults) ⊎ (last_count ≤ faults) → Gains n faults n'
       → Gains n (lost_in streams first last cs each) n'
   lost-count first last cs each faults n n' marked gains = (
     gains.0,
-    λ below. by (lost_in streams first last cs each) (total (λ (c : ServedConnection I O C). marks c.turns) cs) faults n n'
+    λ below. by (lost_in streams first last cs each) (total (λ (c : ServedConnection K I O C). marks c.turns) cs) faults n n'
         (lost-all first last cs each) marked below (gains.1 below),
   )
     where

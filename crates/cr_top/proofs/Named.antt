@@ -6,10 +6,10 @@ use Rattle.cr_top.specs.declared.exit.Exit.{Exit}
 use Rattle.cr_top.specs.Jobs.{Surroundings, AnswersJob, Does, DoesJob}
 use Rattle.cr_top.specs.Stores.{Keeping}
 
-pub does-named : {I A B D : Type 0} (tells_stops : Bool) (keeps : List ℕ → Keeping) (left : I → Option (List ℕ)) (gives : I → I → List ℕ → Type 0)
-    (streams : Streams A B D) (named job : NamedJob) (exit : Exit) (a a' : Surroundings I A B D)
+pub does-named : {I K A B D : Type 0} (tells_stops : Bool) (keeps : List ℕ → Keeping) (left : I → Option (List ℕ)) (gives : I → I → List ℕ → Type 0)
+    (streams : Streams K A B D) (named job : NamedJob) (exit : Exit) (a a' : Surroundings I A B D)
     → named ≡ job → DoesJob tells_stops keeps left gives streams job exit a a' → Does tells_stops keeps left gives streams named exit a a'
-does-named {I} {A} {B} {D} tells_stops keeps left gives streams named job exit a a' is done =
+does-named {I} {K} {A} {B} {D} tells_stops keeps left gives streams named job exit a a' is done =
     subst (λ (j : NamedJob). Does tells_stops keeps left gives streams j exit a a') (sym is) (inr done)
 
 pub answers-named : {I A B D : Type 0} (left : I → Option (List ℕ)) (named job : NamedJob) (exit : Exit) (a a' : Surroundings I A B D)

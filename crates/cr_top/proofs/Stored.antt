@@ -14,7 +14,7 @@ use Rattle.cr_base.specs.declared.entry.Stamp.{Stamp}
 use Rattle.cr_base.specs.declared.row.Row.{Row}
 use Rattle.cr_base.specs.Drawn.{stamped}
 use Rattle.cr_base.specs.HistoryFacts.{number_of}
-use Rattle.cr_base.specs.Lists.{given, last}
+use Rattle.cr_base.specs.Lists.{given, last, listed}
 use Rattle.cr_base.specs.History.{History, all_told, number_told}
 use Rattle.cr_base.specs.Rows.{row_of, rows_of, IsBoundedEntry}
 use Rattle.cr_ports.specs.declared.keeper.KeeperError.{KeeperError}
@@ -31,13 +31,15 @@ use Rattle.cr_book.specs.Seen.{SeenBook}
 use Rattle.cr_book.specs.Sound.{IsKept}
 use Rattle.cr_book.proofs.OpeningOnward.{legal-bounded}
 use Rattle.cr_session.specs.declared.serve.Ending.{Ending}
+use Rattle.cr_session.specs.Replay.{JudgedWish}
 use Rattle.cr_session.specs.Serving.{ConnectionBytes, WholeBytes}
+use Rattle.cr_session.specs.Stopping.{KeepsWishes}
 use Rattle.cr_top.specs.declared.exit.Exit.{Exit}
 use Rattle.cr_top.specs.declared.exit.Exit.TheVariants as exits
 use Rattle.cr_top.specs.Exits.{exit_of, exit_of_rows}
-use Rattle.cr_top.specs.Runs.{Outside, Pipes, world}
+use Rattle.cr_top.specs.Runs.{Keeps, Outside, Pipes, world}
 use Rattle.cr_book.specs.Stopping.{AddsOne, KeepsTold, OpensAmid}
-use Rattle.cr_top.specs.Stores.{AnswersView, BeginsAt, CrashKeepsGroups, IsBadStore, Keeping, KeepsOthers, KeepsRows, KeepsStore, LeavesRows}
+use Rattle.cr_top.specs.Stores.{AnswersView, BeginsAt, CrashKeepsGroups, CrashKeepsWishes, IsBadStore, Keeping, KeepsOthers, KeepsRows, KeepsStore, LeavesRows}
 use Rattle.cr_top.specs.Stores.{OpensStore, RowsByPath, ServesStore, ShelfState, StaysShut, TellsRows, TellsView, ViewsStore}
 
 -- ---- what stands at the paths
@@ -195,15 +197,16 @@ module _ {K : Type 0} (tells : Bool) (rows : K → Option (List Row)) (tried : K
   pub no_fault : (Rises s.faults s'.faults → ⊥) → Rises (faults book.keeper) (faults keeper') → ⊥
   no_fault idle rises = idle (risen s.faults (faults keeper') s'.faults (subst (λ (n : ℕ). Rises n (faults keeper')) opens.fresh rises) count-now)
 
-pub serves-store : {K I : Type 0} (tells : Bool) (rows : K → Option (List Row)) (tried : K → List (List Row)) (kept-so : History → Type 0)
+pub serves-store : {K I : Type 0} (tells : Bool) (rows : K → Option (List Row)) (tried : K → List (List Row)) (kept-so : Keeps)
     (keeps : Keeping) (faults : K → ℕ) (path : List ℕ) (left : I → Option (List ℕ)) (gives : I → I → List ℕ → Type 0)
     (exit : Exit) (ending : Ending) → exit ≡ exit_of ending → (book : SeenBook K) (keeper' : K) (o o' : Outside I) (s m s' : ShelfState)
     → OpensStore rows faults path book s m → Pipes rows kept-so faults left gives book.log ending book.keeper keeper' o o'
     → IfSome (rows keeper') (λ k. StandsAfter tells k (tried keeper') (m.rows path) (s'.rows path)) → KeepsOthers path m s'
     → Gains m.faults (faults keeper') s'.faults
-    → ((history : History) → IsKept rows keeper' history → kept-so history → keeps book.log history s s')
+    → ((history : History) → IsKept rows keeper' history → (judged : List JudgedWish) → kept-so history judged
+    → keeps.store book.log history s s' × keeps.wishes book.log judged)
     → ServesStore keeps path left gives exit o o' s s'
-serves-store tells rows tried kept-so keeps faults path left gives exit ending is book keeper' o o' s m s' opens p kept others gains so = record {
+serves-store {K} {I} tells rows tried kept-so keeps faults path left gives exit ending is book keeper' o o' s m s' opens p kept others gains so = record {
   opening = book.log;
   opens = opens.legal;
   found = opens.found;
@@ -212,11 +215,24 @@ serves-store tells rows tried kept-so keeps faults path left gives exit ending i
   history = p.history;
   legal = p.legal;
   faults = faults keeper';
-  connection = subst (λ (n : ℕ). ConnectionBytes left gives ending 0 [] (world o book.log n) (world o' p.history (faults keeper'))) opens.fresh p.connection;
+  connection = from.0;
   whole = λ b told. subst (λ (n : ℕ). WholeBytes left ending b (world o book.log n) (world o' p.history (faults keeper'))) opens.fresh (p.whole b told);
-  leaves = so p.history p.kept p.besides;
+  leaves = held.0;
+  stops = from.1;
   counted = count-now tells rows tried faults path book keeper' s m s' opens kept others gains;
 }
+  where
+    held : keeps.store book.log p.history s s' × keeps.wishes book.log (p.connection.answered ++ listed p.connection.failed)
+    held = so p.history p.kept (p.connection.answered ++ listed p.connection.failed) p.besides
+
+    -- the keeper had counted no fault at first
+    Begun : ℕ → Type 0
+    Begun n =
+        (c : ConnectionBytes left gives ending 0 [] (world o book.log n) (world o' p.history (faults keeper')))
+        × keeps.wishes book.log (c.answered ++ listed c.failed)
+
+    from : Begun 0
+    from = subst (λ (n : ℕ). Begun n) opens.fresh (p.connection, held.1)
 
 -- the book's history is the one that has the rows
 pub the-history : {K : Type 0} (rows : K → Option (List Row)) (faults : K → ℕ) (path : List ℕ) (book : SeenBook K) (s m : ShelfState)
@@ -259,10 +275,11 @@ views-store tells rows tried faults path name exit book keeper' o o' s m s' open
 }
 
 -- nothing was tried in vain with a keeper that is as it was opened
-pub none-tried : {K : Type 0} (tells : Bool) (rows : K → Option (List Row)) (tried : K → List (List Row)) (moment : K → ℕ) (at : ℕ)
-    (book : SeenBook K) (keeper' : K) → (IsTrue tells → BeginsAt rows tried moment at book) → keeper' ≡ book.keeper
+pub none-tried : {K : Type 0} (tells : Bool) (rows : K → Option (List Row)) (tried : K → List (List Row)) (moment : K → ℕ)
+    (left_since : K → ℕ → List ℕ → Type 0) (opens : List ℕ → List Row → Type 0) (at : ℕ)
+    (book : SeenBook K) (keeper' : K) → (IsTrue tells → BeginsAt rows tried moment left_since opens at book) → keeper' ≡ book.keeper
     → IsTrue tells → tried keeper' ≡ []
-none-tried tells rows tried moment at book keeper' begins same told =
+none-tried tells rows tried moment left_since opens at book keeper' begins same told =
     let b = begins told in ap tried (same ∙ b.still) ∙ b.none
 
 -- what a view is answered where nothing fails
@@ -307,7 +324,7 @@ nobody-has name H legal long = ap last (none-named name H long (legal-bounded H 
 pub groups-kept : {K : Type 0} (tells : Bool) (rows : K → Option (List Row)) (tried : K → List (List Row)) (moment : K → ℕ)
     (left_since : K → ℕ → List ℕ → Type 0) (opens : List ℕ → List Row → Type 0) (left : List ℕ → Type 0) (at : ℕ) (book : SeenBook K) (keeper' : K)
     → (IsTrue tells → (k : K) → IsTrue (is_some (rows k)))
-    → (IsTrue tells → BeginsAt rows tried moment at book)
+    → (IsTrue tells → BeginsAt rows tried moment left_since opens at book)
     → (IsTrue tells → (image : List ℕ) → left image → left_since keeper' at image)
     → (history : History) → KeepsTold rows tried moment left_since opens tells book.opened keeper' history
     → CrashKeepsGroups tells opens left book.log history
@@ -326,7 +343,7 @@ pub keeps-store : {K : Type 0} (tells : Bool) (rows : K → Option (List Row)) (
     (left_since : K → ℕ → List ℕ → Type 0) (opens : List ℕ → List Row → Type 0) (left : List ℕ → List ℕ → Type 0) (at : ℕ)
     (faults : K → ℕ) (path : List ℕ) (book : SeenBook K) (keeper' : K) (s m s' : ShelfState)
     → (IsTrue tells → (k : K) → IsTrue (is_some (rows k)))
-    → (IsTrue tells → BeginsAt rows tried moment at book)
+    → (IsTrue tells → BeginsAt rows tried moment left_since opens at book)
     → (IsTrue tells → (image : List ℕ) → left path image → left_since keeper' at image)
     → OpensStore rows faults path book s m
     → IfSome (rows keeper') (λ k. StandsAfter tells k (tried keeper') (m.rows path) (s'.rows path)) → KeepsOthers path m s'
@@ -339,3 +356,15 @@ keeps-store tells rows tried moment left_since opens left at faults path book ke
           (λ told. (kept told (begins told).none).tried_follow);
       stops = groups-kept tells rows tried moment left_since opens (left path) at book keeper' there begins shut history kept;
     }
+
+-- and by the wishes of one connection
+pub wishes-kept : {K : Type 0} (tells : Bool) (rows : K → Option (List Row)) (tried : K → List (List Row)) (moment : K → ℕ)
+    (left_since : K → ℕ → List ℕ → Type 0) (opens : List ℕ → List Row → Type 0) (left : List ℕ → Type 0) (at : ℕ) (book : SeenBook K) (keeper' : K)
+    → (IsTrue tells → BeginsAt rows tried moment left_since opens at book)
+    → (IsTrue tells → (image : List ℕ) → left image → left_since keeper' at image)
+    → (judged : List JudgedWish) → KeepsWishes tells tried moment left_since opens book.keeper keeper' book.log judged
+    → CrashKeepsWishes tells opens left book.log judged
+wishes-kept tells rows tried moment left_since opens left at book keeper' begins shut judged kept told image may =
+    let b = begins told in
+    kept told (ap tried b.still ∙ b.none) b.between image
+    (subst (λ (t : ℕ). left_since keeper' t image) (b.at ∙ sym (ap moment b.still)) (shut told image may))

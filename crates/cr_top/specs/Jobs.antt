@@ -47,8 +47,8 @@ pub record IsCounted {I A B D : Type 0} (exit : Exit) (a a' : Surroundings I A B
 -- One connection from the empty history on, or from that of a store on; many connections over a store; the view of a
 -- store; or a drill. The last three read no input and ask no clock but those that doors give, and all but serving leave
 -- the gates alone. A drill has no store.
-abbrev pub DoesJob : {I A B D : Type 0} → Bool → (List ℕ → Keeping) → (I → Option (List ℕ))
-    → (I → I → List ℕ → Type 0) → Streams A B D
+abbrev pub DoesJob : {I K A B D : Type 0} → Bool → (List ℕ → Keeping) → (I → Option (List ℕ))
+    → (I → I → List ℕ → Type 0) → Streams K A B D
     → NamedJob → Exit → Surroundings I A B D → Surroundings I A B D → Type 0
 DoesJob tells_stops keeps left gives streams (pipe_job None) exit a a' =
     ServesPipe left gives [] exit a.outside a'.outside × (a'.stores ≡ a.stores) × (a'.gates ≡ a.gates)
@@ -67,8 +67,8 @@ DoesJob tells_stops keeps left gives streams (drill_job seed steps) exit a a' =
     × ReadsNothing a.outside a'.outside × (a'.gates ≡ a.gates)
 
 -- the same, unless memory ran out before it began
-abbrev pub Does : {I A B D : Type 0} → Bool → (List ℕ → Keeping) → (I → Option (List ℕ))
-    → (I → I → List ℕ → Type 0) → Streams A B D
+abbrev pub Does : {I K A B D : Type 0} → Bool → (List ℕ → Keeping) → (I → Option (List ℕ))
+    → (I → I → List ℕ → Type 0) → Streams K A B D
     → NamedJob → Exit → Surroundings I A B D → Surroundings I A B D → Type 0
 Does tells_stops keeps left gives streams job exit a a' =
     IsUntouched exit a a' ⊎ DoesJob tells_stops keeps left gives streams job exit a a'

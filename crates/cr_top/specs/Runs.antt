@@ -1,12 +1,14 @@
 -- What a whole run did.
-use Rattle.std.specs.Prelude.{◌≡◌, ◌⊎◌, ℕ, List, [], ◌++◌, Option, Some}
+use Rattle.std.specs.Prelude.{◌≡◌, ◌⊎◌, ℕ, Bool, List, [], ◌++◌, Option, Some}
 use Rattle.cr_base.specs.Lists.{listed}
 use Rattle.cr_base.specs.declared.row.Row.{Row}
 use Rattle.cr_base.specs.History.{History}
 use Rattle.cr_ports.specs.Count.{Rises}
 use Rattle.cr_ports.specs.Stream.{Taken}
 use Rattle.cr_policy.specs.Legal.{Legal}
+use Rattle.cr_book.specs.Seen.{SeenBook}
 use Rattle.cr_book.specs.Sound.{IsKept}
+use Rattle.cr_book.specs.Stopping.{KeepsTold}
 use Rattle.cr_drill.specs.Drill.{drilled, summary}
 use Rattle.cr_http.specs.Requests.{End}
 use Rattle.cr_words.specs.Usage.{usage}
@@ -14,8 +16,9 @@ use Rattle.cr_wire.specs.declared.what.Wish.{Wish}
 use Rattle.cr_wire.specs.Wishes.{Wishes}
 use Rattle.cr_session.specs.declared.serve.Ending.{Ending}
 use Rattle.cr_session.specs.Answering.{ClockState, Desk, GivesAnswers, clock_of}
-use Rattle.cr_session.specs.Replay.{Ledger, lost_count}
+use Rattle.cr_session.specs.Replay.{JudgedWish, Ledger, lost_count}
 use Rattle.cr_session.specs.Serving.{World, ConnectionBytes, WholeBytes}
+use Rattle.cr_session.specs.Stopping.{KeepsWishes}
 use Rattle.cr_ports.specs.Writing.{Outlet, outlet_of, Writes, BreaksOff}
 use Rattle.cr_top.specs.declared.exit.Exit.{Exit}
 use Rattle.cr_top.specs.declared.exit.Exit.TheVariants as exits
@@ -59,17 +62,28 @@ world o H faults = record {
 
 -- ---- one connection from an opening history on
 
+-- what is kept, by a last history and the wishes that were judged on the way to it
+abbrev pub Keeps : Type 1
+Keeps = History → List JudgedWish → Type 0
+
+-- what a stop may leave of the keeper of this book since that was opened, and since one connection was served over it
+abbrev pub KeepsSince : {K : Type 0} → Bool → (K → Option (List Row)) → (K → List (List Row)) → (K → ℕ)
+    → (K → ℕ → List ℕ → Type 0) → (List ℕ → List Row → Type 0) → SeenBook K → K → Keeps
+KeepsSince tells rows tried moment left_since opens book keeper' history judged =
+    KeepsTold rows tried moment left_since opens tells book.opened keeper' history
+    × KeepsWishes tells tried moment left_since opens book.keeper keeper' book.log judged
+
 -- From this history on, whose rows the keeper had, a connection was served to its ending, and the keeper was handed
 -- back with the rows of the last history, of which something is so besides.
-pub record Pipes {K I : Type 0} (rows : K → Option (List Row)) (keeps : History → Type 0) (faults : K → ℕ)
+pub record Pipes {K I : Type 0} (rows : K → Option (List Row)) (keeps : Keeps) (faults : K → ℕ)
     (left : I → Option (List ℕ)) (gives : I → I → List ℕ → Type 0) (opening : History) (ending : Ending)
     (keeper keeper' : K) (o o' : Outside I) : Type 0 where
   pub history : History
   pub legal : Legal history
   pub kept : IsKept rows keeper' history
-  pub besides : keeps history
   pub connection : ConnectionBytes left gives ending 0 [] (world o opening (faults keeper))
       (world o' history (faults keeper'))
+  pub besides : keeps history (connection.answered ++ listed connection.failed)
   pub whole : (b : List ℕ) → left o.input ≡ Some b
       → WholeBytes left ending b (world o opening (faults keeper)) (world o' history (faults keeper'))
 

@@ -67,18 +67,18 @@ DoorEndsBy worked.OutOfMemory log = Unit {0}
 
 -- Doors that were shut, with the connections that were served by each, by what the gates tell: each connection as it
 -- was given and as it came back, in order, and the door's last answer.
-pub record AreDoorsTold {I O C : Type 0} (ended : Worked) (works : List (DoorWork I O C))
+pub record AreDoorsTold {K I O C : Type 0} (ended : Worked) (works : List (DoorWork K I O C))
     (logs : List (DoorLog I O C)) : Type 0 where
   pub served : map (λ (log : DoorLog I O C). log.served) logs
-      ≡ map (λ (w : DoorWork I O C). ends_of w.connections) works
+      ≡ map (λ (w : DoorWork K I O C). ends_of w.connections) works
   pub last : Every (DoorEndsBy ended) logs
 
 -- ---- answers that a command wasn't kept
 
 -- how many wishes of these connections were lost to the keeper: each has such an answer, or a
 -- part of it where its write failed
-abbrev pub lost_in : {I O C : Type 0}
-    → (streams : Streams I O C) (first last : History) (connections : List (ServedConnection I O C))
+abbrev pub lost_in : {K I O C : Type 0}
+    → (streams : Streams K I O C) (first last : History) (connections : List (ServedConnection K I O C))
     → Every (IsServedWithin streams first last) connections → ℕ
 lost_in streams first last [] served = 0
 lost_in streams first last (c ∷ cs) served =
@@ -91,7 +91,7 @@ lost_in streams first last (c ∷ cs) served =
 -- workers served the connections that their doors gave, one door each, and the exit is by how they ended: 0 or 5
 -- where each door gave its share, 7 where one failed, and 9 where memory ran out. The last history is kept, and the
 -- output has the number of its entries.
-pub record ServesMany {I O C : Type 0} (keeps : Keeping) (path : List ℕ) (streams : Streams I O C) (listen : List ℕ)
+pub record ServesMany {K I O C : Type 0} (keeps : Keeping) (path : List ℕ) (streams : Streams K I O C) (listen : List ℕ)
     (workers connections : ℕ) (exit : Exit) (o o' : Outlet) (s s' : ShelfState)
     (g g' : GatesState I O C) : Type 0 where
   pub opening : History
@@ -113,14 +113,14 @@ pub record ServesMany {I O C : Type 0} (keeps : Keeping) (path : List ℕ) (stre
   -- With exit 0 or 5 as many connections were served by each door as its share was, and with 0, 5 or 7
   -- none ended for lack of memory.
   pub all : ended ≡ worked.Done
-      → map (λ (w : DoorWork I O C). length w.connections) serves.works ≡ shares workers connections
+      → map (λ (w : DoorWork K I O C). length w.connections) serves.works ≡ shares workers connections
   pub none_lacked : ended ≢ worked.OutOfMemory → NoneLacked (connections_of serves.works)
   -- the line at the end
   pub written : Bool
   pub line : TellsEntries written (length history) o o'
   pub exit_is : exit ≡ exit_of_workers ended written
   -- The store: its count rose by as many at least as wishes were lost, its last value aside.
-  pub leaves : keeps opening history s s'
+  pub leaves : keeps.store opening history s s'
   pub counted : Gains s.faults faults s'.faults
   pub lost : Gains s.faults (lost_in streams opening history (connections_of serves.works) serves.served) s'.faults
   pub asked : g'.asked ≡ and_asked g.asked listen
@@ -147,7 +147,7 @@ pub record StaysClosed {I O C : Type 0} (listen : List ℕ) (exit : Exit) (s s' 
   pub asked : AsksAtMost listen g.asked g'.asked
 
 -- a store that doesn't open leaves the gates unasked; and where no connection was served, nothing is written
-abbrev pub ServesGates : {I O C : Type 0} → Bool → Keeping → List ℕ → Streams I O C → List ℕ → ℕ → ℕ → Exit
+abbrev pub ServesGates : {K I O C : Type 0} → Bool → Keeping → List ℕ → Streams K I O C → List ℕ → ℕ → ℕ → Exit
     → Outlet → Outlet → ShelfState → ShelfState → GatesState I O C → GatesState I O C → Type 0
 ServesGates tells_stops keeps path streams listen workers connections exit o o' s s' g g' =
     (StaysShut tells_stops path exit s s' × (o' ≡ o) × (g' ≡ g))

@@ -4,8 +4,10 @@ use Rattle.std.specs.Prelude.{◌≡◌, ◌≢◌, ◌≤◌, ◌⊎◌, ℕ, B
 use Rattle.cr_base.specs.declared.row.Row.{Row}
 use Rattle.cr_base.specs.History.{History}
 use Rattle.cr_base.specs.HistoryFacts.{number_of}
+use Rattle.cr_base.specs.Lists.{listed}
 use Rattle.cr_base.specs.Rows.{rows_of}
 use Rattle.cr_ports.specs.Count.{Gains, Rises}
+use Rattle.cr_ports.specs.Stopping.{OpensTo}
 use Rattle.cr_ports.specs.Writing.{Outlet, Writes, BreaksOff}
 use Rattle.cr_policy.specs.Legal.{Legal}
 use Rattle.cr_policy.specs.View.{view}
@@ -14,6 +16,8 @@ use Rattle.cr_sights.specs.Walks.{StopsShort}
 use Rattle.cr_book.specs.Opening.{IsBadAt}
 use Rattle.cr_book.specs.Seen.{SeenBook}
 use Rattle.cr_book.specs.Stopping.{AddsOne, OpensAmid}
+use Rattle.cr_session.specs.Replay.{JudgedWish}
+use Rattle.cr_session.specs.Stopping.{OpensBehind}
 use Rattle.cr_session.specs.declared.serve.Ending.{Ending}
 use Rattle.cr_session.specs.Serving.{ConnectionBytes, WholeBytes}
 use Rattle.cr_top.specs.declared.exit.Exit.{Exit}
@@ -59,13 +63,16 @@ pub record OpensStore {K : Type 0} (rows : K → Option (List Row)) (faults : K 
   pub same : s' ≡ s
 
 -- A book was opened over a keeper that its shelf opened at this moment, and has it still: nothing had been tried with
--- it in vain, and its rows, where it tells them, are the history's.
+-- it in vain, its rows, where it tells them, are the history's, and so are those that a stop leaves now.
 pub record BeginsAt {K : Type 0} (rows : K → Option (List Row)) (tried : K → List (List Row)) (moment : K → ℕ)
-    (opened_at : ℕ) (book : SeenBook K) : Type 0 where
+    (left_since : K → ℕ → List ℕ → Type 0) (opens : List ℕ → List Row → Type 0) (opened_at : ℕ) (book : SeenBook K)
+    : Type 0 where
   pub at : opened_at ≡ moment book.opened
   pub still : book.keeper ≡ book.opened
   pub none : tried book.opened ≡ []
   pub first : IfSome (rows book.opened) (λ told. rows_of book.log ≡ told)
+  pub between : (image : List ℕ) → left_since book.keeper (moment book.keeper) image
+      → OpensTo opens (rows_of book.log) (tried book.keeper) image
 
 -- the row of this number, of this kind, is the first bad one; so the rows are no legal history's
 pub record IsBadStore (rows : List Row) (row kind : ℕ) : Type 0 where
@@ -113,6 +120,14 @@ abbrev pub CrashKeepsGroups : Bool → (List ℕ → List Row → Type 0) → (L
 CrashKeepsGroups tells opens left opening history =
     IsTrue tells → (image : List ℕ) → left image → OpensAmid opens (Some (rows_of opening)) history image
 
+-- And where these are the wishes of its one connection: to the rows of the opening history, then of the groups that
+-- some first of them added, and then of one more at most, which one of them drew there that was answered that it wasn't
+-- kept.
+abbrev pub CrashKeepsWishes : Bool → (List ℕ → List Row → Type 0) → (List ℕ → Type 0) → History → List JudgedWish
+    → Type 0
+CrashKeepsWishes tells opens left opening judged =
+    IsTrue tells → (image : List ℕ) → left image → OpensBehind opens opening judged image
+
 -- What a run keeps at a path between these two states of a shelf, from its opening history to its last: the rows, where
 -- the keepers tell theirs; and what a stop may leave, where they tell that.
 pub record KeepsStore {K : Type 0} (rows : K → Option (List Row)) (tells_stops : Bool)
@@ -121,9 +136,19 @@ pub record KeepsStore {K : Type 0} (rows : K → Option (List Row)) (tells_stops
   pub kept : TellsRows rows → LeavesRows tells_stops path history s s'
   pub stops : CrashKeepsGroups tells_stops opens (left path) opening history
 
--- what a run keeps from an opening history to its last, between two states of a shelf
-abbrev pub Keeping : Type 1
-Keeping = History → History → ShelfState → ShelfState → Type 0
+-- what a run keeps from an opening history to its last, between two states of a shelf; and from the opening one on by
+-- the wishes of one connection
+pub record Keeping : Type 1 where
+  pub store : History → History → ShelfState → ShelfState → Type 0
+  pub wishes : History → List JudgedWish → Type 0
+
+-- at each path, over keepers of one kind
+abbrev pub keeping_of : {K : Type 0} → (K → Option (List Row)) → Bool → (List ℕ → List Row → Type 0)
+    → (List ℕ → List ℕ → Type 0) → List ℕ → Keeping
+keeping_of rows tells_stops opens left path = record {
+  store = KeepsStore rows tells_stops opens left path;
+  wishes = CrashKeepsWishes tells_stops opens (left path);
+}
 
 -- ---- one connection over a store
 
@@ -142,7 +167,8 @@ pub record ServesStore {I : Type 0} (keeps : Keeping) (path : List ℕ) (left : 
   pub connection : ConnectionBytes left gives ending 0 [] (world o opening 0) (world o' history faults)
   pub whole : (b : List ℕ) → left o.input ≡ Some b
       → WholeBytes left ending b (world o opening 0) (world o' history faults)
-  pub leaves : keeps opening history s s'
+  pub leaves : keeps.store opening history s s'
+  pub stops : keeps.wishes opening (connection.answered ++ listed connection.failed)
   pub counted : Gains s.faults faults s'.faults
 
 -- a store that doesn't open leaves input and output as they were

@@ -1,10 +1,9 @@
 //! One connection, from the history of a book on.
 ghost use Rattle.std.specs.Prelude.{◌≡◌, ◌⊎◌, ℕ, List, Some};
-ghost use Rattle.cr_book.specs.Stopping.{KeepsTold};
 ghost use Rattle.cr_ports.specs.Count.{Rises};
 ghost use Rattle.cr_top.specs.declared.exit.Exit.{Exit};
 ghost use Rattle.cr_top.specs.Exits.{exit_of};
-ghost use Rattle.cr_top.specs.Runs.{Pipes, outside_of, IsFaultless, AnswersAll};
+ghost use Rattle.cr_top.specs.Runs.{KeepsSince, Pipes, outside_of, IsFaultless, AnswersAll};
 
 use cr_book::Book;
 use cr_ports::{Clock, Keeper, Sink, Source};
@@ -30,7 +29,7 @@ pub fn pipe<R: Wait, K: Keeper, I: Source, O: Sink, C: Clock>(
     clock: &mut C,
 ) -> (Ending, K)
     ensures pipes { let outside = outside_of I.faults O.taken O.faults C.coming C.faults in
-        let keeps = KeepsTold K.rows K.tried K.moment K.left_since K.opens K.tells_stops book.opened result.1 in
+        let keeps = KeepsSince K.tells_stops K.rows K.tried K.moment K.left_since K.opens book result.1 in
         Pipes K.rows keeps K.faults I.left I.read_gives book.log result.0 book.keeper result.1
         (outside input.old out.old clock.old) (outside input.new out.new clock.new) }
 

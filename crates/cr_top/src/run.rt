@@ -2,11 +2,12 @@
 ghost use Rattle.std.specs.Prelude.{◌≡◌, ◌≢◌, ◌⊎◌, ℕ, List, Some};
 ghost use Rattle.cr_ports.specs.Writing.{BreaksOff, Writes, outlet_of};
 ghost use Rattle.cr_words.specs.Job.{NamedJob, IsInRange, job_seen};
+ghost use Rattle.cr_session.specs.Tries.{tries_of};
 ghost use Rattle.cr_workers.specs.Connections.{streams_of};
 ghost use Rattle.cr_words.specs.Usage.{usage};
 ghost use Rattle.cr_top.specs.Jobs.{AnswersJob, Does, IsCounted, IsUntouched, around_of};
 ghost use Rattle.cr_top.specs.Runs.{TellsUsage};
-ghost use Rattle.cr_top.specs.Stores.{KeepsStore};
+ghost use Rattle.cr_top.specs.Stores.{keeping_of};
 ghost use Rattle.cr_top.specs.Words.{AreFor, AreRefused, PassTest};
 
 use crate::drilled::drill;
@@ -50,9 +51,11 @@ fn do_job<R: Threads + Wait + Sync, I: Source, O: Sink, S: Shelf, G: Gates, C: C
     requires { IsInRange (job_seen job) }
     ensures does { let around = around_of I.faults O.taken O.faults C.coming C.faults S.rows S.faults G.faults G.logs
         G.asked in
-        let keeps = KeepsStore S.Keeper.rows S.Keeper.tells_stops S.Keeper.opens (S.left shelf.new) in
+        let keeps = keeping_of S.Keeper.rows S.Keeper.tells_stops S.Keeper.opens (S.left shelf.new) in
+        let tries = tries_of S.Keeper.tells_stops S.Keeper.rows S.Keeper.tried S.Keeper.moment S.Keeper.left_since
+        S.Keeper.opens in
         Does S.Keeper.tells_stops keeps I.left I.read_gives
-        (streams_of G.Door.In.left G.Door.In.read_gives G.Door.In.faults G.Door.Out.taken G.Door.Out.faults
+        (streams_of tries G.Door.In.left G.Door.In.read_gives G.Door.In.faults G.Door.Out.taken G.Door.Out.faults
         G.Door.Clock.coming G.Door.Clock.faults)
         (job_seen job.entry) result (around input.old out.old shelf.old gates.old clock.old)
         (around input.new out.new shelf.new gates.new clock.new) }
@@ -129,10 +132,12 @@ pub fn top<R: Threads + Wait + Sync, I: Source, O: Sink, S: Shelf, G: Gates, C: 
     // told, each on the caller's view of the one history at its turn's place; or a user's view; or a drill's summary.
     ensures does { let around = around_of I.faults O.taken O.faults C.coming C.faults S.rows S.faults G.faults G.logs
         G.asked in
+        let keeps = keeping_of S.Keeper.rows S.Keeper.tells_stops S.Keeper.opens (S.left shelf.new) in
+        let tries = tries_of S.Keeper.tells_stops S.Keeper.rows S.Keeper.tried S.Keeper.moment S.Keeper.left_since
+        S.Keeper.opens in
         (job : NamedJob) → AreFor words.now job
-        → Does S.Keeper.tells_stops
-        (KeepsStore S.Keeper.rows S.Keeper.tells_stops S.Keeper.opens (S.left shelf.new)) I.left I.read_gives
-        (streams_of G.Door.In.left G.Door.In.read_gives G.Door.In.faults G.Door.Out.taken G.Door.Out.faults
+        → Does S.Keeper.tells_stops keeps I.left I.read_gives
+        (streams_of tries G.Door.In.left G.Door.In.read_gives G.Door.In.faults G.Door.Out.taken G.Door.Out.faults
         G.Door.Clock.coming G.Door.Clock.faults)
         job result (around input.old out.old shelf.old gates.old clock.old)
         (around input.new out.new shelf.new gates.new clock.new) }

@@ -9,12 +9,13 @@ ghost use Rattle.cr_ports.specs.Count.{Rises};
 ghost use Rattle.cr_ports.specs.Doors.{shares};
 ghost use Rattle.cr_ports.specs.Opening.{AsksAtMost, and_asked};
 ghost use Rattle.cr_ports.specs.Writing.{outlet_of};
+ghost use Rattle.cr_session.specs.Tries.{tries_of};
 ghost use Rattle.cr_workers.specs.Connections.{streams_of};
 ghost use Rattle.cr_workers.specs.Doors.{door_of, turns_for};
 ghost use Rattle.cr_top.specs.declared.exit.Exit.{Exit};
 ghost use Rattle.cr_top.specs.Serves.{AreNew, GatesState, IsWhyClosed, OpensAt, ServesGates, ServesMany};
 ghost use Rattle.cr_top.specs.Serves.{TellsEntries, gates_of};
-ghost use Rattle.cr_top.specs.Stores.{BeginsAt, KeepsStore, OpensStore, ShelfState, state_of};
+ghost use Rattle.cr_top.specs.Stores.{BeginsAt, OpensStore, ShelfState, keeping_of, state_of};
 
 use crate::exit::{Exit, exit_of_workers};
 use crate::storing::open_store;
@@ -95,14 +96,17 @@ fn serve_open_book<R: Threads + Wait + Sync, S: Shelf, G: Gates, O: Sink>(
     requires open { S.has_opened shelf.old path.now }
     ensures { let outlet = outlet_of O.taken O.faults in let stores = state_of S.rows S.faults in
         let gates_at = gates_of G.faults G.logs G.asked in
-        let keeps = KeepsStore S.Keeper.rows S.Keeper.tells_stops S.Keeper.opens (S.left shelf.new) path.now in
+        let keeps = keeping_of S.Keeper.rows S.Keeper.tells_stops S.Keeper.opens (S.left shelf.new) path.now in
+        let tries = tries_of S.Keeper.tells_stops S.Keeper.rows S.Keeper.tried S.Keeper.moment S.Keeper.left_since
+        S.Keeper.opens in
         (s : ShelfState) → OpensStore S.Keeper.rows S.Keeper.faults path.now book s (stores shelf.old)
         → (g : GatesState G.Door.In G.Door.Out G.Door.Clock) → (listen : List ℕ) → OpensAt listen g (gates_at gates.old)
         → (workers connections : ℕ) → map G.Door.left doors.items ≡ shares workers connections
         → (IsTrue S.Keeper.tells_stops
-        → BeginsAt S.Keeper.rows S.Keeper.tried S.Keeper.moment (S.opened_at shelf.old) book)
+        → BeginsAt S.Keeper.rows S.Keeper.tried S.Keeper.moment S.Keeper.left_since S.Keeper.opens
+        (S.opened_at shelf.old) book)
         → ServesMany keeps path.now
-        (streams_of G.Door.In.left G.Door.In.read_gives G.Door.In.faults G.Door.Out.taken G.Door.Out.faults
+        (streams_of tries G.Door.In.left G.Door.In.read_gives G.Door.In.faults G.Door.Out.taken G.Door.Out.faults
         G.Door.Clock.coming G.Door.Clock.faults)
         listen workers connections result (outlet out.old) (outlet out.new) s (stores shelf.new)
         g (gates_at gates.new) }
@@ -131,9 +135,11 @@ pub fn serve_store<R: Threads + Wait + Sync, S: Shelf, G: Gates, O: Sink>(
     requires connections { (1 ≤ address.connections) × (address.connections ≤ 65536) }
     ensures serves { let outlet = outlet_of O.taken O.faults in let stores = state_of S.rows S.faults in
         let gates_at = gates_of G.faults G.logs G.asked in
-        let keeps = KeepsStore S.Keeper.rows S.Keeper.tells_stops S.Keeper.opens (S.left shelf.new) path.now in
+        let keeps = keeping_of S.Keeper.rows S.Keeper.tells_stops S.Keeper.opens (S.left shelf.new) path.now in
+        let tries = tries_of S.Keeper.tells_stops S.Keeper.rows S.Keeper.tried S.Keeper.moment S.Keeper.left_since
+        S.Keeper.opens in
         ServesGates S.Keeper.tells_stops keeps path.now
-        (streams_of G.Door.In.left G.Door.In.read_gives G.Door.In.faults G.Door.Out.taken G.Door.Out.faults
+        (streams_of tries G.Door.In.left G.Door.In.read_gives G.Door.In.faults G.Door.Out.taken G.Door.Out.faults
         G.Door.Clock.coming G.Door.Clock.faults)
         address.entry.listen.now address.entry.workers address.entry.connections result
         (outlet out.old) (outlet out.new) (stores shelf.old) (stores shelf.new)

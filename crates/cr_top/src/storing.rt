@@ -7,7 +7,7 @@ ghost use Rattle.cr_ports.specs.Count.{Rises};
 ghost use Rattle.cr_top.specs.declared.exit.Exit.{Exit};
 ghost use Rattle.cr_top.specs.Exits.{exit_of_rows, exit_of_shelf};
 ghost use Rattle.cr_top.specs.Runs.{outside_of, IsFaultless, AnswersAll};
-ghost use Rattle.cr_top.specs.Stores.{BeginsAt, KeepsStore, OpensStore, PipesStore, StaysShut, state_of};
+ghost use Rattle.cr_top.specs.Stores.{BeginsAt, OpensStore, PipesStore, StaysShut, keeping_of, state_of};
 
 use crate::exit::{Exit, exit_of};
 use crate::piping::pipe;
@@ -50,7 +50,8 @@ pub(crate) fn open_store<S: Shelf>(
         IfOk result (λ book. OpensStore S.Keeper.rows S.Keeper.faults path.now book
         (stores shelf.old) (stores shelf.new)) }
     ensures begins { IsTrue S.Keeper.tells_stops → IfOk result
-        (λ book. BeginsAt S.Keeper.rows S.Keeper.tried S.Keeper.moment (S.opened_at shelf.new) book) }
+        (λ book. BeginsAt S.Keeper.rows S.Keeper.tried S.Keeper.moment S.Keeper.left_since S.Keeper.opens
+        (S.opened_at shelf.new) book) }
     ensures open { OnOk result (S.has_opened shelf.new path.now) }
     ensures refused { IfErr result
         (λ exit. StaysShut S.Keeper.tells_stops path.now exit (state_of S.rows S.faults shelf.old)
@@ -71,6 +72,10 @@ pub(crate) fn open_store<S: Shelf>(
 
 /// Serves one connection over `input` and `out`, at the moments that `clock` gives, from the history of the rows at the
 /// path on, which are then those of the last history. Where they don't open, nothing is read and nothing written.
+///
+/// A stop of the machine at any moment leaves, of keepers that tell what it does, the rows of the history that was
+/// opened, then of the groups that some first of the wishes added, and then whole one more at most: that of a wish
+/// which is answered that it wasn't kept.
 pub fn pipe_store<R: Wait, S: Shelf, I: Source, O: Sink, C: Clock>(
     rt: &R,
     alloc: Global,
@@ -82,7 +87,7 @@ pub fn pipe_store<R: Wait, S: Shelf, I: Source, O: Sink, C: Clock>(
 ) -> Exit
     ensures pipes { let outside = outside_of I.faults O.taken O.faults C.coming C.faults in
         let stores = state_of S.rows S.faults in
-        let keeps = KeepsStore S.Keeper.rows S.Keeper.tells_stops S.Keeper.opens (S.left shelf.new) path.now in
+        let keeps = keeping_of S.Keeper.rows S.Keeper.tells_stops S.Keeper.opens (S.left shelf.new) path.now in
         PipesStore S.Keeper.tells_stops keeps path.now I.left I.read_gives result
         (outside input.old out.old clock.old) (outside input.new out.new clock.new)
         (stores shelf.old) (stores shelf.new) }

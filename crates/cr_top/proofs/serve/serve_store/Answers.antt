@@ -57,7 +57,7 @@ returns-in-Err-open_gates-clause-serves g c =
       stays-closed K.tells_stops K.rows K.tried K.faults c.args.path.now c.args.address.listen.now c.in-Err-open_gates.exit c.in-Ok.book c.close.result
           (stores c.args.shelf.now) (stores c.open_store.new.shelf) (stores c.shut.new.self) (gates_at c.args.gates.now) (gates_at c.open_gates.new.gates)
           c.in-Ok.ensures.opened c.close.ensures.same
-          (none-tried K.tells_stops K.rows K.tried K.moment _ c.in-Ok.book c.close.result c.in-Ok.ensures.begins c.close.ensures.same)
+          (none-tried K.tells_stops K.rows K.tried K.moment K.left_since K.opens _ c.in-Ok.book c.close.result c.in-Ok.ensures.begins c.close.ensures.same)
           c.shut.ensures.kept c.shut.ensures.others c.shut.ensures.count c.in-Err-open_gates.ensures.refused.0
           c.in-Err-open_gates.ensures.refused.1 c.in-Err-open_gates.ensures.other,
       refl,

@@ -4,7 +4,7 @@ use Rattle.cr_top.specs.declared.exit.Exit.{Exit}
 use Rattle.cr_top.specs.declared.exit.Exit.TheVariants as exits
 use Rattle.cr_top.specs.Runs.{outside_of, AnswersAll}
 use Rattle.cr_top.specs.Stores.{state_of}
-use Rattle.cr_top.proofs.Stored.{keeps-store, no_fault, serves-store, the-history}
+use Rattle.cr_top.proofs.Stored.{keeps-store, no_fault, serves-store, the-history, wishes-kept}
 use Rattle.cr_top.proofs.storing.pipe_store.Goals as goal
 
 pub returns-in-Ok-clause-pipes : goal.returns-in-Ok-clause-pipes
@@ -17,9 +17,14 @@ returns-in-Ok-clause-pipes g c =
     (outside c.args.input.now c.args.out.now c.args.clock.now) (outside c.pipe-ending.new.input c.pipe-ending.new.out c.pipe-ending.new.clock) (stores c.args.shelf.now) (stores c.open_store.new.shelf)
     (stores c.shut.new.self)
     c.in-Ok.ensures.opened c.pipe-ending.ensures.pipes c.shut.ensures.kept c.shut.ensures.others c.shut.ensures.count
-    (keeps-store K.tells_stops K.rows K.tried K.moment K.left_since K.opens (g.S.Shelf.left c.shut.new.self) _ K.faults c.args.path.now c.in-Ok.book
-    c.pipe-ending.result.1 (stores c.args.shelf.now) (stores c.open_store.new.shelf) (stores c.shut.new.self) K.rows_told c.in-Ok.ensures.begins
-    (λ told image. (c.shut.ensures.stops told image).0) c.in-Ok.ensures.opened c.shut.ensures.kept c.shut.ensures.others c.shut.ensures.count))
+    (λ history is judged so. (
+      keeps-store K.tells_stops K.rows K.tried K.moment K.left_since K.opens (g.S.Shelf.left c.shut.new.self) _ K.faults c.args.path.now c.in-Ok.book
+          c.pipe-ending.result.1 (stores c.args.shelf.now) (stores c.open_store.new.shelf) (stores c.shut.new.self) K.rows_told c.in-Ok.ensures.begins
+          (λ told image. (c.shut.ensures.stops told image).0) c.in-Ok.ensures.opened c.shut.ensures.kept c.shut.ensures.others c.shut.ensures.count
+          history is so.0,
+      wishes-kept K.tells_stops K.rows K.tried K.moment K.left_since K.opens (g.S.Shelf.left c.shut.new.self c.args.path.now) _ c.in-Ok.book
+          c.pipe-ending.result.1 c.in-Ok.ensures.begins (λ told image. (c.shut.ensures.stops told image).0) judged so.1,
+    )))
 
 pub returns-in-Ok-clause-answers : goal.returns-in-Ok-clause-answers
 returns-in-Ok-clause-answers g c b left faultless idle H legal told =
