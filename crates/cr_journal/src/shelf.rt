@@ -21,8 +21,8 @@ use std::snapshot::Snapshot;
 
 /// Opens the files of disks as journals.
 ///
-/// Contracts see its disks, how many files were opened that are no journals, and the disk of the journal that was opened
-/// last, as it was then.
+/// Contracts see its disks, how many files were opened that are no journals, whether the last that was to be opened is
+/// none, and the disk of the journal that was opened last, as it was then.
 #[derive(Drop)]
 pub struct JournalShelf<D: Disks> {
     alloc: Global,
@@ -42,6 +42,7 @@ impl<D: Disks> Model for JournalShelf<D> {
     ghost view = { λ s. record {
       disks = s.disks;
       refused = s.refused;
+      found_none = s.found_none;
       last = option_map (λ (disk : Snapshot D.Disk). disk.value) s.last;
     } };
 }
@@ -64,6 +65,7 @@ impl<D: Disks> JournalShelf<D> {
     pub fn new(alloc: Global, disks: D) -> Self
         ensures disks { result.disks ≡ disks }
         ensures refused { result.refused ≡ 0 }
+        ensures none { IsFalse result.found_none }
     {
         JournalShelf {
             alloc,
@@ -81,8 +83,10 @@ impl<D: Disks> JournalShelf<D> {
         &self.disks
     }
 
-    /// Whether the last file that it was to open is no journal.
-    pub fn found_none(&self) -> bool {
+    /// Whether the last file that it was to open was refused since it is no journal.
+    pub fn found_none(&self) -> bool
+        ensures { result ≡ self.now.found_none }
+    {
         self.found_none
     }
 }
@@ -123,6 +127,12 @@ impl<D: Disks> Shelf for JournalShelf<D> {
         ensures failed { result ≡ Err Failed → Rises (D.faults self.old.disks) (D.faults self.new.disks)
             ⊎ (Rises self.old.refused self.new.refused
             × (IsTrue D.Disk.tells → IsNoJournal (D.files self.old.disks path.now))) }
+
+        // Which of both it was stays known until the next file is to be opened.
+        ensures none { IsTrue self.new.found_none → (result ≡ Err Failed) × Rises self.old.refused self.new.refused
+            × (IsTrue D.Disk.tells → IsNoJournal (D.files self.old.disks path.now)) }
+        ensures other { IsFalse self.new.found_none → (self.new.refused ≡ self.old.refused)
+            × (result ≡ Err Failed → Rises (D.faults self.old.disks) (D.faults self.new.disks)) }
     {
         self.found_none = false;
         let disk = self.disks.open(path)?;
