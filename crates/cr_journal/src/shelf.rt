@@ -1,5 +1,6 @@
 //! A shelf of journals over disks.
-ghost use Rattle.std.specs.Prelude.{◌≡◌, ◌≢◌, ◌⊎◌, ◌+◌, ◌≤◌, ℕ, [], List, Some, Err, IfOk, IfSome, OnOk, IsTrue, IsFalse};
+ghost use Rattle.std.specs.Prelude.{◌≡◌, ◌≢◌, ◌⊎◌, ◌+◌, ◌≤◌, ℕ, [], List, Some, Err};
+ghost use Rattle.std.specs.Prelude.{IfOk, IfSome, OnOk, IsTrue, IsFalse};
 ghost use Rattle.cr_base.specs.declared.row.Row.{Row};
 ghost use Rattle.cr_disks.specs.Disk.{Only, with_bytes};
 ghost use Rattle.cr_ports.specs.Count.{Gains, Rises};

@@ -25,7 +25,8 @@ module _ {T E Root : Type 0} where
 
   -- two states in one
   abbrev pub joined : PassState T E Root → PassState T E Root → PassState T E Root
-  joined v w = state_of (v.share + w.share) (max v.turns w.turns) (longer v.seen w.seen) (merged v.mine w.mine) None Idle
+  joined v w =
+      state_of (v.share + w.share) (max v.turns w.turns) (longer v.seen w.seen) (merged v.mine w.mine) None Idle
 
   -- the same, until it has been looked what the two had in common
   abbrev pub joining : PassState T E Root → PassState T E Root → PassState T E Root

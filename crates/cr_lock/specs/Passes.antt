@@ -12,8 +12,8 @@ pub record Origin (T : Type 0) : Type 0 where
   pub lock : TableId
   pub first : T
 
--- The lock that a pass is of, its share of 64, how many turns it has made, the history as it last saw it, and its turns;
--- and the value as it left it, where it wasn't split or joined since.
+-- The lock that a pass is of, its share of 64, how many turns it has made, the history as it last saw it, and its
+-- turns; and the value as it left it, where it wasn't split or joined since.
 pub record Known (T E : Type 0) : Type 0 where
   pub lock : TableId
   pub share : ℕ

@@ -5,7 +5,8 @@ ghost use Rattle.std.specs.Fn.{FnOnceReturnsAtMut, FnOnceTakesAtMut};
 ghost use mathlib.Core.List.{IsPrefix};
 ghost use Rattle.cr_lock.specs.declared.pass_state.Activity.TheVariants.{Idle, Holding};
 ghost use Rattle.cr_lock.specs.Steps.{state};
-ghost use Rattle.cr_lock.specs.Passes.{first_pass, larger_half, smaller_half, united, after_turn, Agree, IsAsLeft, Stand};
+ghost use Rattle.cr_lock.specs.Passes.{first_pass, larger_half, smaller_half, united, after_turn};
+ghost use Rattle.cr_lock.specs.Passes.{Agree, IsAsLeft, Stand};
 ghost use Rattle.cr_lock.specs.Closing.{Closes};
 
 use crate::pass::Pass;
@@ -166,8 +167,8 @@ impl<T: Stands> HistoryLock<T> {
     /// Waits until it is this pass's turn, calls the act on the value, and gives what the act answers.
     ///
     /// The act is lent a value `x` that stands for a history which begins with what the pass had seen, and leaves a
-    /// value `y`. It may only append to the list, may not lower the count of faults, and leaves the root as it was. What
-    /// it promises of `x`, `y` and its answer holds. The pass has then seen what `y` stands for, and its turns are
+    /// value `y`. It may only append to the list, may not lower the count of faults, and leaves the root as it was.
+    /// What it promises of `x`, `y` and its answer holds. The pass has then seen what `y` stands for, and its turns are
     /// longer by one: the length of the history at `x`, what was added, by how much the count of faults rose, and the
     /// mark, set exactly where it rose or stands at its last value. Where the pass has the whole share, so that there
     /// is no other, `x` is the value that it left in its last turn, or that the lock was made with, unless it was split

@@ -25,8 +25,8 @@ StandsAfter tells_stops kept tried (Some before) there =
     (there ≡ Some kept)
     ⊎ (IsTrue tells_stops × ((group : List Row) × IsAmong tried group × (there ≡ Some (kept ++ group))))
 
--- At each path stands what stood there, once a keeper was to be opened at one of them. Where that failed, of keepers that
--- tell what a stop leaves, a file may have been left half made there, where there were no rows.
+-- At each path stands what stood there, once a keeper was to be opened at one of them. Where that failed, of keepers
+-- that tell what a stop leaves, a file may have been left half made there, where there were no rows.
 abbrev pub StaysOpened : {K : Type 0} → Bool → List ℕ → Result K KeeperError → (List ℕ → Option (List Row))
     → (List ℕ → Option (List Row)) → Type 0
 StaysOpened tells_stops path result old new =
