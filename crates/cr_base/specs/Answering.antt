@@ -1,5 +1,5 @@
--- The one answer to queries: filled with the facts of a view it is Answer, filled with those
--- of the tables it is RoleAnswer.
+-- The one answer to queries: filled with the facts of a view it is `answer` of cr_policy, filled with those of the
+-- tables it is `answer_by_role`.
 use Rattle.std.specs.Prelude.{ℕ, Bool, true, false, not, ◌≢◌, ◌&&◌, ◌==◌, List, [], length, map, Option}
 use Rattle.std.specs.Prelude.{Some, None, is_some, filter, find, unwrap_or, Result, Ok, Err, if◌then◌else◌}
 use Rattle.std.specs.Option.{option_map, option_and_then}
@@ -292,6 +292,6 @@ answer_by facts shown caller query =
 abbrev pub MayTakeMemory : Reply → Type 0
 MayTakeMemory reply = (rule : Rule) → rule ≢ rules.NoPlan → reply ≢ replies.Refused rule
 
--- RoleAnswer of a query: the same by checks on the tables
+-- the answer to a query by checks on the tables
 abbrev pub answer_by_role : Tables → Option ℕ → Query → Reply
 answer_by_role t caller query = answer_by (facts_of_tables t caller) (shown_in_tables t) caller query

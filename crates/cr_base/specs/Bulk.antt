@@ -179,7 +179,7 @@ tables_basis user = record {
   behind = λ t group. tables_from t group;
 }
 
--- RoleAnswer of a bulk: the same by checks on the tables
+-- the judgement of a bulk by checks on the tables
 abbrev pub bulk_by_role : Tables → BulkCall → Result Drawn Broken
 bulk_by_role t bulk = bulk_judged (tables_basis bulk.stamp.maker) t bulk
 

@@ -1,5 +1,5 @@
--- The one judgement of commands: filled with the facts of a view it is Judge, filled with those
--- of the tables it is RoleAnswer.
+-- The one judgement of commands: filled with the facts of a view it is `judge` of cr_policy, filled with those of the
+-- tables it is `judge_by_role`.
 use Rattle.std.specs.Prelude.{ℕ, Bool, ◌+◌, List, [], length, Option, Some, None, is_some, is_none, unwrap_or, Result}
 use Rattle.std.specs.List.{flat_map, list_any}
 use Rattle.std.specs.Option.{option_map}
@@ -179,6 +179,6 @@ judge_by facts shown stamp (Uninvite paper name) =
     uninvitation_judged facts shown stamp paper (user_among facts.accounts name)
 judge_by facts shown stamp (Respond paper text) = response_judged facts shown stamp paper text
 
--- RoleAnswer of a command: the same by checks on the tables
+-- the judgement of a command by checks on the tables
 abbrev pub judge_by_role : Tables → Call → Result Drawn Rule
 judge_by_role t call = judge_by (facts_of_tables t call.caller) (shown_in_tables t) (stamp_of call) call.command

@@ -1,6 +1,6 @@
--- Which papers a search finds: Holds. Each term is tried on what the caller is told of a paper by its page, its
--- reviews, its comments and its response. What she isn't told makes a term false, and so the denial of it true: no
--- search tells what the answers don't.
+-- Which papers a search finds. Each term is tried on what the caller is told of a paper by its page, its reviews, its
+-- comments and its response. What she isn't told makes a term false, and so the denial of it true: no search tells
+-- what the answers don't.
 use Rattle.std.specs.Prelude.{ℕ, Bool, true, false, not, ◌&&◌, ◌||◌, ◌==◌, List, [], ◌∷◌, Option, is_some, unwrap_or}
 use Rattle.std.specs.Option.{option_map_or}
 use Rattle.std.specs.List.{list_any}

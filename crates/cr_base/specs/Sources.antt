@@ -1,5 +1,5 @@
 -- What rules and answers read, over a record of facts and one of what is shown of a paper: filled by a view they make
--- Judge and Answer, filled by the tables they make RoleAnswer.
+-- `judge` and `answer` of cr_policy, filled by the tables they make `judge_by_role` and `answer_by_role`.
 use Rattle.std.specs.Prelude.{ℕ, Bool, not, ◌||◌, ◌&&◌, ◌==◌, List, Option, Some, None, is_some, find, map}
 use Rattle.std.specs.Prelude.{if◌then◌else◌}
 use Rattle.std.specs.Option.{option_map, option_and_then}

@@ -1,6 +1,8 @@
--- Which rule is told, where more than one is broken: for each two that stand next to one another in what a command
--- or a query asks, and that can be broken at once, a case of the small conference in which both are. Beside each
--- case stands the rule that isn't told.
+-- Which rule is told, where more than one is broken: for each two that stand next to one another in what a command, a
+-- query or a bulk asks, and that can be broken at once there, a case of the small conference or of its twins in which
+-- both are. Beside each case stands the rule that isn't told. Seven pairs need more than the conference has:
+-- `name_taken` and `full_accounts`, `full_papers` and each of its two neighbours, `already_assigned` and
+-- `labels_spent`, `withdrawn` and `quota_comments`, `plan_too_large` and each of its two.
 use Rattle.std.specs.Prelude.{ℕ, ◌≡◌, ◌+◌, true, false, List, [], ◌∷◌, ◌++◌, Option, Some, None, codes, Err}
 use Rattle.cr_base.specs.declared.bulk.Broken.{Broken}
 use Rattle.cr_base.specs.declared.bulk.Broken.TheVariants as broken

@@ -120,7 +120,7 @@ pub fn law_permissions()
 /// Which rule is told, where more than one is broken: for each two that stand next to one another in what a command, a
 /// query or a bulk asks, a case of the small conference or of its twins in which both are, and the first is told. All
 /// these histories are legal. There is no case of what the conference is too small for: 9,999 accounts or papers, 26
-/// labels of one paper, 1,000 comments; nor of two rules that can't be broken at once.
+/// labels of one paper, 1,000 comments, a plan that is too large; nor of two rules that can't be broken at once.
 pub fn law_first_told()
     ensures { FirstTold }
 {}

@@ -1,4 +1,4 @@
--- PaperTold of searches: a paper is found exactly where it has a title for the reader and the terms hold of what the
+-- Told of searches: a paper is found exactly where it has a title for the reader and the terms hold of what the
 -- answers tell her of it.
 use Rattle.std.specs.Prelude.{ℕ, true, false, ◌≡◌, List, [], length, map, filter, Option, Some, None, is_some}
 use Rattle.std.specs.Prelude.{unwrap_or}
