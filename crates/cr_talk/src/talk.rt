@@ -1,5 +1,5 @@
 //! The comments on papers, and what authors respond.
-ghost use Rattle.std.specs.Prelude.{◌≡◌, ◌+◌, [], ◌∷◌, OnOk, IfOk, Some, length, is_some, unwrap_or};
+ghost use Rattle.std.specs.Prelude.{◌≡◌, ◌+◌, [], ◌∷◌, OnOk, IfOk, IfSome, Some, length, is_some, unwrap_or};
 ghost use Rattle.std.specs.List.{filter_map};
 ghost use Rattle.std.specs.Option.{option_copied};
 ghost use Rattle.cr_base.specs.Checks.{judged, comment_checks, respond_checks};
@@ -82,6 +82,7 @@ impl Talk {
     pub fn response<L: Ledger>(&self, paper: PaperNo, steps: &mut Steps<L>) -> Option<&Text>
         ensures response { option_copied result ≡ response_in self.now.talk paper }
         ensures steps { TakesAtMost 1 steps.old steps.new }
+        ensures told { IfSome result (λ text. Takes 1 steps.old steps.new) }
     {
         self.responses.last(paper, steps)
     }
