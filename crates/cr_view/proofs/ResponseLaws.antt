@@ -1,10 +1,9 @@
 -- What is answered of an authors' response.
-use Rattle.std.proofs.Common.{ℕ, Bool, true, false, ◌≡◌, List, [], refl, sym, ap, ◌∙◌, Option, Some, None, Result, Ok, Err}
-use Rattle.std.specs.Prelude.{is_some, not, unwrap_or}
+use Rattle.std.proofs.Common.{ℕ, Bool, true, ◌≡◌, List, [], sym, ap, ◌∙◌, Option, Some, Result, Ok, Err}
+use Rattle.std.specs.Prelude.{is_some, unwrap_or}
 use Rattle.std.specs.Option.{option_and_then}
-use Rattle.std.proofs.lemmas.Bool.{true≢false}
+use Rattle.std.proofs.lemmas.Bool.{not-false}
 use Rattle.cr_base.specs.declared.reply.Rule.{Rule}
-use Rattle.cr_base.specs.declared.reply.Rule.TheVariants as rules
 use Rattle.cr_base.specs.declared.standing.Standing.{Standing}
 use Rattle.cr_base.specs.Answering.{response_by}
 use Rattle.cr_base.specs.Checks.{Check, judged, of_there, response_checks}
@@ -48,8 +47,7 @@ module _ (t : Tables) (user paper : Option ℕ) where
         ∙ ap (λ (o : Option (List ℕ)). Ok (unwrap_or o [])) (sym is ∙ lent)
 
     -- and then there is one
-    pub response-missing : ◌≡◌ {A = Result (Unit {0}) Rule} (Ok tt) (judged (response_checks by (of_there there) responded) tt) → text ≡ None
-        → response_due t user paper ≡ Err rules.NoResponse
-    response-missing h none =
-        let broken = (judged-Ok (asked text) tt tt (sym (asks (Ok tt) h))).0 in
-        absurd (true≢false (sym (ap (λ (o : Option (List ℕ)). not (is_some o)) none) ∙ broken.1.1.1.1.0))
+    pub response-there : ◌≡◌ {A = Result (Unit {0}) Rule} (Ok tt) (judged (response_checks by (of_there there) responded) tt) → is_some text ≡ true
+    response-there h =
+        let none_broken = (judged-Ok (asked text) tt tt (sym (asks (Ok tt) h))).0 in
+        not-false (is_some text) none_broken.1.1.1.1.0

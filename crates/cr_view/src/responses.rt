@@ -92,12 +92,8 @@ impl Live {
         let there = self.has_paper(paper);
         let response = self.response_of(paper);
         match response_rule(&by, there, response.is_some()) {
-            Ok(()) => {}
-            Err(rule) => return Err(rule),
-        }
-        match response {
-            Some(text) => Ok(text),
-            None => Err(Rule::NoResponse),
+            Ok(()) => Ok(response.unwrap()),
+            Err(rule) => Err(rule),
         }
     }
 
