@@ -1,12 +1,18 @@
 -- What passes a test: whether there is one, and which is the last.
-use Rattle.std.proofs.Common.{Bool, true, false, cond, not, ◌≡◌, ◌||◌, ◌&&◌, List, [], ◌∷◌, reverse, refl, ap, ◌∙◌, Option, Some, None}
+use Rattle.std.proofs.Common.{Bool, true, false, cond, not, ◌≡◌, ◌||◌, ◌&&◌, List, [], ◌∷◌, reverse, refl, sym, ap, ◌∙◌, ℕ, Option, Some, None}
 use Rattle.std.specs.Prelude.{filter, is_some}
 use Rattle.std.specs.List.{list_any, find}
 use Rattle.std.specs.Option.{option_or}
+use Rattle.std.proofs.lemmas.Bool.{eq-eqb, false≢true}
 use Rattle.std.proofs.lemmas.List.{reverse-append}
 use Rattle.std.proofs.lemmas.List.Folds.{find-append}
+use Rattle.cr_base.specs.declared.review.WrittenForm.{WrittenForm}
 use Rattle.cr_base.specs.Lists.{last, last_from, is_nothing}
+use Rattle.cr_base.specs.Phases.{is_from}
 use Rattle.cr_base.proofs.FiledLaws.{filter-filter}
+use Rattle.cr_reviews.specs.declared.forms.Written.{Written}
+use Rattle.cr_reviews.specs.declared.forms.Written.TheVariants.{Ever, Before, Since}
+use Rattle.cr_reviews.specs.Under.{is_under, is_written}
 
 module _ {A : Type 0} (q : A → Bool) where
   pub found : (xs : List A) → list_any q xs ≡ not (is_nothing (filter q xs))
@@ -58,3 +64,29 @@ found-both {A} q r xs =
     found (λ (y : A). q y && r y) xs
     ∙ last-there (filter (λ (y : A). q y && r y) xs)
     ∙ ap (λ (zs : List A). is_some (last zs)) (filter-filter q r xs)
+
+-- a form that was written then under its own label was so under each label that it is under
+and-own : (b own then : Bool) → own ≡ true → (own && then) ≡ true → (b && then) ≡ b
+and-own true true then same is = is
+and-own false true then same is = refl
+and-own b false then same is = absurd (false≢true same)
+
+pub written-under : (o : ℕ) (when : Written) (form : WrittenForm) → is_written form.ordinal when form ≡ true → is_written o when form ≡ is_under o form
+written-under o Ever form is = refl
+written-under o (Before phase) form is =
+    and-own (is_under o form) (is_under form.ordinal form) (not (is_from phase form.phase)) (eq-eqb form.ordinal form.ordinal refl) is
+written-under o (Since phase) form is =
+    and-own (is_under o form) (is_under form.ordinal form) (is_from phase form.phase) (eq-eqb form.ordinal form.ordinal refl) is
+
+-- and where it wasn't, it was so under none
+and-none : (b own then : Bool) → own ≡ true → (own && then) ≡ false → (b && then) ≡ false
+and-none true true then same none = none
+and-none false true then same none = refl
+and-none b false then same none = absurd (false≢true same)
+
+pub written-never : (o : ℕ) (when : Written) (form : WrittenForm) → is_written form.ordinal when form ≡ false → is_written o when form ≡ false
+written-never o Ever form none = absurd (false≢true (sym none ∙ eq-eqb form.ordinal form.ordinal refl))
+written-never o (Before phase) form none =
+    and-none (is_under o form) (is_under form.ordinal form) (not (is_from phase form.phase)) (eq-eqb form.ordinal form.ordinal refl) none
+written-never o (Since phase) form none =
+    and-none (is_under o form) (is_under form.ordinal form) (is_from phase form.phase) (eq-eqb form.ordinal form.ordinal refl) none

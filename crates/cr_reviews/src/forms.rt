@@ -1,9 +1,8 @@
 //! The forms of a paper that were written under a label, of all forms of the paper in the order in which
 //! they were written.
-ghost use Rattle.std.specs.Prelude.{◌≡◌, ℕ, count_by};
+ghost use Rattle.std.specs.Prelude.{◌≡◌, ◌||◌, ℕ, count_by};
 ghost use Rattle.std.specs.List.{list_any};
 ghost use Rattle.std.specs.Option.{option_copied};
-ghost use Rattle.cr_reviews.specs.declared.forms.Written.TheVariants.{Before};
 ghost use Rattle.cr_reviews.specs.Labels.{has_label};
 ghost use Rattle.cr_reviews.specs.Under.{is_under, is_written, last_that};
 
@@ -60,26 +59,22 @@ pub(crate) fn last_of(
         .find(|form| is_written(form, ordinal, when))
 }
 
-/// The labels under which there is one. One walk.
-pub(crate) fn labels_of(forms: &[WrittenForm]) -> Labels
-    ensures { (o : ℕ) → has_label result o ≡ list_any (is_under o) forms.now }
+/// The label of the form is among them from now on, where it was written then.
+fn add_written(labels: &mut Labels, form: &WrittenForm, when: Written)
+    ensures { (o : ℕ) → has_label labels.new o ≡ (is_written o when form.now || has_label labels.old o) }
 {
-    let mut labels = Labels::none();
-    for form in forms {
+    if is_written(form, form.ordinal, when) {
         labels.add(form.ordinal);
     }
-    labels
 }
 
-/// The labels under which there is one that was written before the phase began. One walk.
-pub(crate) fn labels_before(forms: &[WrittenForm], phase: Phase) -> Labels
-    ensures { (o : ℕ) → has_label result o ≡ list_any (is_written o (Before phase)) forms.now }
+/// The labels under which there is one that was written then. One walk.
+pub(crate) fn labels_of(forms: &[WrittenForm], when: Written) -> Labels
+    ensures { (o : ℕ) → has_label result o ≡ list_any (is_written o when) forms.now }
 {
     let mut labels = Labels::none();
     for form in forms {
-        if !form.phase.is_from(phase) {
-            labels.add(form.ordinal);
-        }
+        add_written(&mut labels, form, when);
     }
     labels
 }

@@ -13,7 +13,7 @@ ghost use Rattle.cr_reviews.specs.Labels.{has_label};
 ghost use Rattle.cr_reviews.specs.Room.{paper_reviewed, ReviewsHaveRoom};
 ghost use Rattle.cr_reviews.specs.Under.{forms_by};
 
-use crate::forms::{Written, count_under, has_under, labels_before, labels_of, last_of};
+use crate::forms::{Written, count_under, has_under, labels_of, last_of};
 use crate::labels::Labels;
 use cr_base::{Entry, Ordinal, PaperNo, Phase, Rule, Stamped, Standing, Steps, WrittenForm};
 use cr_kept::Files;
@@ -128,7 +128,7 @@ impl Reviews {
         ensures value { (o : ℕ) → has_label result o ≡ is_written_in self.now.reviews paper o }
         ensures steps { Takes (length (filed_of paper self.now.reviews.forms)) steps.old steps.new }
     {
-        labels_of(self.forms(paper, steps))
+        labels_of(self.forms(paper, steps), Written::Ever)
     }
 
     /// Those of them under which there is one that was written before the phase began. It costs the same.
@@ -142,7 +142,7 @@ impl Reviews {
             → has_label result o ≡ is_some (last_form_before self.now.reviews paper o phase) }
         ensures steps { Takes (length (filed_of paper self.now.reviews.forms)) steps.old steps.new }
     {
-        labels_before(self.forms(paper, steps), phase)
+        labels_of(self.forms(paper, steps), Written::Before(phase))
     }
 
     /// The version that a form under this label of this paper would be now, the count of forms under the

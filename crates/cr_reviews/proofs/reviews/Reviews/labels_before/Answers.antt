@@ -10,6 +10,6 @@ use Rattle.cr_reviews.proofs.reviews.Reviews.labels_before.Goals as goal
 pub returns-clause-value : goal.returns-clause-value
 returns-clause-value g c = λ o.
     let early = λ (w : WrittenForm). not (is_from c.args.phase w.phase) in
-    c.labels_before.ensures o
+    c.labels_of.ensures o
     ∙ found-both (is_under o) early c.forms.result.now
     ∙ ap (λ (forms : List WrittenForm). is_some (last (filter early (filter (is_under o) forms)))) c.forms.ensures.forms
