@@ -178,36 +178,30 @@ views_behind_response d mode a = record (opened_to Discussion (views_in_response
 
 -- ---- and at the notification
 
--- an author of paper 1, from the reviewing on: of each label the form to which they responded, and the last one; else
+-- an author of paper 1, from its first form on: of each label the form to which they responded, and the last one; else
 -- as without a response. The view is a function of what is shown of paper 2, in the reviewing and behind the response,
 -- and of the response
+abbrev pub forms_behind : Asides → View → View → Sighting → View
+forms_behind a forms late responded =
+    form_to_authors 1 2 alices_form
+    ∷ form_to_authors 1 3 second_form
+    ∷ forms
+    ++ phase_set Response
+    ∷ responded
+    ∷ phase_set Discussion
+    ∷ form_to_authors 1 3 (last_form a)
+    ∷ late
+    ++ phase_set Notification
+    ∷ []
+
+-- and from the reviewing on
 abbrev pub told_behind : Mode → Asides → View → View → Sighting → View
 told_behind Overt a forms late responded =
     phase_set Reviewing
     ∷ to_authors (unassignment 1 dave 1)
     ∷ to_authors (assignment 1 dave Pc 3)
-    ∷ form_to_authors 1 2 alices_form
-    ∷ form_to_authors 1 3 second_form
-    ∷ forms
-    ++ phase_set Response
-    ∷ responded
-    ∷ phase_set Discussion
-    ∷ form_to_authors 1 3 (last_form a)
-    ∷ late
-    ++ phase_set Notification
-    ∷ []
-told_behind mode a forms late responded =
-    phase_set Reviewing
-    ∷ form_to_authors 1 2 alices_form
-    ∷ form_to_authors 1 3 second_form
-    ∷ forms
-    ++ phase_set Response
-    ∷ responded
-    ∷ phase_set Discussion
-    ∷ form_to_authors 1 3 (last_form a)
-    ∷ late
-    ++ phase_set Notification
-    ∷ []
+    ∷ forms_behind a forms late responded
+told_behind mode a forms late responded = phase_set Reviewing ∷ forms_behind a forms late responded
 
 abbrev pub bob_behind : Digests → Mode → Asides → View
 bob_behind d Overt a =
