@@ -14,7 +14,7 @@ use Rattle.cr_base.specs.History.{History}
 use Rattle.cr_base.specs.HistoryFacts.{mode_of, phase_of, role_of, is_author}
 use Rattle.cr_policy.specs.Sighting.{Sighting, blank}
 use Rattle.cr_policy.specs.ViewFacts.{is_user}
-use Rattle.cr_policy.specs.ShownTo.{chairs_committee, is_past_writing, is_past_reviewing, is_past_discussion, is_responded_to}
+use Rattle.cr_policy.specs.ShownTo.{chairs_committee, is_response_or_later, is_past_reviewing, is_past_discussion, is_responded_to}
 use Rattle.cr_policy.specs.ShownTo.{hides_authors, hides_reviewers, names_reviewers, serves, is_eligible, oversees, administers, discusses, is_answered}
 use Rattle.cr_policy.specs.ShownTo.{is_in_programme, appears, is_decided_again, learns_outcome, is_announced}
 use Rattle.cr_policy.specs.ShownTo.{is_replaced, is_superseded, is_reviewed, is_discussed, is_party, is_told, where_known, paper_for, reviewer_for}
@@ -194,7 +194,7 @@ module _ (u : Option ℕ) (H : History) (paper : ℕ) (wrote : is_author u paper
     pub left-form : (own : Bool) → (form_known own || done_known (administers u paper H) || learns_form u H before later paper ordinal) ≡ true → (own || administers u paper H) ≡ true
     left-form own told =
         form-left own (is_eligible u paper H) (is_past_reviewing (phase_of H)) (is_discussed paper ordinal before later) (administers u paper H)
-        (not (is_reviewed paper ordinal before)) (is_author u paper H) (is_past_writing (phase_of H)) (is_responded_to paper ordinal before later)
+        (not (is_reviewed paper ordinal before)) (is_author u paper H) (is_response_or_later (phase_of H)) (is_responded_to paper ordinal before later)
         (is_past_discussion (phase_of H)) (not (is_reviewed paper ordinal later)) handled wrote told
 
     form-own : {A : Type 0} (own : Bool) (x : A) → where_known (form_known own) x ≡ cond own (where_known (form_known own) x) None
@@ -206,7 +206,7 @@ module _ (u : Option ℕ) (H : History) (paper : ℕ) (wrote : is_author u paper
     review-own own x =
         known-alone (review_known own) own x (λ other. ap review_known other
         ∙ review-unread (is_eligible u paper H) (is_past_reviewing (phase_of H)) (is_discussed paper ordinal before later) (is_author u paper H)
-        (is_past_writing (phase_of H)) (is_responded_to paper ordinal before later) (is_past_discussion (phase_of H)) (not (is_reviewed paper ordinal later)) handled wrote)
+        (is_response_or_later (phase_of H)) (is_responded_to paper ordinal before later) (is_past_discussion (phase_of H)) (not (is_reviewed paper ordinal later)) handled wrote)
 
     done-led : (led : Bool) → where_known (done_known led) true ≡ cond led (where_known (done_known led) true) None
     done-led led = known-alone (done_known led) led true (ap done_known)

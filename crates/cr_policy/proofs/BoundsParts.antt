@@ -27,7 +27,7 @@ use Rattle.cr_policy.specs.View.{is_seen, joined}
 use Rattle.cr_policy.specs.ShownTo.{is_on_committee, is_past_submission}
 use Rattle.cr_policy.specs.ShownTo.{takes, is_in_programme, appears, is_decided_again, reads_decision, learns_outcome, is_announced}
 use Rattle.cr_policy.specs.ShownTo.{hides_reviewers, names_reviewers, serves, is_eligible, oversees, administers, discusses, is_answered}
-use Rattle.cr_policy.specs.ShownTo.{is_heard, is_responded_to}
+use Rattle.cr_policy.specs.ShownTo.{is_author_since_response, is_responded_to}
 use Rattle.cr_policy.specs.ShownTo.{is_notified, knows_writers, is_reviewed, is_discussed}
 use Rattle.cr_policy.specs.ShownTo.{reads_form, learns_form, counts_form, reads_review}
 use Rattle.cr_policy.specs.ShownTo.{is_replaced, owns, is_party, is_told, where_known}
@@ -308,7 +308,7 @@ module _ (u : Option ℕ) (H : History) (at : Around) (stamp : Stamp) (more : Bo
         by : (k k' d d' : Bool) → k ≡ k' → d ≡ d' → (k && d) ≡ (d' && k')
         by k k' d d' hk hd = grind (arith, hk, hd)
 
-    early-same : IsWithin H at reviewed → early ≡ (is_heard u paper H && is_responded_to paper ordinal at.before at.after)
+    early-same : IsWithin H at reviewed → early ≡ (is_author_since_response u paper H && is_responded_to paper ordinal at.before at.after)
     early-same within =
         by _ (had_response_of H) (is_author u paper H) _ _ _ (responded-same paper ordinal at.before at.after (had_response_of H) within)
         (phase-words (phase_of H)).response

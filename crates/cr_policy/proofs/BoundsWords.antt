@@ -21,7 +21,7 @@ use Rattle.cr_base.specs.Phases.{is_from, is_phase}
 use Rattle.cr_base.specs.TagTexts.{is_for_all, is_for_chairs}
 use Rattle.cr_base.specs.Words.{is_anonymous, is_overt, is_member, is_chair, is_accept}
 use Rattle.cr_policy.specs.Triggers.{none_in}
-use Rattle.cr_policy.specs.ShownTo.{is_on_committee, chairs_committee, is_past_submission, is_past_writing, is_past_reviewing, is_past_discussion, is_over}
+use Rattle.cr_policy.specs.ShownTo.{is_on_committee, chairs_committee, is_past_submission, is_response_or_later, is_past_reviewing, is_past_discussion, is_over}
 use Rattle.cr_policy.specs.ShownTo.{takes, decides, is_decided_again}
 use Rattle.cr_policy.specs.ShownTo.{hides_authors, hides_reviewers, names_reviewers}
 use Rattle.cr_policy.specs.ShownTo.{is_response, begins_response, is_responded_to}
@@ -49,7 +49,7 @@ chair-committee Chair = refl
 -- bidding, and the notification behind the discussion
 pub record PhaseWords (phase : Phase) : Type 0 where
   pub bidding : is_from Bidding phase ≡ is_past_submission phase
-  pub response : is_from Response phase ≡ is_past_writing phase
+  pub response : is_from Response phase ≡ is_response_or_later phase
   pub discussion : is_from Discussion phase ≡ is_past_reviewing phase
   pub notification : is_from Notification phase ≡ is_past_discussion phase
   pub closed : is_from Closed phase ≡ is_over phase

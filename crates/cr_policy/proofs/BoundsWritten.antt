@@ -19,7 +19,7 @@ use Rattle.cr_base.specs.HistoryFacts.{phase_of, mode_of, role_of, is_author, is
 use Rattle.cr_policy.specs.Sighting.{Sighting, blank}
 use Rattle.cr_policy.specs.View.{view}
 use Rattle.cr_policy.specs.ViewFacts.{is_kind}
-use Rattle.cr_policy.specs.ShownTo.{begins_response, is_responded_to, is_heard, is_past_writing}
+use Rattle.cr_policy.specs.ShownTo.{begins_response, is_responded_to, is_author_since_response, is_response_or_later}
 use Rattle.cr_policy.specs.ShownTo.{chairs_committee, is_past_reviewing, is_past_discussion, hides_reviewers, has_conflict, serves, is_eligible, oversees, administers, discusses}
 use Rattle.cr_policy.specs.ShownTo.{is_discussed, is_reviewed, is_committees, is_chairs, is_setters, is_told, takes, is_in_programme, is_decided_again, is_announced, where_known}
 use Rattle.cr_policy.specs.ViewBounds.{is_others, is_tag_so, FormsEarly, FormsFromAuthors, CommentsFromAuthors, ResponsesShown, may_learn_forms, WritersUnnamed, PrivateTagsAreOwn, ChairsTags}
@@ -84,9 +84,9 @@ forms-early u p H early unheard = each-view u H IsUnread each
         let discussed : Bool = is_discussed paper ordinal before later in
         let unread = form-hidden (is_number u stamp.maker) (is_eligible u paper H) (is_past_reviewing (phase_of H)) discussed own early in
         let same : paper ≡ p = eqb-true paper p (other-parts (eqb paper p) (is_number u stamp.maker) other).0 in
-        let unlearnt = review-hidden (is_number u stamp.maker) (is_eligible u paper H) (is_past_reviewing (phase_of H)) discussed (is_heard u paper H)
+        let unlearnt = review-hidden (is_number u stamp.maker) (is_eligible u paper H) (is_past_reviewing (phase_of H)) discussed (is_author_since_response u paper H)
         (is_responded_to paper ordinal before later) (is_author u paper H) (is_past_discussion (phase_of H)) (not (is_reviewed paper ordinal later)) own early
-        (ap (λ n. is_heard u n H) same ∙ unheard) silent in
+        (ap (λ n. is_author_since_response u n H) same ∙ unheard) silent in
         λ i. record (shown_to u H before later stamp (Reviewed paper ordinal version form)) {
           mine = own i;
           at = where_known (own i) stamp.at;
@@ -125,10 +125,10 @@ module _ (u : Option ℕ) (p : ℕ) (H : History) (apart : administers u p H ≡
       each before later stamp more (Reviewed paper ordinal version form) whole told = λ other.
           let parts = other-parts (eqb paper p) (is_number u stamp.maker) other in
           let discussed : Bool = is_discussed paper ordinal before later in (
-            learns (is_past_writing (phase_of H)) (is_responded_to paper ordinal before later) (is_past_discussion (phase_of H)) _
+            learns (is_response_or_later (phase_of H)) (is_responded_to paper ordinal before later) (is_past_discussion (phase_of H)) _
                 (responded-opened paper ordinal before later stamp more (Reviewed paper ordinal version form) H whole)
                 (author-form (is_number u stamp.maker) (is_eligible u paper H) (is_past_reviewing (phase_of H)) discussed (administers u paper H)
-                (not (is_reviewed paper ordinal before)) (is_author u paper H) (is_past_writing (phase_of H)) (is_responded_to paper ordinal before later)
+                (not (is_reviewed paper ordinal before)) (is_author u paper H) (is_response_or_later (phase_of H)) (is_responded_to paper ordinal before later)
                 (is_past_discussion (phase_of H)) (not (is_reviewed paper ordinal later)) parts.1 (handled-at paper parts.0) (led-at paper parts.0) told),
             known-not _ form.to_pc
                 (or_from (is_number u stamp.maker) _ parts.1

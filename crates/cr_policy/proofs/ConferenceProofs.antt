@@ -33,7 +33,7 @@ use Rattle.cr_policy.specs.Conference.{first_form, second_form, last_form, alice
 use Rattle.cr_policy.specs.Conference.{registered, opened, submitted, before_bidding, having_tags, in_bidding, in_reviewing, having_comments}
 use Rattle.cr_policy.specs.Conference.{Verdicts, verdicts, in_discussion, at_notification, at_close}
 use Rattle.cr_policy.specs.ConferenceLaws.{IsReviewed, IsDecided, IsResponded, ConferenceLegal}
-use Rattle.cr_policy.specs.ConferenceResponse.{thanks, late_form, in_response, behind_response, told_behind_response}
+use Rattle.cr_policy.specs.ConferenceResponse.{you_are_right, late_form, in_response, behind_response, told_behind_response}
 use Rattle.cr_policy.specs.Legal.{CallsAs, IsKeyOf, IsNewKey, step, Move, calls, LeadsTo, Legal}
 use Rattle.cr_policy.specs.Witness.{morning, some_key}
 use Rattle.cr_policy.proofs.LegalLaws.{LeadsTo-append}
@@ -162,8 +162,8 @@ ascii-review text h = let p = few-ascii 20000 text h in record { few = p.0; utf8
 pub agreed-bounded : IsCommentText agreed
 agreed-bounded = let p = few-ascii 10000 agreed refl in record { some = omega arith; few = p.0; utf8 = p.1 }
 
-thanks-bounded : IsCommentText thanks
-thanks-bounded = let p = few-ascii 10000 thanks refl in record { some = omega arith; few = p.0; utf8 = p.1 }
+you_are_right-bounded : IsCommentText you_are_right
+you_are_right-bounded = let p = few-ascii 10000 you_are_right refl in record { some = omega arith; few = p.0; utf8 = p.1 }
 
 -- of forms whose text to the committee is
 pub bounded-form : (form : Form) → (nat_le 1 form.score && nat_le form.score 5) ≡ true → (nat_le 1 form.confidence && nat_le form.confidence 5) ≡ true
@@ -436,7 +436,7 @@ decided d mode a comments v =
 
 -- an author's view may name reviewers to her, by the mode
 abbrev response_turns : List Turn
-response_turns = by alice (SetPhase Response) tt ∷ by bob (Respond (Some 1) thanks) thanks-bounded ∷ []
+response_turns = by alice (SetPhase Response) tt ∷ by bob (Respond (Some 1) you_are_right) you_are_right-bounded ∷ []
 
 abbrev behind_turns : (a : Asides) → AreAsides a → Bool → List Turn
 behind_turns a are twin =

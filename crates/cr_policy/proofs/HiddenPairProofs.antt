@@ -177,12 +177,12 @@ module _ (d : Digests) (are : AreDigests d) where
   invited_to_talk-so : Legal (pairs.invited_to_talk d)
   invited_to_talk-so = goes_on (pairs.invited d) (pairs.invited_to_talk d) talking refl invited-so
 
-  behind_response-so : Legal (pairs.behind_response d)
-  behind_response-so =
-      goes_on (pairs.in_reviews d) (pairs.behind_response d) (opens Response alice ∷ opens Discussion alice ∷ []) refl reviews-so
+  past_response-so : Legal (pairs.past_response d)
+  past_response-so =
+      goes_on (pairs.in_reviews d) (pairs.past_response d) (opens Response alice ∷ opens Discussion alice ∷ []) refl reviews-so
 
-  response-so : Legal (pairs.in_response d)
-  response-so = goes_on (pairs.in_bids Blind d) (pairs.in_response d) (opens Reviewing alice ∷ opens Response alice ∷ []) refl (bids-so Blind)
+  response-so : Legal (pairs.awaiting_response d)
+  response-so = goes_on (pairs.in_bids Blind d) (pairs.awaiting_response d) (opens Reviewing alice ∷ opens Response alice ∷ []) refl (bids-so Blind)
 
 -- ---- who registers, and what the chairs set
 
@@ -474,7 +474,7 @@ early_reviewer-hidden d are =
 
 pub late_form-hidden : pairs.LateFormHidden
 late_form-hidden d are =
-    once (behind_response-so d are) (reviews dave first_form first-bounded) (reviews dave second_form second-bounded) [] scores_2
+    once (past_response-so d are) (reviews dave first_form first-bounded) (reviews dave second_form second-bounded) [] scores_2
     refl refl refl refl refl
 
 pub response-hidden : pairs.ResponseHidden

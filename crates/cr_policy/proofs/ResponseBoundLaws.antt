@@ -26,7 +26,7 @@ use Rattle.cr_policy.specs.Part.{Part}
 use Rattle.cr_policy.specs.ResponseBounds.{ReviewsAwaited, ReviewsForAuthors, OneReview, ReviewsBehindUnseen, UnheardForms, LaterForms}
 use Rattle.cr_policy.specs.ResponseBounds.{IsSameUnlessUnheard, same, changed}
 use Rattle.cr_policy.specs.ShownTo.{is_past_reviewing, is_past_discussion, begins_response, gives_form, is_reviewed, is_responded_to}
-use Rattle.cr_policy.specs.ShownTo.{is_discussed, is_eligible, is_heard, reads_form, counts_form, learns_form, is_told, each_told, where_known}
+use Rattle.cr_policy.specs.ShownTo.{is_discussed, is_eligible, is_author_since_response, reads_form, counts_form, learns_form, is_told, each_told, where_known}
 use Rattle.cr_policy.specs.Sighting.{Sighting, blank, where_shown}
 use Rattle.cr_policy.specs.Triggers.{Reader, reader, Around, shows}
 use Rattle.cr_policy.specs.View.{rows_at, sight, sights, view, is_seen, joined}
@@ -70,7 +70,7 @@ module _ (u : Option ℕ) (p : ℕ) (H : History) (wrote : is_author u p H ≡ t
     -- and she learns of it where she responds to it alone
     unlearnt : is_responded_to p ordinal before later ≡ false → learns_form u H before later p ordinal ≡ false
     unlearnt apart =
-        learnt-none (is_heard u p H) (is_responded_to p ordinal before later) (is_author u p H) (is_past_discussion (phase_of H))
+        learnt-none (is_author_since_response u p H) (is_responded_to p ordinal before later) (is_author u p H) (is_past_discussion (phase_of H))
         (not (is_reviewed p ordinal later)) apart early
 
     untold : (maker version : ℕ) (form : Form) → is_number u maker ≡ false → is_responded_to p ordinal before later ≡ false

@@ -23,8 +23,8 @@ use Rattle.cr_policy.specs.View.{View}
 -- ---- what they do
 
 -- what bob responds; and fay's form of paper 2, which she writes in the discussion, and none before
-abbrev pub thanks : List ℕ
-thanks = codes "You are right."
+abbrev pub you_are_right : List ℕ
+you_are_right = codes "You are right."
 
 abbrev pub late_form : Form
 late_form = record { score = 4; confidence = 1; to_authors = codes "Fine."; to_pc = codes "At last." }
@@ -32,7 +32,7 @@ late_form = record { score = 4; confidence = 1; to_authors = codes "Fine."; to_p
 -- alice opens the response once the forms of the reviewing are written, and bob responds
 abbrev pub in_response : Digests → Mode → Asides → ℕ → History
 in_response d mode a reviewer =
-    in_reviewing d mode a reviewer ++ alice adds PhaseSet Response ∷ bob adds Responded 1 thanks ∷ []
+    in_reviewing d mode a reviewer ++ alice adds PhaseSet Response ∷ bob adds Responded 1 you_are_right ∷ []
 
 -- she opens the discussion, in which the member who reviews paper 1 writes a last form, and fay one of paper 2
 abbrev pub behind_response : Digests → Mode → Asides → ℕ → History
@@ -62,7 +62,7 @@ bob_in_response d mode =
     ∷ form_to_authors 1 2 alices_form
     ∷ form_to_authors 1 3 second_form
     ∷ phase_set Response
-    ∷ mine (response 1 thanks)
+    ∷ mine (response 1 you_are_right)
     ∷ []
 
 -- a co-author, who wrote paper 2 as well, the same of both
@@ -75,7 +75,7 @@ gus_in_response d mode =
     ∷ form_to_authors 1 3 second_form
     ∷ form_to_authors 2 2 ivys_form
     ∷ phase_set Response
-    ∷ response 1 thanks
+    ∷ response 1 you_are_right
     ∷ []
 
 -- all others: the phase
@@ -102,7 +102,7 @@ hal_behind_response d mode a =
     ∷ form 1 3 2 second_form
     ∷ form 2 2 1 ivys_form
     ∷ phase_set Response
-    ∷ response 1 thanks
+    ∷ response 1 you_are_right
     ∷ phase_set Discussion
     ∷ form 1 3 3 (last_form a)
     ∷ form 2 1 1 late_form
@@ -124,7 +124,7 @@ dave_behind_response d mode a =
     ∷ mine (form 1 3 2 second_form)
     ∷ form 2 2 1 ivys_form
     ∷ phase_set Response
-    ∷ response 1 thanks
+    ∷ response 1 you_are_right
     ∷ phase_set Discussion
     ∷ mine (form 1 3 3 (last_form a))
     ∷ form 2 1 1 late_form
@@ -160,7 +160,7 @@ alice_behind_response d mode a =
     ++ form 1 3 2 second_form
     ∷ as_done (form 2 2 1 ivys_form)
     ∷ mine (phase_set Response)
-    ∷ response 1 thanks
+    ∷ response 1 you_are_right
     ∷ mine (phase_set Discussion)
     ∷ form 1 3 3 (last_form a)
     ∷ as_done (form 2 1 1 late_form)
@@ -209,8 +209,9 @@ bob_behind d Overt a =
     ++ phase_set Bidding
     ∷ to_authors (assignment 1 dave Primary 1)
     ∷ to_authors (assignment 1 alice Secondary 2)
-    ∷ told_behind Overt a [] [] (mine (response 1 thanks))
-bob_behind d mode a = bob_before d mode ++ phase_set Bidding ∷ told_behind mode a [] [] (mine (response 1 thanks))
+    ∷ told_behind Overt a [] [] (mine (response 1 you_are_right))
+bob_behind d mode a =
+    bob_before d mode ++ phase_set Bidding ∷ told_behind mode a [] [] (mine (response 1 you_are_right))
 
 abbrev pub gus_behind : Digests → Mode → Asides → View
 gus_behind d Overt a =
@@ -220,11 +221,13 @@ gus_behind d Overt a =
     ∷ to_authors (assignment 1 alice Secondary 2)
     ∷ to_authors (assignment 2 fay Pc 1)
     ∷ to_authors (assignment 2 ivy Secondary 2)
-    ∷ told_behind Overt a (form_to_authors 2 2 ivys_form ∷ []) (form_to_authors 2 1 late_form ∷ []) (response 1 thanks)
+    ∷ told_behind Overt a (form_to_authors 2 2 ivys_form ∷ []) (form_to_authors 2 1 late_form ∷ [])
+    (response 1 you_are_right)
 gus_behind d mode a =
     gus_before d mode
     ++ phase_set Bidding
-    ∷ told_behind mode a (form_to_authors 2 2 ivys_form ∷ []) (form_to_authors 2 1 late_form ∷ []) (response 1 thanks)
+    ∷ told_behind mode a (form_to_authors 2 2 ivys_form ∷ []) (form_to_authors 2 1 late_form ∷ [])
+    (response 1 you_are_right)
 
 -- whoever is on no committee, and wrote nothing: the phases
 abbrev pub phases_to_notification : View

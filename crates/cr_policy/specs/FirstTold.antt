@@ -28,6 +28,7 @@ use Rattle.cr_policy.specs.Conference.{alice, bob, carol, dave, erin, fay, gus, 
 use Rattle.cr_policy.specs.Conference.{AreAsides, ◌adds◌, types, we_type, hot, chairs_tag, first_form, agreed}
 use Rattle.cr_policy.specs.Conference.{before_bidding, in_bidding, in_reviewing, in_discussion, at_notification}
 use Rattle.cr_policy.specs.Conference.{verdicts}
+use Rattle.cr_policy.specs.ConferenceResponse.{you_are_right}
 use Rattle.cr_policy.specs.Judge.{judge, judge_bulk, answer}
 use Rattle.cr_policy.specs.Legal.{Legal}
 use Rattle.cr_policy.specs.MayBulk.{a_row}
@@ -319,16 +320,13 @@ pub record OfTheDiscussion (d : Digests) (a : Asides) : Type 0 where
 
 -- ---- what authors respond
 
-abbrev pub thanks : List ℕ
-thanks = codes "Thanks."
-
 pub record OfTheResponse (d : Digests) (a : Asides) : Type 0 where
   -- responding: no_paper, not_author, wrong_phase, late, withdrawn; nobody has responded of a withdrawn paper
-  pub respond_none : Refused erin (responding d a) (commands.Respond (Some 9) thanks) rules.NoPaper
-  pub respond_others : Refused dave (bidding d a) (commands.Respond (Some 1) thanks) rules.NotAuthor
-  pub respond_early : Refused gus (bidding d a) (commands.Respond (Some 3) thanks) rules.WrongPhase
-  pub respond_behind : RefusedAtNoon gus (bidding_due d a) (commands.Respond (Some 2) thanks) rules.WrongPhase
-  pub respond_late : RefusedAtNoon gus (response_due d a) (commands.Respond (Some 3) thanks) rules.Late
+  pub respond_none : Refused erin (responding d a) (commands.Respond (Some 9) you_are_right) rules.NoPaper
+  pub respond_others : Refused dave (bidding d a) (commands.Respond (Some 1) you_are_right) rules.NotAuthor
+  pub respond_early : Refused gus (bidding d a) (commands.Respond (Some 3) you_are_right) rules.WrongPhase
+  pub respond_behind : RefusedAtNoon gus (bidding_due d a) (commands.Respond (Some 2) you_are_right) rules.WrongPhase
+  pub respond_late : RefusedAtNoon gus (response_due d a) (commands.Respond (Some 3) you_are_right) rules.Late
 
 -- ---- queries
 

@@ -316,27 +316,27 @@ EarlyReviewerHidden =
     AllAlikeTo bob alice (in_bids Overt) (reviewed_by dave) (reviewed_by hal) (alice adds PhaseSet Response ∷ [])
 
 -- all of a form that is written behind the response, to the authors
-abbrev pub behind_response : Digests → History
-behind_response d = in_reviews d ++ alice adds PhaseSet Response ∷ alice adds PhaseSet Discussion ∷ []
+abbrev pub past_response : Digests → History
+past_response d = in_reviews d ++ alice adds PhaseSet Response ∷ alice adds PhaseSet Discussion ∷ []
 
 abbrev pub LateFormHidden : Type 0
 LateFormHidden =
-    AlikeTo bob hal behind_response (dave adds Reviewed 1 1 1 first_form) (dave adds Reviewed 1 1 1 second_form) []
+    AlikeTo bob hal past_response (dave adds Reviewed 1 1 1 first_form) (dave adds Reviewed 1 1 1 second_form) []
 
 -- what is responded, to a member before the discussion, and to an account in it
-abbrev pub in_response : Digests → History
-in_response d = in_bids Blind d ++ alice adds PhaseSet Reviewing ∷ alice adds PhaseSet Response ∷ []
+abbrev pub awaiting_response : Digests → History
+awaiting_response d = in_bids Blind d ++ alice adds PhaseSet Reviewing ∷ alice adds PhaseSet Response ∷ []
 
 abbrev pub ResponseHidden : Type 0
-ResponseHidden = AlikeTo dave gus in_response (bob adds Responded 1 agreed) (bob adds Responded 1 we_prove) []
+ResponseHidden = AlikeTo dave gus awaiting_response (bob adds Responded 1 agreed) (bob adds Responded 1 we_prove) []
 
 abbrev pub ResponseHiddenFromAccounts : Type 0
-ResponseHiddenFromAccounts = AlikeTo erin dave in_response
+ResponseHiddenFromAccounts = AlikeTo erin dave awaiting_response
     (bob adds Responded 1 agreed) (bob adds Responded 1 we_prove) (alice adds PhaseSet Discussion ∷ [])
 
 -- which author responds, to the members who read it
 abbrev pub ResponderHidden : Type 0
-ResponderHidden = AlikeTo dave bob in_response
+ResponderHidden = AlikeTo dave bob awaiting_response
     (bob adds Responded 1 agreed) (gus adds Responded 1 agreed) (alice adds PhaseSet Discussion ∷ [])
 
 -- ---- the discussion

@@ -63,15 +63,15 @@ is_past_reviewing Discussion = true
 is_past_reviewing phase = is_past_discussion phase
 
 -- it is the response, or later, where it was opened or left out
-abbrev pub is_past_writing : Phase → Bool
-is_past_writing Response = true
-is_past_writing phase = is_past_reviewing phase
+abbrev pub is_response_or_later : Phase → Bool
+is_response_or_later Response = true
+is_response_or_later phase = is_past_reviewing phase
 
 -- it is bidding, or later
 abbrev pub is_past_submission : Phase → Bool
 is_past_submission Bidding = true
 is_past_submission Reviewing = true
-is_past_submission phase = is_past_writing phase
+is_past_submission phase = is_response_or_later phase
 
 -- authors are hidden from members and externals
 abbrev pub hides_authors : Mode → Bool
@@ -131,8 +131,8 @@ abbrev pub is_answered : Option ℕ → ℕ → History → Bool
 is_answered u p H = is_author u p H && names_reviewers (mode_of H) && is_past_discussion (phase_of H)
 
 -- she wrote the paper, and may respond to its reviews, or might have: from the response on
-abbrev pub is_heard : Option ℕ → ℕ → History → Bool
-is_heard u p H = is_author u p H && is_past_writing (phase_of H)
+abbrev pub is_author_since_response : Option ℕ → ℕ → History → Bool
+is_author_since_response u p H = is_author u p H && is_response_or_later (phase_of H)
 
 -- she wrote the paper, and learns what became of it: from the notification on
 abbrev pub is_notified : Option ℕ → ℕ → History → Bool
@@ -229,11 +229,11 @@ abbrev pub reads_form : Option ℕ → History → History → History → ℕ �
 reads_form u H before later maker paper ordinal =
     is_number u maker || (discusses u paper H && is_discussed paper ordinal before later)
 
--- she reads of the form what is for authors: it is the one of its label to which they respond, and she is heard; or it
--- is the label's last, and she is notified
+-- she reads of the form what is for authors: it is the one of its label to which they respond, and it is the response
+-- or later; or it is the label's last, and she is notified
 abbrev pub learns_form : Option ℕ → History → History → History → ℕ → ℕ → Bool
 learns_form u H before later paper ordinal =
-    (is_heard u paper H && is_responded_to paper ordinal before later)
+    (is_author_since_response u paper H && is_responded_to paper ordinal before later)
     || (is_notified u paper H && not (is_reviewed paper ordinal later))
 
 -- she is told that there is a form under the label: it is the first, and she administers the paper

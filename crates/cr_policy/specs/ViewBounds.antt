@@ -16,11 +16,11 @@ use Rattle.cr_base.specs.HistoryFacts.{phase_of, mode_of, role_of, is_author}
 use Rattle.cr_policy.specs.Sighting.{Sighting, blank}
 use Rattle.cr_policy.specs.View.{view}
 use Rattle.cr_policy.specs.ViewFacts.{only, is_user, is_kind}
-use Rattle.cr_policy.specs.ShownTo.{PartFor, each_told, chairs_committee, is_past_reviewing, is_past_writing}
+use Rattle.cr_policy.specs.ShownTo.{PartFor, each_told, chairs_committee, is_past_reviewing, is_response_or_later}
 use Rattle.cr_policy.specs.ShownTo.{begins_response}
 use Rattle.cr_policy.specs.ShownTo.{is_past_discussion, hides_reviewers, names_reviewers}
 use Rattle.cr_policy.specs.ShownTo.{serves, is_eligible, oversees, administers, discusses, is_in_programme, appears}
-use Rattle.cr_policy.specs.ShownTo.{is_on_committee, hides_authors, visits, reads_visiting, is_heard}
+use Rattle.cr_policy.specs.ShownTo.{is_on_committee, hides_authors, visits, reads_visiting, is_author_since_response}
 use Rattle.cr_policy.specs.ShownTo.{is_chairs, is_setters, kind_for, mark_for, moment_for, key_for, paper_for}
 use Rattle.cr_policy.specs.ShownTo.{user_for, name_for}
 use Rattle.cr_policy.specs.ShownTo.{digest_for, role_for, phase_for, until_for, mode_for, maker_for}
@@ -182,7 +182,8 @@ is_others kind p s = is_kind kind s && is_number s.paper p && not s.mine
 -- before the discussion nobody is shown what is in another's form, but the paper's authors from the response on
 abbrev pub FormsEarly : Type 0
 FormsEarly =
-    (u : Option ℕ) (p : ℕ) (H : History) → IsFalse (is_past_reviewing (phase_of H)) → IsFalse (is_heard u p H)
+    (u : Option ℕ) (p : ℕ) (H : History) → IsFalse (is_past_reviewing (phase_of H))
+    → IsFalse (is_author_since_response u p H)
     → All
     (λ (s : Sighting). IsTrue (is_others kinds.Reviewed p s)
     → s ≡ record (blank kinds.Reviewed) { paper = s.paper; ordinal = s.ordinal; done = s.done })
@@ -193,7 +194,7 @@ FormsEarly =
 abbrev pub may_learn_forms : History → Bool
 may_learn_forms H =
     is_past_discussion (phase_of H)
-    || (is_past_writing (phase_of H) && list_any (λ (e : Stamped). begins_response e.entry) H)
+    || (is_response_or_later (phase_of H) && list_any (λ (e : Stamped). begins_response e.entry) H)
 
 abbrev pub FormsFromAuthors : Type 0
 FormsFromAuthors =

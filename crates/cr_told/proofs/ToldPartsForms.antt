@@ -47,7 +47,7 @@ use Rattle.cr_policy.specs.Legal.{Legal}
 use Rattle.cr_policy.specs.Part as part
 use Rattle.cr_policy.specs.Part.{Part}
 use Rattle.cr_policy.proofs.BoundsWalk.{shown_to}
-use Rattle.cr_policy.specs.ShownTo.{is_told, where_known, is_eligible, serves, visits, has_before_her, discusses, is_notified, is_past_reviewing, reads_review, reads_form, learns_form, is_discussed, is_reviewed, is_past_discussion, is_past_writing, is_heard, is_responded_to}
+use Rattle.cr_policy.specs.ShownTo.{is_told, where_known, is_eligible, serves, visits, has_before_her, discusses, is_notified, is_past_reviewing, reads_review, reads_form, learns_form, is_discussed, is_reviewed, is_past_discussion, is_response_or_later, is_author_since_response, is_responded_to}
 use Rattle.cr_policy.specs.Sighting.{Sighting}
 use Rattle.cr_policy.specs.View.{View, view}
 use Rattle.cr_policy.specs.ViewFacts.{only, is_kind, discussion_seen, seats_in_view}
@@ -58,7 +58,7 @@ use Rattle.cr_policy.proofs.Walk.{is_nothing-append}
 use Rattle.cr_told.specs.ToldPages.{label_shown_of}
 use Rattle.cr_told.specs.ToldLists.{name_shown, knows_reviewers}
 use Rattle.cr_told.specs.ToldParts.{has, agree, lists, has_line, is_followed, scores_at, is_told as is_part_told, is_left_untold}
-use Rattle.cr_told.specs.ToldReviews.{review_shown, forms_listed, own_forms_listed, reviews_listed, may_respond, reviews_now, reviews_visiting, is_reviewing_now}
+use Rattle.cr_told.specs.ToldReviews.{review_shown, forms_listed, own_forms_listed, reviews_listed, was_asked_to_respond, reviews_now, reviews_visiting, is_reviewing_now}
 use Rattle.cr_told.proofs.ToldEach.{last-there, last-here, listed-here, known}
 use Rattle.cr_told.proofs.ToldNames.{same-bytes}
 use Rattle.cr_told.proofs.ToldPlaces.{reviewing-on, known-some, own-so, number-is}
@@ -249,7 +249,7 @@ module _ (u : Option ℕ) (H : History) (legal : Legal H) (before after : View) 
             passes : (named : Bool) → test (line named true) ≡ true
             passes named = λ i. eq-eqb o o refl i && pass named i
 
-            answered : (is_notified u paper H || may_respond u paper H || discusses u paper H || reviews_now u paper H || reviews_visiting u paper H) ≡ true → has_line u H s T ≡ list_any test (reviews_listed u paper H)
+            answered : (is_notified u paper H || was_asked_to_respond u paper H || discusses u paper H || reviews_now u paper H || reviews_visiting u paper H) ≡ true → has_line u H s T ≡ list_any test (reviews_listed u paper H)
             answered h = ap (λ lines. lists lines test) (reviews_told u paper H legal there ∙ ap (λ b. where_known b (reviews_listed u paper H)) h)
 
             abbrev Goal : Type 0
@@ -266,14 +266,14 @@ module _ (u : Option ℕ) (H : History) (legal : Legal H) (before after : View) 
                 (last-here (shown-at named entire) first rest s (line named entire) (shows named entire) (nothing-same named entire paper V o rest ∙ none))
                 ∙ ap (λ b. b || false) passed
 
-            of-authors : is_author u paper H ≡ true → is_number u stamp.maker ≡ false → (is_notified u paper H || may_respond u paper H) ≡ true → Goal
+            of-authors : is_author u paper H ≡ true → is_number u stamp.maker ≡ false → (is_notified u paper H || was_asked_to_respond u paper H) ≡ true → Goal
             of-authors a m learns = by (is_nothing (scores_at paper o after)) refl
               where
                 by : (b : Bool) → is_nothing (scores_at paper o after) ≡ b → Goal
                 by true none =
                     or_left (has_line u H s T) _
                     (answered
-                    (first (is_notified u paper H) (may_respond u paper H) (discusses u paper H) (reviews_now u paper H) (reviews_visiting u paper H) learns)
+                    (first (is_notified u paper H) (was_asked_to_respond u paper H) (discusses u paper H) (reviews_now u paper H) (reviews_visiting u paper H) learns)
                     ∙ ap (λ b. list_any test
                     (if b then by_labels (λ (k : ℕ). listed (last (forms_listed (knows_reviewers u paper H) false paper V k V))) most_labels
                     else (if is_on_committee (role_of u H) && is_past_reviewing (phase_of H)
@@ -301,7 +301,7 @@ module _ (u : Option ℕ) (H : History) (legal : Legal H) (before after : View) 
                 lined : list_any test (listed (last (forms_listed (knows_reviewers u paper H) true paper V o (until discussion_seen V)))
                     ++ forms_listed (knows_reviewers u paper H) true paper V o (since discussion_seen V)) ≡ true → has_line u H s T ≡ true
                 lined h =
-                    answered (second (is_notified u paper H) (may_respond u paper H) (discusses u paper H) (reviews_now u paper H) (reviews_visiting u paper H) d)
+                    answered (second (is_notified u paper H) (was_asked_to_respond u paper H) (discusses u paper H) (reviews_now u paper H) (reviews_visiting u paper H) d)
                     ∙ (λ i. list_any test
                     (if a i then by_labels (λ (k : ℕ). listed (last (forms_listed (knows_reviewers u paper H) false paper V k V))) most_labels
                     else (if past i
@@ -341,7 +341,7 @@ module _ (u : Option ℕ) (H : History) (legal : Legal H) (before after : View) 
 
             -- her own: of a member before the discussion, and of an external
             of-herself : is_author u paper H ≡ false → (is_on_committee (role_of u H) && is_past_reviewing (phase_of H)) ≡ false
-                → (is_notified u paper H || may_respond u paper H || discusses u paper H || reviews_now u paper H || reviews_visiting u paper H) ≡ true → is_number u stamp.maker ≡ true → Goal
+                → (is_notified u paper H || was_asked_to_respond u paper H || discusses u paper H || reviews_now u paper H || reviews_visiting u paper H) ≡ true → is_number u stamp.maker ≡ true → Goal
             of-herself a past due m =
                 or_left (has_line u H s T) _
                 (answered due
@@ -390,7 +390,7 @@ module _ (u : Option ℕ) (H : History) (legal : Legal H) (before after : View) 
 
                 made : is_author u paper H ≡ false → discusses u paper H ≡ false → is_number u stamp.maker ≡ true
                 made a d =
-                    mine (is_number u stamp.maker) (discusses u paper H) (is_discussed paper o earlier later) (is_author u paper H) (is_past_writing (phase_of H))
+                    mine (is_number u stamp.maker) (discusses u paper H) (is_discussed paper o earlier later) (is_author u paper H) (is_response_or_later (phase_of H))
                     (is_responded_to paper o earlier later) (is_past_discussion (phase_of H))
                     (not (is_reviewed paper o later)) read a d
 
@@ -410,8 +410,8 @@ module _ (u : Option ℕ) (H : History) (legal : Legal H) (before after : View) 
                 by true a d e h f true g = behind g (outside a)
                 by true a d e h f false g =
                     of-authors a g
-                    (learns (is_number u stamp.maker) (discusses u paper H) (is_discussed paper o earlier later) (is_heard u paper H)
-                    (is_responded_to paper o earlier later) (is_notified u paper H) (not (is_reviewed paper o later)) (may_respond u paper H)
+                    (learns (is_number u stamp.maker) (discusses u paper H) (is_discussed paper o earlier later) (is_author_since_response u paper H)
+                    (is_responded_to paper o earlier later) (is_notified u paper H) (not (is_reviewed paper o later)) (was_asked_to_respond u paper H)
                     (heard-responds u H paper o earlier later stamp more (Reviewed paper o version form) whole) read g (silent a))
                 by false a true e h f m g =
                     of-members a (over (is_on_committee (role_of u H)) (is_past_submission (phase_of H)) (has_conflict u paper H) (is_past_reviewing (phase_of H)) e) e
@@ -419,7 +419,7 @@ module _ (u : Option ℕ) (H : History) (legal : Legal H) (before after : View) 
                 by false a false e true f m g =
                     of-herself a
                     (alone (is_on_committee (role_of u H)) (is_invited u paper H) (is_past_submission (phase_of H)) (has_conflict u paper H) (is_past_reviewing (phase_of H)) f e)
-                    (answered-to (is_notified u paper H) (may_respond u paper H) (discusses u paper H) (is_on_committee (role_of u H)) (visits u paper H) (is_past_submission (phase_of H))
+                    (answered-to (is_notified u paper H) (was_asked_to_respond u paper H) (discusses u paper H) (is_on_committee (role_of u H)) (visits u paper H) (is_past_submission (phase_of H))
                     (has_conflict u paper H) (is_past_reviewing (phase_of H)) (is_reviewer u paper H) (is_reviewing_now (phase_of H)) (is_number u stamp.maker) f e reviews
                     (made a e) (reviewing-on (phase_of H) begun))
                     (made a e)

@@ -21,7 +21,7 @@ use Rattle.cr_base.specs.Phases.{is_from, is_phase, committee_works}
 use Rattle.cr_history.specs.Invariants.{Invariants, IsInOrder, InTurn, IsSubmitted, IsHeld}
 use Rattle.cr_policy.specs.Legal.{Legal}
 use Rattle.cr_policy.specs.ShownTo.{is_on_committee, chairs_committee, is_past_submission, is_past_reviewing, has_conflict, serves, is_eligible, visits, reads_visiting, has_before_her, oversees, discusses}
-use Rattle.cr_policy.specs.ShownTo.{is_party, is_answered, is_notified, is_heard, is_responded_to, is_in_programme, is_told, where_known, is_committees, is_chairs, hides_reviewers, is_discussed, is_reviewed, is_decided_again}
+use Rattle.cr_policy.specs.ShownTo.{is_party, is_answered, is_notified, is_author_since_response, is_responded_to, is_in_programme, is_told, where_known, is_committees, is_chairs, hides_reviewers, is_discussed, is_reviewed, is_decided_again}
 use Rattle.cr_policy.specs.Sighting.{Sighting}
 use Rattle.cr_policy.specs.View.{view}
 use Rattle.cr_policy.specs.ViewFacts.{is_user}
@@ -31,7 +31,7 @@ use Rattle.cr_policy.proofs.DecisionTells.{accepted-seen}
 use Rattle.cr_policy.proofs.LegalLaws.{legal_invariants}
 use Rattle.cr_told.specs.ToldPages.{is_shown_accepted}
 use Rattle.cr_told.specs.ToldPlaces.{has_key, has_reviews, has_comments, has_response, is_placed, PlacesTold}
-use Rattle.cr_told.specs.ToldReviews.{is_reviewing_now, may_respond, reviews_now, reviews_visiting}
+use Rattle.cr_told.specs.ToldReviews.{is_reviewing_now, was_asked_to_respond, reviews_now, reviews_visiting}
 use Rattle.cr_told.proofs.ToldLists.{leads-serves, page_lists_told, comments_told, response_answer}
 use Rattle.cr_told.proofs.ToldEach.{last-there, all-sightings}
 use Rattle.cr_told.proofs.ToldMakers.{still-author}
@@ -226,10 +226,10 @@ module _ (u : Option ℕ) (H : History) (legal : Legal H) where
     pub tags-key : has_key (λ page. page.tags) u q H ≡ is_eligible u q H
     tags-key = ap is_some (page_lists_told u q H legal is).tags ∙ known-some (is_eligible u q H) _
 
-    pub reviews-key : has_reviews u q H ≡ (is_notified u q H || may_respond u q H || discusses u q H || reviews_now u q H || reviews_visiting u q H)
+    pub reviews-key : has_reviews u q H ≡ (is_notified u q H || was_asked_to_respond u q H || discusses u q H || reviews_now u q H || reviews_visiting u q H)
     reviews-key =
         ap is_some (reviews_told u q H legal is)
-        ∙ known-some (is_notified u q H || may_respond u q H || discusses u q H || reviews_now u q H || reviews_visiting u q H) _
+        ∙ known-some (is_notified u q H || was_asked_to_respond u q H || discusses u q H || reviews_now u q H || reviews_visiting u q H) _
 
     pub comments-key : has_comments u q H ≡ discusses u q H
     comments-key = ap is_some (comments_told u q H legal is) ∙ known-some (discusses u q H) _
@@ -307,7 +307,7 @@ module _ (u : Option ℕ) (H : History) (legal : Legal H) where
       ((λ i. reviews-key paper is.0 i || reviewers-key paper is.0 i || (is_number u stamp.maker && not (has_before_her u paper H)))
       ∙ by (is_number u stamp.maker) onc (visits u paper H) (is_past_submission (phase_of H)) (has_conflict u paper H) lead (is_past_reviewing (phase_of H)) (is_reviewing_now (phase_of H))
       (is_reviewer u paper H) (is_discussed paper ordinal before later) (not (is_reviewed paper ordinal before)) (is_notified u paper H)
-      (not (is_reviewed paper ordinal later)) (is_answered u paper H) (is_heard u paper H) (is_responded_to paper ordinal before later) (may_respond u paper H)
+      (not (is_reviewed paper ordinal later)) (is_answered u paper H) (is_author_since_response u paper H) (is_responded_to paper ordinal before later) (was_asked_to_respond u paper H)
       (heard-responds u H paper ordinal before later stamp more (Reviewed paper ordinal version form) whole)
       told (reviewing-begun (phase_of H) is.1) (reviewing-on (phase_of H) is.1)
       (own-so (λ v. is_reviewer v paper H) u stamp.maker is.2) (leads-serves (role_of u H)))

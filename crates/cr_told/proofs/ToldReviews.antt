@@ -32,7 +32,7 @@ use Rattle.cr_base.specs.Words.{is_member}
 use Rattle.cr_base.proofs.LastLaws.{last_from-map, listed-map}
 use Rattle.cr_history.specs.Invariants.{IsSubmitted, IsInOrder, InTurn}
 use Rattle.cr_policy.specs.Judge.{answer}
-use Rattle.cr_policy.specs.ShownTo.{is_on_committee, is_past_submission, is_past_reviewing, is_past_discussion, discusses, is_notified, is_heard, is_responded_to, where_known}
+use Rattle.cr_policy.specs.ShownTo.{is_on_committee, is_past_submission, is_past_reviewing, is_past_discussion, discusses, is_notified, is_author_since_response, is_responded_to, where_known}
 use Rattle.cr_policy.specs.ShownTo.{is_told, visits}
 use Rattle.cr_policy.specs.Sighting.{Sighting}
 use Rattle.cr_policy.specs.View.{View, view}
@@ -49,7 +49,7 @@ use Rattle.cr_policy.proofs.StandingLaws.{standing_from_view, had_response-seen}
 use Rattle.cr_policy.proofs.Walk.{map-flat_map}
 use Rattle.cr_told.specs.ToldPages.{label_shown_of}
 use Rattle.cr_told.specs.ToldLists.{name_shown, knows_reviewers}
-use Rattle.cr_told.specs.ToldReviews.{reviews_answered, review_shown, forms_listed, reviews_listed, is_reviewing_now, may_respond, reviews_now, reviews_visiting, ReviewsTold}
+use Rattle.cr_told.specs.ToldReviews.{reviews_answered, review_shown, forms_listed, reviews_listed, is_reviewing_now, was_asked_to_respond, reviews_now, reviews_visiting, ReviewsTold}
 use Rattle.cr_told.proofs.ToldWords.{member-committee, visits-same}
 use Rattle.cr_told.proofs.ToldEach.{all-sightings}
 use Rattle.cr_told.proofs.ToldLists.{is-there, knows}
@@ -112,7 +112,7 @@ reviewing-serves Closed = refl
 
 -- to whom a form is shown because she responds to it, to her the response was opened
 pub heard-responds : (u : Option ℕ) (H : History) (paper ordinal : ℕ) (before later : History) (stamp : Stamp) (more : Bool) (e : Entry)
-    → before ++ stamped stamp more e ∷ later ≡ H → (not (is_heard u paper H && is_responded_to paper ordinal before later) || may_respond u paper H) ≡ true
+    → before ++ stamped stamp more e ∷ later ≡ H → (not (is_author_since_response u paper H && is_responded_to paper ordinal before later) || was_asked_to_respond u paper H) ≡ true
 heard-responds u H paper ordinal before later stamp more e whole =
     by (is_author u paper H) _ (is_responded_to paper ordinal before later) refl
     (λ responded. ap (λ (test : Stamped → Bool). list_any test H) response-tests ∙ responded-opened paper ordinal before later stamp more e H whole responded)
@@ -305,7 +305,7 @@ module _ (u : Option ℕ) (p : ℕ) (H : History) where
     answered-to : (not (is_author u p H && not (told_over || told_opened)) && (is_author u p H || is_admitted stands)
         && not (not (is_author u p H) && is_conflicted u p H)
         && (is_author u p H || reads_all_forms stands || reads_own_forms stands))
-        ≡ (is_notified u p H || may_respond u p H || discusses u p H || reviews_now u p H || reviews_visiting u p H)
+        ≡ (is_notified u p H || was_asked_to_respond u p H || discusses u p H || reviews_now u p H || reviews_visiting u p H)
     answered-to =
         to (is_member (role_of u H)) _ (is_external u p H) _ (is_past_submission (phase_of H)) (is_from Discussion (phase_of H)) _ (is_from Notification (phase_of H)) _ told_opened _
         (reviewers_read_own (phase_of H)) _ (externals_read_own (phase_of H)) (is_author u p H) (is_conflict_on u p H) (is_reviewer u p H)
@@ -318,7 +318,7 @@ module _ (u : Option ℕ) (p : ℕ) (H : History) where
         to m m' e e' s d d' n n' h h' w w' x a y r hm he hd hn hh hw hx hs hsw = grind (arith, hm, he, hd, hn, hh, hw, hx, hs, hsw)
 
     -- to whom of the authors it is answered, she is notified, or the response was opened
-    of-author : (is_notified u p H || may_respond u p H || discusses u p H || reviews_now u p H || reviews_visiting u p H) ≡ true → is_author u p H ≡ true
+    of-author : (is_notified u p H || was_asked_to_respond u p H || discusses u p H || reviews_now u p H || reviews_visiting u p H) ≡ true → is_author u p H ≡ true
         → (told_over || told_opened) ≡ true
     of-author due wrote =
         by (is_author u p H) (is_from Notification (phase_of H)) _ told_opened _ (is_on_committee (role_of u H) && is_past_submission (phase_of H)) (is_conflict_on u p H)
@@ -377,7 +377,7 @@ module _ (u : Option ℕ) (p : ℕ) (H : History) where
     answered-same false lines shown h = refl
 
     reviews-told : reviews_answered (answer u V (queries.Reviews (Some p)))
-        ≡ where_known (is_notified u p H || may_respond u p H || discusses u p H || reviews_now u p H || reviews_visiting u p H) (reviews_listed u p H)
+        ≡ where_known (is_notified u p H || was_asked_to_respond u p H || discusses u p H || reviews_now u p H || reviews_visiting u p H) (reviews_listed u p H)
     reviews-told =
         ap (λ (by : Standing). reviews_answered (reply_or_rule
         (judged (not (has_paper (facts_in_view u V) (Some p)) breaks rules.NoPaper
@@ -405,7 +405,7 @@ module _ (u : Option ℕ) (p : ℕ) (H : History) where
         ∙ (λ i. where_known (answered-to i)
         (lines_by (is_author u p H) (member-committee (role_of u H) i && (phase-words (phase_of H)).discussion i) (knows u p H there order i) (not (is_author u p H))
         (ordinal_in_view u p V)))
-        ∙ answered-same (is_notified u p H || may_respond u p H || discusses u p H || reviews_now u p H || reviews_visiting u p H) _ (reviews_listed u p H)
+        ∙ answered-same (is_notified u p H || was_asked_to_respond u p H || discusses u p H || reviews_now u p H || reviews_visiting u p H) _ (reviews_listed u p H)
         (λ due.
         lines-same (is_author u p H) (is_on_committee (role_of u H) && is_past_reviewing (phase_of H)) (knows_reviewers u p H) (ordinal_in_view u p V)
         (label_shown_of u p V) (λ wrote. authors-told wrote (of-author due wrote)) (reads.labels u p H u))

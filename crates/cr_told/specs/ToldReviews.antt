@@ -80,8 +80,8 @@ is_reviewing_now Response = true
 is_reviewing_now _ = false
 
 -- she wrote the paper, and the response was opened
-abbrev pub may_respond : Option ℕ → ℕ → History → Bool
-may_respond u p H = is_author u p H && had_response_of H
+abbrev pub was_asked_to_respond : Option ℕ → ℕ → History → Bool
+was_asked_to_respond u p H = is_author u p H && had_response_of H
 
 -- she reviews the paper, for which she is eligible, before the discussion
 abbrev pub reviews_now : Option ℕ → ℕ → History → Bool
@@ -99,5 +99,5 @@ ReviewsTold =
     (u : Option ℕ) (p : ℕ) (H : History) → Legal H → IsSubmitted H p
     → reviews_answered (answer u (view u H) (queries.Reviews (Some p)))
     ≡ where_known
-    (is_notified u p H || may_respond u p H || discusses u p H || reviews_now u p H || reviews_visiting u p H)
+    (is_notified u p H || was_asked_to_respond u p H || discusses u p H || reviews_now u p H || reviews_visiting u p H)
     (reviews_listed u p H)
