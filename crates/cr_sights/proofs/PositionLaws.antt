@@ -113,28 +113,28 @@ module _ (log : History) (at : ℕ) (d : Stamped) (within : at < length log) whe
         ap (λ b. not b && none_alike here.entry (until (opens_it phase) (drop (at + 1) log))) (from-here phase n is)
         ∙ early-here phase early (nat_lt n at) (from-here phase n is) ends ∙ sym told
 
-    pub stands_so : (passed all heard early : List ℕ) (m n : ℕ)
+    pub stands_so : (passed all before_response before_discussion : List ℕ) (m n : ℕ)
         → AreLast passed (take at log) → AreLast all log
-        → AreLast heard (until opens_response log) → m ≡ length (until opens_response log)
-        → AreLast early (until opens_discussion log) → n ≡ length (until opens_discussion log)
+        → AreLast before_response (until opens_response log) → m ≡ length (until opens_response log)
+        → AreLast before_discussion (until opens_discussion log) → n ≡ length (until opens_discussion log)
         → (position : Position) → position.first ≡ is_last_at passed series 0 → position.last ≡ is_last_at all series (at + 1)
-        → position.last_before_response ≡ (not (nat_lt m at) && is_last_at heard series (at + 1))
-        → position.last_before_discussion ≡ (not (nat_lt n at) && is_last_at early series (at + 1)) → position.from_discussion ≡ nat_lt n at
+        → position.last_before_response ≡ (not (nat_lt m at) && is_last_at before_response series (at + 1))
+        → position.last_before_discussion ≡ (not (nat_lt n at) && is_last_at before_discussion series (at + 1)) → position.from_discussion ≡ nat_lt n at
         → IsPositionIn log at position
-    stands_so passed all heard early m n passes ends ends_heard answered ends_early opened position first last last_heard last_early from =
+    stands_so passed all before_response before_discussion m n passes ends ends_response response_at ends_discussion discussion_at position first last last_response last_discussion from =
         subst (λ (o : Option Stamped). IfSome o (λ e. position_of place e.entry ≡ position)) (sym (slice_get-get_or log at d within)) same
       where
         place : Around
         place = record { before = take at log; after = drop (at + 1) log }
 
-        heard-is : (not (list_any opens_response place.before) && none_alike here.entry (until opens_response place.after)) ≡ position.last_before_response
-        heard-is = before-here Response heard m position.last_before_response ends_heard answered last_heard
+        response-is : (not (list_any opens_response place.before) && none_alike here.entry (until opens_response place.after)) ≡ position.last_before_response
+        response-is = before-here Response before_response m position.last_before_response ends_response response_at last_response
 
-        early-is : (not (list_any opens_discussion place.before) && none_alike here.entry (until opens_discussion place.after)) ≡ position.last_before_discussion
-        early-is = before-here Discussion early n position.last_before_discussion ends_early opened last_early
+        discussion-is : (not (list_any opens_discussion place.before) && none_alike here.entry (until opens_discussion place.after)) ≡ position.last_before_discussion
+        discussion-is = before-here Discussion before_discussion n position.last_before_discussion ends_discussion discussion_at last_discussion
 
         from-is : list_any opens_discussion place.before ≡ position.from_discussion
-        from-is = from-here Discussion n opened ∙ sym from
+        from-is = from-here Discussion n discussion_at ∙ sym from
 
         same : position_of place here.entry ≡ position
-        same = rw (first-here passed passes ∙ sym first, last-here all ends ∙ sym last, heard-is, early-is, from-is) refl
+        same = rw (first-here passed passes ∙ sym first, last-here all ends ∙ sym last, response-is, discussion-is, from-is) refl

@@ -20,7 +20,7 @@ IsPositionIn H at position =
 pub record AreNoted (positions : Positions) (H : History) (at : ℕ) : Type 0 where
   pub passed : AreLast positions.passed.places.items (take at H)
   pub all : AreLast positions.all.places.items H
-  pub heard : AreLast positions.heard.places.items (until opens_response H)
-  pub early : AreLast positions.early.places.items (until opens_discussion H)
-  pub answered : positions.answered ≡ length (until opens_response H)
-  pub opened : positions.opened ≡ length (until opens_discussion H)
+  pub before_response : AreLast positions.before_response.places.items (until opens_response H)
+  pub before_discussion : AreLast positions.before_discussion.places.items (until opens_discussion H)
+  pub response_at : positions.response_at ≡ length (until opens_response H)
+  pub discussion_at : positions.discussion_at ≡ length (until opens_discussion H)

@@ -17,12 +17,12 @@ use std::alloc::{AllocError, Global};
 pub(crate) struct Positions {
     passed: Places,
     all: Places,
-    heard: Places,
-    early: Places,
+    before_response: Places,
+    before_discussion: Places,
     /// How many entries stand before that which opens the response.
-    answered: usize,
+    response_at: usize,
     /// How many entries stand before that which opens the discussion.
-    opened: usize,
+    discussion_at: usize,
 }
 
 impl Positions {
@@ -30,18 +30,18 @@ impl Positions {
     pub(crate) fn of(alloc: Global, log: &[Stamped]) -> Result<Positions, AllocError>
         ensures { IfOk result (λ positions. AreNoted positions log.now 0) }
     {
-        let answered = opening(log, Phase::Response);
-        let opened = opening(log, Phase::Discussion);
+        let response_at = opening(log, Phase::Response);
+        let discussion_at = opening(log, Phase::Discussion);
         let all = Places::of(alloc, log)?;
-        let heard = Places::of(alloc, &log[..answered])?;
-        let early = Places::of(alloc, &log[..opened])?;
+        let before_response = Places::of(alloc, &log[..response_at])?;
+        let before_discussion = Places::of(alloc, &log[..discussion_at])?;
         Ok(Positions {
             passed: Places::new(alloc),
             all,
-            heard,
-            early,
-            answered,
-            opened,
+            before_response,
+            before_discussion,
+            response_at,
+            discussion_at,
         })
     }
 
@@ -53,14 +53,14 @@ impl Positions {
         ensures noted { OnOk result (AreNoted self.new log.now (at + 1)) }
     {
         let series = series(&log[at].entry);
-        let from_discussion = self.opened < at;
-        let last_heard = self.heard.is_last_at(&series, at + 1);
-        let last_early = self.early.is_last_at(&series, at + 1);
+        let from_discussion = self.discussion_at < at;
+        let ends_at_response = self.before_response.is_last_at(&series, at + 1);
+        let ends_at_discussion = self.before_discussion.is_last_at(&series, at + 1);
         let position = Position {
             first: self.passed.is_last_at(&series, 0),
             last: self.all.is_last_at(&series, at + 1),
-            last_before_response: is_last_before(self.answered < at, last_heard),
-            last_before_discussion: is_last_before(from_discussion, last_early),
+            last_before_response: is_last_before(self.response_at < at, ends_at_response),
+            last_before_discussion: is_last_before(from_discussion, ends_at_discussion),
             from_discussion,
         };
         self.passed.note(&series, at + 1)?;

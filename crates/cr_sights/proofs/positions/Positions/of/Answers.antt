@@ -10,10 +10,10 @@ returns c =
     record {
       passed = c.new.ensures;
       all = c.in_ok-all.ensures;
-      heard = subst (AreLast c.in_ok-heard.heard.places.items)
-          (ap (λ (n : ℕ). take n log) c.opening-answered.ensures.before ∙ take-until opens_response log) c.in_ok-heard.ensures;
-      early = subst (AreLast c.in_ok-early.early.places.items)
-          (ap (λ (n : ℕ). take n log) c.opening-opened.ensures.before ∙ take-until opens_discussion log) c.in_ok-early.ensures;
-      answered = c.opening-answered.ensures.before;
-      opened = c.opening-opened.ensures.before;
+      before_response = subst (AreLast c.in_ok-before_response.before_response.places.items)
+          (ap (λ (n : ℕ). take n log) c.opening-response_at.ensures.before ∙ take-until opens_response log) c.in_ok-before_response.ensures;
+      before_discussion = subst (AreLast c.in_ok-before_discussion.before_discussion.places.items)
+          (ap (λ (n : ℕ). take n log) c.opening-discussion_at.ensures.before ∙ take-until opens_discussion log) c.in_ok-before_discussion.ensures;
+      response_at = c.opening-response_at.ensures.before;
+      discussion_at = c.opening-discussion_at.ensures.before;
     }
