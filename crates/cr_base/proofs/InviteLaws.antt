@@ -1,17 +1,16 @@
 -- Invitations, after one more entry.
-use Rattle.std.proofs.Common.{ℕ, Bool, true, false, ◌≡◌, ◌≤◌, length-append, eqb, refl, sym, ap, subst, ◌∙◌, arith, [], ◌∷◌, ◌&&◌, ◌||◌, Option, Some, None}
+use Rattle.std.proofs.Common.{ℕ, Bool, true, false, ◌≡◌, eqb, refl, ap, ◌∙◌, ◌&&◌, ◌||◌, Option, Some, None}
 use Rattle.std.specs.Prelude.{not}
 use Rattle.cr_base.specs.declared.entry.Entry.{Entry}
-use Rattle.cr_base.specs.declared.entry.Entry.TheVariants.{Submitted, Revised, Withdrawn, Invited, Uninvited}
+use Rattle.cr_base.specs.declared.entry.Entry.TheVariants.{Invited, Uninvited}
 use Rattle.cr_base.specs.History.{invite_told}
 use Rattle.cr_base.specs.Invites.{InvitesState, invites_after, is_invited_in}
 use Rattle.cr_base.specs.Lists.{given, last_or}
 use Rattle.cr_base.specs.Pairs.{has_pair}
-use Rattle.cr_base.specs.Papers.{PapersState, new_paper, with_texts, as_withdrawn, papers_after, paper_count, PapersFit}
+use Rattle.cr_base.specs.Papers.{PapersState, papers_after, paper_count, PapersFit}
 use Rattle.cr_base.specs.Ties.{pair_of, are_within}
 use Rattle.cr_base.proofs.ListLaws.{turned}
-use Rattle.cr_base.proofs.PaperLaws.{length-with_paper}
-use Rattle.cr_base.proofs.TieLaws.{has_pair-switched, within-more, within-switched}
+use Rattle.cr_base.proofs.TieLaws.{has_pair-switched, within-kept, within-switched}
 
 -- nobody is told anything
 untold : (b on : Bool) → false ≡ last_or false (given (b && false) on)
@@ -51,13 +50,6 @@ is_invited_in-after (Some v) p invites e = refl
 -- where each entry fits, the papers to which somebody is invited are there
 pub invites-within : (state : PapersState) (invites : InvitesState) (maker : ℕ) (e : Entry) → PapersFit state maker e → are_within (paper_count state) invites
     ≡ true → are_within (paper_count (papers_after state maker e)) (invites_after invites e) ≡ true
-invites-within state invites maker (Submitted paper title abstract) fits within =
-    let n = length-append state.papers (new_paper title abstract ∷ []) in
-    within-more (paper_count state) (paper_count (papers_after state maker (Submitted paper title abstract))) (omega (arith, n)) invites within
-invites-within state invites maker (Revised paper title abstract) fits within =
-    subst (λ (n : ℕ). are_within n invites ≡ true) (sym (length-with_paper paper (with_texts title abstract) state.papers)) within
-invites-within state invites maker (Withdrawn paper) fits within =
-    subst (λ (n : ℕ). are_within n invites ≡ true) (sym (length-with_paper paper as_withdrawn state.papers)) within
 invites-within state invites maker (Invited paper user) fits within = within-switched (paper_count state) true paper user invites fits.0 fits.1 within
 invites-within state invites maker (Uninvited paper user) fits within = within-switched (paper_count state) false paper user invites fits.0 fits.1 within
-invites-within state invites maker e fits within = within
+invites-within state invites maker e fits within = within-kept state invites maker e within

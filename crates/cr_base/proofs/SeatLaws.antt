@@ -10,7 +10,7 @@ use Rattle.std.proofs.lemmas.List.{append-nil, length-map, map-append}
 use Rattle.std.proofs.lemmas.List.Elements.{filter-append}
 use Rattle.std.proofs.lemmas.List.Folds.{find-append}
 use Rattle.cr_base.specs.declared.entry.Entry.{Entry}
-use Rattle.cr_base.specs.declared.entry.Entry.TheVariants.{Submitted, Revised, Withdrawn, Assigned, Unassigned}
+use Rattle.cr_base.specs.declared.entry.Entry.TheVariants.{Assigned, Unassigned}
 use Rattle.cr_base.specs.declared.pairs.Order.TheVariants.{ByPaper}
 use Rattle.cr_base.specs.declared.pairs.Pair.{Pair}
 use Rattle.cr_base.specs.declared.pairs.Tie.{Tie}
@@ -19,16 +19,15 @@ use Rattle.cr_base.specs.declared.words.Kind.{Kind}
 use Rattle.cr_base.specs.History.{SeatTold, ordinal_told, assigned_told}
 use Rattle.cr_base.specs.Lists.{given, is_number, last_or, numbers_from, IsRising}
 use Rattle.cr_base.specs.Pairs.{ties_of}
-use Rattle.cr_base.specs.Papers.{PapersState, new_paper, with_texts, as_withdrawn, papers_after, paper_count, PapersFit}
+use Rattle.cr_base.specs.Papers.{PapersState, papers_after, paper_count, PapersFit}
 use Rattle.cr_base.specs.Seats.{SeatsState, seat_tie, with_seat, vacated, is_seat, without_seat, seats_after, labels_in, seats_taken, ordinal_in, SeatsFit, AreOfDifferentUsers, SeatsInOrder}
 use Rattle.cr_base.specs.Ties.{are_within}
 use Rattle.cr_base.proofs.FiledLaws.{of-inserted}
 use Rattle.cr_base.proofs.ListLaws.{turned, number-is, numbers_from-push}
-use Rattle.cr_base.proofs.PaperLaws.{length-with_paper}
 use Rattle.cr_base.proofs.RisingLists.{rising-numbers_from}
 use Rattle.cr_base.proofs.SortedLists.{list_all-filter, list_all-append}
 use Rattle.cr_base.proofs.TargetLaws.{paper_within}
-use Rattle.cr_base.proofs.TieLaws.{within-more, in_range}
+use Rattle.cr_base.proofs.TieLaws.{within-kept, in_range}
 
 -- ---- which papers have seats
 
@@ -55,17 +54,10 @@ within-without_seat n paper ordinal (t ∷ ts) all =
 -- where each entry fits, the papers that have seats are there
 pub seats-within : (state : PapersState) (seats : SeatsState) (maker : ℕ) (e : Entry) → PapersFit state maker e → are_within (paper_count state) seats
     ≡ true → are_within (paper_count (papers_after state maker e)) (seats_after seats e) ≡ true
-seats-within state seats maker (Submitted paper title abstract) fits within =
-    let n = length-append state.papers (new_paper title abstract ∷ []) in
-    within-more (paper_count state) (paper_count (papers_after state maker (Submitted paper title abstract))) (omega (arith, n)) seats within
-seats-within state seats maker (Revised paper title abstract) fits within =
-    subst (λ (n : ℕ). are_within n seats ≡ true) (sym (length-with_paper paper (with_texts title abstract) state.papers)) within
-seats-within state seats maker (Withdrawn paper) fits within =
-    subst (λ (n : ℕ). are_within n seats ≡ true) (sym (length-with_paper paper as_withdrawn state.papers)) within
 seats-within state seats maker (Assigned paper user kind ordinal) fits within =
     within-with_seat (paper_count state) (seat_tie paper user kind ordinal) seats fits.0 fits.1 within
 seats-within state seats maker (Unassigned paper user ordinal) fits within = within-without_seat (paper_count state) paper ordinal seats within
-seats-within state seats maker e fits within = within
+seats-within state seats maker e fits within = within-kept state seats maker e within
 
 -- ---- the seats of one paper
 

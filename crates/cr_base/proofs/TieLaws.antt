@@ -6,7 +6,7 @@ use Rattle.std.specs.List.{list_all}
 use Rattle.std.proofs.lemmas.Bool.{and_parts}
 use Rattle.std.proofs.lemmas.Bool.Decides.{nat_tests}
 use Rattle.cr_base.specs.declared.entry.Entry.{Entry}
-use Rattle.cr_base.specs.declared.entry.Entry.TheVariants.{Submitted, Coauthor, Revised, Withdrawn, Conflict, Bid}
+use Rattle.cr_base.specs.declared.entry.Entry.TheVariants.{Submitted, Coauthor, Revised, Withdrawn, Conflict}
 use Rattle.cr_base.specs.declared.pairs.Order.TheVariants.{ByPaper}
 use Rattle.cr_base.specs.declared.pairs.Pair.{Pair}
 use Rattle.cr_base.specs.declared.pairs.Tie.{Tie}
@@ -147,29 +147,38 @@ within-pair n q (t ∷ ts) all there =
         subst (λ (x : Pair). (1 ≤ x.paper) × (x.paper ≤ n)) e (low t.pair.paper n first, high t.pair.paper n first)
     by false same h rest = rest h
 
+-- papers only come, so they are there behind any entry
+pub within-kept : {V : Type 0} (state : PapersState) (ts : List (Tie V)) (maker : ℕ) (e : Entry) → are_within (paper_count state) ts ≡ true
+    → are_within (paper_count (papers_after state maker e)) ts ≡ true
+within-kept state ts maker (Submitted paper title abstract) within =
+    let n = length-append state.papers (new_paper title abstract ∷ []) in
+    within-more (paper_count state) (paper_count (papers_after state maker (Submitted paper title abstract))) (omega (arith, n)) ts within
+within-kept state ts maker (Revised paper title abstract) within =
+    subst (λ (n : ℕ). are_within n ts ≡ true) (sym (length-with_paper paper (with_texts title abstract) state.papers)) within
+within-kept state ts maker (Withdrawn paper) within =
+    subst (λ (n : ℕ). are_within n ts ≡ true) (sym (length-with_paper paper as_withdrawn state.papers)) within
+within-kept state ts maker e within = within
+
 -- where each entry fits, the papers that have ties are there
 pub within-after : (state : PapersState) (ties : TiesState) (maker : ℕ) (e : Entry) → PapersFit state maker e → AreWithin (paper_count state) ties
     → AreWithin (paper_count (papers_after state maker e)) (ties_after ties maker e)
 within-after state ties maker (Submitted paper title abstract) fits within =
-    let before : ℕ = paper_count state in
-    let now : ℕ = paper_count (papers_after state maker (Submitted paper title abstract)) in
     let n = length-append state.papers (new_paper title abstract ∷ []) in
     let next = fits.0 in
     record {
-      authors = within-push now paper maker ties.authors (omega (arith, next)) (omega (arith, n, next)) (within-more before now (omega (arith, n)) ties.authors within.authors);
-      conflicts = within-more before now (omega (arith, n)) ties.conflicts within.conflicts;
+      authors = within-push (paper_count (papers_after state maker (Submitted paper title abstract))) paper maker ties.authors
+          (omega (arith, next)) (omega (arith, n, next)) (within-kept state ties.authors maker (Submitted paper title abstract) within.authors);
+      conflicts = within-kept state ties.conflicts maker (Submitted paper title abstract) within.conflicts;
     }
 within-after state ties maker (Coauthor paper user) fits within = record {
   authors = let last = fits.1 in within-push (paper_count state) paper user ties.authors fits.0 (omega (arith, last)) within.authors;
   conflicts = within.conflicts;
 }
-within-after state ties maker (Revised paper title abstract) fits within =
-    subst (λ (n : ℕ). AreWithin n ties) (sym (length-with_paper paper (with_texts title abstract) state.papers)) within
-within-after state ties maker (Withdrawn paper) fits within =
-    subst (λ (n : ℕ). AreWithin n ties) (sym (length-with_paper paper as_withdrawn state.papers)) within
 within-after state ties maker (Conflict paper user on) fits within = record {
   authors = within.authors;
   conflicts = within-switched (paper_count state) on paper user ties.conflicts fits.0 fits.1 within.conflicts;
 }
-within-after state ties maker (Bid paper value) fits within = record { authors = within.authors; conflicts = within.conflicts }
-within-after state ties maker e fits within = within
+within-after state ties maker e fits within = record {
+  authors = within-kept state ties.authors maker e within.authors;
+  conflicts = within-kept state ties.conflicts maker e within.conflicts;
+}
