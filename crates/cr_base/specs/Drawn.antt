@@ -35,7 +35,7 @@ grouped stamp [] = []
 grouped stamp (e ∷ []) = stamped stamp false e ∷ []
 grouped stamp (e ∷ next ∷ es) = stamped stamp true e ∷ grouped stamp (next ∷ es)
 
--- ReceiptOf: what a command is answered, by the first entry that it adds; `name` is that of the user who is given a
+-- what a command is answered, by the first entry that it adds; `name` is that of the user who is given a
 -- role, or loses it. A co-author never comes first.
 abbrev pub receipt_of : List ℕ → Entry → Receipt
 receipt_of name (Registered user own digest) = receipts.User user

@@ -27,7 +27,7 @@ use Rattle.cr_base.specs.History.{own_comment_told, tag_told, decision_told, ope
 use Rattle.cr_base.specs.History.{abstract_told, upload_told, own_bytes_told, withdrawal_told}
 use Rattle.cr_base.specs.History.{registration_told, role_told, number_told, caller_told, invite_told, response_told}
 
--- ---- PublicFacts
+-- ---- what is public
 
 -- the last phase that was set, else setup
 abbrev pub phase_of : History → Phase

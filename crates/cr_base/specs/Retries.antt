@@ -47,7 +47,7 @@ kept_of (Some user) H number = kept_call (accounts_of H) (kept_under user number
 
 -- ---- the look-up
 
--- ReceiptOf: what a repeat is answered: a bulk by the number of its rows, every other command by the first entry
+-- what a repeat is answered: a bulk by the number of its rows, every other command by the first entry
 abbrev pub repeated_receipt : Bool → KeptCall → Receipt
 repeated_receipt is_bulk kept = if is_bulk then receipts.Rows kept.entries else kept.receipt
 

@@ -1,4 +1,4 @@
--- TablesOf: the current tables that a history comes to.
+-- The current tables that a history comes to.
 use Rattle.std.specs.Prelude.{List, [], ◌∷◌, fold}
 use Rattle.cr_base.specs.declared.entry.Account.{Account}
 use Rattle.cr_base.specs.declared.entry.Stamped.{Stamped}
@@ -63,7 +63,7 @@ tables_after t s = record {
 abbrev pub tables_from : Tables → History → Tables
 tables_from t group = fold tables_after t group
 
--- TablesOf: the tables of a history
+-- the tables of a history
 abbrev pub tables_of : History → Tables
 tables_of H = tables_from no_tables H
 

@@ -1,4 +1,4 @@
--- OpeningExact: which rows open as which history, and at which row others are bad.
+-- Which rows open as which history, and at which row others are bad.
 use Rattle.std.specs.Prelude.{ℕ, ◌≡◌, ◌≢◌, ◌+◌, ◌++◌, ◌⊎◌, List, length, take, slice_get, Some, Result, Ok, Err, ◌≤◌}
 use Rattle.cr_ports.specs.Count.{Rises}
 use Rattle.cr_base.specs.declared.row.Row.{Row}
@@ -36,7 +36,7 @@ Explains rows (errors.BadStore at found) = IsBadAt rows at found
 Explains rows errors.KeeperFault = Unit {0}
 Explains rows errors.OutOfMemory = Unit {0}
 
--- OpeningExact: what opening answers where the keeper tells these rows. It is the book of the one legal history that
+-- What opening answers where the keeper tells these rows. It is the book of the one legal history that
 -- has them; or they are bad at the row that is told, and then no legal history has them.
 abbrev pub Opens : {K : Type 0} → List Row → Result (SeenBook K) (OpenError × K) → Type 0
 Opens rows (Ok book) =

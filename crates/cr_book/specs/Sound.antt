@@ -12,7 +12,7 @@ use Rattle.cr_policy.specs.Judge.{decide, decide_bulk}
 use Rattle.cr_policy.specs.View.{view}
 use Rattle.cr_policy.specs.Legal.{Legal}
 
--- KeptRows: the keeper's rows are those of the history, where it tells them
+-- the keeper's rows are those of the history, where it tells them
 abbrev pub IsKept : {K : Type 0} → (K → Option (List Row)) → K → History → Type 0
 IsKept rows keeper log = IfSome (rows keeper) (λ told. told ≡ rows_of log)
 

@@ -145,7 +145,7 @@ module _ (u p : ℕ) (H : History) (author : is_author (Some u) p H ≡ true) wh
       ∙ ap (λ ys. flat_map made_told (until is_opening H) ++ ys) second
       ∙ flat_map-cut is_opening made_told (λ e h. opening-silent (is_author (Some e.stamp.maker) p H) e.entry h) H
 
--- DeclaredOf on an author's view gives whom the paper's authors declared
+-- whom an author is shown as declared is whom the paper's authors declared
 pub declared-seen_by_author : (u : Option ℕ) (p : ℕ) (H : History) → DeclaresInTime H → is_author u p H ≡ true → declared_in_view u p (view u H) ≡ declared_by_authors p H
 declared-seen_by_author None p H in_time author = absurd (true≢false (sym author ∙ list_any-nobody (authors_of p H)))
 declared-seen_by_author (Some u) p H in_time author = declared-seen_by u p H author in_time

@@ -38,9 +38,9 @@ use Rattle.cr_policy.specs.Legal.{Legal, MayAsk}
 abbrev pub StandingFromView : Type 0
 StandingFromView = (u paper : Option ℕ) (H : History) → standing_in_view u paper (view u H) ≡ standing_of u paper H
 
--- PublicFacts can be read off what anybody sees, whatever the history: the deadlines, whether the response was opened,
--- who has registered, in which role, under which name, the papers, and which of them are accepted; and so can how many
--- of them are the reader's own, how many bytes she has uploaded, and how many comments she has written
+-- what is public can be read off what anybody sees, whatever the history: the deadlines, whether the response was
+-- opened, who has registered, in which role, under which name, the papers, and which of them are accepted; and so can
+-- how many of them are the reader's own, how many bytes she has uploaded, and how many comments she has written
 pub record PublicFactsFromView (u : Option ℕ) (H : History) : Type 0 where
   pub deadlines : (phase : Phase) → deadline_in_view phase (view u H) ≡ deadline_of phase H
   pub had_response : had_response_in_view (view u H) ≡ had_response_of H

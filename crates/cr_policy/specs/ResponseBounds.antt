@@ -1,4 +1,4 @@
--- ResponseBound: what a paper's authors are shown of its reviews before the notification, in a committee's words, and
+-- What a paper's authors are shown of its reviews before the notification, in a committee's words, and
 -- what therefore looks the same to them. They hold of every history, legal or not, as the bounds of a view do
 -- (ViewBounds), and of every user; what authors read while they may respond is the HotCRP manual's.
 use Rattle.std.specs.Prelude.{ℕ, Bool, ◌≡◌, ◌≤◌, ◌&&◌, [], ◌∷◌, ◌++◌, length, Option, All}

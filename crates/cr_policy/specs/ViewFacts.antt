@@ -307,21 +307,21 @@ number_in_view name V = last (flat_map (number_seen name) V)
 
 -- ---- the reader's ties
 
--- AuthorsOf: the paper's authors that are shown, the submitter first, the others in the order in which they were told
+-- the paper's authors that are shown, the submitter first, the others in the order in which they were told
 abbrev pub authors_in_view : ℕ → View → List ℕ
 authors_in_view p V = flat_map (author_seen p) V
 
 abbrev pub is_author_in_view : Option ℕ → ℕ → View → Bool
 is_author_in_view u p V = list_any (is_number u) (authors_in_view p V)
 
--- ConflictsOf: the last entry shown on the user's conflict with the paper turns it on
+-- the last entry shown on the user's conflict with the paper turns it on
 abbrev pub is_conflict_on_in_view : Option ℕ → ℕ → View → Bool
 is_conflict_on_in_view u p V = last_or false (flat_map (conflict_seen u p) V)
 
 abbrev pub is_conflicted_in_view : Option ℕ → ℕ → View → Bool
 is_conflicted_in_view u p V = is_author_in_view u p V || is_conflict_on_in_view u p V
 
--- DeclaredOf, for an author: whom those conflicts name that are her own, or name another than her, or stand before the
+-- for an author: whom those conflicts name that are her own, or name another than her, or stand before the
 -- bidding was opened. Where the history is legal, an author made each of these, and no others
 abbrev pub declared_in_view : Option ℕ → ℕ → View → List ℕ
 declared_in_view u p V =
@@ -338,7 +338,7 @@ is_invited_in_view u p V = last_or false (flat_map (invite_seen u p) V)
 abbrev pub is_external_in_view : Option ℕ → ℕ → View → Bool
 is_external_in_view u p V = not (is_member (role_in_view u V)) && is_invited_in_view u p V
 
--- StandingOf: what a view says of how its reader stands to the conference, and to a paper, if one is named
+-- what a view says of how its reader stands to the conference, and to a paper, if one is named
 abbrev pub standing_in_view : Option ℕ → Option ℕ → View → Standing
 standing_in_view u paper V = record {
   phase = phase_in_view V;
@@ -352,7 +352,7 @@ standing_in_view u paper V = record {
 
 -- ---- bids and assignments
 
--- BidsOf: the user's last bid on the paper that is shown; the reader's own last bid; and the last bids by user number
+-- the user's last bid on the paper that is shown; the reader's own last bid; and the last bids by user number
 abbrev pub bid_in_view : Option ℕ → ℕ → View → Option ℕ
 bid_in_view u p V = last (flat_map (bid_seen u p) V)
 
@@ -368,13 +368,13 @@ bids_in_view p V =
 abbrev pub seats_in_view : ℕ → View → List SeatTold
 seats_in_view p V = flat_map (assigned_seen p) V
 
--- ReviewersOf: the assigned that are shown whose ordinal has no unassigned shown
+-- the assigned that are shown whose ordinal has no unassigned shown
 abbrev pub reviewers_in_view : ℕ → View → List SeatTold
 reviewers_in_view p V = seats_left (flat_map (unassigned_seen p) V) (seats_in_view p V)
 
 -- ---- reviews, responses, comments and tags
 
--- FormsOf: of each label's forms that are shown the last, which the paper's authors read in the end; the last before
+-- of each label's forms that are shown the last, which the paper's authors read in the end; the last before
 -- the response, where it was opened, which they read before the end; the last before the discussion and all later ones,
 -- which the committee discusses; the reader's own, which a reviewer reads until the discussion, and one from outside
 -- the committee from the reviewing on; and whether there is one
@@ -398,28 +398,28 @@ own_forms_in_view p V = flat_map (own_form_seen p) V
 abbrev pub is_written_in_view : ℕ → ℕ → View → Bool
 is_written_in_view p o V = last_or false (flat_map (done_seen p o) V)
 
--- CommentsOf: the comments on the paper that are shown, by number
+-- the comments on the paper that are shown, by number
 abbrev pub comments_in_view : ℕ → View → List CommentTold
 comments_in_view p V = flat_map (comment_seen p) V
 
--- ResponseOf: what the paper's authors responded, where it is shown
+-- what the paper's authors responded, where it is shown
 abbrev pub response_in_view : ℕ → View → Option (List ℕ)
 response_in_view p V = last (flat_map (response_seen p) V)
 
--- TagsOf: the paper's tags that are on, each by the last entry shown, a private one by the reader's own
+-- the paper's tags that are on, each by the last entry shown, a private one by the reader's own
 abbrev pub tags_in_view : Option ℕ → Bool → ℕ → View → List (List ℕ)
 tags_in_view u chair p V = tags_for u chair (tags_left (flat_map (tag_seen u p) V))
 
 -- ---- papers
 
--- TitleOf, AbstractOf: the last one shown on the paper
+-- title and abstract: the last one shown on the paper
 abbrev pub title_in_view : ℕ → View → Option (List ℕ)
 title_in_view p V = last (flat_map (title_seen p) V)
 
 abbrev pub abstract_in_view : ℕ → View → Option (List ℕ)
 abstract_in_view p V = last (flat_map (abstract_seen p) V)
 
--- VersionsOf: what is shown of what was uploaded to the paper, in order; where the reader is no author of it,
+-- what is shown of what was uploaded to the paper, in order; where the reader is no author of it,
 -- `uploads_told` leaves the last alone
 abbrev pub uploads_in_view : ℕ → View → List Upload
 uploads_in_view p V = flat_map (upload_seen p) V
@@ -428,11 +428,11 @@ uploads_in_view p V = flat_map (upload_seen p) V
 abbrev pub is_withdrawn_in_view : ℕ → View → Bool
 is_withdrawn_in_view p V = last_or false (flat_map (withdrawal_seen p) V)
 
--- DecisionOf: the last decision shown on the paper
+-- the last decision shown on the paper
 abbrev pub decision_in_view : ℕ → View → Option Decision
 decision_in_view p V = last (flat_map (decision_seen p) V)
 
--- AcceptedIn: an entry shown has the mark that the paper is accepted
+-- an entry shown has the mark that the paper is accepted
 abbrev pub is_accepted_in_view : ℕ → View → Bool
 is_accepted_in_view p V = last_or false (flat_map (accepted_seen p) V)
 

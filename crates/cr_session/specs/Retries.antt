@@ -88,13 +88,13 @@ ends_in H (w ∷ ws) = ends_in (after_wish H w.wish) ws
 
 -- ---- what a repeat is told
 
--- ReceiptOf: the receipt of a command, or of a bulk, that repeats one with this group, by the accounts of this
+-- the receipt of a command, or of a bulk, that repeats one with this group, by the accounts of this
 -- history; there is one where the group isn't empty
 abbrev pub receipt_again : Bool → History → History → Option Receipt
 receipt_again bulk H group = option_map (repeated_receipt bulk) (kept_call (accounts_of H) group)
 
--- A wish that repeats an act is told ReceiptOf on what it is and on the act's group. Where both are bulks, or neither
--- is, these are the bytes that the act was told, but for the date and for whether the connection closes.
+-- A wish that repeats an act is told `receipt_again` on what it is and on the act's group. Where both are bulks, or
+-- neither is, these are the bytes that the act was told, but for the date and for whether the connection closes.
 pub record IsToldAgain (act : Act) (H : History) (w : WishInTurn) : Type 0 where
   pub receipt : Receipt
   pub receipt_is : receipt_again (is_bulk w.wish.what) H act.drawn.group ≡ Some receipt
