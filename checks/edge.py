@@ -307,6 +307,33 @@ def growth(program, folder):
         expect(fits, f"{name}: {costs} reads, writes and allocations, at most {(reads, writes, allocations)}")
 
 
+def memory_of(server):
+    """How many bytes of memory are the server's own, used yet or not."""
+    with open(f"/proc/{server.process.pid}/status", encoding="utf-8") as file:
+        return 1024 * int(re.search(r"VmData:\s+(\d+) kB", file.read())[1])
+
+
+def room(program, folder):
+    """A connection that has asked for little has little room: less than 256 KiB, once the workers have begun."""
+    count = 32
+    with serving(program, os.path.join(folder, "store"), workers=count) as server:
+
+        def taken():
+            """What as many connections take together that ask once and stay."""
+            before = memory_of(server)
+            with contextlib.ExitStack() as clients:
+                for _ in range(count):
+                    client = clients.enter_context(Client(server))
+                    expect(client.ask(request("GET", "/phase"))[0] == 200, "a question")
+                return memory_of(server) - before
+
+        taken()
+        # The workers see the ends of these.
+        time.sleep(1)
+        grown = taken()
+        expect(grown < count << 18, f"{grown} bytes")
+
+
 # ---- addresses
 
 
@@ -356,7 +383,9 @@ def addresses(program, folder):
             process.communicate()
 
 
-CHECKS = (timeouts, an_hour, time_of_day, jumps, until_a_deadline, pieces, contended, many_rows, growth, addresses)
+CHECKS = (
+    timeouts, an_hour, time_of_day, jumps, until_a_deadline, pieces, contended, many_rows, growth, room, addresses,
+)  # fmt: skip
 
 
 def main():

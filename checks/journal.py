@@ -466,6 +466,21 @@ def reads(program, folder):
     expect(orders.reads < 100, f"{orders.reads} reads")
 
 
+def ends(program, folder):
+    """Reads of a journal that is opened find its end too soon, as where it is cut meanwhile: status 6 and its line."""
+    program.pipe(named(folder), registrations())
+    content, few = read(named(folder)), {"scope": FILES, "most_read": 4}
+    count, whole = counted(program, WORDS, QUESTION, "reads", folder, **few)
+
+    def cut(number, room):
+        write(named(room), content)
+        came = shim.run(program, WORDS, QUESTION, room, refuse_read=number, lasts=1, ended=1, **few)[:3]
+        expect(came in ((b"", 6, line_of("store.cj", NO_JOURNAL)), (whole, 0, b"")), f"read {number}: {came}")
+        expect(read(named(room)) == content, "the file was changed")
+
+    each(count, cut)
+
+
 def short(program, folder):
     """Reads and writes of a journal that move a few bytes: the same answers, and the same bytes in the file."""
     due, _ = counted(program, WORDS, registrations(), "writes", folder), read(named(folder))
@@ -505,7 +520,7 @@ CHECKS = (
 )  # fmt: skip
 
 # Those that refuse calls of the system, by what cc builds.
-CHECKS_BY_SHIM = (syncs, writes, reads, short, told_of_a_sync)
+CHECKS_BY_SHIM = (syncs, writes, reads, ends, short, told_of_a_sync)
 shim = None
 
 

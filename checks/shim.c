@@ -42,6 +42,8 @@ struct orders {
     uint64_t scope;
     /* Where this is not 0, a write of a file that is refused is made all the same. */
     uint64_t made;
+    /* Where this is not 0, a read that is refused finds the end, and no error. */
+    uint64_t ended;
 };
 
 static struct orders none;
@@ -129,7 +131,8 @@ static ssize_t may_move(int file, size_t size, uint64_t *counted, uint64_t refus
 }
 
 static ssize_t may_read(int file, size_t size) {
-    return may_move(file, size, &orders->reads, orders->refuse_read, orders->most_read);
+    ssize_t most = may_move(file, size, &orders->reads, orders->refuse_read, orders->most_read);
+    return most < 0 && orders->ended ? 0 : most;
 }
 
 static ssize_t may_write(int file, size_t size) {

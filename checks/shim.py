@@ -21,7 +21,7 @@ HERE = os.path.dirname(os.path.abspath(__file__))
 FIELDS = (
     "allocations", "allocated", "reads", "writes", "syncs", "times",
     "refuse_allocation", "refuse_read", "refuse_write", "refuse_sync", "refuse_time", "lasts", "error",
-    "most_read", "most_write", "speed", "ahead", "moment", "scope", "made",
+    "most_read", "most_write", "speed", "ahead", "moment", "scope", "made", "ended",
 )  # fmt: skip
 # What `scope` may be: which descriptors reads and writes are counted on.
 EVERYWHERE, FILES, SOCKETS, NO_FILES = range(4)
