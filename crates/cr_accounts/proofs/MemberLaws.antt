@@ -1,5 +1,6 @@
 -- Counting the accounts that are members', one after another.
-use Rattle.std.proofs.Common.{ℕ, Bool, true, false, cond, ◌≡◌, ◌≤◌, ◌<◌, ◌+◌, suc, List, ◌∷◌, length, drop, get_or, refl, sym, ap, ◌∙◌, arith}
+use Rattle.std.proofs.Common.{ℕ, Bool, true, false, cond, ◌≡◌, ◌≤◌, ◌<◌, ◌+◌, suc, List, ◌∷◌, length, drop, get_or}
+use Rattle.std.proofs.Common.{refl, sym, ap, ◌∙◌, arith}
 use Rattle.std.specs.Prelude.{filter}
 use Rattle.std.proofs.Math.ListN.{drop_of_length-le}
 use Rattle.std.proofs.lemmas.List.{drop_more}
@@ -30,12 +31,15 @@ one-more n a accounts count = by (is_member a.role)
     by true = moved count (length rest)
     by false = refl
 
-pub count-step : (accounts : List Account) (i count next whole : ℕ) (a : Account) → i < length accounts → a ≡ get_or accounts i a → next ≡ counted_by a.role count
-    → count + members_from (i + 1) (drop i accounts) ≡ whole → next + members_from (i + 1 + 1) (drop (i + 1) accounts) ≡ whole
+pub count-step : (accounts : List Account) (i count next whole : ℕ) (a : Account) → i < length accounts
+    → a ≡ get_or accounts i a → next ≡ counted_by a.role count
+    → count + members_from (i + 1) (drop i accounts) ≡ whole
+    → next + members_from (i + 1 + 1) (drop (i + 1) accounts) ≡ whole
 count-step accounts i count next whole a low is counted h =
     ap (λ (k : ℕ). k + members_from (i + 1 + 1) (drop (i + 1) accounts)) counted
     ∙ sym (one-more (i + 1) a (drop (i + 1) accounts) count)
-    ∙ ap (λ (xs : List Account). count + members_from (i + 1) xs) (sym (drop_more accounts i a low ∙ ap (λ (x : Account). x ∷ drop (i + 1) accounts) (sym is)))
+    ∙ ap (λ (xs : List Account). count + members_from (i + 1) xs)
+    (sym (drop_more accounts i a low ∙ ap (λ (x : Account). x ∷ drop (i + 1) accounts) (sym is)))
     ∙ h
 
 -- one more than index and count are
@@ -46,7 +50,9 @@ step-few count next i a counted few = by (is_member a.role) counted
     by true is = omega (arith, is, few)
     by false is = omega (arith, is, few)
 
-pub count-all : (accounts : List Account) (i count whole : ℕ) → length accounts ≤ i → count + members_from (i + 1) (drop i accounts) ≡ whole → count ≡ whole
+pub count-all : (accounts : List Account) (i count whole : ℕ) → length accounts ≤ i
+    → count + members_from (i + 1) (drop i accounts) ≡ whole → count ≡ whole
 count-all accounts i count whole past h =
-    let none : members_from (i + 1) (drop i accounts) ≡ 0 = ap (λ (xs : List Account). members_from (i + 1) xs) (drop_of_length-le accounts past) in
+    let none : members_from (i + 1) (drop i accounts) ≡ 0 =
+    ap (λ (xs : List Account). members_from (i + 1) xs) (drop_of_length-le accounts past) in
     omega (arith, none, h)

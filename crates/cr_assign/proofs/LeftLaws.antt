@@ -1,5 +1,6 @@
 -- The list of seats where one is left, by its index among those of its paper.
-use Rattle.std.proofs.Common.{ℕ, Bool, true, false, cond, ◌≡◌, ◌<◌, ◌+◌, List, [], ◌∷◌, length, get_or, eqb, refl, sym, ap, ◌∙◌, arith, zero, suc, ◌&&◌}
+use Rattle.std.proofs.Common.{ℕ, Bool, true, false, cond, ◌≡◌, ◌<◌, ◌+◌, List, [], ◌∷◌, length, get_or, eqb, refl, sym}
+use Rattle.std.proofs.Common.{ap, ◌∙◌, arith, zero, suc, ◌&&◌}
 use Rattle.std.specs.Prelude.{map}
 use Rattle.std.specs.List.{list_all}
 use Rattle.std.proofs.lemmas.Bool.{and_parts, eqb-true, eq-eqb}
@@ -45,7 +46,8 @@ module _ (paper ordinal : ℕ) where
   -- where all of the paper's have higher ordinals, all stay
   all-stay : (n : ℕ) (ts : SeatsState) → ordinal < n → AreFrom n ts → map left ts ≡ ts
   all-stay n [] h from = refl
-  all-stay n (t ∷ ts) h from = by (eqb paper t.pair.paper) refl from (all-stay (n + 1) ts (omega arith)) (all-stay n ts h)
+  all-stay n (t ∷ ts) h from =
+      by (eqb paper t.pair.paper) refl from (all-stay (n + 1) ts (omega arith)) (all-stay n ts h)
     where
       unlike : (o m n : ℕ) → m ≡ n → o < n → eqb o m ≡ false
       unlike o m n e h = grind (arith, nat_tests, e, h)
@@ -60,11 +62,14 @@ module _ (paper ordinal : ℕ) where
           let rest : AreFrom (n + 1) ts = cc in
           ap (λ (us : SeatsState). left t ∷ us) (next rest)
           ∙ ap (λ (s : Tie Seat). s ∷ ts) (other-ordinal t (unlike ordinal t.value.ordinal n first h))
-      by false is from next same = ap (λ (us : SeatsState). left t ∷ us) (same from) ∙ ap (λ (s : Tie Seat). s ∷ ts) (other-paper t is)
+      by false is from next same =
+          ap (λ (us : SeatsState). left t ∷ us) (same from) ∙ ap (λ (s : Tie Seat). s ∷ ts) (other-paper t is)
 
   -- so where the one at an index is left, of seats numbered from n, it is the one with the ordinal so far behind n
-  pub changed-left : (n k : ℕ) (s d : Tie Seat) (xs : List (Filed (Tie Seat))) → AreOwn paper_of xs → AreFrom n (values_in xs)
-      → ordinal ≡ n + k → k < length (ties_of ByPaper paper (values_in xs)) → s ≡ vacated (get_or (ties_of ByPaper paper (values_in xs)) k d)
+  pub changed-left : (n k : ℕ) (s d : Tie Seat) (xs : List (Filed (Tie Seat))) → AreOwn paper_of xs
+      → AreFrom n (values_in xs)
+      → ordinal ≡ n + k → k < length (ties_of ByPaper paper (values_in xs))
+      → s ≡ vacated (get_or (ties_of ByPaper paper (values_in xs)) k d)
       → values_in (with_changed paper k s xs) ≡ map left (values_in xs)
   changed-left n k s d [] own from is lt at = absurd (omega (arith, lt))
   changed-left n zero s d (x ∷ xs) own from is lt at =
@@ -78,14 +83,16 @@ module _ (paper ordinal : ℕ) where
       of = ties_of ByPaper paper (values_in xs)
 
       parts : (eqb x.paper t.pair.paper ≡ true) × AreOwn paper_of xs
-      parts = and_parts (eqb x.paper t.pair.paper) (list_all (λ (y : Filed (Tie Seat)). eqb y.paper (paper_of y.value)) xs) own
+      parts = and_parts (eqb x.paper t.pair.paper)
+          (list_all (λ (y : Filed (Tie Seat)). eqb y.paper (paper_of y.value)) xs) own
 
       here : eqb paper x.paper ≡ eqb paper t.pair.paper
       here = ap (eqb paper) (eqb-true x.paper t.pair.paper parts.0)
 
       by : (b : Bool) → eqb paper t.pair.paper ≡ b → ordinals (cond b (t ∷ of) of) ≡ numbers_from n (cond b (t ∷ of) of)
           → 0 < length (cond b (t ∷ of) of) → s ≡ vacated (get_or (cond b (t ∷ of) of) 0 d)
-          → (AreFrom n (values_in xs) → ordinal ≡ n + 0 → 0 < length of → s ≡ vacated (get_or of 0 d) → values_in (with_changed paper 0 s xs) ≡ map left (values_in xs))
+          → (AreFrom n (values_in xs) → ordinal ≡ n + 0 → 0 < length of → s ≡ vacated (get_or of 0 d)
+          → values_in (with_changed paper 0 s xs) ≡ map left (values_in xs))
           → values_in (cond b (filed paper s ∷ xs) (x ∷ with_changed paper 0 s xs)) ≡ left t ∷ map left (values_in xs)
       by true mine from lt at behind =
           let first : t.value.ordinal ≡ n = cc in
@@ -99,7 +106,8 @@ module _ (paper ordinal : ℕ) where
           ∙ ap (λ (u : Tie Seat). u ∷ map left (values_in xs)) (sym (other-paper t other))
   changed-left n (suc k) s d (x ∷ xs) own from is lt at =
       ap (λ (b : Bool). t ∷ values_in (cond b (with_changed paper k s xs) (with_changed paper (suc k) s xs))) here
-      ∙ by (eqb paper t.pair.paper) refl from lt at (changed-left (n + 1) k s d xs parts.1) (changed-left n (suc k) s d xs parts.1)
+      ∙ by (eqb paper t.pair.paper) refl from lt at (changed-left (n + 1) k s d xs parts.1)
+      (changed-left n (suc k) s d xs parts.1)
     where
       t : Tie Seat
       t = x.value
@@ -108,7 +116,8 @@ module _ (paper ordinal : ℕ) where
       of = ties_of ByPaper paper (values_in xs)
 
       parts : (eqb x.paper t.pair.paper ≡ true) × AreOwn paper_of xs
-      parts = and_parts (eqb x.paper t.pair.paper) (list_all (λ (y : Filed (Tie Seat)). eqb y.paper (paper_of y.value)) xs) own
+      parts = and_parts (eqb x.paper t.pair.paper)
+          (list_all (λ (y : Filed (Tie Seat)). eqb y.paper (paper_of y.value)) xs) own
 
       here : eqb paper x.paper ≡ eqb paper t.pair.paper
       here = ap (eqb paper) (eqb-true x.paper t.pair.paper parts.0)
@@ -118,16 +127,20 @@ module _ (paper ordinal : ℕ) where
 
       -- what is so of the seats behind the first, numbered from m on
       Behind : ℕ → ℕ → Type 0
-      Behind m j = AreFrom m (values_in xs) → ordinal ≡ m + j → j < length of → s ≡ vacated (get_or of j d) → values_in (with_changed paper j s xs) ≡ map left (values_in xs)
+      Behind m j = AreFrom m (values_in xs) → ordinal ≡ m + j → j < length of → s ≡ vacated (get_or of j d)
+          → values_in (with_changed paper j s xs) ≡ map left (values_in xs)
 
       by : (b : Bool) → eqb paper t.pair.paper ≡ b → ordinals (cond b (t ∷ of) of) ≡ numbers_from n (cond b (t ∷ of) of)
-          → suc k < length (cond b (t ∷ of) of) → s ≡ vacated (get_or (cond b (t ∷ of) of) (suc k) d) → Behind (n + 1) k → Behind n (suc k)
-          → t ∷ values_in (cond b (with_changed paper k s xs) (with_changed paper (suc k) s xs)) ≡ left t ∷ map left (values_in xs)
+          → suc k < length (cond b (t ∷ of) of) → s ≡ vacated (get_or (cond b (t ∷ of) of) (suc k) d) → Behind (n + 1) k
+          → Behind n (suc k)
+          → t ∷ values_in (cond b (with_changed paper k s xs) (with_changed paper (suc k) s xs)) ≡ left t
+          ∷ map left (values_in xs)
       by true mine from lt at next same =
           let first : t.value.ordinal ≡ n = cc in
           let rest : AreFrom (n + 1) (values_in xs) = cc in
           ap (λ (us : SeatsState). t ∷ us) (next rest (omega (arith, is)) (omega (arith, lt)) at)
-          ∙ ap (λ (u : Tie Seat). u ∷ map left (values_in xs)) (sym (other-ordinal t (unlike ordinal t.value.ordinal n k first is)))
+          ∙ ap (λ (u : Tie Seat). u ∷ map left (values_in xs))
+          (sym (other-ordinal t (unlike ordinal t.value.ordinal n k first is)))
       by false other from lt at next same =
           ap (λ (us : SeatsState). t ∷ us) (same from is lt at)
           ∙ ap (λ (u : Tie Seat). u ∷ map left (values_in xs)) (sym (other-paper t other))

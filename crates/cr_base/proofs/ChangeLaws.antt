@@ -1,5 +1,6 @@
 -- Lists in which one element was changed: what stands at each index, and by number.
-use Rattle.std.proofs.Common.{ℕ, Bool, true, false, cond, ◌≡◌, ◌≤◌, ◌+◌, ◌-◌, List, [], ◌∷◌, eqb, refl, sym, ap, ◌∙◌, arith, zero, suc, Option, Some, None}
+use Rattle.std.proofs.Common.{ℕ, Bool, true, false, cond, ◌≡◌, ◌≤◌, ◌+◌, ◌-◌, List, [], ◌∷◌, eqb, refl, sym, ap, ◌∙◌}
+use Rattle.std.proofs.Common.{arith, zero, suc, Option, Some, None}
 use Rattle.std.specs.Prelude.{slice_set}
 use Rattle.std.specs.List.{slice_get}
 use Rattle.std.specs.Option.{option_map, option_map_or}
@@ -14,7 +15,8 @@ module _ {A : Type 0} (change : A → A) where
   pub changed_at-suc : (x : A) (xs : List A) (k : ℕ) → changed_at (x ∷ xs) (suc k) ≡ x ∷ changed_at xs k
   changed_at-suc x xs k = by (slice_get xs k)
     where
-      by : (o : Option A) → option_map_or (λ y. x ∷ slice_set xs k (change y)) o (x ∷ xs) ≡ x ∷ option_map_or (λ y. slice_set xs k (change y)) o xs
+      by : (o : Option A) → option_map_or (λ y. x ∷ slice_set xs k (change y)) o (x ∷ xs) ≡ x
+          ∷ option_map_or (λ y. slice_set xs k (change y)) o xs
       by None = refl
       by (Some y) = refl
 
@@ -34,7 +36,8 @@ module _ {A : Type 0} (change : A → A) where
     where
       never : (i : ℕ) → eqb 0 (suc i) ≡ false
       never i = grind (arith, nat_tests)
-  get-changed_at (x ∷ xs) (suc k) zero = ap (λ (ys : List A). slice_get ys 0) (changed_at-suc x xs k) ∙ ap (λ b. where_changed b (Some x)) (sym (never k))
+  get-changed_at (x ∷ xs) (suc k) zero =
+      ap (λ (ys : List A). slice_get ys 0) (changed_at-suc x xs k) ∙ ap (λ b. where_changed b (Some x)) (sym (never k))
     where
       never : (k : ℕ) → eqb (suc k) 0 ≡ false
       never k = grind (arith, nat_tests)
@@ -47,9 +50,11 @@ module _ {A : Type 0} (change : A → A) where
       step k i = grind (arith, nat_tests)
 
   -- the same by number
-  pub numbered-changed_at : (xs : List A) (n m : ℕ) → 1 ≤ n → numbered (changed_at xs (n - 1)) m ≡ where_changed (eqb n m) (numbered xs m)
+  pub numbered-changed_at : (xs : List A) (n m : ℕ) → 1 ≤ n
+      → numbered (changed_at xs (n - 1)) m ≡ where_changed (eqb n m) (numbered xs m)
   numbered-changed_at xs n zero low = none-changed (eqb n 0)
-  numbered-changed_at xs n (suc i) low = get-changed_at xs (n - 1) i ∙ ap (λ b. where_changed b (slice_get xs i)) (step n i low)
+  numbered-changed_at xs n (suc i) low =
+      get-changed_at xs (n - 1) i ∙ ap (λ b. where_changed b (slice_get xs i)) (step n i low)
     where
       step : (n i : ℕ) → 1 ≤ n → eqb (n - 1) i ≡ eqb n (suc i)
       step n i low = grind (arith, nat_tests)
@@ -58,4 +63,5 @@ module _ {A : Type 0} (change : A → A) where
   pub numbers_from-changed_at : (n : ℕ) (xs : List A) (k : ℕ) → numbers_from n (changed_at xs k) ≡ numbers_from n xs
   numbers_from-changed_at n [] k = refl
   numbers_from-changed_at n (x ∷ xs) zero = refl
-  numbers_from-changed_at n (x ∷ xs) (suc k) = ap (numbers_from n) (changed_at-suc x xs k) ∙ ap (λ ns. n ∷ ns) (numbers_from-changed_at (n + 1) xs k)
+  numbers_from-changed_at n (x ∷ xs) (suc k) =
+      ap (numbers_from n) (changed_at-suc x xs k) ∙ ap (λ ns. n ∷ ns) (numbers_from-changed_at (n + 1) xs k)

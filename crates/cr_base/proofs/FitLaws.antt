@@ -1,5 +1,6 @@
 -- The entries that a command draws fit the tables, each in its turn.
-use Rattle.std.proofs.Common.{ℕ, Bool, true, false, cond, ◌≡◌, ◌≤◌, ◌<◌, ◌+◌, ◌==◌, List, [], ◌∷◌, length, length-append, refl, sym, ap, subst, ◌∙◌, arith, Option, Some, None, is_some, Ok}
+use Rattle.std.proofs.Common.{ℕ, Bool, true, false, cond, ◌≡◌, ◌≤◌, ◌<◌, ◌+◌, ◌==◌, List, [], ◌∷◌, length}
+use Rattle.std.proofs.Common.{length-append, refl, sym, ap, subst, ◌∙◌, arith, Option, Some, None, is_some, Ok}
 use Rattle.std.specs.Prelude.{is_none, unwrap_or, not, nat_le, nat_lt, ◌||◌, ◌&&◌, map}
 use Rattle.std.specs.List.{flat_map, list_any}
 use Rattle.std.specs.Option.{option_map}
@@ -8,7 +9,10 @@ use Rattle.std.proofs.lemmas.Bool.Decides.{nat_tests}
 use Rattle.std.proofs.lemmas.List.{append-nil, length-map}
 use Rattle.cr_base.specs.History.{FormTold}
 use Rattle.cr_base.specs.declared.command.Command.{Command}
-use Rattle.cr_base.specs.declared.command.Command.TheVariants.{Register, SetPhase, Submit, Revise, Upload, Withdraw, Name, SetMode, SetConflict, Bid, Assign, Unassign, Review, Comment, Tag, Decide, SetDeadline, Dismiss, Invite, Uninvite, Respond}
+use Rattle.cr_base.specs.declared.command.Command.TheVariants.{Register, SetPhase, Submit, Revise, Upload, Withdraw}
+use Rattle.cr_base.specs.declared.command.Command.TheVariants.{Name, SetMode, SetConflict, Bid, Assign, Unassign}
+use Rattle.cr_base.specs.declared.command.Command.TheVariants.{Review, Comment, Tag, Decide, SetDeadline, Dismiss}
+use Rattle.cr_base.specs.declared.command.Command.TheVariants.{Invite, Uninvite, Respond}
 use Rattle.cr_base.specs.declared.entry.Account.{Account}
 use Rattle.cr_base.specs.declared.entry.Entry.TheVariants.{Registered, Named}
 use Rattle.cr_base.specs.declared.entry.Stamp.{Stamp}
@@ -17,15 +21,20 @@ use Rattle.cr_base.specs.declared.words.Role.{Role}
 use Rattle.cr_base.specs.declared.words.Role.TheVariants as roles
 use Rattle.cr_base.specs.Accounts.{number_at, lines_of, chair_count}
 use Rattle.cr_base.specs.Calls.{call_by, maker_of}
-use Rattle.cr_base.specs.Checks.{NamedPaper, of_role, register_checks, phase_checks, deadline_checks, submit_checks, revise_checks, upload_checks}
-use Rattle.cr_base.specs.Checks.{name_checks, mode_checks, conflict_checks, bid_checks, assign_checks, unassign_checks, target_is}
-use Rattle.cr_base.specs.Checks.{review_checks, respond_checks, comment_checks, tag_checks, decide_checks, dismiss_checks, invite_checks, uninvite_checks}
-use Rattle.cr_base.specs.Drawn.{Drawn, grouped, registration, registration_drawn, phase_drawn, submission_drawn, revision_drawn, upload_drawn}
-use Rattle.cr_base.specs.Drawn.{withdrawal_drawn, naming_drawn, mode_drawn, conflict_drawn, bid_drawn, assignment_drawn, unassignment_drawn, review_drawn, comment_drawn, tag_drawn, decision_drawn, deadline_drawn}
-use Rattle.cr_base.specs.Drawn.{dismissal_drawn, invitation_drawn, uninvitation_drawn, response_drawn}
+use Rattle.cr_base.specs.Checks.{NamedPaper, of_role, register_checks, phase_checks, deadline_checks, submit_checks}
+use Rattle.cr_base.specs.Checks.{revise_checks, upload_checks, name_checks, mode_checks, conflict_checks, bid_checks}
+use Rattle.cr_base.specs.Checks.{assign_checks, unassign_checks, target_is, review_checks, respond_checks}
+use Rattle.cr_base.specs.Checks.{comment_checks, tag_checks, decide_checks, dismiss_checks, invite_checks}
+use Rattle.cr_base.specs.Checks.{uninvite_checks}
+use Rattle.cr_base.specs.Drawn.{Drawn, grouped, registration, registration_drawn, phase_drawn, submission_drawn}
+use Rattle.cr_base.specs.Drawn.{revision_drawn, upload_drawn, withdrawal_drawn, naming_drawn, mode_drawn}
+use Rattle.cr_base.specs.Drawn.{conflict_drawn, bid_drawn, assignment_drawn, unassignment_drawn, review_drawn}
+use Rattle.cr_base.specs.Drawn.{comment_drawn, tag_drawn, decision_drawn, deadline_drawn, dismissal_drawn}
+use Rattle.cr_base.specs.Drawn.{invitation_drawn, uninvitation_drawn, response_drawn}
 use Rattle.cr_base.specs.Invites.{is_invited_in}
 use Rattle.cr_base.specs.Judging.{judge_by_role}
-use Rattle.cr_base.specs.Sources.{Facts, own_forms_in, standing_at, facts_of_tables, shown_in_tables, user_among, users_among, role_among, has_paper, paper_named, target_named}
+use Rattle.cr_base.specs.Sources.{Facts, own_forms_in, standing_at, facts_of_tables, shown_in_tables, user_among}
+use Rattle.cr_base.specs.Sources.{users_among, role_among, has_paper, paper_named, target_named}
 use Rattle.cr_base.specs.Papers.{paper_count, paper_numbers, uploads_at, own_count, own_bytes}
 use Rattle.cr_base.specs.Lists.{listed, is_number, at_some}
 use Rattle.cr_base.specs.Pairs.{users_tied_to}
@@ -45,19 +54,35 @@ use Rattle.cr_base.proofs.TargetLaws.{is_none-asked, target_within, paper_within
 use Rattle.cr_base.proofs.TieLaws.{within-before}
 
 -- a registration's entries, each in its turn
-registration-in_turn : (t : Tables) (stamp : Stamp) (user : ℕ) (name digest : List ℕ) → (user ≡ length t.accounts + 1) × (user ≤ 9999) × (number_at t.accounts name ≡ None)
+registration-in_turn : (t : Tables) (stamp : Stamp) (user : ℕ) (name digest : List ℕ) → (user ≡ length t.accounts + 1)
+    × (user ≤ 9999) × (number_at t.accounts name ≡ None)
     → FitInTurn t (grouped (record stamp { maker = user }) (registration user name digest))
 registration-in_turn t stamp user name digest fits = by (user == 1)
   where
-    by : (first : Bool) → FitInTurn t (grouped (record stamp { maker = user }) (cond first (Registered user name digest ∷ Named user roles.Chair ∷ []) (Registered user name digest ∷ [])))
+    by : (first : Bool)
+        → FitInTurn t (grouped (record stamp { maker = user })
+        (cond first (Registered user name digest ∷ Named user roles.Chair ∷ []) (Registered user name digest ∷ [])))
     by true =
         let added : Account = record { name = name; digest = digest; role = roles.Account } in
-        let n = length-append t.accounts (added ∷ []) in
-        (record { accounts = fits; papers = tt; ties = tt; seats = tt; reviews = tt; talk = tt }, (record { accounts = (omega (arith, fits.0), omega (arith, n, fits.0)); papers = tt; ties = tt; seats = tt; reviews = tt; talk = tt }, tt))
+        let n = length-append t.accounts (added ∷ []) in (
+          record { accounts = fits; papers = tt; ties = tt; seats = tt; reviews = tt; talk = tt },
+          (
+            record {
+              accounts = (omega (arith, fits.0), omega (arith, n, fits.0));
+              papers = tt;
+              ties = tt;
+              seats = tt;
+              reviews = tt;
+              talk = tt;
+            },
+            tt,
+          ),
+        )
     by false = (record { accounts = fits; papers = tt; ties = tt; seats = tt; reviews = tt; talk = tt }, tt)
 
 -- a user named among the lines has an account
-target-in : (t : Tables) (target : Option ℕ) (asked : Role → Target) → is_none (option_map asked (role_among (lines_of t.accounts) target)) ≡ false
+target-in : (t : Tables) (target : Option ℕ) (asked : Role → Target)
+    → is_none (option_map asked (role_among (lines_of t.accounts) target)) ≡ false
     → (1 ≤ unwrap_or target 0) × (unwrap_or target 0 ≤ length t.accounts)
 target-in t target asked h = target_within t.accounts target (sym (ap is_none (role_among-lines_of t.accounts target))
     ∙ sym (is_none-asked asked (role_among (lines_of t.accounts) target)) ∙ h)
@@ -76,7 +101,8 @@ some-where (Some ordinal) h = refl
 seat-named : (t : Tables) (caller paper target : Option ℕ) (reviews : Bool)
     → is_none (target_named (facts_of_tables t caller) (shown_in_tables t) caller paper target) ≡ false
     → not (has_paper (facts_of_tables t caller) paper) ≡ false
-    → target_is (λ (user : Target). user.reviewer) (target_named (facts_of_tables t caller) (shown_in_tables t) caller paper target) ≡ reviews
+    → target_is (λ (user : Target). user.reviewer)
+    (target_named (facts_of_tables t caller) (shown_in_tables t) caller paper target) ≡ reviews
     → is_some (ordinal_in t.seats (Some (unwrap_or target 0)) (unwrap_or paper 0)) ≡ reviews
 seat-named t caller paper None reviews user there says = absurd (true≢false user)
 seat-named t caller None (Some v) reviews user there says = absurd (true≢false there)
@@ -87,18 +113,21 @@ seat-named t caller (Some p) (Some v) reviews user there says = by (role_among (
       role = role;
       herself = is_number (Some v) (maker_of caller);
       author = list_any (is_number (Some v)) (authors_in t.ties p);
-      conflicted = list_any (is_number (Some v)) (authors_in t.ties p) || list_any (is_number (Some v)) (users_tied_to p t.ties.conflicts);
+      conflicted = list_any (is_number (Some v)) (authors_in t.ties p) || list_any (is_number (Some v))
+          (users_tied_to p t.ties.conflicts);
       reviewer = is_some (ordinal_in t.seats (Some v) p);
       external = not (is_member role) && is_invited_in t.invites (Some v) p;
     }
 
-    by : (found : Option Role) → is_none (option_map asked found) ≡ false → target_is (λ (user : Target). user.reviewer) (option_map asked found) ≡ reviews
+    by : (found : Option Role) → is_none (option_map asked found) ≡ false
+        → target_is (λ (user : Target). user.reviewer) (option_map asked found) ≡ reviews
         → is_some (ordinal_in t.seats (Some v) p) ≡ reviews
     by None user says = absurd (true≢false user)
     by (Some role) user says = says
 
 -- the seat that is there, where she has one
-seat-there : (t : Tables) (target : Option ℕ) (p : ℕ) → is_some (ordinal_in t.seats (Some (unwrap_or target 0)) p) ≡ true
+seat-there : (t : Tables) (target : Option ℕ) (p : ℕ)
+    → is_some (ordinal_in t.seats (Some (unwrap_or target 0)) p) ≡ true
     → (asked : Role → Target) → is_none (option_map asked (role_among (lines_of t.accounts) target)) ≡ false
     → ordinal_in t.seats (Some (unwrap_or target 0)) p ≡ Some (unwrap_or (ordinal_in t.seats target p) 0)
 seat-there t None p h asked user = absurd (true≢false user)
@@ -120,7 +149,8 @@ own-seat : (t : Tables) (user paper : Option ℕ) → not (has_paper (facts_of_t
     → not (standing_at t user paper).reviewer ≡ false
     → ordinal_in t.seats user (unwrap_or paper 0) ≡ Some (unwrap_or (ordinal_in t.seats user (unwrap_or paper 0)) 0)
 own-seat t user None there reviews = absurd (true≢false there)
-own-seat t user (Some p) there reviews = some-where (ordinal_in t.seats user p) (by (is_some (ordinal_in t.seats user p)) reviews)
+own-seat t user (Some p) there reviews =
+    some-where (ordinal_in t.seats user p) (by (is_some (ordinal_in t.seats user p)) reviews)
   where
     by : (b : Bool) → not b ≡ false → b ≡ true
     by true h = refl
@@ -140,74 +170,166 @@ module _ (t : Tables) (within : AreWithin (paper_count t.papers) t.ties) (stamp 
   late = is_late_in t.stage stamp.at
 
   -- what a user's command draws fits; a registration's is the same for all
-  pub judged-fits : (command : Command) (drawn : Drawn) → judge_by_role t (call_by stamp command) ≡ Ok drawn → FitInTurn t drawn.group
+  pub judged-fits : (command : Command) (drawn : Drawn) → judge_by_role t (call_by stamp command) ≡ Ok drawn
+      → FitInTurn t drawn.group
   judged-fits (Register name digest) drawn accepted =
       let n : ℕ = length t.accounts in
       let checks = register_checks (is_some (number_at t.accounts name)) n in
-      let k = judged-Ok checks (registration_drawn stamp (n + 1) name digest) drawn (sym (judge_by_role-register t (call_by stamp (Register name digest)) name digest refl) ∙ accepted) in
-      subst (λ (d : Drawn). FitInTurn t d.group) k.1 (registration-in_turn t stamp (n + 1) name digest (registration-fits t.accounts name digest (n + 1) (sym (judged-none checks (n + 1) k.0))))
+      let k = judged-Ok checks (registration_drawn stamp (n + 1) name digest) drawn
+      (sym (judge_by_role-register t (call_by stamp (Register name digest)) name digest refl) ∙ accepted) in
+      subst (λ (d : Drawn). FitInTurn t d.group) k.1
+      (registration-in_turn t stamp (n + 1) name digest
+      (registration-fits t.accounts name digest (n + 1) (sym (judged-none checks (n + 1) k.0))))
   judged-fits (SetPhase to) drawn accepted =
-      let k = judged-Ok (phase_checks (standing_at t (Some maker) None) t.stage.phase to) (phase_drawn stamp to) drawn accepted in
-      subst (λ (d : Drawn). FitInTurn t d.group) k.1 (record { accounts = tt; papers = tt; ties = tt; seats = tt; reviews = tt; talk = tt }, tt)
+      let k = judged-Ok (phase_checks (standing_at t (Some maker) None) t.stage.phase to) (phase_drawn stamp to) drawn
+      accepted in
+      subst (λ (d : Drawn). FitInTurn t d.group) k.1
+      (record { accounts = tt; papers = tt; ties = tt; seats = tt; reviews = tt; talk = tt }, tt)
   judged-fits (Submit title abstract authors) drawn accepted =
       let n : ℕ = length (paper_numbers t.papers) in
       let users : List (Option ℕ) = users_among (lines_of t.accounts) authors in
       let k = judged-Ok
-      (submit_checks (list_any is_none users) (standing_at t (Some maker) None) n (own_count t.papers (Some maker)) late)
+      (submit_checks (list_any is_none users) (standing_at t (Some maker) None) n (own_count t.papers (Some maker))
+      late)
       (submission_drawn stamp (n + 1) title abstract (flat_map listed users)) drawn accepted in
       let same : n ≡ paper_count t.papers = length-numbers_from 1 t.papers.papers in
       let few : n < 9999 = leb-false 9999 n k.0.1.1.1.0 in
       let own : own_count t.papers (Some maker) < 20 = leb-false 20 (own_count t.papers (Some maker)) k.0.1.1.1.1.0 in
       subst (λ (d : Drawn). FitInTurn t d.group) k.1
-      (submission-fits t stamp (n + 1) title abstract (flat_map listed users) (omega (arith, same), omega (arith, few), own)
-      (within-before (paper_count t.papers) (n + 1) (ap (λ m. m + 1) same) t.ties.authors within.authors) (users-within t.accounts authors))
+      (submission-fits t stamp (n + 1) title abstract (flat_map listed users)
+      (omega (arith, same), omega (arith, few), own)
+      (within-before (paper_count t.papers) (n + 1) (ap (λ m. m + 1) same) t.ties.authors within.authors)
+      (users-within t.accounts authors))
   judged-fits (Revise paper title abstract) drawn accepted =
-      let k = judged-Ok (revise_checks (standing_at t (Some maker) paper) (named paper) late) (revision_drawn stamp (unwrap_or paper 0) title abstract) drawn accepted in
-      subst (λ (d : Drawn). FitInTurn t d.group) k.1 (record { accounts = tt; papers = paper_within t.papers.papers paper k.0.0; ties = tt; seats = tt; reviews = tt; talk = tt }, tt)
+      let k = judged-Ok (revise_checks (standing_at t (Some maker) paper) (named paper) late)
+      (revision_drawn stamp (unwrap_or paper 0) title abstract) drawn accepted in
+      subst (λ (d : Drawn). FitInTurn t d.group) k.1 (
+        record {
+          accounts = tt;
+          papers = paper_within t.papers.papers paper k.0.0;
+          ties = tt;
+          seats = tt;
+          reviews = tt;
+          talk = tt;
+        },
+        tt,
+      )
   judged-fits (Upload paper content) drawn accepted =
       let own : ℕ = own_bytes t.papers (Some maker) in
       let p : ℕ = unwrap_or paper 0 in
       let k = judged-Ok
       (upload_checks (standing_at t (Some maker) paper) (named paper) own (length content) late)
       (upload_drawn stamp p (length (uploads_at t.papers p) + 1) content) drawn accepted in
-      subst (λ (d : Drawn). FitInTurn t d.group) k.1
-      (record { accounts = tt; papers = (paper_within t.papers.papers paper k.0.0, refl, not-past 67108864 (own + length content) k.0.1.1.1.1.1.0); ties = tt; seats = tt; reviews = tt; talk = tt }, tt)
+      subst (λ (d : Drawn). FitInTurn t d.group) k.1 (
+        record {
+          accounts = tt;
+          papers = (
+            paper_within t.papers.papers paper k.0.0,
+            refl,
+            not-past 67108864 (own + length content) k.0.1.1.1.1.1.0,
+          );
+          ties = tt;
+          seats = tt;
+          reviews = tt;
+          talk = tt;
+        },
+        tt,
+      )
     where
       not-past : (most n : ℕ) → nat_lt most n ≡ false → n ≤ most
       not-past most n h = grind (arith, nat_tests, h)
   judged-fits (Withdraw paper) drawn accepted =
-      let k = judged-Ok (revise_checks (standing_at t (Some maker) paper) (named paper) late) (withdrawal_drawn stamp (unwrap_or paper 0)) drawn accepted in
-      subst (λ (d : Drawn). FitInTurn t d.group) k.1 (record { accounts = tt; papers = paper_within t.papers.papers paper k.0.0; ties = tt; seats = tt; reviews = tt; talk = tt }, tt)
+      let k = judged-Ok (revise_checks (standing_at t (Some maker) paper) (named paper) late)
+      (withdrawal_drawn stamp (unwrap_or paper 0)) drawn accepted in
+      subst (λ (d : Drawn). FitInTurn t d.group) k.1 (
+        record {
+          accounts = tt;
+          papers = paper_within t.papers.papers paper k.0.0;
+          ties = tt;
+          seats = tt;
+          reviews = tt;
+          talk = tt;
+        },
+        tt,
+      )
   judged-fits (Name name role) drawn accepted =
       let target : Option ℕ = user_among (lines_of t.accounts) name in
-      let k = judged-Ok (name_checks (standing_at t (Some maker) None) (option_map of_role (role_among (lines_of t.accounts) target)) role) (naming_drawn stamp (unwrap_or target 0) (unwrap_or name []) role) drawn accepted in
-      subst (λ (d : Drawn). FitInTurn t d.group) k.1 (record { accounts = target-in t target of_role k.0.0; papers = tt; ties = tt; seats = tt; reviews = tt; talk = tt }, tt)
+      let k =
+      judged-Ok (name_checks (standing_at t (Some maker) None)
+      (option_map of_role (role_among (lines_of t.accounts) target)) role)
+      (naming_drawn stamp (unwrap_or target 0) (unwrap_or name []) role) drawn accepted in
+      subst (λ (d : Drawn). FitInTurn t d.group) k.1 (
+        record {
+          accounts = target-in t target of_role k.0.0;
+          papers = tt;
+          ties = tt;
+          seats = tt;
+          reviews = tt;
+          talk = tt;
+        },
+        tt,
+      )
   judged-fits (SetMode to) drawn accepted =
-      let k = judged-Ok (mode_checks (standing_at t (Some maker) None) t.stage.phase) (mode_drawn stamp to) drawn accepted in
-      subst (λ (d : Drawn). FitInTurn t d.group) k.1 (record { accounts = tt; papers = tt; ties = tt; seats = tt; reviews = tt; talk = tt }, tt)
+      let k =
+      judged-Ok (mode_checks (standing_at t (Some maker) None) t.stage.phase) (mode_drawn stamp to) drawn accepted in
+      subst (λ (d : Drawn). FitInTurn t d.group) k.1
+      (record { accounts = tt; papers = tt; ties = tt; seats = tt; reviews = tt; talk = tt }, tt)
   judged-fits (SetConflict paper name on) drawn accepted =
       let facts : Facts = facts_of_tables t (Some maker) in
       let target : Option ℕ = user_among (lines_of t.accounts) name in
       let k = judged-Ok
-      (conflict_checks (standing_at t (Some maker) paper) (paper_named facts (shown_in_tables t) paper) (target_named facts (shown_in_tables t) (Some maker) paper target) on late)
+      (conflict_checks (standing_at t (Some maker) paper) (paper_named facts (shown_in_tables t) paper)
+      (target_named facts (shown_in_tables t) (Some maker) paper target) on late)
       (conflict_drawn stamp (unwrap_or paper 0) (unwrap_or target 0) on) drawn accepted in
       let there = paper_within t.papers.papers paper k.0.0 in
-      subst (λ (d : Drawn). FitInTurn t d.group) k.1 (record { accounts = target-in t target _ k.0.1.0; papers = there; ties = tt; seats = tt; reviews = tt; talk = tt }, tt)
+      subst (λ (d : Drawn). FitInTurn t d.group) k.1 (
+        record {
+          accounts = target-in t target _ k.0.1.0;
+          papers = there;
+          ties = tt;
+          seats = tt;
+          reviews = tt;
+          talk = tt;
+        },
+        tt,
+      )
   judged-fits (Bid paper value) drawn accepted =
-      let k = judged-Ok (bid_checks (standing_at t (Some maker) paper) (named paper) late) (bid_drawn stamp (unwrap_or paper 0) value) drawn accepted in
-      subst (λ (d : Drawn). FitInTurn t d.group) k.1 (record { accounts = tt; papers = paper_within t.papers.papers paper k.0.0; ties = tt; seats = tt; reviews = tt; talk = tt }, tt)
+      let k = judged-Ok (bid_checks (standing_at t (Some maker) paper) (named paper) late)
+      (bid_drawn stamp (unwrap_or paper 0) value) drawn accepted in
+      subst (λ (d : Drawn). FitInTurn t d.group) k.1 (
+        record {
+          accounts = tt;
+          papers = paper_within t.papers.papers paper k.0.0;
+          ties = tt;
+          seats = tt;
+          reviews = tt;
+          talk = tt;
+        },
+        tt,
+      )
   judged-fits (Assign paper name kind) drawn accepted =
       let target : Option ℕ = user_among (lines_of t.accounts) name in
       let p : ℕ = unwrap_or paper 0 in
       let labels : ℕ = labels_in t.seats p in
       let k = judged-Ok
-      (assign_checks (standing_at t (Some maker) paper) (named paper) (target_named (facts_of_tables t (Some maker)) (shown_in_tables t) (Some maker) paper target) labels)
+      (assign_checks (standing_at t (Some maker) paper) (named paper)
+      (target_named (facts_of_tables t (Some maker)) (shown_in_tables t) (Some maker) paper target) labels)
       (assignment_drawn stamp p (unwrap_or target 0) kind (labels + 1)) drawn accepted in
       let there = paper_within t.papers.papers paper k.0.0 in
       let user = target-in t target _ k.0.1.0 in
-      let free = none-where (ordinal_in t.seats (Some (unwrap_or target 0)) p) (seat-named t (Some maker) paper target false k.0.1.0 k.0.0 k.0.1.1.1.1.1.1.1.1.0) in
-      subst (λ (d : Drawn). FitInTurn t d.group) k.1
-      (record { accounts = user; papers = there; ties = tt; seats = (refl, few labels k.0.1.1.1.1.1.1.1.1.1.0, free); reviews = tt; talk = tt }, tt)
+      let free = none-where (ordinal_in t.seats (Some (unwrap_or target 0)) p)
+      (seat-named t (Some maker) paper target false k.0.1.0 k.0.0 k.0.1.1.1.1.1.1.1.1.0) in
+      subst (λ (d : Drawn). FitInTurn t d.group) k.1 (
+        record {
+          accounts = user;
+          papers = there;
+          ties = tt;
+          seats = (refl, few labels k.0.1.1.1.1.1.1.1.1.1.0, free);
+          reviews = tt;
+          talk = tt;
+        },
+        tt,
+      )
     where
       few : (n : ℕ) → nat_le 26 n ≡ false → n + 1 ≤ 26
       few n h = grind (arith, nat_tests, h)
@@ -215,13 +337,17 @@ module _ (t : Tables) (within : AreWithin (paper_count t.papers) t.ties) (stamp 
       let target : Option ℕ = user_among (lines_of t.accounts) name in
       let p : ℕ = unwrap_or paper 0 in
       let k = judged-Ok
-      (unassign_checks (standing_at t (Some maker) paper) (named paper) (target_named (facts_of_tables t (Some maker)) (shown_in_tables t) (Some maker) paper target)
+      (unassign_checks (standing_at t (Some maker) paper) (named paper)
+      (target_named (facts_of_tables t (Some maker)) (shown_in_tables t) (Some maker) paper target)
       (at_some (is_written_in t.reviews p) (ordinal_in t.seats target p)))
       (unassignment_drawn stamp p (unwrap_or target 0) (unwrap_or (ordinal_in t.seats target p) 0)) drawn accepted in
       let there = paper_within t.papers.papers paper k.0.0 in
       let user = target-in t target _ k.0.1.0 in
-      let taken = seat-there t target p (seat-named t (Some maker) paper target true k.0.1.0 k.0.0 (not-false _ k.0.1.1.1.1.1.1.0)) _ k.0.1.0 in
-      subst (λ (d : Drawn). FitInTurn t d.group) k.1 (record { accounts = user; papers = there; ties = tt; seats = taken; reviews = tt; talk = tt }, tt)
+      let taken =
+      seat-there t target p (seat-named t (Some maker) paper target true k.0.1.0 k.0.0
+      (not-false _ k.0.1.1.1.1.1.1.0)) _ k.0.1.0 in
+      subst (λ (d : Drawn). FitInTurn t d.group) k.1
+      (record { accounts = user; papers = there; ties = tt; seats = taken; reviews = tt; talk = tt }, tt)
     where
       not-false : (b : Bool) → not b ≡ false → b ≡ true
       not-false true h = refl
@@ -233,56 +359,117 @@ module _ (t : Tables) (within : AreWithin (paper_count t.papers) t.ties) (stamp 
       (review_checks (standing_at t (Some maker) paper) (named paper) late)
       (review_drawn stamp p ordinal (length (own_forms_in t (Some maker) p) + 1) form) drawn accepted in
       let there = paper_within t.papers.papers paper k.0.0 in
-      let next = ap (λ (n : ℕ). n + 1) (own_forms-count t (Some maker) p ordinal (own-seat t (Some maker) paper k.0.0 k.0.1.1.1.0)) in
-      subst (λ (d : Drawn). FitInTurn t d.group) k.1 (record { accounts = tt; papers = there; ties = tt; seats = tt; reviews = next; talk = tt }, tt)
+      let next =
+      ap (λ (n : ℕ). n + 1) (own_forms-count t (Some maker) p ordinal
+      (own-seat t (Some maker) paper k.0.0 k.0.1.1.1.0)) in
+      subst (λ (d : Drawn). FitInTurn t d.group) k.1
+      (record { accounts = tt; papers = there; ties = tt; seats = tt; reviews = next; talk = tt }, tt)
   judged-fits (Comment paper text) drawn accepted =
       let p : ℕ = unwrap_or paper 0 in
       let own : ℕ = own_comments_in t.talk (Some maker) in
       let k = judged-Ok
       (comment_checks (standing_at t (Some maker) paper) (named paper) own late)
-      (comment_drawn stamp p (length (map comment_as_told (comments_in t.talk p)) + 1) (ordinal_in t.seats (Some maker) p) text) drawn accepted in
+      (comment_drawn stamp p (length (map comment_as_told (comments_in t.talk p)) + 1)
+      (ordinal_in t.seats (Some maker) p) text) drawn accepted in
       let there = paper_within t.papers.papers paper k.0.0 in
       let next = ap (λ (n : ℕ). n + 1) (length-map (comments_in t.talk p) comment_as_told) in
-      subst (λ (d : Drawn). FitInTurn t d.group) k.1
-      (record { accounts = tt; papers = there; ties = tt; seats = tt; reviews = tt; talk = (next, leb-false 1000 own k.0.1.1.1.1.1.1.0) }, tt)
+      subst (λ (d : Drawn). FitInTurn t d.group) k.1 (
+        record {
+          accounts = tt;
+          papers = there;
+          ties = tt;
+          seats = tt;
+          reviews = tt;
+          talk = (next, leb-false 1000 own k.0.1.1.1.1.1.1.0);
+        },
+        tt,
+      )
   judged-fits (Tag paper tag on) drawn accepted =
-      let k = judged-Ok (tag_checks (standing_at t (Some maker) paper) (named paper) (is_for_chairs tag)) (tag_drawn stamp (unwrap_or paper 0) tag on) drawn accepted in
+      let k = judged-Ok (tag_checks (standing_at t (Some maker) paper) (named paper) (is_for_chairs tag))
+      (tag_drawn stamp (unwrap_or paper 0) tag on) drawn accepted in
       let there = paper_within t.papers.papers paper k.0.0 in
-      subst (λ (d : Drawn). FitInTurn t d.group) k.1 (record { accounts = tt; papers = there; ties = tt; seats = tt; reviews = tt; talk = tt }, tt)
+      subst (λ (d : Drawn). FitInTurn t d.group) k.1
+      (record { accounts = tt; papers = there; ties = tt; seats = tt; reviews = tt; talk = tt }, tt)
   judged-fits (Decide paper decision) drawn accepted =
-      let k = judged-Ok (decide_checks (standing_at t (Some maker) paper) (named paper)) (decision_drawn stamp (unwrap_or paper 0) decision) drawn accepted in
+      let k = judged-Ok (decide_checks (standing_at t (Some maker) paper) (named paper))
+      (decision_drawn stamp (unwrap_or paper 0) decision) drawn accepted in
       let there = paper_within t.papers.papers paper k.0.0 in
-      subst (λ (d : Drawn). FitInTurn t d.group) k.1 (record { accounts = tt; papers = there; ties = tt; seats = tt; reviews = tt; talk = tt }, tt)
+      subst (λ (d : Drawn). FitInTurn t d.group) k.1
+      (record { accounts = tt; papers = there; ties = tt; seats = tt; reviews = tt; talk = tt }, tt)
   judged-fits (SetDeadline phase until) drawn accepted =
-      let k = judged-Ok (deadline_checks (standing_at t (Some maker) None) t.stage.phase phase) (deadline_drawn stamp phase until) drawn accepted in
-      subst (λ (d : Drawn). FitInTurn t d.group) k.1 (record { accounts = tt; papers = tt; ties = tt; seats = tt; reviews = tt; talk = tt }, tt)
+      let k = judged-Ok (deadline_checks (standing_at t (Some maker) None) t.stage.phase phase)
+      (deadline_drawn stamp phase until) drawn accepted in
+      subst (λ (d : Drawn). FitInTurn t d.group) k.1
+      (record { accounts = tt; papers = tt; ties = tt; seats = tt; reviews = tt; talk = tt }, tt)
   judged-fits (Dismiss name) drawn accepted =
       let target : Option ℕ = user_among (lines_of t.accounts) name in
       let k = judged-Ok
-      (dismiss_checks (standing_at t (Some maker) None) (option_map of_role (role_among (lines_of t.accounts) target)) (chair_count (lines_of t.accounts)))
+      (dismiss_checks (standing_at t (Some maker) None) (option_map of_role (role_among (lines_of t.accounts) target))
+      (chair_count (lines_of t.accounts)))
       (dismissal_drawn stamp (unwrap_or target 0) (unwrap_or name [])) drawn accepted in
-      subst (λ (d : Drawn). FitInTurn t d.group) k.1 (record { accounts = target-in t target of_role k.0.0; papers = tt; ties = tt; seats = tt; reviews = tt; talk = tt }, tt)
+      subst (λ (d : Drawn). FitInTurn t d.group) k.1 (
+        record {
+          accounts = target-in t target of_role k.0.0;
+          papers = tt;
+          ties = tt;
+          seats = tt;
+          reviews = tt;
+          talk = tt;
+        },
+        tt,
+      )
   judged-fits (Invite paper name) drawn accepted =
       let target : Option ℕ = user_among (lines_of t.accounts) name in
       let k = judged-Ok
-      (invite_checks (standing_at t (Some maker) paper) (named paper) (target_named (facts_of_tables t (Some maker)) (shown_in_tables t) (Some maker) paper target)
+      (invite_checks (standing_at t (Some maker) paper) (named paper)
+      (target_named (facts_of_tables t (Some maker)) (shown_in_tables t) (Some maker) paper target)
       (at_some (is_invited_in t.invites target) paper))
       (invitation_drawn stamp (unwrap_or paper 0) (unwrap_or target 0)) drawn accepted in
       let there = paper_within t.papers.papers paper k.0.0 in
-      subst (λ (d : Drawn). FitInTurn t d.group) k.1 (record { accounts = target-in t target _ k.0.1.0; papers = there; ties = tt; seats = tt; reviews = tt; talk = tt }, tt)
+      subst (λ (d : Drawn). FitInTurn t d.group) k.1 (
+        record {
+          accounts = target-in t target _ k.0.1.0;
+          papers = there;
+          ties = tt;
+          seats = tt;
+          reviews = tt;
+          talk = tt;
+        },
+        tt,
+      )
   judged-fits (Uninvite paper name) drawn accepted =
       let target : Option ℕ = user_among (lines_of t.accounts) name in
       let k = judged-Ok
-      (uninvite_checks (standing_at t (Some maker) paper) (named paper) (target_named (facts_of_tables t (Some maker)) (shown_in_tables t) (Some maker) paper target)
+      (uninvite_checks (standing_at t (Some maker) paper) (named paper)
+      (target_named (facts_of_tables t (Some maker)) (shown_in_tables t) (Some maker) paper target)
       (at_some (is_invited_in t.invites target) paper))
       (uninvitation_drawn stamp (unwrap_or paper 0) (unwrap_or target 0)) drawn accepted in
       let there = paper_within t.papers.papers paper k.0.0 in
-      subst (λ (d : Drawn). FitInTurn t d.group) k.1 (record { accounts = target-in t target _ k.0.1.0; papers = there; ties = tt; seats = tt; reviews = tt; talk = tt }, tt)
+      subst (λ (d : Drawn). FitInTurn t d.group) k.1 (
+        record {
+          accounts = target-in t target _ k.0.1.0;
+          papers = there;
+          ties = tt;
+          seats = tt;
+          reviews = tt;
+          talk = tt;
+        },
+        tt,
+      )
   judged-fits (Respond paper text) drawn accepted =
       let p : ℕ = unwrap_or paper 0 in
       let k = judged-Ok
       (respond_checks (standing_at t (Some maker) paper) (named paper) (is_some (response_in t.talk p)) late)
       (response_drawn stamp p text) drawn accepted in
       let there = paper_within t.papers.papers paper k.0.0 in
-      subst (λ (d : Drawn). FitInTurn t d.group) k.1
-      (record { accounts = tt; papers = there; ties = tt; seats = tt; reviews = tt; talk = none-where (response_in t.talk p) k.0.1.1.1.1.1.0 }, tt)
+      subst (λ (d : Drawn). FitInTurn t d.group) k.1 (
+        record {
+          accounts = tt;
+          papers = there;
+          ties = tt;
+          seats = tt;
+          reviews = tt;
+          talk = none-where (response_in t.talk p) k.0.1.1.1.1.1.0;
+        },
+        tt,
+      )

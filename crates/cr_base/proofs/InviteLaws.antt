@@ -18,7 +18,8 @@ untold true on = refl
 untold false on = refl
 
 -- a user is invited as it tells, or else as she was
-pub is_invited_in-after : (u : Option ℕ) (p : ℕ) (invites : InvitesState) (e : Entry) → is_invited_in (invites_after invites e) u p
+pub is_invited_in-after : (u : Option ℕ) (p : ℕ) (invites : InvitesState) (e : Entry)
+    → is_invited_in (invites_after invites e) u p
     ≡ last_or (is_invited_in invites u p) (invite_told u p e)
 is_invited_in-after None p invites (Invited paper user) = untold (eqb paper p) true
 is_invited_in-after None p invites (Uninvited paper user) = untold (eqb paper p) false
@@ -48,8 +49,11 @@ is_invited_in-after None p invites e = refl
 is_invited_in-after (Some v) p invites e = refl
 
 -- where each entry fits, the papers to which somebody is invited are there
-pub invites-within : (state : PapersState) (invites : InvitesState) (maker : ℕ) (e : Entry) → PapersFit state maker e → are_within (paper_count state) invites
+pub invites-within : (state : PapersState) (invites : InvitesState) (maker : ℕ) (e : Entry) → PapersFit state maker e
+    → are_within (paper_count state) invites
     ≡ true → are_within (paper_count (papers_after state maker e)) (invites_after invites e) ≡ true
-invites-within state invites maker (Invited paper user) fits within = within-switched (paper_count state) true paper user invites fits.0 fits.1 within
-invites-within state invites maker (Uninvited paper user) fits within = within-switched (paper_count state) false paper user invites fits.0 fits.1 within
+invites-within state invites maker (Invited paper user) fits within =
+    within-switched (paper_count state) true paper user invites fits.0 fits.1 within
+invites-within state invites maker (Uninvited paper user) fits within =
+    within-switched (paper_count state) false paper user invites fits.0 fits.1 within
 invites-within state invites maker e fits within = within-kept state invites maker e within

@@ -1,5 +1,6 @@
 -- The last of the values that are told.
-use Rattle.std.proofs.Common.{Bool, true, false, cond, ◌≡◌, ◌-◌, List, [], ◌∷◌, ◌++◌, length, refl, ap, ◌∙◌, arith, Option, Some, None}
+use Rattle.std.proofs.Common.{Bool, true, false, cond, ◌≡◌, ◌-◌, List, [], ◌∷◌, ◌++◌, length, refl, ap, ◌∙◌, arith}
+use Rattle.std.proofs.Common.{Option, Some, None}
 use Rattle.std.specs.Prelude.{unwrap_or, map}
 use Rattle.std.specs.List.{slice_get}
 use Rattle.std.specs.Option.{option_map}
@@ -7,7 +8,8 @@ use Rattle.cr_base.specs.Lists.{given, listed, is_nothing, last, last_from, last
 
 -- ---- the last, or another
 
-last_from-some : {A : Type 0} (z x y : A) (xs : List A) → unwrap_or (last_from (Some z) xs) x ≡ unwrap_or (last_from (Some z) xs) y
+last_from-some : {A : Type 0} (z x y : A) (xs : List A)
+    → unwrap_or (last_from (Some z) xs) x ≡ unwrap_or (last_from (Some z) xs) y
 last_from-some z x y [] = refl
 last_from-some z x y (w ∷ xs) = last_from-some w x y xs
 
@@ -17,11 +19,13 @@ last_or-cons x y [] = refl
 last_or-cons x y (z ∷ xs) = last_from-some z x y xs
 
 -- the same of a value that may not be there
-pub last_or-given : {A : Type 0} (b : Bool) (x y : A) (xs : List A) → last_or x (given b y ++ xs) ≡ last_or (cond b y x) xs
+pub last_or-given : {A : Type 0} (b : Bool) (x y : A) (xs : List A)
+    → last_or x (given b y ++ xs) ≡ last_or (cond b y x) xs
 last_or-given true x y xs = last_or-cons x y xs
 last_or-given false x y xs = refl
 
-pub last_from-given : {A : Type 0} (b : Bool) (x : A) (o : Option A) (rest : List A) → last_from o (given b x ++ rest) ≡ last_from (cond b (Some x) o) rest
+pub last_from-given : {A : Type 0} (b : Bool) (x : A) (o : Option A) (rest : List A)
+    → last_from o (given b x ++ rest) ≡ last_from (cond b (Some x) o) rest
 last_from-given true x o rest = refl
 last_from-given false x o rest = refl
 
@@ -41,7 +45,8 @@ at_end (x ∷ xs) =
 -- ---- what is made of values
 
 -- its last is made of their last
-pub last_from-map : {A B : Type 0} (f : A → B) (o : Option A) (xs : List A) → last_from (option_map f o) (map f xs) ≡ option_map f (last_from o xs)
+pub last_from-map : {A B : Type 0} (f : A → B) (o : Option A) (xs : List A)
+    → last_from (option_map f o) (map f xs) ≡ option_map f (last_from o xs)
 last_from-map f o [] = refl
 last_from-map f o (x ∷ xs) = last_from-map f (Some x) xs
 

@@ -1,5 +1,6 @@
 -- The numbers that texts spell.
-use Rattle.std.proofs.Common.{◌≡◌, ◌≢◌, ℕ, ◌≤◌, List, [], ◌∷◌, length, true, false, ◌&&◌, ◌==◌, not, IsTrue, arith, nat_le}
+use Rattle.std.proofs.Common.{◌≡◌, ◌≢◌, ℕ, ◌≤◌, List, [], ◌∷◌, length, true, false, ◌&&◌, ◌==◌, not, IsTrue, arith}
+use Rattle.std.proofs.Common.{nat_le}
 use Rattle.std.specs.Prelude.{slice_index}
 use Rattle.std.specs.Char.{is_ascii_digit}
 use Rattle.std.specs.List.{list_all}
@@ -29,7 +30,8 @@ at_most : (n m : ℕ) → IsTrue (nat_le n m) → n ≤ m
 at_most n m h = grind (arith, nat_tests)
 
 -- a number's bytes are at most four, the first isn't 0, and all are digits
-pub parts : (text : List ℕ) → IsTrue (is_paper_number text) → (length text ≤ 4) × IsTrue (not (slice_index text 0 == 48)) × IsTrue (list_all is_ascii_digit text)
+pub parts : (text : List ℕ) → IsTrue (is_paper_number text)
+    → (length text ≤ 4) × IsTrue (not (slice_index text 0 == 48)) × IsTrue (list_all is_ascii_digit text)
 parts text h =
     let front = and_parts (is_short text && not (slice_index text 0 == 48)) (list_all is_ascii_digit text) h in
     let short = and_parts (is_short text) (not (slice_index text 0 == 48)) front.0 in
@@ -37,7 +39,8 @@ parts text h =
     (few, short.1, front.1)
 
 -- digits of which the first isn't 0 write at least 1
-pub low_digits : (b : ℕ) (rest : List ℕ) → IsTrue (not (b == 48)) → IsTrue (list_all is_ascii_digit (b ∷ rest)) → 1 ≤ digits_value 10 (b ∷ rest)
+pub low_digits : (b : ℕ) (rest : List ℕ) → IsTrue (not (b == 48)) → IsTrue (list_all is_ascii_digit (b ∷ rest))
+    → 1 ≤ digits_value 10 (b ∷ rest)
 low_digits b rest first all =
     let here = digit b (and_parts (is_ascii_digit b) (list_all is_ascii_digit rest) all).0 in
     let nonzero = not_zero b first in

@@ -16,7 +16,8 @@ use Rattle.cr_base.specs.Tables.{Tables}
 use Rattle.cr_base.proofs.RisingLists.{rising-numbers_from}
 use Rattle.cr_base.proofs.SortedLists.{sorted-filter}
 
-pub papers-rise : (t : Tables) (user : Option ℕ) (per_paper : ℕ) → IsRising (planned_papers (facts_of_tables t user) (shown_in_tables t) per_paper)
+pub papers-rise : (t : Tables) (user : Option ℕ) (per_paper : ℕ)
+    → IsRising (planned_papers (facts_of_tables t user) (shown_in_tables t) per_paper)
 papers-rise t user per_paper =
     let facts : Facts = facts_of_tables t user in
     let shown : Shown = shown_in_tables t in
@@ -27,7 +28,8 @@ papers-rise t user per_paper =
 abbrev pub users : List AccountLine → List ℕ
 users lines = map (λ (a : AccountLine). a.user) lines
 
-users-above : (test : AccountLine → Bool) (m n : ℕ) (accounts : List Account) → m < n → list_all (nat_lt m) (users (filter test (lines_from n accounts))) ≡ true
+users-above : (test : AccountLine → Bool) (m n : ℕ) (accounts : List Account) → m < n
+    → list_all (nat_lt m) (users (filter test (lines_from n accounts))) ≡ true
 users-above test m n [] low = refl
 users-above test m n (a ∷ accounts) low =
     by (test line) (users-above test m (n + 1) accounts (omega (arith, low)))
@@ -41,11 +43,13 @@ users-above test m n (a ∷ accounts) low =
     rest : List AccountLine
     rest = filter test (lines_from (n + 1) accounts)
 
-    by : (b : Bool) → list_all (nat_lt m) (users rest) ≡ true → list_all (nat_lt m) (users (cond b (line ∷ rest) rest)) ≡ true
+    by : (b : Bool) → list_all (nat_lt m) (users rest) ≡ true
+        → list_all (nat_lt m) (users (cond b (line ∷ rest) rest)) ≡ true
     by true h = and_from (nat_lt m n) (list_all (nat_lt m) (users rest)) (less m n low) h
     by false h = h
 
-pub users-rise : (test : AccountLine → Bool) (n : ℕ) (accounts : List Account) → IsRising (users (filter test (lines_from n accounts)))
+pub users-rise : (test : AccountLine → Bool) (n : ℕ) (accounts : List Account)
+    → IsRising (users (filter test (lines_from n accounts)))
 users-rise test n [] = tt
 users-rise test n (a ∷ accounts) =
     by (test line) (users-above test n (n + 1) accounts (omega arith)) (users-rise test (n + 1) accounts)
@@ -56,6 +60,7 @@ users-rise test n (a ∷ accounts) =
     rest : List AccountLine
     rest = filter test (lines_from (n + 1) accounts)
 
-    by : (b : Bool) → list_all (nat_lt n) (users rest) ≡ true → IsRising (users rest) → IsRising (users (cond b (line ∷ rest) rest))
+    by : (b : Bool) → list_all (nat_lt n) (users rest) ≡ true → IsRising (users rest)
+        → IsRising (users (cond b (line ∷ rest) rest))
     by true above h = (above, h)
     by false above h = h

@@ -1,5 +1,6 @@
 -- A list of names read element by element.
-use Rattle.std.proofs.Common.{◌≡◌, ℕ, suc, ◌<◌, List, [], ◌∷◌, ◌++◌, length, Option, Some, None, false, nat_le, refl, sym, ap, ◌∙◌, arith}
+use Rattle.std.proofs.Common.{◌≡◌, ℕ, suc, ◌<◌, List, [], ◌∷◌, ◌++◌, length, Option, Some, None, false, nat_le, refl}
+use Rattle.std.proofs.Common.{sym, ap, ◌∙◌, arith}
 use Rattle.std.proofs.lemmas.Bool.Decides.{nat_tests}
 use Rattle.serde_json.specs.Find.{as_str}
 use Rattle.serde_json.specs.View.{items_view, view}
@@ -19,7 +20,8 @@ as_many : (vs : List Value) (names : NamesRead) → names_told (items_view vs) �
 as_many [] names e = let same : [] ≡ names = cc in sym (ap (λ (n : NamesRead). length n) same)
 as_many (v ∷ vs) names e = by (as_str (view v)) (names_told (items_view vs)) (as_many vs) names e
   where
-    by : (text : Option (List ℕ)) (rest : Option NamesRead) → ((some : NamesRead) → rest ≡ Some some → length some ≡ length vs)
+    by : (text : Option (List ℕ)) (rest : Option NamesRead)
+        → ((some : NamesRead) → rest ≡ Some some → length some ≡ length vs)
         → (names : NamesRead) → one_more text rest ≡ Some names → length names ≡ length (v ∷ vs)
     by None rest more names e = cc
     by (Some t) None more names e = cc
@@ -34,7 +36,8 @@ isn't_few n h = grind (arith, nat_tests)
 pub too_many : (vs : List Value) → 19 < length vs → (names_told (items_view vs) >>= if_few) ≡ None
 too_many vs many = by (names_told (items_view vs)) (as_many vs)
   where
-    by : (told : Option NamesRead) → ((names : NamesRead) → told ≡ Some names → length names ≡ length vs) → (told >>= if_few) ≡ None
+    by : (told : Option NamesRead) → ((names : NamesRead) → told ≡ Some names → length names ≡ length vs)
+        → (told >>= if_few) ≡ None
     by None long = refl
     by (Some names) long = rw (long names refl, isn't_few (length vs) many) refl
 

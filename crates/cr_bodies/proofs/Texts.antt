@@ -1,5 +1,6 @@
 -- Bodies that are no JSON, and bytes that aren't there.
-use Rattle.std.proofs.Common.{◌≡◌, ℕ, List, length, Some, None, refl, Bool, true, false, cond, if◌then◌else◌, IsUtf8, nat_lt, arith, not}
+use Rattle.std.proofs.Common.{◌≡◌, ℕ, List, length, Some, None, refl, Bool, true, false, cond, if◌then◌else◌, IsUtf8}
+use Rattle.std.proofs.Common.{nat_lt, arith, not}
 use Rattle.std.specs.List.{position, position_or_len}
 use Rattle.std.specs.Str.{is_utf8}
 use Rattle.std.proofs.lemmas.Str.{IsUtf8-from_is_utf8}
@@ -15,5 +16,8 @@ bad_json body h =
 
 pub none_at : (p : ℕ → Bool) (xs : List ℕ) → position p xs ≡ None → length xs ≡ position_or_len p xs
 none_at p xs e =
-    let P = λ (b : Bool). nat_lt (position_or_len p xs) (length xs) ≡ b → cond b (Some (position_or_len p xs)) None ≡ None → length xs ≡ position_or_len p xs in
-    elim (nat_lt (position_or_len p xs) (length xs)) as P [ true ↦ λ a h. cc | false ↦ λ a h. omega (arith, prefix_len-le-length (λ x. not (p x)) xs, ltb-false _ _ a) ] refl e
+    let P = λ (b : Bool). nat_lt (position_or_len p xs) (length xs) ≡ b
+    → cond b (Some (position_or_len p xs)) None ≡ None → length xs ≡ position_or_len p xs in
+    elim (nat_lt (position_or_len p xs) (length xs)) as P
+    [ true ↦ λ a h. cc | false ↦ λ a h. omega (arith, prefix_len-le-length (λ x. not (p x)) xs, ltb-false _ _ a) ]
+    refl e

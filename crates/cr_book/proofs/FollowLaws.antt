@@ -1,5 +1,6 @@
 -- Which groups may be put behind a log: those of calls and bulks that are allowed, whose numbers are new.
-use Rattle.std.proofs.Common.{ℕ, ◌≡◌, List, [], ◌∷◌, refl, sym, ap, subst, ◌∙◌, Option, Some, None, IfSome, Ok, inl, inr}
+use Rattle.std.proofs.Common.{ℕ, ◌≡◌, List, [], ◌∷◌, refl, sym, ap, subst, ◌∙◌, Option, Some, None, IfSome, Ok, inl}
+use Rattle.std.proofs.Common.{inr}
 use Rattle.std.specs.List.{AllByRecursion}
 use Rattle.std.specs.Option.{option_map}
 use Rattle.cr_base.specs.declared.command.Call.{Call}
@@ -26,41 +27,50 @@ unused-number : (H : History) (user : ℕ) (key : Option RetryKey) → IsNewKey 
 unused-number H user None new = tt
 unused-number H user (Some key) new = new
 
-unused-key : (H : History) (user : ℕ) (key : Option RetryKey) → IfSome (option_map (number_by user) key) (λ n. IsUnused H n.user n.number)
+unused-key : (H : History) (user : ℕ) (key : Option RetryKey)
+    → IfSome (option_map (number_by user) key) (λ n. IsUnused H n.user n.number)
     → IsNewKey H (Some user) key
 unused-key H user None new = tt
 unused-key H user (Some key) new = new
 
-grouped-under : (stamp : Stamp) (entries : List Entry) → AllByRecursion (λ (s : Stamped). s.stamp ≡ stamp) (grouped stamp entries)
+grouped-under : (stamp : Stamp) (entries : List Entry)
+    → AllByRecursion (λ (s : Stamped). s.stamp ≡ stamp) (grouped stamp entries)
 grouped-under stamp [] = tt
 grouped-under stamp (e ∷ []) = (refl, tt)
 grouped-under stamp (e ∷ next ∷ entries) = (refl, grouped-under stamp (next ∷ entries))
 
 -- where its number is new
-pub grouped-follow : (H : History) (stamp : Stamp) (entries : List Entry) → IsNewKey H (Some stamp.maker) stamp.key → MayFollow H (grouped stamp entries)
+pub grouped-follow : (H : History) (stamp : Stamp) (entries : List Entry) → IsNewKey H (Some stamp.maker) stamp.key
+    → MayFollow H (grouped stamp entries)
 grouped-follow H stamp [] new = record { one = tt; new = tt }
 grouped-follow H stamp (e ∷ []) new = record { one = tt; new = unused-number H stamp.maker stamp.key new }
-grouped-follow H stamp (e ∷ next ∷ entries) new = record { one = grouped-under stamp (next ∷ entries); new = unused-number H stamp.maker stamp.key new }
+grouped-follow H stamp (e ∷ next ∷ entries) new =
+    record { one = grouped-under stamp (next ∷ entries); new = unused-number H stamp.maker stamp.key new }
 
 -- ---- what is allowed
 
-pub call-follows : (H : History) (call : Call) (drawn : Drawn) → Legal H → IsAllowed H call → judge (view call.caller H) call ≡ Ok drawn → MayFollow H drawn.group
+pub call-follows : (H : History) (call : Call) (drawn : Drawn) → Legal H → IsAllowed H call
+    → judge (view call.caller H) call ≡ Ok drawn → MayFollow H drawn.group
 call-follows H call drawn legal allowed accepted =
     let group = accepted-group H call drawn legal allowed accepted in
-    subst (λ (g : History). MayFollow H g) (sym group.is) (grouped-follow H (stamp_added H call) group.entries (accepted-new H call allowed))
+    subst (λ (g : History). MayFollow H g) (sym group.is)
+    (grouped-follow H (stamp_added H call) group.entries (accepted-new H call allowed))
 
 pub added-follows : (H group : History) → Legal H → MayAdd H group → MayFollow H group
 added-follows H group legal add =
-    subst (λ (g : History). MayFollow H g) (sym add.group_is) (call-follows H add.call add.drawn legal add.allowed add.accepted)
+    subst (λ (g : History). MayFollow H g) (sym add.group_is)
+    (call-follows H add.call add.drawn legal add.allowed add.accepted)
 
 rows-follow : (H group : History) → MayAddRows H group → MayFollow H group
 rows-follow H group add =
     let bulk = add.bulk in
     let parts = bulk-parts (view_basis bulk.stamp.maker) (view (Some bulk.stamp.maker) H) bulk add.drawn add.accepted in
-    subst (λ (g : History). MayFollow H g) (ap (λ (d : Drawn). d.group) parts.drawn_is ∙ sym add.group_is) (grouped-follow H bulk.stamp parts.entries add.allowed.unused)
+    subst (λ (g : History). MayFollow H g) (ap (λ (d : Drawn). d.group) parts.drawn_is ∙ sym add.group_is)
+    (grouped-follow H bulk.stamp parts.entries add.allowed.unused)
 
 -- so the first entry of what goes on a history has a new number
-pub move-new : (H : History) (first : Stamped) (rest : History) → Legal H → MayMove H (first ∷ rest) → IsNewKey H (Some first.stamp.maker) first.stamp.key
+pub move-new : (H : History) (first : Stamped) (rest : History) → Legal H → MayMove H (first ∷ rest)
+    → IsNewKey H (Some first.stamp.maker) first.stamp.key
 move-new H first rest legal move = unused-key H first.stamp.maker first.stamp.key (by move).new
   where
     by : MayMove H (first ∷ rest) → MayFollow H (first ∷ rest)

@@ -1,5 +1,6 @@
 -- The rows of a bulk, judged one behind another.
-use Rattle.std.proofs.Common.{ℕ, Bool, true, false, ◌≡◌, ◌<◌, ◌≤◌, ◌+◌, ◌-◌, List, [], ◌∷◌, ◌++◌, length, drop, get_or, suc, arith, refl, sym, ap, subst, ◌∙◌, append_assoc, append-nil, Some, Ok, Err, Result}
+use Rattle.std.proofs.Common.{ℕ, Bool, true, false, ◌≡◌, ◌<◌, ◌≤◌, ◌+◌, ◌-◌, List, [], ◌∷◌, ◌++◌, length, drop, get_or}
+use Rattle.std.proofs.Common.{suc, arith, refl, sym, ap, subst, ◌∙◌, append_assoc, append-nil, Some, Ok, Err, Result}
 use Rattle.std.specs.Prelude.{map, nat_lt}
 use Rattle.std.proofs.lemmas.Bool.Decides.{nat_tests}
 use Rattle.std.proofs.lemmas.List.{drop_more, length-drop, length-map, drop_all}
@@ -11,7 +12,8 @@ use Rattle.cr_base.specs.declared.entry.Entry.{Entry}
 use Rattle.cr_base.specs.declared.entry.Stamp.{Stamp}
 use Rattle.cr_base.specs.declared.entry.Stamped.{Stamped}
 use Rattle.cr_base.specs.declared.reply.Rule.{Rule}
-use Rattle.cr_base.specs.Bulk.{and_behind, and_rows, bulk_behind, bulk_by_role, bulk_drawn, bulk_of_rows, entries_of, row_command, row_told_judged, rows_judged, tables_basis}
+use Rattle.cr_base.specs.Bulk.{and_behind, and_rows, bulk_behind, bulk_by_role, bulk_drawn, bulk_of_rows, entries_of}
+use Rattle.cr_base.specs.Bulk.{row_command, row_told_judged, rows_judged, tables_basis}
 use Rattle.cr_base.specs.Drawn.{Drawn, stamped, grouped}
 use Rattle.cr_base.specs.History.{History}
 use Rattle.cr_base.specs.Tables.{Tables, tables_after, tables_from}
@@ -26,13 +28,16 @@ grouped_before stamp [] entries = grouped stamp entries
 grouped_before stamp (row ∷ rows) entries = map (unfinished stamp) entries
 
 -- what is so where these rows are left, the first of which has this number
-pub record SoFar (t : Tables) (stamp : Stamp) (rows : List BulkRow) (n : ℕ) (left : List BulkRow) (items : History) : Type 0 where
+pub record SoFar (t : Tables) (stamp : Stamp) (rows : List BulkRow) (n : ℕ) (left : List BulkRow) (items : History) :
+    Type 0 where
   pub entries : List Entry
   pub items_are : items ≡ grouped_before stamp left entries
-  pub rest : rows_judged (tables_basis stamp.maker) stamp t 1 rows ≡ and_rows entries (rows_judged (tables_basis stamp.maker) stamp (tables_from t items) n left)
+  pub rest : rows_judged (tables_basis stamp.maker) stamp t 1 rows
+      ≡ and_rows entries (rows_judged (tables_basis stamp.maker) stamp (tables_from t items) n left)
   pub earlier : AreEarlier t items
 
-pub so-far-none : (t : Tables) (stamp : Stamp) (rows : List BulkRow) (items : History) → items ≡ [] → SoFar t stamp rows 1 rows items
+pub so-far-none : (t : Tables) (stamp : Stamp) (rows : List BulkRow) (items : History) → items ≡ []
+    → SoFar t stamp rows 1 rows items
 so-far-none t stamp rows items none = subst (λ (h : History). SoFar t stamp rows 1 rows h) (sym none) (record {
   entries = [];
   items_are = nothing rows;
@@ -48,35 +53,42 @@ so-far-none t stamp rows items none = subst (λ (h : History). SoFar t stamp row
     same (Ok more) = refl
     same (Err refusal) = refl
 
-and_rows-append : (xs ys : List Entry) (r : Result (List Entry) Broken) → and_rows xs (and_rows ys r) ≡ and_rows (xs ++ ys) r
+and_rows-append : (xs ys : List Entry) (r : Result (List Entry) Broken)
+    → and_rows xs (and_rows ys r) ≡ and_rows (xs ++ ys) r
 and_rows-append xs ys (Ok more) = ap (λ (es : List Entry). Ok es) (sym (append_assoc xs ys more))
 and_rows-append xs ys (Err refusal) = refl
 
 -- a group that is drawn, without its receipt
-pub drawn-group : (stamp : Stamp) (entry : Entry) (r : Result Drawn Rule) → row_group stamp (Ok entry) ≡ group_or_rule r → (drawn : Drawn) × (r ≡ Ok drawn) × (drawn.group ≡ grouped stamp (entry ∷ []))
+pub drawn-group : (stamp : Stamp) (entry : Entry) (r : Result Drawn Rule) → row_group stamp (Ok entry) ≡ group_or_rule r
+    → (drawn : Drawn) × (r ≡ Ok drawn) × (drawn.group ≡ grouped stamp (entry ∷ []))
 drawn-group stamp entry (Ok drawn) h = (drawn, refl, same drawn.group h)
   where
-    same : (g : History) → ◌≡◌ {A = Result History Rule} (Ok (grouped stamp (entry ∷ []))) (Ok g) → g ≡ grouped stamp (entry ∷ [])
+    same : (g : History) → ◌≡◌ {A = Result History Rule} (Ok (grouped stamp (entry ∷ []))) (Ok g)
+        → g ≡ grouped stamp (entry ∷ [])
     same g e = let k : grouped stamp (entry ∷ []) ≡ g = cc (e) in sym k
 drawn-group stamp entry (Err rule) h = absurd (no (grouped stamp (entry ∷ [])) h)
   where
     no : (g : History) → ◌≡◌ {A = Result History Rule} (Ok g) (Err rule) → ⊥
     no g e = cc (e)
 
-pub drawn-rule : (stamp : Stamp) (rule : Rule) (r : Result Drawn Rule) → row_group stamp (Err rule) ≡ group_or_rule r → r ≡ Err rule
+pub drawn-rule : (stamp : Stamp) (rule : Rule) (r : Result Drawn Rule) → row_group stamp (Err rule) ≡ group_or_rule r
+    → r ≡ Err rule
 drawn-rule stamp rule (Ok drawn) h = absurd (no drawn.group h)
   where
     no : (g : History) → ◌≡◌ {A = Result History Rule} (Err rule) (Ok g) → ⊥
     no g e = cc (e)
 drawn-rule stamp rule (Err other) h = let k : other ≡ rule = cc (h) in ap (λ (r : Rule). Err r) k
 
-from-append : (t : Tables) (before : History) (s : Stamped) → tables_from t (before ++ s ∷ []) ≡ tables_from (tables_from t before) (s ∷ [])
+from-append : (t : Tables) (before : History) (s : Stamped)
+    → tables_from t (before ++ s ∷ []) ≡ tables_from (tables_from t before) (s ∷ [])
 from-append t [] s = refl
 from-append t (x ∷ before) s = from-append (tables_after t x) before s
 
 -- a row more that is accepted
-pub so-far-more : (t : Tables) (stamp : Stamp) (n : ℕ) (rows rest : List BulkRow) (row : BulkRow) (items new : History) (entry : Entry) (more : Bool)
-    → SoFar t stamp rows n (row ∷ rest) items → row_group stamp (Ok entry) ≡ group_or_rule (row_judged_behind t items stamp row)
+pub so-far-more : (t : Tables) (stamp : Stamp) (n : ℕ) (rows rest : List BulkRow) (row : BulkRow) (items new : History)
+    (entry : Entry) (more : Bool)
+    → SoFar t stamp rows n (row ∷ rest) items
+    → row_group stamp (Ok entry) ≡ group_or_rule (row_judged_behind t items stamp row)
     → new ≡ items ++ stamped stamp more entry ∷ [] → AreEarlier t (items ++ stamped stamp more entry ∷ [])
     → (rest ≡ [] → more ≡ false) → ((r : BulkRow) (rs : List BulkRow) → rest ≡ r ∷ rs → more ≡ true)
     → SoFar t stamp rows (n + 1) rest new
@@ -84,7 +96,9 @@ so-far-more t stamp n rows rest row items new entry more so judged pushed earlie
     subst (λ (h : History). SoFar t stamp rows (n + 1) rest h) (sym pushed) (record {
       entries = so.entries ++ entry ∷ [];
       items_are = ap (λ (h : History). h ++ next ∷ []) so.items_are ∙ marked rest last others;
-      rest = so.rest ∙ ap (and_rows so.entries) step ∙ and_rows-append so.entries (entry ∷ []) (behind (items ++ next ∷ []));
+      rest =
+          so.rest ∙ ap (and_rows so.entries) step ∙ and_rows-append so.entries (entry ∷ [])
+          (behind (items ++ next ∷ []));
       earlier = earlier;
     })
   where
@@ -94,30 +108,43 @@ so-far-more t stamp n rows rest row items new entry more so judged pushed earlie
     behind : History → Result (List Entry) Broken
     behind h = rows_judged (tables_basis stamp.maker) stamp (tables_from t h) (n + 1) rest
 
-    drawn : (drawn : Drawn) × (row_judged_behind t items stamp row ≡ Ok drawn) × (drawn.group ≡ grouped stamp (entry ∷ []))
+    drawn : (drawn : Drawn) × (row_judged_behind t items stamp row ≡ Ok drawn)
+        × (drawn.group ≡ grouped stamp (entry ∷ []))
     drawn = drawn-group stamp entry (row_judged_behind t items stamp row) judged
 
-    step : rows_judged (tables_basis stamp.maker) stamp (tables_from t items) n (row ∷ rest) ≡ and_rows (entry ∷ []) (behind (items ++ next ∷ []))
-    step = ap (λ (r : Result Drawn Rule). and_behind n r (λ group. rows_judged (tables_basis stamp.maker) stamp (tables_from (tables_from t items) group) (n + 1) rest)) drawn.1
-        ∙ ap (λ (g : History). and_rows (entries_of g) (rows_judged (tables_basis stamp.maker) stamp (tables_from (tables_from t items) g) (n + 1) rest)) drawn.2
-        ∙ ap (λ (s : Tables). and_rows (entry ∷ []) (rows_judged (tables_basis stamp.maker) stamp s (n + 1) rest)) (sym (from-append t items next))
+    step : rows_judged (tables_basis stamp.maker) stamp (tables_from t items) n (row ∷ rest)
+        ≡ and_rows (entry ∷ []) (behind (items ++ next ∷ []))
+    step =
+        ap (λ (r : Result Drawn Rule). and_behind n r
+        (λ group. rows_judged (tables_basis stamp.maker) stamp (tables_from (tables_from t items) group) (n + 1) rest))
+        drawn.1
+        ∙ ap (λ (g : History). and_rows (entries_of g)
+        (rows_judged (tables_basis stamp.maker) stamp (tables_from (tables_from t items) g) (n + 1) rest)) drawn.2
+        ∙ ap (λ (s : Tables). and_rows (entry ∷ []) (rows_judged (tables_basis stamp.maker) stamp s (n + 1) rest))
+        (sym (from-append t items next))
 
-    marked : (rest : List BulkRow) → (rest ≡ [] → more ≡ false) → ((r : BulkRow) (rs : List BulkRow) → rest ≡ r ∷ rs → more ≡ true)
+    marked : (rest : List BulkRow) → (rest ≡ [] → more ≡ false)
+        → ((r : BulkRow) (rs : List BulkRow) → rest ≡ r ∷ rs → more ≡ true)
         → map (unfinished stamp) so.entries ++ next ∷ [] ≡ grouped_before stamp rest (so.entries ++ entry ∷ [])
     marked [] last others =
-        ap (λ (m : Bool). let s : Stamped = stamped stamp m entry in map (unfinished stamp) so.entries ++ s ∷ []) (last refl)
+        ap (λ (m : Bool). let s : Stamped = stamped stamp m entry in map (unfinished stamp) so.entries ++ s ∷ [])
+        (last refl)
         ∙ whole-group stamp so.entries entry
     marked (r ∷ rs) last others =
-        ap (λ (m : Bool). let s : Stamped = stamped stamp m entry in map (unfinished stamp) so.entries ++ s ∷ []) (others r rs refl)
+        ap (λ (m : Bool). let s : Stamped = stamped stamp m entry in map (unfinished stamp) so.entries ++ s ∷ [])
+        (others r rs refl)
         ∙ map-more stamp so.entries entry
 
 -- a row that breaks a rule
-pub so-far-broken : (t : Tables) (stamp : Stamp) (n : ℕ) (rows rest : List BulkRow) (row : BulkRow) (items : History) (rule : Rule)
-    → SoFar t stamp rows n (row ∷ rest) items → row_group stamp (Err rule) ≡ group_or_rule (row_judged_behind t items stamp row)
+pub so-far-broken : (t : Tables) (stamp : Stamp) (n : ℕ) (rows rest : List BulkRow) (row : BulkRow) (items : History)
+    (rule : Rule)
+    → SoFar t stamp rows n (row ∷ rest) items
+    → row_group stamp (Err rule) ≡ group_or_rule (row_judged_behind t items stamp row)
     → rows_judged (tables_basis stamp.maker) stamp t 1 rows ≡ Err (broken.Row n rule)
 so-far-broken t stamp n rows rest row items rule so judged =
     so.rest ∙ ap (and_rows so.entries)
-    (ap (λ (r : Result Drawn Rule). and_behind n r (λ group. rows_judged (tables_basis stamp.maker) stamp (tables_from (tables_from t items) group) (n + 1) rest))
+    (ap (λ (r : Result Drawn Rule). and_behind n r
+    (λ group. rows_judged (tables_basis stamp.maker) stamp (tables_from (tables_from t items) group) (n + 1) rest))
     (drawn-rule stamp rule (row_judged_behind t items stamp row) judged))
 
 entries-grouped : (stamp : Stamp) (entries : List Entry) → entries_of (grouped stamp entries) ≡ entries
@@ -126,29 +153,40 @@ entries-grouped stamp (e ∷ []) = refl
 entries-grouped stamp (e ∷ next ∷ entries) = ap (λ (es : List Entry). e ∷ es) (entries-grouped stamp (next ∷ entries))
 
 -- no row is left
-pub so-far-all : (t : Tables) (stamp : Stamp) (n : ℕ) (rows : List BulkRow) (items : History) → SoFar t stamp rows n [] items
-    → (items ≡ grouped stamp (entries_of items)) × (rows_judged (tables_basis stamp.maker) stamp t 1 rows ≡ Ok (entries_of items))
+pub so-far-all : (t : Tables) (stamp : Stamp) (n : ℕ) (rows : List BulkRow) (items : History)
+    → SoFar t stamp rows n [] items
+    → (items ≡ grouped stamp (entries_of items))
+    × (rows_judged (tables_basis stamp.maker) stamp t 1 rows ≡ Ok (entries_of items))
 so-far-all t stamp n rows items so =
-    let same : entries_of items ≡ so.entries = ap entries_of so.items_are ∙ entries-grouped stamp so.entries in
-    (so.items_are ∙ ap (grouped stamp) (sym same), so.rest ∙ ap (λ (es : List Entry). Ok es) (append-nil so.entries ∙ sym same))
+    let same : entries_of items ≡ so.entries = ap entries_of so.items_are ∙ entries-grouped stamp so.entries in (
+      so.items_are ∙ ap (grouped stamp) (sym same),
+      so.rest
+          ∙ ap (λ (es : List Entry). Ok es) (append-nil so.entries ∙ sym same),
+    )
 
 -- ---- rows by their index
 
 -- the rows from an index on
-at-index : (t : Tables) (stamp : Stamp) (i : ℕ) (rows : List BulkRow) (row : BulkRow) (items : History) → i < length rows → get_or rows i row ≡ row
+at-index : (t : Tables) (stamp : Stamp) (i : ℕ) (rows : List BulkRow) (row : BulkRow) (items : History)
+    → i < length rows → get_or rows i row ≡ row
     → SoFar t stamp rows (i + 1) (drop i rows) items → SoFar t stamp rows (i + 1) (row ∷ drop (i + 1) rows) items
 at-index t stamp i rows row items within here so =
-    subst (λ (left : List BulkRow). SoFar t stamp rows (i + 1) left items) (drop_more rows i row within ∙ ap (λ (r : BulkRow). r ∷ drop (i + 1) rows) here) so
+    subst (λ (left : List BulkRow). SoFar t stamp rows (i + 1) left items)
+    (drop_more rows i row within ∙ ap (λ (r : BulkRow). r ∷ drop (i + 1) rows) here) so
 
-pub index-more : (t : Tables) (stamp : Stamp) (i : ℕ) (rows : List BulkRow) (row : BulkRow) (items new : History) (entry : Entry) → i < length rows → get_or rows i row ≡ row
-    → SoFar t stamp rows (i + 1) (drop i rows) items → row_group stamp (Ok entry) ≡ group_or_rule (row_judged_behind t items stamp row)
+pub index-more : (t : Tables) (stamp : Stamp) (i : ℕ) (rows : List BulkRow) (row : BulkRow) (items new : History)
+    (entry : Entry) → i < length rows → get_or rows i row ≡ row
+    → SoFar t stamp rows (i + 1) (drop i rows) items
+    → row_group stamp (Ok entry) ≡ group_or_rule (row_judged_behind t items stamp row)
     → new ≡ items ++ stamped stamp (nat_lt (i + 1) (length rows)) entry ∷ []
     → AreEarlier t (items ++ stamped stamp (nat_lt (i + 1) (length rows)) entry ∷ [])
     → SoFar t stamp rows ((i + 1) + 1) (drop (i + 1) rows) new
 index-more t stamp i rows row items new entry within here so judged pushed earlier =
-    so-far-more t stamp (i + 1) rows (drop (i + 1) rows) row items new entry (nat_lt (i + 1) (length rows)) (at-index t stamp i rows row items within here so) judged pushed earlier
+    so-far-more t stamp (i + 1) rows (drop (i + 1) rows) row items new entry (nat_lt (i + 1) (length rows))
+    (at-index t stamp i rows row items within here so) judged pushed earlier
     (λ none. last (length rows) (length (drop (i + 1) rows)) (length-drop (i + 1) rows) (ap length none))
-    (λ r rs some. other (length rows) (length (drop (i + 1) rows)) (length rs) (length-drop (i + 1) rows) (ap length some))
+    (λ r rs some. other (length rows) (length (drop (i + 1) rows)) (length rs) (length-drop (i + 1) rows)
+    (ap length some))
   where
     last : (n left : ℕ) → left ≡ n - (i + 1) → left ≡ 0 → nat_lt (i + 1) n ≡ false
     last n left is none = grind (arith, nat_tests, is, none)
@@ -156,41 +194,57 @@ index-more t stamp i rows row items new entry within here so judged pushed earli
     other : (n left more : ℕ) → left ≡ n - (i + 1) → left ≡ suc more → nat_lt (i + 1) n ≡ true
     other n left more is some = grind (arith, nat_tests, is, some)
 
-pub index-broken : (t : Tables) (stamp : Stamp) (i : ℕ) (rows : List BulkRow) (row : BulkRow) (items : History) (rule : Rule) → i < length rows → get_or rows i row ≡ row
-    → SoFar t stamp rows (i + 1) (drop i rows) items → row_group stamp (Err rule) ≡ group_or_rule (row_judged_behind t items stamp row)
+pub index-broken : (t : Tables) (stamp : Stamp) (i : ℕ) (rows : List BulkRow) (row : BulkRow) (items : History)
+    (rule : Rule) → i < length rows → get_or rows i row ≡ row
+    → SoFar t stamp rows (i + 1) (drop i rows) items
+    → row_group stamp (Err rule) ≡ group_or_rule (row_judged_behind t items stamp row)
     → rows_judged (tables_basis stamp.maker) stamp t 1 rows ≡ Err (broken.Row (i + 1) rule)
 index-broken t stamp i rows row items rule within here so judged =
-    so-far-broken t stamp (i + 1) rows (drop (i + 1) rows) row items rule (at-index t stamp i rows row items within here so) judged
+    so-far-broken t stamp (i + 1) rows (drop (i + 1) rows) row items rule
+    (at-index t stamp i rows row items within here so) judged
 
-pub index-all : (t : Tables) (stamp : Stamp) (i : ℕ) (rows : List BulkRow) (items : History) → length rows ≤ i → SoFar t stamp rows (i + 1) (drop i rows) items
-    → (items ≡ grouped stamp (entries_of items)) × (rows_judged (tables_basis stamp.maker) stamp t 1 rows ≡ Ok (entries_of items))
-index-all t stamp i rows items all so = so-far-all t stamp (i + 1) rows items (subst (λ (left : List BulkRow). SoFar t stamp rows (i + 1) left items) (drop_all i rows all) so)
+pub index-all : (t : Tables) (stamp : Stamp) (i : ℕ) (rows : List BulkRow) (items : History) → length rows ≤ i
+    → SoFar t stamp rows (i + 1) (drop i rows) items
+    → (items ≡ grouped stamp (entries_of items))
+    × (rows_judged (tables_basis stamp.maker) stamp t 1 rows ≡ Ok (entries_of items))
+index-all t stamp i rows items all so = so-far-all t stamp (i + 1) rows items
+    (subst (λ (left : List BulkRow). SoFar t stamp rows (i + 1) left items) (drop_all i rows all) so)
 
 -- ---- one row by its command
 
-pub judged-command : (t : Tables) (earlier : History) (stamp : Stamp) (row : BulkRow) (command : Command) (result : Result Entry Rule) → Ok command ≡ row_command row
-    → row_group stamp result ≡ group_or_rule (row_judged_at (tables_from t earlier) stamp command) → row_group stamp result ≡ group_or_rule (row_judged_behind t earlier stamp row)
+pub judged-command : (t : Tables) (earlier : History) (stamp : Stamp) (row : BulkRow) (command : Command)
+    (result : Result Entry Rule) → Ok command ≡ row_command row
+    → row_group stamp result ≡ group_or_rule (row_judged_at (tables_from t earlier) stamp command)
+    → row_group stamp result ≡ group_or_rule (row_judged_behind t earlier stamp row)
 judged-command t earlier stamp row command result told is =
     let s : Tables = tables_from t earlier in
-    is ∙ ap (λ (r : Result Command Rule). group_or_rule (row_told_judged (facts_of_tables s (Some stamp.maker)) (shown_in_tables s) stamp r)) told
+    is
+    ∙ ap (λ (r : Result Command Rule). group_or_rule
+    (row_told_judged (facts_of_tables s (Some stamp.maker)) (shown_in_tables s) stamp r)) told
 
-pub judged-untold : (t : Tables) (earlier : History) (stamp : Stamp) (row : BulkRow) (rule : Rule) → Err rule ≡ row_command row
+pub judged-untold : (t : Tables) (earlier : History) (stamp : Stamp) (row : BulkRow) (rule : Rule)
+    → Err rule ≡ row_command row
     → row_group stamp (Err rule) ≡ group_or_rule (row_judged_behind t earlier stamp row)
 judged-untold t earlier stamp row rule told =
     let s : Tables = tables_from t earlier in
-    ap (λ (r : Result Command Rule). group_or_rule (row_told_judged (facts_of_tables s (Some stamp.maker)) (shown_in_tables s) stamp r)) told
+    ap (λ (r : Result Command Rule). group_or_rule
+    (row_told_judged (facts_of_tables s (Some stamp.maker)) (shown_in_tables s) stamp r)) told
 
 -- ---- all rows of a bulk
 
-pub bulk-accepted : (t : Tables) (stamp : Stamp) (rows : List BulkRow) (group : History) (done : Unit {0}) → caller_judged t stamp.maker ≡ Ok done
-    → rows_judged (tables_basis stamp.maker) stamp t 1 rows ≡ Ok (entries_of group) → bulk_by_role t (record { stamp = stamp; rows = rows }) ≡ Ok (bulk_drawn stamp (length group) (entries_of group))
+pub bulk-accepted : (t : Tables) (stamp : Stamp) (rows : List BulkRow) (group : History) (done : Unit {0})
+    → caller_judged t stamp.maker ≡ Ok done
+    → rows_judged (tables_basis stamp.maker) stamp t 1 rows ≡ Ok (entries_of group)
+    → bulk_by_role t (record { stamp = stamp; rows = rows }) ≡ Ok (bulk_drawn stamp (length group) (entries_of group))
 bulk-accepted t stamp rows group done may accepted =
     ap (bulk_behind (tables_basis stamp.maker) t (record { stamp = stamp; rows = rows })) may
     ∙ ap (bulk_of_rows stamp (length rows)) accepted
-    ∙ ap (λ (n : ℕ). Ok (bulk_drawn stamp n (entries_of group))) (sym (rows-drawn stamp 1 t rows (entries_of group) accepted).count ∙ length-map group (λ (s : Stamped). s.entry))
+    ∙ ap (λ (n : ℕ). Ok (bulk_drawn stamp n (entries_of group)))
+    (sym (rows-drawn stamp 1 t rows (entries_of group) accepted).count ∙ length-map group (λ (s : Stamped). s.entry))
 
 -- the entries before the next row
 pub next-earlier : (t : Tables) (stamp : Stamp) (entry : Entry) (now items : History) → now ≡ items
     → ((more : Bool) → AreEarlier t (now ++ stamped stamp more entry ∷ [])) → (more : Bool)
     → AreEarlier t (items ++ stamped stamp more entry ∷ [])
-next-earlier t stamp entry now items same next more = subst (λ (h : History). AreEarlier t (h ++ stamped stamp more entry ∷ [])) same (next more)
+next-earlier t stamp entry now items same next more =
+    subst (λ (h : History). AreEarlier t (h ++ stamped stamp more entry ∷ [])) same (next more)

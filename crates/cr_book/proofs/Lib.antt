@@ -16,6 +16,7 @@ pub mod OpeningOnward
 pub mod OpeningRowCommands
 pub mod OpeningRows
 pub mod OpeningSpelling
+pub mod OpeningSubmissions
 pub mod OutcomeLaws
 pub mod PlanPostedLaws
 pub mod ViewLaws

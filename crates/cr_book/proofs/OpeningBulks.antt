@@ -1,5 +1,7 @@
--- The rows of a bulk and the entries that they add: each tells the other, and behind rows of which more are to come one more is accepted.
-use Rattle.std.proofs.Common.{ℕ, Bool, true, false, cond, ◌≡◌, ◌≤◌, List, [], ◌∷◌, ◌++◌, length, suc, refl, sym, ap, subst, ◌∙◌, arith, ◌+◌, Option, Some, None, Result, Ok, Err}
+-- The rows of a bulk and the entries that they add: each tells the other, and behind rows of which more are to come
+-- one more is accepted.
+use Rattle.std.proofs.Common.{ℕ, Bool, true, false, cond, ◌≡◌, ◌≤◌, List, [], ◌∷◌, ◌++◌, length, suc, refl, sym, ap}
+use Rattle.std.proofs.Common.{subst, ◌∙◌, arith, ◌+◌, Option, Some, None, Result, Ok, Err}
 use Rattle.std.specs.Prelude.{map}
 use Rattle.std.specs.List.{AllByRecursion}
 use Rattle.std.specs.Option.{option_map}
@@ -16,8 +18,10 @@ use Rattle.cr_base.specs.declared.entry.Stamp.{Stamp}
 use Rattle.cr_base.specs.declared.entry.Stamped.{Stamped}
 use Rattle.cr_base.specs.declared.reply.Rule.{Rule}
 use Rattle.cr_base.specs.declared.reply.Rule.TheVariants as rules
-use Rattle.cr_base.specs.Bulk.{Action, assigns, unassigns, turns_conflict, turns_tag, action_of, command_told_by, row_command, row_judged, row_told_judged, turns_own_conflict}
-use Rattle.cr_base.specs.Bulk.{Basis, and_behind, and_rows, entries_of, rows_judged, tables_basis, bulk_checks, bulk_drawn, bulk_of_rows, bulk_behind, bulk_judged}
+use Rattle.cr_base.specs.Bulk.{Action, assigns, unassigns, turns_conflict, turns_tag, action_of, command_told_by}
+use Rattle.cr_base.specs.Bulk.{row_command, row_judged, row_told_judged, turns_own_conflict, Basis, and_behind}
+use Rattle.cr_base.specs.Bulk.{and_rows, entries_of, rows_judged, tables_basis, bulk_checks, bulk_drawn, bulk_of_rows}
+use Rattle.cr_base.specs.Bulk.{bulk_behind, bulk_judged}
 use Rattle.cr_base.specs.Calls.{BulkCall, call_by}
 use Rattle.cr_base.specs.Checks.{judged}
 use Rattle.cr_base.specs.Drawn.{Drawn, stamped, grouped}
@@ -49,13 +53,17 @@ pub one_is : {A : Type 0} (x y : A) → x ∷ [] ≡ y ∷ [] → x ≡ y
 one_is x y h = cc (h)
 
 -- a row that is accepted turns no conflict of the caller's own, and its command is accepted
-pub row-judges : (t : Tables) (stamp : Stamp) (command : Command) (drawn : Drawn) → row_judged_at t stamp command ≡ Ok drawn
-    → (turns_own_conflict (facts_of_tables t (Some stamp.maker)) stamp.maker command ≡ false) × (judge_by_role t (call_by stamp command) ≡ Ok drawn)
-row-judges t stamp command drawn accepted = by (turns_own_conflict (facts_of_tables t (Some stamp.maker)) stamp.maker command) refl accepted
+pub row-judges : (t : Tables) (stamp : Stamp) (command : Command) (drawn : Drawn)
+    → row_judged_at t stamp command ≡ Ok drawn
+    → (turns_own_conflict (facts_of_tables t (Some stamp.maker)) stamp.maker command ≡ false)
+    × (judge_by_role t (call_by stamp command) ≡ Ok drawn)
+row-judges t stamp command drawn accepted =
+    by (turns_own_conflict (facts_of_tables t (Some stamp.maker)) stamp.maker command) refl accepted
   where
     by : (b : Bool) → turns_own_conflict (facts_of_tables t (Some stamp.maker)) stamp.maker command ≡ b
         → ◌≡◌ {A = Result Drawn Rule} (cond b (Err rules.BulkSelf) (judge_by_role t (call_by stamp command))) (Ok drawn)
-        → (turns_own_conflict (facts_of_tables t (Some stamp.maker)) stamp.maker command ≡ false) × (judge_by_role t (call_by stamp command) ≡ Ok drawn)
+        → (turns_own_conflict (facts_of_tables t (Some stamp.maker)) stamp.maker command ≡ false)
+        × (judge_by_role t (call_by stamp command) ≡ Ok drawn)
     by true is h = absurd (err_ok rules.BulkSelf drawn h)
     by false is h = (is, h)
 
@@ -64,10 +72,12 @@ pub row_command-of_row : (row : BulkRow) (command : Command) → row_command row
 unfolding row_command
 row_command-of_row row command told = by (action_of row.action) told
   where
-    kept : (made : Command) → IsRowCommand made → ◌≡◌ {A = Result Command Rule} (Ok made) (Ok command) → IsRowCommand command
+    kept : (made : Command) → IsRowCommand made → ◌≡◌ {A = Result Command Rule} (Ok made) (Ok command)
+        → IsRowCommand command
     kept made is same = subst (λ (c : Command). IsRowCommand c) (ok_is made command same) is
 
-    of_tag : (b : Bool) (made : Command) → IsRowCommand made → ◌≡◌ {A = Result Command Rule} (cond b (Ok made) (Err rules.BadTag)) (Ok command) → IsRowCommand command
+    of_tag : (b : Bool) (made : Command) → IsRowCommand made
+        → ◌≡◌ {A = Result Command Rule} (cond b (Ok made) (Err rules.BadTag)) (Ok command) → IsRowCommand command
     of_tag true made is same = kept made is same
     of_tag false made is same = absurd (err_ok rules.BadTag command same)
 
@@ -84,15 +94,18 @@ pub record Draws (t : Tables) (stamp : Stamp) (drawn : Drawn) : Type 0 where
   pub group_is : drawn.group ≡ grouped stamp (entry ∷ [])
   pub is_drawn : IsDrawn t stamp entry
 
-pub row-draws : (t : Tables) (stamp : Stamp) (row : BulkRow) (drawn : Drawn) → row_judged (facts_of_tables t (Some stamp.maker)) (shown_in_tables t) stamp row ≡ Ok drawn
+pub row-draws : (t : Tables) (stamp : Stamp) (row : BulkRow) (drawn : Drawn)
+    → row_judged (facts_of_tables t (Some stamp.maker)) (shown_in_tables t) stamp row ≡ Ok drawn
     → Draws t stamp drawn
 row-draws t stamp row drawn accepted = by (row_command row) refl accepted
   where
-    by : (told : Result Command Rule) → row_command row ≡ told → row_told_judged (facts_of_tables t (Some stamp.maker)) (shown_in_tables t) stamp told ≡ Ok drawn
+    by : (told : Result Command Rule) → row_command row ≡ told
+        → row_told_judged (facts_of_tables t (Some stamp.maker)) (shown_in_tables t) stamp told ≡ Ok drawn
         → Draws t stamp drawn
     by (Err rule) is h = absurd (err_ok rule drawn h)
     by (Ok command) is h =
-        let one = row-adds t stamp drawn command (row_command-of_row row command is) (row-judges t stamp command drawn h).1 in
+        let one =
+        row-adds t stamp drawn command (row_command-of_row row command is) (row-judges t stamp command drawn h).1 in
         record {
           entry = one.entry;
           group_is = one.group_is;
@@ -112,22 +125,27 @@ pub record Rebuilt (t : Tables) (stamp : Stamp) (rows : List BulkRow) (entries :
   pub drawn : AreDrawn t stamp entries
   pub count : length entries ≡ length rows
 
-and_rows-Ok : (xs entries : List Entry) (r : Result (List Entry) Broken) → and_rows xs r ≡ Ok entries → (more : List Entry) × (r ≡ Ok more) × (xs ++ more ≡ entries)
+and_rows-Ok : (xs entries : List Entry) (r : Result (List Entry) Broken) → and_rows xs r ≡ Ok entries
+    → (more : List Entry) × (r ≡ Ok more) × (xs ++ more ≡ entries)
 and_rows-Ok xs entries (Ok more) h = (more, refl, ok_is (xs ++ more) entries h)
 and_rows-Ok xs entries (Err refusal) h = absurd (err_ok refusal entries h)
 
-pub rows-drawn : (stamp : Stamp) (n : ℕ) (t : Tables) (rows : List BulkRow) (entries : List Entry) → rows_judged (tables_basis stamp.maker) stamp t n rows ≡ Ok entries
+pub rows-drawn : (stamp : Stamp) (n : ℕ) (t : Tables) (rows : List BulkRow) (entries : List Entry)
+    → rows_judged (tables_basis stamp.maker) stamp t n rows ≡ Ok entries
     → Rebuilt t stamp rows entries
 rows-drawn stamp n t [] entries accepted =
     subst (λ (es : List Entry). Rebuilt t stamp [] es) (ok_is [] entries accepted) (record { drawn = tt; count = refl })
 rows-drawn stamp n t (row ∷ rows) entries accepted =
-    by (row_judged (facts_of_tables t (Some stamp.maker)) (shown_in_tables t) stamp row) refl accepted (λ s es is. rows-drawn stamp (n + 1) s rows es is)
+    by (row_judged (facts_of_tables t (Some stamp.maker)) (shown_in_tables t) stamp row) refl accepted
+    (λ s es is. rows-drawn stamp (n + 1) s rows es is)
   where
     behind : History → Result (List Entry) Broken
     behind group = rows_judged (tables_basis stamp.maker) stamp (tables_from t group) (n + 1) rows
 
-    by : (r : Result Drawn Rule) → row_judged (facts_of_tables t (Some stamp.maker)) (shown_in_tables t) stamp row ≡ r → and_behind n r behind ≡ Ok entries
-        → ((s : Tables) (es : List Entry) → rows_judged (tables_basis stamp.maker) stamp s (n + 1) rows ≡ Ok es → Rebuilt s stamp rows es)
+    by : (r : Result Drawn Rule) → row_judged (facts_of_tables t (Some stamp.maker)) (shown_in_tables t) stamp row ≡ r
+        → and_behind n r behind ≡ Ok entries
+        → ((s : Tables) (es : List Entry) → rows_judged (tables_basis stamp.maker) stamp s (n + 1) rows ≡ Ok es
+        → Rebuilt s stamp rows es)
         → Rebuilt t stamp (row ∷ rows) entries
     by (Err rule) is h more = absurd (err_ok (broken.Row n rule) entries h)
     by (Ok drawn) is h more =
@@ -135,8 +153,10 @@ rows-drawn stamp n t (row ∷ rows) entries accepted =
         let rest = and_rows-Ok (entries_of drawn.group) entries (behind drawn.group) h in
         let after : Tables = tables_after t (unfinished stamp one.entry) in
         let others : Rebuilt after stamp rows rest.0 = more after rest.0 (ap behind (sym one.group_is) ∙ rest.1) in
-        let whole : one.entry ∷ rest.0 ≡ entries = ap (λ (g : History). entries_of g ++ rest.0) (sym one.group_is) ∙ rest.2 in
-        subst (λ (es : List Entry). Rebuilt t stamp (row ∷ rows) es) whole (record { drawn = (one.is_drawn, others.drawn); count = ap suc others.count })
+        let whole : one.entry ∷ rest.0 ≡ entries =
+        ap (λ (g : History). entries_of g ++ rest.0) (sym one.group_is) ∙ rest.2 in
+        subst (λ (es : List Entry). Rebuilt t stamp (row ∷ rows) es) whole
+        (record { drawn = (one.is_drawn, others.drawn); count = ap suc others.count })
 
 -- ---- the rows of entries
 
@@ -153,23 +173,29 @@ with-name None made command e = absurd (none_some command e)
 with-name (Some name) made command e = (name, refl, some_is (made name) command e)
 
 -- a row spells the command that an entry tells
-entry-spelled : (t : Tables) (stamp : Stamp) (e : Entry) (command : Command) → AreNames t.accounts → IsBoundedEntry (unfinished stamp e)
+entry-spelled : (t : Tables) (stamp : Stamp) (e : Entry) (command : Command) → AreNames t.accounts
+    → IsBoundedEntry (unfinished stamp e)
     → row_command_told t e ≡ Some command → Spelled command
 entry-spelled t stamp (Conflict paper v on) command names bounded told =
     let name = with-name (name_told t v) (λ name. SetConflict (Some paper) (Some name) on) command told in
-    subst (λ (c : Command). Spelled c) name.2 (conflict-spelled paper bounded.n1.0 bounded.n1.1 name.0 (names v name.0 name.1) on)
+    subst (λ (c : Command). Spelled c) name.2
+    (conflict-spelled paper bounded.n1.0 bounded.n1.1 name.0 (names v name.0 name.1) on)
 entry-spelled t stamp (Assigned paper v kind ordinal) command names bounded told =
     let name = with-name (name_told t v) (λ name. Assign (Some paper) (Some name) kind) command told in
-    subst (λ (c : Command). Spelled c) name.2 (assign-spelled paper bounded.n1.0 bounded.n1.1 name.0 (names v name.0 name.1) kind)
+    subst (λ (c : Command). Spelled c) name.2
+    (assign-spelled paper bounded.n1.0 bounded.n1.1 name.0 (names v name.0 name.1) kind)
 entry-spelled t stamp (Unassigned paper v ordinal) command names bounded told =
     let name = with-name (name_told t v) (λ name. Unassign (Some paper) (Some name)) command told in
-    subst (λ (c : Command). Spelled c) name.2 (unassign-spelled paper bounded.n1.0 bounded.n1.1 name.0 (names v name.0 name.1))
+    subst (λ (c : Command). Spelled c) name.2
+    (unassign-spelled paper bounded.n1.0 bounded.n1.1 name.0 (names v name.0 name.1))
 entry-spelled t stamp (Tagged paper tag on) command names bounded told =
-    subst (λ (c : Command). Spelled c) (some_is (Tag (Some paper) tag on) command told) (tag-spelled paper bounded.n1.0 bounded.n1.1 tag on bounded.b1)
+    subst (λ (c : Command). Spelled c) (some_is (Tag (Some paper) tag on) command told)
+    (tag-spelled paper bounded.n1.0 bounded.n1.1 tag on bounded.b1)
 entry-spelled t stamp e command names bounded told = absurd (none_some command told)
 
 -- an entry that tells a row's command is a row's
-pub told-of_row : (t : Tables) (e : Entry) (command : Command) → row_command_told t e ≡ Some command → is_of_row e ≡ true
+pub told-of_row : (t : Tables) (e : Entry) (command : Command) → row_command_told t e ≡ Some command
+    → is_of_row e ≡ true
 told-of_row t e command told = by (is_of_row e) told
   where
     by : (b : Bool) → cond b (paper_command_told t e) None ≡ Some command → b ≡ true
@@ -177,14 +203,19 @@ told-of_row t e command told = by (is_of_row e) told
     by false told = absurd (none_some command told)
 
 -- and its command is one that a row may tell
-pub drawn-of_row : (t : Tables) (e : Entry) (command : Command) → row_command_told t e ≡ Some command → IsRowCommand command
+pub drawn-of_row : (t : Tables) (e : Entry) (command : Command) → row_command_told t e ≡ Some command
+    → IsRowCommand command
 drawn-of_row t (Conflict paper v on) command told =
-    subst (λ (c : Command). IsRowCommand c) (with-name (name_told t v) (λ name. SetConflict (Some paper) (Some name) on) command told).2 tt
+    subst (λ (c : Command). IsRowCommand c) (with-name (name_told t v) (λ name. SetConflict (Some paper) (Some name) on)
+    command told).2 tt
 drawn-of_row t (Assigned paper v kind ordinal) command told =
-    subst (λ (c : Command). IsRowCommand c) (with-name (name_told t v) (λ name. Assign (Some paper) (Some name) kind) command told).2 tt
+    subst (λ (c : Command). IsRowCommand c) (with-name (name_told t v) (λ name. Assign (Some paper) (Some name) kind)
+    command told).2 tt
 drawn-of_row t (Unassigned paper v ordinal) command told =
-    subst (λ (c : Command). IsRowCommand c) (with-name (name_told t v) (λ name. Unassign (Some paper) (Some name)) command told).2 tt
-drawn-of_row t (Tagged paper tag on) command told = subst (λ (c : Command). IsRowCommand c) (some_is (Tag (Some paper) tag on) command told) tt
+    subst (λ (c : Command). IsRowCommand c) (with-name (name_told t v) (λ name. Unassign (Some paper) (Some name))
+    command told).2 tt
+drawn-of_row t (Tagged paper tag on) command told =
+    subst (λ (c : Command). IsRowCommand c) (some_is (Tag (Some paper) tag on) command told) tt
 drawn-of_row t e command told = absurd (none_some command told)
 
 -- such an entry leaves the accounts
@@ -197,10 +228,12 @@ same-accounts accounts e of_row = absurd (true≢false (sym of_row))
 
 -- rows that add entries
 abbrev pub Adders : Stamp → ℕ → Tables → List Entry → Type 0
-Adders stamp n t entries = (rows : List BulkRow) × (length rows ≡ length entries) × (rows_judged (tables_basis stamp.maker) stamp t n rows ≡ Ok entries)
+Adders stamp n t entries = (rows : List BulkRow) × (length rows ≡ length entries)
+    × (rows_judged (tables_basis stamp.maker) stamp t n rows ≡ Ok entries)
 
 -- a row before those that add the others
-row-before : (stamp : Stamp) (n : ℕ) (t : Tables) (e : Entry) (entries : List Entry) (here : IsDrawn t stamp e) → Spelled here.command
+row-before : (stamp : Stamp) (n : ℕ) (t : Tables) (e : Entry) (entries : List Entry) (here : IsDrawn t stamp e)
+    → Spelled here.command
     → Adders stamp (n + 1) (tables_after t (unfinished stamp e)) entries → Adders stamp n t (e ∷ entries)
 row-before stamp n t e entries here row rest = (
   row.0 ∷ rest.0,
@@ -210,7 +243,9 @@ row-before stamp n t e entries here row rest = (
 )
   where
     judges : row_judged (facts_of_tables t (Some stamp.maker)) (shown_in_tables t) stamp row.0 ≡ Ok here.drawn
-    judges = ap (λ (told : Result Command Rule). row_told_judged (facts_of_tables t (Some stamp.maker)) (shown_in_tables t) stamp told) row.1 ∙ here.accepted
+    judges =
+        ap (λ (told : Result Command Rule). row_told_judged (facts_of_tables t (Some stamp.maker)) (shown_in_tables t)
+        stamp told) row.1 ∙ here.accepted
 
     one : Draws t stamp here.drawn
     one = row-draws t stamp row.0 here.drawn judges
@@ -225,13 +260,16 @@ row-before stamp n t e entries here row rest = (
     goes_on = ap behind one.group_is ∙ ap (λ (x : Entry). behind (grouped stamp (x ∷ []))) is_entry ∙ rest.2
 
 -- entries that are drawn have rows which add them
-pub rows-spelled : (stamp : Stamp) (n : ℕ) (t : Tables) (entries : List Entry) → AreNames t.accounts → AllByRecursion (λ (e : Entry). IsBoundedEntry (unfinished stamp e)) entries
+pub rows-spelled : (stamp : Stamp) (n : ℕ) (t : Tables) (entries : List Entry) → AreNames t.accounts
+    → AllByRecursion (λ (e : Entry). IsBoundedEntry (unfinished stamp e)) entries
     → AreDrawn t stamp entries → Adders stamp n t entries
 rows-spelled stamp n t [] names bounded drawn = ([], refl, refl)
 rows-spelled stamp n t (e ∷ entries) names bounded drawn =
     let here = drawn.0 in
-    let kept = subst (λ (accounts : List Account). AreNames accounts) (sym (same-accounts t.accounts e (told-of_row t e here.command here.told))) names in
-    row-before stamp n t e entries here (entry-spelled t stamp e here.command names bounded.0 here.told) (rows-spelled stamp (n + 1) (tables_after t (unfinished stamp e)) entries kept bounded.1 drawn.1)
+    let kept = subst (λ (accounts : List Account). AreNames accounts)
+    (sym (same-accounts t.accounts e (told-of_row t e here.command here.told))) names in
+    row-before stamp n t e entries here (entry-spelled t stamp e here.command names bounded.0 here.told)
+    (rows-spelled stamp (n + 1) (tables_after t (unfinished stamp e)) entries kept bounded.1 drawn.1)
 
 -- ---- a whole bulk
 
@@ -242,40 +280,55 @@ pub record Parts {S : Type 0} (basis : Basis S) (s : S) (bulk : BulkCall) (drawn
   pub accepted : rows_judged basis bulk.stamp s 1 bulk.rows ≡ Ok entries
   pub drawn_is : bulk_drawn bulk.stamp (length bulk.rows) entries ≡ drawn
 
-pub bulk-parts : {S : Type 0} (basis : Basis S) (s : S) (bulk : BulkCall) (drawn : Drawn) → bulk_judged basis s bulk ≡ Ok drawn
+pub bulk-parts : {S : Type 0} (basis : Basis S) (s : S) (bulk : BulkCall) (drawn : Drawn)
+    → bulk_judged basis s bulk ≡ Ok drawn
     → Parts basis s bulk drawn
 bulk-parts {S} basis s bulk drawn accepted = by (judged (bulk_checks ((basis.facts s).standing None)) tt) refl accepted
   where
-    all : (r : Result (List Entry) Broken) → rows_judged basis bulk.stamp s 1 bulk.rows ≡ r → bulk_of_rows bulk.stamp (length bulk.rows) r ≡ Ok drawn
-        → ◌≡◌ {A = Result (Unit {0}) Rule} (judged (bulk_checks ((basis.facts s).standing None)) tt) (Ok tt) → Parts basis s bulk drawn
-    all (Ok entries) is h may = record { may = may; entries = entries; accepted = is; drawn_is = ok_is (bulk_drawn bulk.stamp (length bulk.rows) entries) drawn h }
+    all : (r : Result (List Entry) Broken) → rows_judged basis bulk.stamp s 1 bulk.rows ≡ r
+        → bulk_of_rows bulk.stamp (length bulk.rows) r ≡ Ok drawn
+        → ◌≡◌ {A = Result (Unit {0}) Rule} (judged (bulk_checks ((basis.facts s).standing None)) tt) (Ok tt)
+        → Parts basis s bulk drawn
+    all (Ok entries) is h may =
+        record {
+          may = may;
+          entries = entries;
+          accepted = is;
+          drawn_is = ok_is (bulk_drawn bulk.stamp (length bulk.rows) entries) drawn h;
+        }
     all (Err refusal) is h may = absurd (err_ok refusal drawn h)
 
-    by : (r : Result (Unit {0}) Rule) → judged (bulk_checks ((basis.facts s).standing None)) tt ≡ r → bulk_behind basis s bulk r ≡ Ok drawn
+    by : (r : Result (Unit {0}) Rule) → judged (bulk_checks ((basis.facts s).standing None)) tt ≡ r
+        → bulk_behind basis s bulk r ≡ Ok drawn
         → Parts basis s bulk drawn
     by (Err rule) is h = absurd (err_ok (broken.Rule rule) drawn h)
     by (Ok done) is h = all (rows_judged basis bulk.stamp s 1 bulk.rows) refl h is
 
 -- and a bulk of which that is so is accepted
 pub parts-bulk : {S : Type 0} (basis : Basis S) (s : S) (bulk : BulkCall) (entries : List Entry)
-    → ◌≡◌ {A = Result (Unit {0}) Rule} (judged (bulk_checks ((basis.facts s).standing None)) tt) (Ok tt) → rows_judged basis bulk.stamp s 1 bulk.rows ≡ Ok entries
+    → ◌≡◌ {A = Result (Unit {0}) Rule} (judged (bulk_checks ((basis.facts s).standing None)) tt) (Ok tt)
+    → rows_judged basis bulk.stamp s 1 bulk.rows ≡ Ok entries
     → bulk_judged basis s bulk ≡ Ok (bulk_drawn bulk.stamp (length bulk.rows) entries)
-parts-bulk basis s bulk entries may accepted = ap (bulk_behind basis s bulk) may ∙ ap (bulk_of_rows bulk.stamp (length bulk.rows)) accepted
+parts-bulk basis s bulk entries may accepted =
+    ap (bulk_behind basis s bulk) may ∙ ap (bulk_of_rows bulk.stamp (length bulk.rows)) accepted
 
 -- ---- entries in the middle
 
 -- what is drawn of entries is drawn of the first of them, and behind these of the next
-pub drawn-middle : (t : Tables) (stamp : Stamp) (before after : List Entry) (e : Entry) → AreDrawn t stamp (before ++ e ∷ after)
+pub drawn-middle : (t : Tables) (stamp : Stamp) (before after : List Entry) (e : Entry)
+    → AreDrawn t stamp (before ++ e ∷ after)
     → AreDrawn t stamp before × IsDrawn (tables_from t (map (unfinished stamp) before)) stamp e
 drawn-middle t stamp [] after e drawn = (tt, drawn.0)
 drawn-middle t stamp (x ∷ before) after e drawn =
     let rest = drawn-middle (tables_after t (unfinished stamp x)) stamp before after e drawn.1 in
     ((drawn.0, rest.0), rest.1)
 
-pub drawn-more : (t : Tables) (stamp : Stamp) (before : List Entry) (e : Entry) → AreDrawn t stamp before → IsDrawn (tables_from t (map (unfinished stamp) before)) stamp e
+pub drawn-more : (t : Tables) (stamp : Stamp) (before : List Entry) (e : Entry) → AreDrawn t stamp before
+    → IsDrawn (tables_from t (map (unfinished stamp) before)) stamp e
     → AreDrawn t stamp (before ++ e ∷ [])
 drawn-more t stamp [] e drawn next = (next, tt)
-drawn-more t stamp (x ∷ before) e drawn next = (drawn.0, drawn-more (tables_after t (unfinished stamp x)) stamp before e drawn.1 next)
+drawn-more t stamp (x ∷ before) e drawn next =
+    (drawn.0, drawn-more (tables_after t (unfinished stamp x)) stamp before e drawn.1 next)
 
 -- ---- the group of a bulk, and those entries of it that are known
 
@@ -301,7 +354,8 @@ pub record Within (stamp : Stamp) (entries : List Entry) (begun : History) (next
   pub stamp_is : next.stamp ≡ stamp
   pub last : next.more ≡ true → 1 ≤ length after
 
-pub within : (stamp : Stamp) (entries : List Entry) (begun : History) (next : Stamped) (tail : History) → grouped stamp entries ≡ begun ++ next ∷ tail
+pub within : (stamp : Stamp) (entries : List Entry) (begun : History) (next : Stamped) (tail : History)
+    → grouped stamp entries ≡ begun ++ next ∷ tail
     → Within stamp entries begun next
 within stamp [] begun next tail e = absurd (nothing-more begun tail next e)
 within stamp (x ∷ []) [] next tail e =
@@ -333,26 +387,41 @@ within stamp (x ∷ y ∷ entries) (b ∷ begun) next tail e =
     record {
       before = x ∷ rest.before;
       after = rest.after;
-      begun_is = ap (λ (s : Stamped). s ∷ begun) (sym both.0) ∙ ap (λ (h : History). unfinished stamp x ∷ h) rest.begun_is;
+      begun_is =
+          ap (λ (s : Stamped). s ∷ begun) (sym both.0) ∙ ap (λ (h : History). unfinished stamp x ∷ h) rest.begun_is;
       entries_are = ap (λ (es : List Entry). x ∷ es) rest.entries_are;
       stamp_is = rest.stamp_is;
       last = rest.last;
     }
 
 -- entries of which another follows, and a last one, are a group
-pub whole-group : (stamp : Stamp) (entries : List Entry) (e : Entry) → map (unfinished stamp) entries ++ stamped stamp false e ∷ []
+pub whole-group : (stamp : Stamp) (entries : List Entry) (e : Entry)
+    → map (unfinished stamp) entries ++ stamped stamp false e ∷ []
     ≡ grouped stamp (entries ++ e ∷ [])
 whole-group stamp [] e = refl
 whole-group stamp (x ∷ []) e = refl
 whole-group stamp (x ∷ y ∷ entries) e = ap (λ (h : History). unfinished stamp x ∷ h) (whole-group stamp (y ∷ entries) e)
 
-pub map-more : (stamp : Stamp) (entries : List Entry) (e : Entry) → map (unfinished stamp) entries ++ unfinished stamp e ∷ [] ≡ map (unfinished stamp) (entries ++ e ∷ [])
+pub map-more : (stamp : Stamp) (entries : List Entry) (e : Entry)
+    → map (unfinished stamp) entries ++ unfinished stamp e ∷ [] ≡ map (unfinished stamp) (entries ++ e ∷ [])
 map-more stamp [] e = refl
 map-more stamp (x ∷ entries) e = ap (λ (h : History). unfinished stamp x ∷ h) (map-more stamp entries e)
 
 -- the marks make no difference to the bounds
-pub marked : (stamp : Stamp) (m n : Bool) (e : Entry) → IsBoundedEntry (stamped stamp m e) → IsBoundedEntry (stamped stamp n e)
-marked stamp m n e b = record { stamp = b.stamp; unmarked = b.unmarked; more = by n; n1 = b.n1; n2 = b.n2; n3 = b.n3; n4 = b.n4; n5 = b.n5; b1 = b.b1; b2 = b.b2 }
+pub marked : (stamp : Stamp) (m n : Bool) (e : Entry) → IsBoundedEntry (stamped stamp m e)
+    → IsBoundedEntry (stamped stamp n e)
+marked stamp m n e b = record {
+  stamp = b.stamp;
+  unmarked = b.unmarked;
+  more = by n;
+  n1 = b.n1;
+  n2 = b.n2;
+  n3 = b.n3;
+  n4 = b.n4;
+  n5 = b.n5;
+  b1 = b.b1;
+  b2 = b.b2;
+}
   where
     by : (n : Bool) → bit_number n ≤ 1
     by true = omega arith

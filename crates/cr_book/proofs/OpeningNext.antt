@@ -1,5 +1,6 @@
 -- Behind the rows of a bulk one more is always accepted: a tag on the paper of the first.
-use Rattle.std.proofs.Common.{ℕ, Bool, true, false, cond, ◌≡◌, ◌≤◌, List, [], ◌∷◌, ◌++◌, eqb, refl, sym, ap, subst, ◌∙◌, arith, ◌||◌, ◌&&◌, Option, Some, None, Result, Ok, Err}
+use Rattle.std.proofs.Common.{ℕ, Bool, true, false, cond, ◌≡◌, ◌≤◌, List, [], ◌∷◌, ◌++◌, eqb, refl, sym, ap, subst, ◌∙◌}
+use Rattle.std.proofs.Common.{arith, ◌||◌, ◌&&◌, Option, Some, None, Result, Ok, Err}
 use Rattle.std.specs.Prelude.{is_none, is_some, is_ok, not, unwrap_or, ◌+◌}
 use Rattle.std.specs.List.{list_any}
 use Rattle.std.specs.Option.{option_map}
@@ -20,7 +21,8 @@ use Rattle.cr_base.specs.declared.words.Role.TheVariants as roles
 use Rattle.cr_base.specs.Accounts.{lines_of, role_in}
 use Rattle.cr_base.specs.Bulk.{bulk_checks, turns_own_conflict, entries_of}
 use Rattle.cr_base.specs.Calls.{call_by}
-use Rattle.cr_base.specs.Checks.{NamedPaper, about, conflict_case, own_checks, other_checks, conflict_checks, assign_checks, unassign_checks, tag_checks}
+use Rattle.cr_base.specs.Checks.{NamedPaper, about, conflict_case, own_checks, other_checks, conflict_checks}
+use Rattle.cr_base.specs.Checks.{assign_checks, unassign_checks, tag_checks}
 use Rattle.cr_base.specs.Drawn.{Drawn, conflict_drawn, assignment_drawn, unassignment_drawn, tag_drawn}
 use Rattle.cr_base.specs.Invites.{is_invited_in}
 use Rattle.cr_base.specs.Judging.{judge_by_role}
@@ -31,7 +33,8 @@ use Rattle.cr_base.specs.Phases.{committee_works, authors_have_declared, conflic
 use Rattle.cr_base.specs.Reviews.{is_written_in}
 use Rattle.cr_base.specs.Rows.{IsBoundedEntry}
 use Rattle.cr_base.specs.Seats.{labels_in, ordinal_in}
-use Rattle.cr_base.specs.Sources.{facts_of_tables, is_late, shown_in_tables, standing_at, paper_named, target_named, role_among, user_among}
+use Rattle.cr_base.specs.Sources.{facts_of_tables, is_late, shown_in_tables, standing_at, paper_named, target_named}
+use Rattle.cr_base.specs.Sources.{role_among, user_among}
 use Rattle.cr_base.specs.TagTexts.{is_for_chairs}
 use Rattle.cr_base.specs.Tables.{Tables, tables_after}
 use Rattle.cr_base.specs.Ties.{authors_in, is_author_in, is_conflicted_in, pair_of, bare_tie, switched}
@@ -89,14 +92,18 @@ not-for false chair h = refl
 
 -- ---- the paper of a row that is accepted
 
--- a conflict of another's, turned in the committee's phases, is turned by a clear chair, of a paper that isn't withdrawn
-case-clear : (on declared final : Bool) (by : Standing) (withdrawn : Bool) (target : Target) (late : Bool) → declared ≡ true → final ≡ false → target.herself ≡ false
-    → NoneBroken (conflict_case on declared final by withdrawn target late) → (by.conflicted ≡ false) × (withdrawn ≡ false)
+-- a conflict of another's, turned in the committee's phases, is turned by a clear chair, of a paper that isn't
+-- withdrawn
+case-clear : (on declared final : Bool) (by : Standing) (withdrawn : Bool) (target : Target) (late : Bool)
+    → declared ≡ true → final ≡ false → target.herself ≡ false
+    → NoneBroken (conflict_case on declared final by withdrawn target late) → (by.conflicted ≡ false)
+    × (withdrawn ≡ false)
 case-clear false declared final by withdrawn target late from before other none = (none.1.0, none.1.1.1.0)
 case-clear true false final by withdrawn target late from before other none = absurd (true≢false (sym from))
 case-clear true true true by withdrawn target late from before other none = absurd (true≢false before)
 case-clear true true false by withdrawn target late from before other none =
-    let k = subst (λ (b : Bool). NoneBroken (cond b (own_checks by withdrawn) (other_checks by withdrawn target))) other none in
+    let k = subst (λ (b : Bool). NoneBroken (cond b (own_checks by withdrawn) (other_checks by withdrawn target))) other
+    none in
     (k.1.0, k.1.1.0)
 
 module _ (t : Tables) (stamp : Stamp) (work : IsAtWork t stamp.maker) where
@@ -110,13 +117,17 @@ module _ (t : Tables) (stamp : Stamp) (work : IsAtWork t stamp.maker) where
   late = is_late (facts_of_tables t (Some stamp.maker)) stamp.at
 
   abbrev target_of : ℕ → Option ℕ → Option Target
-  target_of p target = target_named (facts_of_tables t (Some stamp.maker)) (shown_in_tables t) (Some stamp.maker) (Some p) target
+  target_of p target =
+      target_named (facts_of_tables t (Some stamp.maker)) (shown_in_tables t) (Some stamp.maker) (Some p) target
 
-  conflict-clear : (p : ℕ) (name : List ℕ) (on : Bool) (drawn : Drawn) → turns_own_conflict (facts_of_tables t (Some stamp.maker)) stamp.maker (SetConflict (Some p) (Some name) on) ≡ false
+  conflict-clear : (p : ℕ) (name : List ℕ) (on : Bool) (drawn : Drawn)
+      → turns_own_conflict (facts_of_tables t (Some stamp.maker)) stamp.maker (SetConflict (Some p) (Some name) on)
+      ≡ false
       → judge_by_role t (call_by stamp (SetConflict (Some p) (Some name) on)) ≡ Ok drawn → IsClear t stamp.maker p
   conflict-clear p name on drawn other accepted =
       let target : Option ℕ = user_among (lines_of t.accounts) (Some name) in
-      let k = judged-Ok (conflict_checks (stands (Some p)) (named (Some p)) (target_of p target) on late) (conflict_drawn stamp p (unwrap_or target 0) on) drawn accepted in
+      let k = judged-Ok (conflict_checks (stands (Some p)) (named (Some p)) (target_of p target) on late)
+      (conflict_drawn stamp p (unwrap_or target 0) on) drawn accepted in
       let both = by (role_among (lines_of t.accounts) target) k.0.1.0 k.0.1.1 in
       record { there = k.0.0; clear = both.0; standing = both.1 }
     where
@@ -138,36 +149,56 @@ module _ (t : Tables) (stamp : Stamp) (work : IsAtWork t stamp.maker) where
       phases = committee (authors_have_declared t.stage.phase) (conflicts_are_final t.stage.phase) work.phase
 
       by : (role : Option Role) → is_none (option_map asked role) ≡ false
-          → NoneBroken (about (option_map asked role) (λ (user : Target). conflict_case on (authors_have_declared t.stage.phase) (conflicts_are_final t.stage.phase) (stands (Some p)) (is_withdrawn_at t.papers p) user late))
+          → NoneBroken (about (option_map asked role)
+          (λ (user : Target). conflict_case on (authors_have_declared t.stage.phase)
+          (conflicts_are_final t.stage.phase) (stands (Some p)) (is_withdrawn_at t.papers p) user late))
           → (is_conflicted_in t.ties (Some stamp.maker) p ≡ false) × (is_withdrawn_at t.papers p ≡ false)
       by None there none = absurd (true≢false there)
       by (Some role) there none =
-          case-clear on (authors_have_declared t.stage.phase) (conflicts_are_final t.stage.phase) (stands (Some p)) (is_withdrawn_at t.papers p) (asked role) late phases.0 phases.1 other none
+          case-clear on (authors_have_declared t.stage.phase) (conflicts_are_final t.stage.phase) (stands (Some p))
+          (is_withdrawn_at t.papers p) (asked role) late phases.0 phases.1 other none
 
-  assign-clear : (p : ℕ) (name : List ℕ) (kind : Kind) (drawn : Drawn) → judge_by_role t (call_by stamp (Assign (Some p) (Some name) kind)) ≡ Ok drawn → IsClear t stamp.maker p
+  assign-clear : (p : ℕ) (name : List ℕ) (kind : Kind) (drawn : Drawn)
+      → judge_by_role t (call_by stamp (Assign (Some p) (Some name) kind)) ≡ Ok drawn → IsClear t stamp.maker p
   assign-clear p name kind drawn accepted =
       let target : Option ℕ = user_among (lines_of t.accounts) (Some name) in
       let labels : ℕ = labels_in t.seats p in
-      let k = judged-Ok (assign_checks (stands (Some p)) (named (Some p)) (target_of p target) labels) (assignment_drawn stamp p (unwrap_or target 0) kind (labels + 1)) drawn accepted in
+      let k = judged-Ok (assign_checks (stands (Some p)) (named (Some p)) (target_of p target) labels)
+      (assignment_drawn stamp p (unwrap_or target 0) kind (labels + 1)) drawn accepted in
       record { there = k.0.0; clear = k.0.1.1.1.0; standing = k.0.1.1.1.1.1.0 }
 
-  unassign-clear : (p : ℕ) (name : List ℕ) (drawn : Drawn) → judge_by_role t (call_by stamp (Unassign (Some p) (Some name))) ≡ Ok drawn → IsClear t stamp.maker p
+  unassign-clear : (p : ℕ) (name : List ℕ) (drawn : Drawn)
+      → judge_by_role t (call_by stamp (Unassign (Some p) (Some name))) ≡ Ok drawn → IsClear t stamp.maker p
   unassign-clear p name drawn accepted =
       let target : Option ℕ = user_among (lines_of t.accounts) (Some name) in
       let seat : Option ℕ = ordinal_in t.seats target p in
-      let k = judged-Ok (unassign_checks (stands (Some p)) (named (Some p)) (target_of p target) (at_some (is_written_in t.reviews p) seat)) (unassignment_drawn stamp p (unwrap_or target 0) (unwrap_or seat 0)) drawn accepted in
+      let k =
+      judged-Ok (unassign_checks (stands (Some p)) (named (Some p)) (target_of p target)
+      (at_some (is_written_in t.reviews p) seat))
+      (unassignment_drawn stamp p (unwrap_or target 0) (unwrap_or seat 0)) drawn accepted in
       record { there = k.0.0; clear = k.0.1.1.1.0; standing = k.0.1.1.1.1.1.0 }
 
-  tag-clear : (p : ℕ) (tag : List ℕ) (on : Bool) (drawn : Drawn) → judge_by_role t (call_by stamp (Tag (Some p) tag on)) ≡ Ok drawn → IsClear t stamp.maker p
+  tag-clear : (p : ℕ) (tag : List ℕ) (on : Bool) (drawn : Drawn)
+      → judge_by_role t (call_by stamp (Tag (Some p) tag on)) ≡ Ok drawn → IsClear t stamp.maker p
   tag-clear p tag on drawn accepted =
-      let k = judged-Ok (tag_checks (stands (Some p)) (named (Some p)) (is_for_chairs tag)) (tag_drawn stamp p tag on) drawn accepted in
+      let k = judged-Ok (tag_checks (stands (Some p)) (named (Some p)) (is_for_chairs tag)) (tag_drawn stamp p tag on)
+      drawn accepted in
       record { there = k.0.0; clear = k.0.1.1.1.0; standing = k.0.1.1.1.1.1.0 }
 
   -- and such a paper she may tag
-  tag-accepted : (p : ℕ) (tag : List ℕ) (on : Bool) → IsClear t stamp.maker p → judge_by_role t (call_by stamp (Tag (Some p) tag on)) ≡ Ok (tag_drawn stamp p tag on)
+  tag-accepted : (p : ℕ) (tag : List ℕ) (on : Bool) → IsClear t stamp.maker p
+      → judge_by_role t (call_by stamp (Tag (Some p) tag on)) ≡ Ok (tag_drawn stamp p tag on)
   tag-accepted p tag on c =
-      judged-none (tag_checks (stands (Some p)) (named (Some p)) (is_for_chairs tag)) (tag_drawn stamp p tag on)
-      (c.there, (not-for (is_for_chairs tag) (is_chair (role_in t.accounts (Some stamp.maker))) work.chair, (chairs-member (role_in t.accounts (Some stamp.maker)) work.chair, (c.clear, (work.phase, (c.standing, tt))))))
+      judged-none (tag_checks (stands (Some p)) (named (Some p)) (is_for_chairs tag)) (tag_drawn stamp p tag on) (
+        c.there,
+        (
+          not-for (is_for_chairs tag) (is_chair (role_in t.accounts (Some stamp.maker))) work.chair,
+          (
+            chairs-member (role_in t.accounts (Some stamp.maker)) work.chair,
+            (c.clear, (work.phase, (c.standing, tt))),
+          ),
+        ),
+      )
 
 -- the paper that the entry is about: it has a number that rows tell
 pub record OnClear (t : Tables) (user : ℕ) : Type 0 where
@@ -176,30 +207,60 @@ pub record OnClear (t : Tables) (user : ℕ) : Type 0 where
   pub high : paper ≤ 9999
   pub clear : IsClear t user paper
 
-pub drawn-clear : (t : Tables) (stamp : Stamp) (e : Entry) → may_bulk t stamp.maker ≡ true → IsBoundedEntry (unfinished stamp e) → IsDrawn t stamp e → OnClear t stamp.maker
+pub drawn-clear : (t : Tables) (stamp : Stamp) (e : Entry) → may_bulk t stamp.maker ≡ true
+    → IsBoundedEntry (unfinished stamp e) → IsDrawn t stamp e → OnClear t stamp.maker
 drawn-clear t stamp (Conflict p v on) may bounded d =
     let name = with-name (name_told t v) (λ name. SetConflict (Some p) (Some name) on) d.command d.told in
-    let k = row-judges t stamp (SetConflict (Some p) (Some name.0) on) d.drawn (ap (λ (c : Command). row_judged_at t stamp c) name.2 ∙ d.accepted) in
-    record { paper = p; low = bounded.n1.0; high = bounded.n1.1; clear = conflict-clear t stamp (at-work t stamp.maker may) p name.0 on d.drawn k.0 k.1 }
+    let k = row-judges t stamp (SetConflict (Some p) (Some name.0) on) d.drawn
+    (ap (λ (c : Command). row_judged_at t stamp c) name.2 ∙ d.accepted) in
+    record {
+      paper = p;
+      low = bounded.n1.0;
+      high = bounded.n1.1;
+      clear = conflict-clear t stamp (at-work t stamp.maker may) p name.0 on d.drawn k.0 k.1;
+    }
 drawn-clear t stamp (Assigned p v kind ordinal) may bounded d =
     let name = with-name (name_told t v) (λ name. Assign (Some p) (Some name) kind) d.command d.told in
-    let k = row-judges t stamp (Assign (Some p) (Some name.0) kind) d.drawn (ap (λ (c : Command). row_judged_at t stamp c) name.2 ∙ d.accepted) in
-    record { paper = p; low = bounded.n1.0; high = bounded.n1.1; clear = assign-clear t stamp (at-work t stamp.maker may) p name.0 kind d.drawn k.1 }
+    let k = row-judges t stamp (Assign (Some p) (Some name.0) kind) d.drawn
+    (ap (λ (c : Command). row_judged_at t stamp c) name.2 ∙ d.accepted) in
+    record {
+      paper = p;
+      low = bounded.n1.0;
+      high = bounded.n1.1;
+      clear = assign-clear t stamp (at-work t stamp.maker may) p name.0 kind d.drawn k.1;
+    }
 drawn-clear t stamp (Unassigned p v ordinal) may bounded d =
     let name = with-name (name_told t v) (λ name. Unassign (Some p) (Some name)) d.command d.told in
-    let k = row-judges t stamp (Unassign (Some p) (Some name.0)) d.drawn (ap (λ (c : Command). row_judged_at t stamp c) name.2 ∙ d.accepted) in
-    record { paper = p; low = bounded.n1.0; high = bounded.n1.1; clear = unassign-clear t stamp (at-work t stamp.maker may) p name.0 d.drawn k.1 }
+    let k = row-judges t stamp (Unassign (Some p) (Some name.0)) d.drawn
+    (ap (λ (c : Command). row_judged_at t stamp c) name.2 ∙ d.accepted) in
+    record {
+      paper = p;
+      low = bounded.n1.0;
+      high = bounded.n1.1;
+      clear = unassign-clear t stamp (at-work t stamp.maker may) p name.0 d.drawn k.1;
+    }
 drawn-clear t stamp (Tagged p tag on) may bounded d =
     let same = some_is (Tag (Some p) tag on) d.command d.told in
-    let k = row-judges t stamp (Tag (Some p) tag on) d.drawn (ap (λ (c : Command). row_judged_at t stamp c) same ∙ d.accepted) in
-    record { paper = p; low = bounded.n1.0; high = bounded.n1.1; clear = tag-clear t stamp (at-work t stamp.maker may) p tag on d.drawn k.1 }
+    let k = row-judges t stamp (Tag (Some p) tag on) d.drawn
+    (ap (λ (c : Command). row_judged_at t stamp c) same ∙ d.accepted) in
+    record {
+      paper = p;
+      low = bounded.n1.0;
+      high = bounded.n1.1;
+      clear = tag-clear t stamp (at-work t stamp.maker may) p tag on d.drawn k.1;
+    }
 drawn-clear t stamp e may bounded d = absurd (none_some d.command d.told)
 
 -- ---- what stays behind a row
 
 -- a row's conflict is another user's
-other-user : (t : Tables) (stamp : Stamp) (p v : ℕ) (on : Bool) → IsDrawn t stamp (Conflict p v on) → eqb v stamp.maker ≡ false
-other-user t stamp p v on d = by target refl (judged-Ok (conflict_checks _ _ (target_named (facts_of_tables t (Some stamp.maker)) (shown_in_tables t) (Some stamp.maker) (Some p) target) on _) (conflict_drawn stamp p (unwrap_or target 0) on) d.drawn k.1)
+other-user : (t : Tables) (stamp : Stamp) (p v : ℕ) (on : Bool) → IsDrawn t stamp (Conflict p v on)
+    → eqb v stamp.maker ≡ false
+other-user t stamp p v on d =
+    by target refl
+    (judged-Ok
+    (conflict_checks _ _ (target_named (facts_of_tables t (Some stamp.maker)) (shown_in_tables t) (Some stamp.maker)
+    (Some p) target) on _) (conflict_drawn stamp p (unwrap_or target 0) on) d.drawn k.1)
   where
     name : (name : List ℕ) × (name_told t v ≡ Some name) × (SetConflict (Some p) (Some name) on ≡ d.command)
     name = with-name (name_told t v) (λ name. SetConflict (Some p) (Some name) on) d.command d.told
@@ -207,17 +268,30 @@ other-user t stamp p v on d = by target refl (judged-Ok (conflict_checks _ _ (ta
     target : Option ℕ
     target = user_among (lines_of t.accounts) (Some name.0)
 
-    k : (is_number target stamp.maker ≡ false) × (judge_by_role t (call_by stamp (SetConflict (Some p) (Some name.0) on)) ≡ Ok d.drawn)
-    k = row-judges t stamp (SetConflict (Some p) (Some name.0) on) d.drawn (ap (λ (c : Command). row_judged_at t stamp c) name.2 ∙ d.accepted)
+    k : (is_number target stamp.maker ≡ false)
+        × (judge_by_role t (call_by stamp (SetConflict (Some p) (Some name.0) on)) ≡ Ok d.drawn)
+    k = row-judges t stamp (SetConflict (Some p) (Some name.0) on) d.drawn
+        (ap (λ (c : Command). row_judged_at t stamp c) name.2 ∙ d.accepted)
 
     conflict_is : (w : ℕ) → Conflict p w on ∷ [] ≡ Conflict p v on ∷ [] → w ≡ v
     conflict_is w e = cc (e)
 
-    by : (o : Option ℕ) → target ≡ o → NoneBroken (conflict_checks (standing_at t (Some stamp.maker) (Some p)) (paper_named (facts_of_tables t (Some stamp.maker)) (shown_in_tables t) (Some p)) (target_named (facts_of_tables t (Some stamp.maker)) (shown_in_tables t) (Some stamp.maker) (Some p) target) on (is_late (facts_of_tables t (Some stamp.maker)) stamp.at))
+    by : (o : Option ℕ) → target ≡ o → NoneBroken
+        (conflict_checks (standing_at t (Some stamp.maker) (Some p))
+        (paper_named (facts_of_tables t (Some stamp.maker)) (shown_in_tables t) (Some p))
+        (target_named (facts_of_tables t (Some stamp.maker)) (shown_in_tables t) (Some stamp.maker) (Some p) target) on
+        (is_late (facts_of_tables t (Some stamp.maker)) stamp.at))
         × (conflict_drawn stamp p (unwrap_or target 0) on ≡ d.drawn) → eqb v stamp.maker ≡ false
-    by None is kept = absurd (true≢false (ap (λ (o : Option ℕ). is_none (target_named (facts_of_tables t (Some stamp.maker)) (shown_in_tables t) (Some stamp.maker) (Some p) o)) (sym is) ∙ kept.0.1.0))
+    by None is kept =
+        absurd
+        (true≢false
+        (ap
+        (λ (o : Option ℕ). is_none (target_named (facts_of_tables t (Some stamp.maker)) (shown_in_tables t)
+        (Some stamp.maker) (Some p) o)) (sym is) ∙ kept.0.1.0))
     by (Some w) is kept =
-        let same : w ≡ v = conflict_is w (ap (λ (o : Option ℕ). entries_of (conflict_drawn stamp p (unwrap_or o 0) on).group) (sym is) ∙ ap (λ (d : Drawn). entries_of d.group) kept.1 ∙ d.adds) in
+        let same : w ≡ v =
+        conflict_is w (ap (λ (o : Option ℕ). entries_of (conflict_drawn stamp p (unwrap_or o 0) on).group) (sym is)
+        ∙ ap (λ (d : Drawn). entries_of d.group) kept.1 ∙ d.adds) in
         ap (λ (n : ℕ). eqb n stamp.maker) (sym same) ∙ ap (λ (o : Option ℕ). is_number o stamp.maker) (sym is) ∙ k.0
 
 either : (a b : Bool) → (a || b) ≡ false → (a ≡ false) × (b ≡ false)
@@ -231,28 +305,35 @@ left-false false = refl
 apart : (p user q v : ℕ) → eqb v user ≡ false → same_pair (pair_of p user) (pair_of q v) ≡ false
 apart p user q v h = grind (arith, nat_tests, h)
 
-kept-clear : (t : Tables) (stamp : Stamp) (e : Entry) (p : ℕ) → IsDrawn t stamp e → IsClear t stamp.maker p → IsClear (tables_after t (unfinished stamp e)) stamp.maker p
+kept-clear : (t : Tables) (stamp : Stamp) (e : Entry) (p : ℕ) → IsDrawn t stamp e → IsClear t stamp.maker p
+    → IsClear (tables_after t (unfinished stamp e)) stamp.maker p
 kept-clear t stamp (Conflict q v on) p d c = record {
   there = c.there;
   clear = ap (λ (b : Bool). b || has_pair (pair_of p stamp.maker) (switched on q v t.ties.conflicts)) before.0 ∙ by on;
   standing = c.standing;
 }
   where
-    before : (is_author_in t.ties (Some stamp.maker) p ≡ false) × (has_pair (pair_of p stamp.maker) t.ties.conflicts ≡ false)
-    before = either (is_author_in t.ties (Some stamp.maker) p) (has_pair (pair_of p stamp.maker) t.ties.conflicts) c.clear
+    before : (is_author_in t.ties (Some stamp.maker) p ≡ false)
+        × (has_pair (pair_of p stamp.maker) t.ties.conflicts ≡ false)
+    before =
+        either (is_author_in t.ties (Some stamp.maker) p) (has_pair (pair_of p stamp.maker) t.ties.conflicts) c.clear
 
     other : same_pair (pair_of p stamp.maker) (pair_of q v) ≡ false
     other = apart p stamp.maker q v (other-user t stamp q v on d)
 
     by : (on : Bool) → has_pair (pair_of p stamp.maker) (switched on q v t.ties.conflicts) ≡ false
-    by true = has_pair-with_tie ByPaper (pair_of p stamp.maker) (bare_tie q v) t.ties.conflicts ∙ ap (λ (b : Bool). b || has_pair (pair_of p stamp.maker) t.ties.conflicts) other ∙ before.1
-    by false = has_pair-without_pair (pair_of p stamp.maker) (pair_of q v) t.ties.conflicts ∙ ap (λ (b : Bool). not (same_pair (pair_of p stamp.maker) (pair_of q v)) && b) before.1 ∙ left-false _
-kept-clear t stamp (Assigned q v kind ordinal) p d c = record { there = c.there; clear = c.clear; standing = c.standing }
+    by true = has_pair-with_tie ByPaper (pair_of p stamp.maker) (bare_tie q v) t.ties.conflicts
+        ∙ ap (λ (b : Bool). b || has_pair (pair_of p stamp.maker) t.ties.conflicts) other ∙ before.1
+    by false = has_pair-without_pair (pair_of p stamp.maker) (pair_of q v) t.ties.conflicts
+        ∙ ap (λ (b : Bool). not (same_pair (pair_of p stamp.maker) (pair_of q v)) && b) before.1 ∙ left-false _
+kept-clear t stamp (Assigned q v kind ordinal) p d c =
+    record { there = c.there; clear = c.clear; standing = c.standing }
 kept-clear t stamp (Unassigned q v ordinal) p d c = record { there = c.there; clear = c.clear; standing = c.standing }
 kept-clear t stamp (Tagged q tag on) p d c = record { there = c.there; clear = c.clear; standing = c.standing }
 kept-clear t stamp e p d c = absurd (none_some d.command d.told)
 
-pub kept-may : (t : Tables) (stamp : Stamp) (e : Entry) → is_of_row e ≡ true → may_bulk t stamp.maker ≡ true → may_bulk (tables_after t (unfinished stamp e)) stamp.maker ≡ true
+pub kept-may : (t : Tables) (stamp : Stamp) (e : Entry) → is_of_row e ≡ true → may_bulk t stamp.maker ≡ true
+    → may_bulk (tables_after t (unfinished stamp e)) stamp.maker ≡ true
 kept-may t stamp (Conflict q v on) of_row may = may
 kept-may t stamp (Assigned q v kind ordinal) of_row may = may
 kept-may t stamp (Unassigned q v ordinal) of_row may = may
@@ -262,7 +343,8 @@ kept-may t stamp e of_row may = absurd (true≢false (sym of_row))
 -- ---- one more row
 
 -- behind all entries a tag on such a paper is drawn as well
-pub tag-next : (t : Tables) (stamp : Stamp) (entries : List Entry) (p : ℕ) (tag : List ℕ) (on : Bool) → may_bulk t stamp.maker ≡ true → IsClear t stamp.maker p → AreDrawn t stamp entries
+pub tag-next : (t : Tables) (stamp : Stamp) (entries : List Entry) (p : ℕ) (tag : List ℕ) (on : Bool)
+    → may_bulk t stamp.maker ≡ true → IsClear t stamp.maker p → AreDrawn t stamp entries
     → AreDrawn t stamp (entries ++ Tagged p tag on ∷ [])
 tag-next t stamp [] p tag on may c drawn = (
   record {
@@ -274,5 +356,9 @@ tag-next t stamp [] p tag on may c drawn = (
   },
   tt,
 )
-tag-next t stamp (e ∷ entries) p tag on may c drawn =
-    (drawn.0, tag-next (tables_after t (unfinished stamp e)) stamp entries p tag on (kept-may t stamp e (told-of_row t e drawn.0.command drawn.0.told) may) (kept-clear t stamp e p drawn.0 c) drawn.1)
+tag-next t stamp (e ∷ entries) p tag on may c drawn = (
+  drawn.0,
+  tag-next (tables_after t (unfinished stamp e)) stamp entries p tag on
+      (kept-may t stamp e (told-of_row t e drawn.0.command drawn.0.told) may) (kept-clear t stamp e p drawn.0 c)
+      drawn.1,
+)

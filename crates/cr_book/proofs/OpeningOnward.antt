@@ -39,14 +39,16 @@ pub record Onward (log : History) (rows : List Row) : Type 0 where
   pub spelled : rows_of (group ++ further) ≡ rows ++ after
 
 -- rows behind a legal history's that continue a legal history are such
-pub onward : (log : History) (pending : List Row) (row : Row) → Legal log → Continue (rows_of log ++ (pending ++ row ∷ [])) → Onward log (pending ++ row ∷ [])
+pub onward : (log : History) (pending : List Row) (row : Row) → Legal log
+    → Continue (rows_of log ++ (pending ++ row ∷ [])) → Onward log (pending ++ row ∷ [])
 onward log pending row legal goes = or (legal-next log goes.history split.0 legal goes.legal split.1)
   where
     rows : List Row
     rows = pending ++ row ∷ []
 
     split : (tail : History) × (goes.history ≡ log ++ tail) × (rows_of tail ≡ rows ++ goes.after)
-    split = rows-split log goes.history (rows ++ goes.after) (legal-bounded log legal) (legal-bounded goes.history goes.legal) (goes.rows_are ∙ append_assoc (rows_of log) rows goes.after)
+    split = rows-split log goes.history (rows ++ goes.after) (legal-bounded log legal)
+        (legal-bounded goes.history goes.legal) (goes.rows_are ∙ append_assoc (rows_of log) rows goes.after)
 
     nothing : log ≡ goes.history → split.0 ≡ []
     nothing same = append_cancel_left log split.0 [] (sym split.1 ∙ sym same ∙ sym (append-nil log))
@@ -55,12 +57,15 @@ onward log pending row legal goes = or (legal-next log goes.history split.0 lega
     or (inl same) = absurd (some_rows pending row goes.after (ap rows_of (sym (nothing same)) ∙ split.2))
     or (inr next) =
         let further = next-extends log goes.history next in
-        let tail : split.0 ≡ next.group ++ further.0 = append_cancel_left log split.0 (next.group ++ further.0) (sym split.1 ∙ further.1 ∙ append_assoc log next.group further.0) in
+        let tail : split.0 ≡ next.group ++ further.0 = append_cancel_left log split.0 (next.group ++ further.0)
+        (sym split.1 ∙ further.1 ∙ append_assoc log next.group further.0) in
         record {
           group = next.group;
           move = next.add;
           further = further.0;
-          bounded = last-bounded log (next.group ++ further.0) (subst (λ (h : History). AllByRecursion IsBoundedEntry h) (further.1 ∙ append_assoc log next.group further.0) (legal-bounded goes.history goes.legal));
+          bounded = last-bounded log (next.group ++ further.0)
+              (subst (λ (h : History). AllByRecursion IsBoundedEntry h)
+              (further.1 ∙ append_assoc log next.group further.0) (legal-bounded goes.history goes.legal));
           after = goes.after;
           spelled = ap rows_of (sym tail) ∙ split.2;
         }

@@ -1,5 +1,6 @@
 -- Rows that spell entries, and entries that make a group: how far one list goes, where two begin alike.
-use Rattle.std.proofs.Common.{true, false, cond, ◌≡◌, List, [], ◌∷◌, ◌++◌, length, take, refl, sym, ap, subst, ◌∙◌, arith, get_or, Option, None, Some, ◌<◌}
+use Rattle.std.proofs.Common.{true, false, cond, ◌≡◌, List, [], ◌∷◌, ◌++◌, length, take, refl, sym, ap, subst, ◌∙◌}
+use Rattle.std.proofs.Common.{arith, get_or, Option, None, Some, ◌<◌}
 use Rattle.std.specs.List.{AllByRecursion, slice_get}
 use Rattle.std.specs.Option.{option_map}
 use Rattle.std.proofs.lemmas.Bool.{true≢false}
@@ -27,12 +28,17 @@ empty_not : {A : Type 0} (x : A) (xs : List A) → [] ≡ x ∷ xs → ⊥
 empty_not x xs e = cc (e)
 
 -- a history whose rows begin with another's begins with it
-pub rows-split : (G H : History) (after : List Row) → AllByRecursion IsBoundedEntry G → AllByRecursion IsBoundedEntry H → rows_of H ≡ rows_of G ++ after → (tail : History) × (H ≡ G ++ tail) × (rows_of tail ≡ after)
+pub rows-split : (G H : History) (after : List Row) → AllByRecursion IsBoundedEntry G → AllByRecursion IsBoundedEntry H
+    → rows_of H ≡ rows_of G ++ after → (tail : History) × (H ≡ G ++ tail) × (rows_of tail ≡ after)
 rows-split [] H after bg bh e = (H, refl, e)
 rows-split (g ∷ G) [] after bg bh e = absurd (empty_not (row_of g) (rows_of G ++ after) e)
 rows-split (g ∷ G) (h ∷ H) after bg bh e =
-    let rest = rows-split G H after bg.1 bh.1 (tail_is (row_of h) (row_of g) (rows_of H) (rows_of G ++ after) e) in
-    (rest.0, cons_is h g H (G ++ rest.0) (same_entry h g bh.0 bg.0 (head_is (row_of h) (row_of g) (rows_of H) (rows_of G ++ after) e)) rest.1, rest.2)
+    let rest = rows-split G H after bg.1 bh.1 (tail_is (row_of h) (row_of g) (rows_of H) (rows_of G ++ after) e) in (
+      rest.0,
+      cons_is h g H (G ++ rest.0) (same_entry h g bh.0 bg.0
+          (head_is (row_of h) (row_of g) (rows_of H) (rows_of G ++ after) e)) rest.1,
+      rest.2,
+    )
 
 -- the stamp of an entry within its bounds is within its own: it is the one that the entry's row spells
 pub bounded-stamp : (s : Stamped) → IsBoundedEntry s → FitsStamp s.stamp
@@ -70,15 +76,20 @@ not_open e p same last o =
     omega (arith, zero, one)
 
 -- rows of which all but the last are open go no farther than the group that begins like them
-pub group-covers : (g : History) (pending : List Row) (row : Row) (a b : List Row) → IsGroup g → AllByRecursion IsOpen pending → rows_of g ++ a ≡ (pending ++ row ∷ []) ++ b → take (length (pending ++ row ∷ [])) (rows_of g) ≡ pending ++ row ∷ []
+pub group-covers : (g : History) (pending : List Row) (row : Row) (a b : List Row) → IsGroup g
+    → AllByRecursion IsOpen pending → rows_of g ++ a ≡ (pending ++ row ∷ []) ++ b
+    → take (length (pending ++ row ∷ [])) (rows_of g) ≡ pending ++ row ∷ []
 group-covers [] pending row a b ig o s = elim ig [ ]
 group-covers (e ∷ g) [] row a b ig o s = ap (λ x. x ∷ []) (head_is (row_of e) row (rows_of g ++ a) b s)
-group-covers (e ∷ []) (p ∷ ps) row a b ig o s = absurd (not_open e p (head_is (row_of e) p a ((ps ++ row ∷ []) ++ b) s) ig o.0)
+group-covers (e ∷ []) (p ∷ ps) row a b ig o s =
+    absurd (not_open e p (head_is (row_of e) p a ((ps ++ row ∷ []) ++ b) s) ig o.0)
 group-covers (e ∷ e' ∷ g) (p ∷ ps) row a b ig o s =
-    cons_is (row_of e) p (take (length (ps ++ row ∷ [])) (rows_of (e' ∷ g))) (ps ++ row ∷ []) (head_is (row_of e) p (rows_of (e' ∷ g) ++ a) ((ps ++ row ∷ []) ++ b) s)
+    cons_is (row_of e) p (take (length (ps ++ row ∷ [])) (rows_of (e' ∷ g))) (ps ++ row ∷ [])
+    (head_is (row_of e) p (rows_of (e' ∷ g) ++ a) ((ps ++ row ∷ []) ++ b) s)
     (group-covers (e' ∷ g) ps row a b ig.1 o.1 (tail_is (row_of e) p (rows_of (e' ∷ g) ++ a) ((ps ++ row ∷ []) ++ b) s))
 
 -- the row that is read first
-pub first-row : (rows : List Row) (row spelled : Row) → 0 < length rows → row ≡ get_or rows 0 row → spelled ≡ row → slice_get rows 0 ≡ Some spelled
+pub first-row : (rows : List Row) (row spelled : Row) → 0 < length rows → row ≡ get_or rows 0 row → spelled ≡ row
+    → slice_get rows 0 ≡ Some spelled
 first-row [] row spelled some here is = absurd (omega (arith, some))
 first-row (r ∷ rows) row spelled some here is = ap Some (sym (is ∙ here))

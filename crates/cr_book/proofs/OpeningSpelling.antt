@@ -1,5 +1,6 @@
 -- The rows of a bulk that spell given commands.
-use Rattle.std.proofs.Common.{ℕ, Bool, true, false, ◌≡◌, ◌≤◌, List, [], ap, ◌∙◌, Option, Some, None, Result, Ok, Err, cond}
+use Rattle.std.proofs.Common.{ℕ, Bool, true, false, ◌≡◌, ◌≤◌, List, [], ap, ◌∙◌, Option, Some, None, Result, Ok, Err}
+use Rattle.std.proofs.Common.{cond}
 use Rattle.std.specs.Prelude.{codes}
 use Rattle.std.specs.Fmt.{decimal}
 use Rattle.cr_base.specs.declared.bulk.BulkRow.{BulkRow}
@@ -31,7 +32,8 @@ Spelled command = (row : BulkRow) × (row_command row ≡ Ok command)
 module _ (p : ℕ) (low : 1 ≤ p) (high : p ≤ 9999) where
   module _ (name : List ℕ) (is : is_name name ≡ true) where
     told : (made : Option ℕ → Option (List ℕ) → Command)
-        → ◌≡◌ {A = Result Command Rule} (Ok (made (parse_paper (decimal p)) (parse_name name))) (Ok (made (Some p) (Some name)))
+        → ◌≡◌ {A = Result Command Rule} (Ok (made (parse_paper (decimal p)) (parse_name name)))
+        (Ok (made (Some p) (Some name)))
     told made =
         ap (λ (o : Option ℕ). Ok (made o (parse_name name))) (paper-spelt p low high)
         ∙ ap (λ (b : Bool). Ok (made (Some p) (cond b (Some name) None))) is
@@ -39,7 +41,8 @@ module _ (p : ℕ) (low : 1 ≤ p) (high : p ≤ 9999) where
     pub assign-spelled : (kind : Kind) → Spelled (commands.Assign (Some p) (Some name) kind)
     unfolding row_command
     assign-spelled Primary = (of_user (codes "primary") p name, told (λ paper user. commands.Assign paper user Primary))
-    assign-spelled Secondary = (of_user (codes "secondary") p name, told (λ paper user. commands.Assign paper user Secondary))
+    assign-spelled Secondary =
+        (of_user (codes "secondary") p name, told (λ paper user. commands.Assign paper user Secondary))
     assign-spelled Pc = (of_user (codes "pcreview") p name, told (λ paper user. commands.Assign paper user Pc))
 
     pub unassign-spelled : Spelled (commands.Unassign (Some p) (Some name))
@@ -48,11 +51,14 @@ module _ (p : ℕ) (low : 1 ≤ p) (high : p ≤ 9999) where
 
     pub conflict-spelled : (on : Bool) → Spelled (commands.SetConflict (Some p) (Some name) on)
     unfolding row_command
-    conflict-spelled true = (of_user (codes "conflict") p name, told (λ paper user. commands.SetConflict paper user true))
-    conflict-spelled false = (of_user (codes "clearconflict") p name, told (λ paper user. commands.SetConflict paper user false))
+    conflict-spelled true =
+        (of_user (codes "conflict") p name, told (λ paper user. commands.SetConflict paper user true))
+    conflict-spelled false =
+        (of_user (codes "clearconflict") p name, told (λ paper user. commands.SetConflict paper user false))
 
   tagged : (tag : List ℕ) (on : Bool) → is_tag tag ≡ true
-      → ◌≡◌ {A = Result Command Rule} (cond (is_tag tag) (Ok (commands.Tag (parse_paper (decimal p)) tag on)) (Err rules.BadTag)) (Ok (commands.Tag (Some p) tag on))
+      → ◌≡◌ {A = Result Command Rule} (cond (is_tag tag) (Ok (commands.Tag (parse_paper (decimal p)) tag on))
+      (Err rules.BadTag)) (Ok (commands.Tag (Some p) tag on))
   tagged tag on is =
       ap (λ (b : Bool). cond b (Ok (commands.Tag (parse_paper (decimal p)) tag on)) (Err rules.BadTag)) is
       ∙ ap (λ (o : Option ℕ). Ok (commands.Tag o tag on)) (paper-spelt p low high)

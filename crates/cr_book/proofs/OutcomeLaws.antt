@@ -1,5 +1,6 @@
 -- What a command or a bulk comes to, by what was looked up and what was judged.
-use Rattle.std.proofs.Common.{◌≡◌, true, false, List, refl, sym, ap, subst, ◌∙◌, Option, None, Some, Result, Ok, Err, IfOk, IsOk, IsSome}
+use Rattle.std.proofs.Common.{◌≡◌, true, false, List, refl, sym, ap, subst, ◌∙◌, Option, None, Some, Result, Ok, Err}
+use Rattle.std.proofs.Common.{IfOk, IsOk, IsSome}
 use Rattle.std.proofs.lemmas.Result.{IfOk-weaker}
 use Rattle.cr_base.specs.declared.bulk.Broken.{Broken}
 use Rattle.cr_base.specs.declared.bulk.Broken.TheVariants as broken
@@ -24,15 +25,19 @@ use Rattle.cr_book.proofs.EarlierLaws.{decided, decided_bulk}
 -- ---- by what the book looks up
 
 -- a command's outcome on its caller's view
-pub command-outcome : {K : Type 0} (rows : K → Option (List Row)) (h log : History) (t : Tables) (keeper : K) (call : Call) (found : Earlier)
+pub command-outcome : {K : Type 0} (rows : K → Option (List Row)) (h log : History) (t : Tables) (keeper : K)
+    (call : Call) (found : Earlier)
     → h ≡ log → IsSound rows h t keeper → found ≡ earlier_of false call.key (kept_by t call.caller h)
     → decide (view call.caller log) call ≡ outcome_by rules.NumberUsed found (judge (view call.caller log) call)
 command-outcome rows h log t keeper call found same sound is =
-    subst (λ (x : History). decide (view call.caller x) call ≡ outcome_by rules.NumberUsed found (judge (view call.caller x) call)) same
-    (decided h t sound.legal sound.same call ∙ ap (λ (e : Earlier). outcome_by rules.NumberUsed e (judge (view call.caller h) call)) (sym is))
+    subst (λ (x : History). decide (view call.caller x) call ≡ outcome_by rules.NumberUsed found
+    (judge (view call.caller x) call)) same
+    (decided h t sound.legal sound.same call
+    ∙ ap (λ (e : Earlier). outcome_by rules.NumberUsed e (judge (view call.caller h) call)) (sym is))
 
 -- and a bulk's
-pub bulk-outcome : {K : Type 0} (rows : K → Option (List Row)) (h log : History) (t : Tables) (keeper : K) (bulk : BulkCall) (found : Earlier)
+pub bulk-outcome : {K : Type 0} (rows : K → Option (List Row)) (h log : History) (t : Tables) (keeper : K)
+    (bulk : BulkCall) (found : Earlier)
     → h ≡ log → IsSound rows h t keeper → found ≡ earlier_of true bulk.stamp.key (kept_by t (Some bulk.stamp.maker) h)
     → decide_bulk (view (Some bulk.stamp.maker) log) bulk
     ≡ outcome_by (broken.Rule rules.NumberUsed) found (judge_bulk (view (Some bulk.stamp.maker) log) bulk)
@@ -40,12 +45,14 @@ bulk-outcome rows h log t keeper bulk found same sound is =
     subst (λ (x : History). decide_bulk (view (Some bulk.stamp.maker) x) bulk
     ≡ outcome_by (broken.Rule rules.NumberUsed) found (judge_bulk (view (Some bulk.stamp.maker) x) bulk)) same
     (decided_bulk h t sound.legal sound.same bulk
-    ∙ ap (λ (e : Earlier). outcome_by (broken.Rule rules.NumberUsed) e (judge_bulk (view (Some bulk.stamp.maker) h) bulk)) (sym is))
+    ∙ ap (λ (e : Earlier). outcome_by (broken.Rule rules.NumberUsed) e
+    (judge_bulk (view (Some bulk.stamp.maker) h) bulk)) (sym is))
 
 -- ---- where it was judged
 
 module _ {E : Type 0} (outcome : Outcome E) (judgement : Result Drawn E) (is : outcome ≡ Judged judgement) where
-  pub judged-acts : (old new : History) (result : Result Receipt (BookError E)) → IfOk result (λ receipt. Acts (Judged judgement) old new receipt)
+  pub judged-acts : (old new : History) (result : Result Receipt (BookError E))
+      → IfOk result (λ receipt. Acts (Judged judgement) old new receipt)
       → IfOk result (λ receipt. Acts outcome old new receipt)
   judged-acts old new result acts =
       IfOk-weaker result _ _ (λ receipt did. subst (λ (o : Outcome E). Acts o old new receipt) (sym is) did) acts
@@ -86,10 +93,12 @@ module _ {E : Type 0} (outcome : Outcome E) (receipt : Receipt) (is : outcome �
   pub repeat-acts : (old new : History) → new ≡ old → Acts outcome old new receipt
   repeat-acts old new same = subst (λ (o : Outcome E). Acts o old new receipt) (sym is) (refl, same)
 
-  pub repeat-told : (told : Receipt) → outcome ≡ Repeats told → ◌≡◌ {A = Result Receipt (BookError E)} (Ok receipt) (Ok told)
+  pub repeat-told : (told : Receipt) → outcome ≡ Repeats told
+      → ◌≡◌ {A = Result Receipt (BookError E)} (Ok receipt) (Ok told)
   repeat-told told repeats = same (sym is ∙ repeats)
     where
-      same : ◌≡◌ {A = Outcome E} (Repeats receipt) (Repeats told) → ◌≡◌ {A = Result Receipt (BookError E)} (Ok receipt) (Ok told)
+      same : ◌≡◌ {A = Outcome E} (Repeats receipt) (Repeats told)
+          → ◌≡◌ {A = Result Receipt (BookError E)} (Ok receipt) (Ok told)
       same e = cc (e)
 
   pub repeat-draws_nothing : (drawn : Drawn) → drawn_by outcome ≡ Some drawn → ⊥
@@ -106,14 +115,16 @@ module _ {E : Type 0} (outcome : Outcome E) (receipt : Receipt) (is : outcome �
 
 -- what is refused is refused so
 module _ {E : Type 0} (outcome : Outcome E) (used : E) (is : outcome ≡ Judged (Err used)) where
-  pub used-told : (refusal : E) → outcome ≡ Judged (Err refusal) → ◌≡◌ {A = Result Receipt (BookError E)} (Err (errors.Broken used)) (Err (errors.Broken refusal))
+  pub used-told : (refusal : E) → outcome ≡ Judged (Err refusal)
+      → ◌≡◌ {A = Result Receipt (BookError E)} (Err (errors.Broken used)) (Err (errors.Broken refusal))
   used-told refusal told = same (sym is ∙ told)
     where
       same : ◌≡◌ {A = Outcome E} (Judged (Err used)) (Judged (Err refusal))
           → ◌≡◌ {A = Result Receipt (BookError E)} (Err (errors.Broken used)) (Err (errors.Broken refusal))
       same e = cc (e)
 
-  pub used-outcome : (refusal : E) → ◌≡◌ {A = Result Receipt (BookError E)} (Err (errors.Broken used)) (Err (errors.Broken refusal)) → outcome ≡ Judged (Err refusal)
+  pub used-outcome : (refusal : E) → ◌≡◌ {A = Result Receipt (BookError E)} (Err (errors.Broken used))
+      (Err (errors.Broken refusal)) → outcome ≡ Judged (Err refusal)
   used-outcome refusal told = let same : used ≡ refusal = cc (told) in is ∙ ap (λ (e : E). Judged (Err e)) same
 
   pub used-no_repeat : (receipt : Receipt) → outcome ≡ Repeats receipt → ⊥

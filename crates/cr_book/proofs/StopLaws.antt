@@ -16,18 +16,24 @@ use Rattle.cr_book.specs.Sound.{IsKept, IsSound}
 use Rattle.cr_book.specs.Stopping.{Adding, AddsOne, KeepsGroups, OpensAmid, StopsWell}
 
 -- where the rows are told, they are the history's
-told_opens : (opens : List ℕ → List Row → Type 0) (told : Option (List Row)) (log : History) (tried : List (List Row)) (image : List ℕ)
-    → IsTrue (is_some told) → IfSome told (λ rows. rows ≡ rows_of log) → OpensToTold opens told tried image → OpensTo opens (rows_of log) tried image
+told_opens : (opens : List ℕ → List Row → Type 0) (told : Option (List Row)) (log : History) (tried : List (List Row))
+    (image : List ℕ)
+    → IsTrue (is_some told) → IfSome told (λ rows. rows ≡ rows_of log) → OpensToTold opens told tried image
+    → OpensTo opens (rows_of log) tried image
 told_opens opens None log tried image there kept o = absurd (cc (there))
 told_opens opens (Some rows) log tried image there kept o = subst (λ (r : List Row). OpensTo opens r tried image) kept o
 
-first_of : (told : Option (List Row)) (log : History) → IfSome told (λ rows. rows_of log ≡ rows) → IfSome told (λ first. IsPrefix first (rows_of log))
+first_of : (told : Option (List Row)) (log : History) → IfSome told (λ rows. rows_of log ≡ rows)
+    → IfSome told (λ first. IsPrefix first (rows_of log))
 first_of None log spelled = tt
-first_of (Some rows) log spelled = subst (λ (r : List Row). IsPrefix r (rows_of log)) spelled (prefix_self (rows_of log))
+first_of (Some rows) log spelled =
+    subst (λ (r : List Row). IsPrefix r (rows_of log)) spelled (prefix_self (rows_of log))
 
 -- rows that are spelled are kept
-pub spelled_kept : (told now : Option (List Row)) (log : History) → now ≡ told → IfSome told (λ rows. rows_of log ≡ rows) → IfSome now (λ rows. rows ≡ rows_of log)
-spelled_kept told now log same spelled = subst (λ (o : Option (List Row)). IfSome o (λ rows. rows ≡ rows_of log)) (sym same) (turned told spelled)
+pub spelled_kept : (told now : Option (List Row)) (log : History) → now ≡ told
+    → IfSome told (λ rows. rows_of log ≡ rows) → IfSome now (λ rows. rows ≡ rows_of log)
+spelled_kept told now log same spelled =
+    subst (λ (o : Option (List Row)). IfSome o (λ rows. rows ≡ rows_of log)) (sym same) (turned told spelled)
   where
     turned : (o : Option (List Row)) → IfSome o (λ rows. rows_of log ≡ rows) → IfSome o (λ rows. rows ≡ rows_of log)
     turned None is = tt
@@ -44,15 +50,19 @@ module _ {K : Type 0} (rows : K → Option (List Row)) (tried : K → List (List
   -- a book that was opened just now
   pub opened_well : (keeper now : K) (log : History) → IsTrue (is_some (rows keeper)) → Legal log
       → IfSome (rows keeper) (λ told. rows_of log ≡ told) → now ≡ keeper
-      → ((image : List ℕ) → left_since keeper (moment keeper) image → OpensToTold opens (rows keeper) (tried keeper) image)
+      → ((image : List ℕ) → left_since keeper (moment keeper) image → OpensToTold opens (rows keeper) (tried keeper)
+      image)
       → StopsWell rows tried moment left_since opens keeper now log
   opened_well keeper now log there legal spelled same between =
       subst (λ (k : K). StopsWell rows tried moment left_since opens keeper k log) (sym same) well
     where
-      now_opens : (image : List ℕ) → left_since keeper (moment keeper) image → OpensTo opens (rows_of log) (tried keeper) image
-      now_opens image left = told_opens opens (rows keeper) log (tried keeper) image there (spelled_kept (rows keeper) (rows keeper) log refl spelled) (between image left)
+      now_opens : (image : List ℕ) → left_since keeper (moment keeper) image
+          → OpensTo opens (rows_of log) (tried keeper) image
+      now_opens image left = told_opens opens (rows keeper) log (tried keeper) image there
+          (spelled_kept (rows keeper) (rows keeper) log refl spelled) (between image left)
 
-      amid : tried keeper ≡ [] → (image : List ℕ) → left_since keeper (moment keeper) image → OpensAmid opens (rows keeper) log image
+      amid : tried keeper ≡ [] → (image : List ℕ) → left_since keeper (moment keeper) image
+          → OpensAmid opens (rows keeper) log image
       amid none image left = record {
         history = log;
         legal = legal;
@@ -76,7 +86,8 @@ module _ {K : Type 0} (rows : K → Option (List Row)) (tried : K → List (List
   -- what a stop leaves while a group is being kept opens to the rows of the history or to these and one group
   amid_of : (opened old : K) (log group : History) → Legal log → AddsOne log group
       → KeepsGroups rows tried moment left_since opens opened old log
-      → (image : List ℕ) → OpensTo opens (rows_of log) (rows_of group ∷ tried old) image → OpensAmid opens (rows opened) log image
+      → (image : List ℕ) → OpensTo opens (rows_of log) (rows_of group ∷ tried old) image
+      → OpensAmid opens (rows opened) log image
   amid_of opened old log group legal adds keeps image o = record {
     history = log;
     legal = legal;
@@ -101,7 +112,8 @@ module _ {K : Type 0} (rows : K → Option (List Row)) (tried : K → List (List
                 (subst (λ (r : List Row). opens image (rows_of log ++ r)) f.2 left),
           )
 
-  wider : (opened : K) (log group : History) (image : List ℕ) → OpensAmid opens (rows opened) log image → OpensAmid opens (rows opened) (log ++ group) image
+  wider : (opened : K) (log group : History) (image : List ℕ) → OpensAmid opens (rows opened) log image
+      → OpensAmid opens (rows opened) (log ++ group) image
   wider opened log group image a = record {
     history = a.history;
     legal = a.legal;
@@ -113,14 +125,16 @@ module _ {K : Type 0} (rows : K → Option (List Row)) (tried : K → List (List
   module _ (opened old new : K) (log group : History) (legal : Legal log) (adds : AddsOne log group)
       (stops : LeavesOnly moment left_since old new (OpensTo opens (rows_of log) (rows_of group ∷ tried old)))
       (well : StopsWell rows tried moment left_since opens opened old log) where
-    since_then : (none : tried opened ≡ []) (image : List ℕ) → left_since new (moment opened) image → OpensAmid opens (rows opened) log image
+    since_then : (none : tried opened ≡ []) (image : List ℕ) → left_since new (moment opened) image
+        → OpensAmid opens (rows opened) log image
     since_then none image left =
         ⊎_elim ((well.groups none).since image) (amid_of opened old log group legal adds (well.groups none) image)
         (stops.before (moment opened) image (well.groups none).later left)
 
     -- the group was kept
     pub kept_well : tried new ≡ []
-        → ((image : List ℕ) → left_since new (moment new) image → OpensTo opens (rows_of (log ++ group)) (tried new) image)
+        → ((image : List ℕ) → left_since new (moment new) image → OpensTo opens (rows_of (log ++ group)) (tried new)
+        image)
         → StopsWell rows tried moment left_since opens opened new (log ++ group)
     kept_well empty between = record {
       between = between;
@@ -146,13 +160,19 @@ module _ {K : Type 0} (rows : K → Option (List Row)) (tried : K → List (List
       };
     }
       where
-        follows : KeepsGroups rows tried moment left_since opens opened old log → (added : List Row) → IsAmong (tried new) added
+        follows : KeepsGroups rows tried moment left_since opens opened old log → (added : List Row)
+            → IsAmong (tried new) added
             → (tried new ≡ []) ⊎ ((tried new ≡ rows_of group ∷ []) ⊎ (tried new ≡ tried old))
             → (g : History) × AddsOne log g × (added ≡ rows_of g)
         follows keeps added among (inl empty) = absurd (subst (λ (l : List (List Row)). IsAmong l added) empty among)
-        follows keeps added among (inr (inl one)) =
-            (group, adds, ⊎_elim (λ is. is) (λ none. absurd none) (subst (λ (l : List (List Row)). IsAmong l added) one among))
-        follows keeps added among (inr (inr same)) = keeps.tried_follow added (subst (λ (l : List (List Row)). IsAmong l added) same among)
+        follows keeps added among (inr (inl one)) = (
+          group,
+          adds,
+          ⊎_elim (λ is. is) (λ none. absurd none)
+              (subst (λ (l : List (List Row)). IsAmong l added) one among),
+        )
+        follows keeps added among (inr (inr same)) =
+            keeps.tried_follow added (subst (λ (l : List (List Row)). IsAmong l added) same among)
 
   -- a call that did nothing to the keeper
   pub nothing_done : (keeper : K) (log group : History)
@@ -163,16 +183,19 @@ module _ {K : Type 0} (rows : K → Option (List Row)) (tried : K → List (List
       (λ image left. ⊎_elim (λ same. inl same) (λ one. inr (one.0, inr one.1, one.2)) (between image left))
 
   -- what a keeper says of the rows that it tells, said of the history
-  pub stops_of : (old new : K) (log group : History) (added : List Row) → IsTrue (is_some (rows old)) → IsKept rows old log → added ≡ rows_of group
+  pub stops_of : (old new : K) (log group : History) (added : List Row) → IsTrue (is_some (rows old))
+      → IsKept rows old log → added ≡ rows_of group
       → LeavesOnly moment left_since old new (OpensToTold opens (rows old) (added ∷ tried old))
       → LeavesOnly moment left_since old new (OpensTo opens (rows_of log) (rows_of group ∷ tried old))
   stops_of old new log group added there kept is stops =
-      weaken moment left_since old new (OpensToTold opens (rows old) (added ∷ tried old)) (OpensTo opens (rows_of log) (rows_of group ∷ tried old))
+      weaken moment left_since old new (OpensToTold opens (rows old) (added ∷ tried old))
+      (OpensTo opens (rows_of log) (rows_of group ∷ tried old))
       (λ image o. subst (λ (r : List Row). OpensTo opens (rows_of log) (r ∷ tried old) image) is
       (told_opens opens (rows old) log (added ∷ tried old) image there kept o)) stops
 
   pub between_of : (keeper : K) (log : History) → IsTrue (is_some (rows keeper)) → IsKept rows keeper log
-      → ((image : List ℕ) → left_since keeper (moment keeper) image → OpensToTold opens (rows keeper) (tried keeper) image)
+      → ((image : List ℕ) → left_since keeper (moment keeper) image → OpensToTold opens (rows keeper) (tried keeper)
+      image)
       → (image : List ℕ) → left_since keeper (moment keeper) image → OpensTo opens (rows_of log) (tried keeper) image
   between_of keeper log there kept between image left =
       told_opens opens (rows keeper) log (tried keeper) image there kept (between image left)
@@ -185,39 +208,48 @@ module _ {K : Type 0} (rows : K → Option (List Row)) (tried : K → List (List
       record { tried_after = inr (inr refl); stops = nothing_done keeper log group well.between }
 
   -- what was said of one call is so of another that ended alike
-  pub refused_adding : {T U E F : Type 0} (result : Result U F) (error : F) (told : E) (log group : History) (old new : K) → result ≡ Err error
-      → Adding rows tried moment left_since opens result log group old new → Adding rows tried moment left_since opens {T = T} (Err told) log group old new
+  pub refused_adding : {T U E F : Type 0} (result : Result U F) (error : F) (told : E) (log group : History)
+      (old new : K) → result ≡ Err error
+      → Adding rows tried moment left_since opens result log group old new
+      → Adding rows tried moment left_since opens {T = T} (Err told) log group old new
   refused_adding {T} {U} {E} {F} result error told log group old new is a = record {
     tried_after = subst (λ (r : Result U F). TriedAfter r (tried old) (rows_of group) (tried new)) is a.tried_after;
     stops = a.stops;
   }
 
-  pub kept_adding : {T U E F : Type 0} (result : Result U F) (done : U) (receipt : T) (log group : History) (old new : K) → result ≡ Ok done
-      → Adding rows tried moment left_since opens result log group old new → Adding rows tried moment left_since opens {E = E} (Ok receipt) log group old new
+  pub kept_adding : {T U E F : Type 0} (result : Result U F) (done : U) (receipt : T) (log group : History)
+      (old new : K) → result ≡ Ok done
+      → Adding rows tried moment left_since opens result log group old new
+      → Adding rows tried moment left_since opens {E = E} (Ok receipt) log group old new
   kept_adding {T} {U} {E} {F} result done receipt log group old new is a = record {
     tried_after = subst (λ (r : Result U F). TriedAfter r (tried old) (rows_of group) (tried new)) is a.tried_after;
     stops = a.stops;
   }
 
   -- the book around a call of the keeper, which was to keep a group
-  module _ (tells : Bool) (there : IsTrue tells → (keeper : K) → IsTrue (is_some (rows keeper))) (opened old new : K) (log group : History)
+  module _ (tells : Bool) (there : IsTrue tells → (keeper : K) → IsTrue (is_some (rows keeper))) (opened old new : K)
+      (log group : History)
       (added : List Row) (t : Tables) (is : added ≡ rows_of group)
       (before : IsSound rows log t old × (IsTrue tells → StopsWell rows tried moment left_since opens opened old log))
       (adds : AddsOne log group)
       (stops : IsTrue tells → LeavesOnly moment left_since old new (OpensToTold opens (rows old) (added ∷ tried old)))
-      (between : IsTrue tells → (image : List ℕ) → left_since new (moment new) image → OpensToTold opens (rows new) (tried new) image) where
-    stops-now : IsTrue tells → LeavesOnly moment left_since old new (OpensTo opens (rows_of log) (rows_of group ∷ tried old))
+      (between : IsTrue tells → (image : List ℕ) → left_since new (moment new) image → OpensToTold opens (rows new)
+      (tried new) image) where
+    stops-now : IsTrue tells → LeavesOnly moment left_since old new
+        (OpensTo opens (rows_of log) (rows_of group ∷ tried old))
     stops-now told = stops_of old new log group added (there told old) before.0.kept is (stops told)
 
     -- it was kept
-    pub kept_step : (items : History) (now : Tables) → IsSound rows items now new → items ≡ log ++ group → (IsTrue tells → tried new ≡ [])
+    pub kept_step : (items : History) (now : Tables) → IsSound rows items now new → items ≡ log ++ group
+        → (IsTrue tells → tried new ≡ [])
         → IsSound rows items now new × (IsTrue tells → StopsWell rows tried moment left_since opens opened new items)
     kept_step items now sound same none = (
       sound,
       λ told.
           subst (λ (h : History). StopsWell rows tried moment left_since opens opened new h) (sym same)
           (kept_well opened old new log group before.0.legal adds (stops-now told) (before.1 told) (none told)
-          (between_of new (log ++ group) (there told new) (subst (λ (h : History). IsKept rows new h) same sound.kept) (between told))),
+          (between_of new (log ++ group) (there told new) (subst (λ (h : History). IsKept rows new h) same sound.kept)
+          (between told))),
     )
 
     pub kept_adds : {E : Type 0} → (IsTrue tells → tried new ≡ []) → IsTrue tells
@@ -244,21 +276,26 @@ module _ {K : Type 0} (rows : K → Option (List Row)) (tried : K → List (List
             (record { legal = before.0.legal; same = as_was ∙ before.0.same; kept = kept })
 
         after_rows : IsTrue tells → (tried new ≡ []) ⊎ ((tried new ≡ rows_of group ∷ []) ⊎ (tried new ≡ tried old))
-        after_rows told = subst (λ (r : List Row). (tried new ≡ []) ⊎ ((tried new ≡ r ∷ []) ⊎ (tried new ≡ tried old))) is (after told)
+        after_rows told =
+            subst (λ (r : List Row). (tried new ≡ []) ⊎ ((tried new ≡ r ∷ []) ⊎ (tried new ≡ tried old))) is
+            (after told)
 
     pub refused_adds : {E : Type 0} (error : E)
         → (IsTrue tells → (tried new ≡ []) ⊎ ((tried new ≡ added ∷ []) ⊎ (tried new ≡ tried old))) → IsTrue tells
         → Adding rows tried moment left_since opens {T = Unit {0}} (Err error) log group old new
     refused_adds error after told = record {
-      tried_after = subst (λ (r : List Row). (tried new ≡ []) ⊎ ((tried new ≡ r ∷ []) ⊎ (tried new ≡ tried old))) is (after told);
+      tried_after =
+          subst (λ (r : List Row). (tried new ≡ []) ⊎ ((tried new ≡ r ∷ []) ⊎ (tried new ≡ tried old))) is (after told);
       stops = stops-now told;
     }
 
   -- a command or a bulk whose group was asked to be kept: what it draws is that group
-  module _ {F : Type 0} (judgement : Result Drawn F) (found drawn : Drawn) (is : judgement ≡ Ok found) (told : judgement ≡ Ok drawn)
+  module _ {F : Type 0} (judgement : Result Drawn F) (found drawn : Drawn) (is : judgement ≡ Ok found)
+      (told : judgement ≡ Ok drawn)
       (items : History) (same : items ≡ found.group) (log : History) (old new : K) where
     drawn-group : items ≡ drawn.group
-    drawn-group = same ∙ ap (λ (d : Drawn). d.group) (let e : ◌≡◌ {A = Result Drawn F} (Ok found) (Ok drawn) = sym is ∙ told in one e)
+    drawn-group = same ∙ ap (λ (d : Drawn). d.group)
+        (let e : ◌≡◌ {A = Result Drawn F} (Ok found) (Ok drawn) = sym is ∙ told in one e)
       where
         one : ◌≡◌ {A = Result Drawn F} (Ok found) (Ok drawn) → found ≡ drawn
         one e = cc (e)
@@ -267,12 +304,14 @@ module _ {K : Type 0} (rows : K → Option (List Row)) (tried : K → List (List
         → Adding rows tried moment left_since opens result log items old new
         → Adding rows tried moment left_since opens {E = E} (Ok receipt) log drawn.group old new
     kept_drawn {T} {U} {E} {G} result done receipt so adding =
-        subst (λ (g : History). Adding rows tried moment left_since opens {E = E} (Ok receipt) log g old new) drawn-group
+        subst (λ (g : History). Adding rows tried moment left_since opens {E = E} (Ok receipt) log g old new)
+        drawn-group
         (kept_adding result done receipt log items old new so adding)
 
     pub refused_drawn : {T U E G : Type 0} (result : Result U G) (error : G) (refusal : E) → result ≡ Err error
         → Adding rows tried moment left_since opens result log items old new
         → Adding rows tried moment left_since opens {T = T} (Err refusal) log drawn.group old new
     refused_drawn {T} {U} {E} {G} result error refusal so adding =
-        subst (λ (g : History). Adding rows tried moment left_since opens {T = T} (Err refusal) log g old new) drawn-group
+        subst (λ (g : History). Adding rows tried moment left_since opens {T = T} (Err refusal) log g old new)
+        drawn-group
         (refused_adding result error refusal log items old new so adding)

@@ -35,6 +35,8 @@ module _ (H : History) (legal : Legal H) where
   }
 
 -- what a book's tables and entries show a user is her view of its history
-pub view-by_tables : {K : Type 0} (rows : K → Option (List Row)) (h : History) (t : Tables) (keeper : K) (u : Option ℕ) → IsSound rows h t keeper → sights (reader_in t u) [] h ≡ view u h
+pub view-by_tables : {K : Type 0} (rows : K → Option (List Row)) (h : History) (t : Tables) (keeper : K) (u : Option ℕ)
+    → IsSound rows h t keeper → sights (reader_in t u) [] h ≡ view u h
 view-by_tables rows h t keeper u sound =
-    ap (λ (x : Tables). sights (reader_in x u) [] h) sound.same ∙ ap (λ (r : Reader). sights r [] h) (sym (reader-tables h sound.legal u))
+    ap (λ (x : Tables). sights (reader_in x u) [] h) sound.same
+    ∙ ap (λ (r : Reader). sights r [] h) (sym (reader-tables h sound.legal u))

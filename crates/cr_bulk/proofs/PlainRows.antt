@@ -1,6 +1,7 @@
 -- Rows that are written as they stand, with no quotes, are the rows that their text spells: `csv` reads what its
 -- default writer writes.
-use Rattle.std.proofs.Common.{◌≡◌, ℕ, zero, suc, ◌+◌, ◌<◌, ◌≤◌, List, [], ◌∷◌, ◌++◌, append_assoc, length, map, Bool, true, false, Some, None, refl, ap, subst, ◌∙◌, arith}
+use Rattle.std.proofs.Common.{◌≡◌, ℕ, zero, suc, ◌+◌, ◌<◌, ◌≤◌, List, [], ◌∷◌, ◌++◌, append_assoc, length, map, Bool}
+use Rattle.std.proofs.Common.{true, false, Some, None, refl, ap, subst, ◌∙◌, arith}
 use Rattle.std.specs.Prelude.{codes, nat_le, option_and_then, if◌then◌else◌}
 use Rattle.std.specs.List.{AllByRecursion, flat_map, list_all, list_any}
 use Rattle.std.specs.Char.{is_ascii_lowercase}
@@ -25,7 +26,8 @@ IsPlain [] = Unit {0}
 IsPlain (b ∷ rest) = (45 ≤ b) × (b ≤ 122) × IsPlain rest
 
 -- it is so where each passes a test that such bytes alone pass
-pub plain-of : (test : ℕ → Bool) → ((b : ℕ) → test b ≡ true → (45 ≤ b) × (b ≤ 122)) → (text : List ℕ) → list_all test text ≡ true → IsPlain text
+pub plain-of : (test : ℕ → Bool) → ((b : ℕ) → test b ≡ true → (45 ≤ b) × (b ≤ 122)) → (text : List ℕ)
+    → list_all test text ≡ true → IsPlain text
 plain-of test range [] h = tt
 plain-of test range (b ∷ rest) h =
     let parts = and_parts (test b) (list_all test rest) h in
@@ -101,7 +103,8 @@ fields_of row = row.paper ∷ row.action ∷ row.user ∷ row.tag ∷ []
 
 -- what ends a record stands behind its last field
 at-end : (p a u t : List ℕ)
-    → (p ++ (44 ∷ (a ++ (44 ∷ (u ++ (44 ∷ (t ++ []))))))) ++ (10 ∷ []) ≡ p ++ (44 ∷ (a ++ (44 ∷ (u ++ (44 ∷ (t ++ (10 ∷ [])))))))
+    → (p ++ (44 ∷ (a ++ (44 ∷ (u ++ (44 ∷ (t ++ []))))))) ++ (10 ∷ []) ≡ p
+    ++ (44 ∷ (a ++ (44 ∷ (u ++ (44 ∷ (t ++ (10 ∷ [])))))))
 at-end p a u t =
     append_assoc p (44 ∷ (a ++ (44 ∷ (u ++ (44 ∷ (t ++ [])))))) (10 ∷ [])
     ∙ ap (λ (l : List ℕ). p ++ (44 ∷ l))
@@ -130,7 +133,9 @@ read-rows [] h = no_more st.StartRecord [] nothing
     nothing = refl
 read-rows (row ∷ rows) h =
     let more : List ℕ = plain_rows rows in
-    let next = subst (λ (l : List ℕ). next_record default_config st.StartRecord [] [] (l ++ more) ≡ Some (fields_of row, st.StartRecord, more)) (written row h.0)
+    let next =
+    subst (λ (l : List ℕ). next_record default_config st.StartRecord [] [] (l ++ more)
+    ≡ Some (fields_of row, st.StartRecord, more)) (written row h.0)
     (read-write (fields_of row) more) in
     (one_more st.StartRecord (plain_row row ++ more) (fields_of row, st.StartRecord, more) refl next).1
     ∙ ap (λ (records : List (List (List ℕ))). fields_of row ∷ records) (read-rows rows h.1)
@@ -154,11 +159,13 @@ header-plain = record {
 }
 
 -- the text of the header and of these rows spells them
-pub plain-rows : (rows : List BulkRow) → AllByRecursion IsPlainRow rows → length rows ≤ 512 → parse_rows (plain_rows (header ∷ rows)) ≡ Some rows
+pub plain-rows : (rows : List BulkRow) → AllByRecursion IsPlainRow rows → length rows ≤ 512
+    → parse_rows (plain_rows (header ∷ rows)) ≡ Some rows
 unfolding parse_rows strip_bom
 plain-rows rows h few =
     let text : List ℕ = plain_rows (header ∷ rows) in
-    let utf8 = is_utf8-from_IsUtf8 text (IsUtf8-from_ascii text (ascii text (low-rows (header ∷ rows) (header-plain, h)))) in
+    let utf8 =
+    is_utf8-from_IsUtf8 text (IsUtf8-from_ascii text (ascii text (low-rows (header ∷ rows) (header-plain, h)))) in
     ap (λ (b : Bool). if b then rows_under (records_of text) else None) utf8
     ∙ ap rows_under (read-rows (header ∷ rows) (header-plain, h))
     ∙ ap (option_and_then if_few) (told-rows rows)

@@ -22,16 +22,20 @@ is_author_in-from u p ties [] = nothing (is_author_in ties u p)
     nothing false = refl
 is_author_in-from u p ties (e ∷ entries) =
     is_author_in-from u p (ties_after ties e.stamp.maker e.entry) entries
-    ∙ ap (λ (us : List ℕ). list_any (is_number u) us || one_gives u p entries) (authors_in-after p ties e.stamp.maker e.entry)
-    ∙ ap (λ b. b || one_gives u p entries) (list_any-append (is_number u) (authors_in ties p) (author_told p e.stamp.maker e.entry))
-    ∙ grouped (is_author_in ties u p) (list_any (is_number u) (author_told p e.stamp.maker e.entry)) (one_gives u p entries)
+    ∙ ap (λ (us : List ℕ). list_any (is_number u) us || one_gives u p entries)
+    (authors_in-after p ties e.stamp.maker e.entry)
+    ∙ ap (λ b. b || one_gives u p entries) (list_any-append (is_number u) (authors_in ties p)
+    (author_told p e.stamp.maker e.entry))
+    ∙ grouped (is_author_in ties u p) (list_any (is_number u) (author_told p e.stamp.maker e.entry))
+    (one_gives u p entries)
   where
     grouped : (a b c : Bool) → ((a || b) || c) ≡ (a || (b || c))
     grouped true b c = refl
     grouped false b c = refl
 
 -- who was none is one where one of the entries makes her one
-pub author-given : (u : Option ℕ) (p : ℕ) (ties : TiesState) (entries : History) (given : Bool) → is_author_in ties u p ≡ false
+pub author-given : (u : Option ℕ) (p : ℕ) (ties : TiesState) (entries : History) (given : Bool)
+    → is_author_in ties u p ≡ false
     → given ≡ one_gives u p entries → given ≡ is_author_in (ties_from ties entries) u p
 author-given u p ties entries given none is =
     is ∙ ap (λ b. b || one_gives u p entries) (sym none) ∙ sym (is_author_in-from u p ties entries)
@@ -39,7 +43,8 @@ author-given u p ties entries given none is =
 -- who was one stays one
 pub author-stays : (u : Option ℕ) (p : ℕ) (ties : TiesState) (entries : History) → is_author_in ties u p ≡ true
     → true ≡ is_author_in (ties_from ties entries) u p
-author-stays u p ties entries author = ap (λ b. b || one_gives u p entries) (sym author) ∙ sym (is_author_in-from u p ties entries)
+author-stays u p ties entries author =
+    ap (λ b. b || one_gives u p entries) (sym author) ∙ sym (is_author_in-from u p ties entries)
 
 -- a user is declared in conflict as the last of the entries that speaks of it says, or else as she was
 pub is_conflict_on_in-from : (u : Option ℕ) (p : ℕ) (ties : TiesState) (entries : History)

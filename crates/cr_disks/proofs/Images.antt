@@ -1,11 +1,13 @@
 -- What a write leaves, and what a stop after it may.
-use Rattle.std.proofs.Common.{◌≡◌, ◌∙◌, ℕ, ◌+◌, ◌-◌, ◌≤◌, List, [], ◌∷◌, ◌++◌, length, take, drop, max, refl, sym, ap, subst, arith, append_assoc, length-append, length-drop}
+use Rattle.std.proofs.Common.{◌≡◌, ◌∙◌, ℕ, ◌+◌, ◌-◌, ◌≤◌, List, [], ◌∷◌, ◌++◌, length, take, drop, max, refl, sym, ap}
+use Rattle.std.proofs.Common.{subst, arith, append_assoc, length-append, length-drop}
 use Rattle.std.proofs.lemmas.List.{take_at, drop_at, drop-drop, length-take-le}
 use Rattle.cr_disks.specs.Disk.{Follows, Holds, Torn}
 use Rattle.cr_disks.specs.Held.{DiskState, left_in}
 use Rattle.cr_disks.specs.Past.{Reaches}
 
-module _ (at n : ℕ) (bytes old new : List ℕ) (inside : at ≤ length old) (few : length bytes ≤ n) (holds : Holds old at bytes new) where
+module _ (at n : ℕ) (bytes old new : List ℕ) (inside : at ≤ length old) (few : length bytes ≤ n)
+    (holds : Holds old at bytes new) where
   abbrev behind : List ℕ
   behind = drop (at + length bytes) old
 
@@ -30,10 +32,27 @@ module _ (at n : ℕ) (bytes old new : List ℕ) (inside : at ≤ length old) (f
     before = ap (λ (l : List ℕ). take at l) holds ∙ take_at (take at old) (bytes ++ behind) at size;
     after = further new
         ∙ ap (λ (l : List ℕ). drop (n - length bytes) l)
-        (ap (λ (l : List ℕ). drop (at + length bytes) l) whole ∙ drop_at (take at old ++ bytes) behind (at + length bytes) front)
+        (ap (λ (l : List ℕ). drop (at + length bytes) l) whole
+        ∙ drop_at (take at old ++ bytes) behind (at + length bytes) front)
         ∙ sym (further old);
-    no_shorter = omega (arith, front, few, inside, ap length whole, length-append (take at old ++ bytes) behind, length-drop (at + length bytes) old);
-    no_longer = omega (arith, front, few, inside, ap length whole, length-append (take at old ++ bytes) behind, length-drop (at + length bytes) old);
+    no_shorter = omega (
+      arith,
+      front,
+      few,
+      inside,
+      ap length whole,
+      length-append (take at old ++ bytes) behind,
+      length-drop (at + length bytes) old,
+    );
+    no_longer = omega (
+      arith,
+      front,
+      few,
+      inside,
+      ap length whole,
+      length-append (take at old ++ bytes) behind,
+      length-drop (at + length bytes) old,
+    );
   }
 
 pub torn_same : (at n : ℕ) (image : List ℕ) → Torn at n image image

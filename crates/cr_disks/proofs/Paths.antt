@@ -1,5 +1,6 @@
 -- What a look-up gives after a change at one path.
-use Rattle.std.proofs.Common.{arith, ◌≡◌, ◌∙◌, ◌+◌, ◌<◌, ◌^◌, length, sym, ap, refl, ℕ, List, [], Bool, true, false, cond, Option, Some, None, is_some, IsFalse, Vec, Global}
+use Rattle.std.proofs.Common.{arith, ◌≡◌, ◌∙◌, ◌+◌, ◌<◌, ◌^◌, length, sym, ap, refl, ℕ, List, [], Bool, true, false}
+use Rattle.std.proofs.Common.{cond, Option, Some, None, is_some, IsFalse, Vec, Global}
 use Rattle.std.proofs.lemmas.Slice.Eq.{bytes_eq-Decides}
 use Rattle.std.specs.Map.{lookup}
 use Rattle.std.specs.Option.{option_map_or}
@@ -36,6 +37,7 @@ absent_at files path name q absent is same =
     none_of (Some _) h = grind arith
 
 -- there is room for a disk where the bytes are the same
-pub same_room : (old new : List ℕ → List ℕ) (path : List ℕ) (r s : ℕ) → new ≡ old → s ≡ r → length (old path) + r < 2 ^ 62
+pub same_room : (old new : List ℕ → List ℕ) (path : List ℕ) (r s : ℕ) → new ≡ old → s ≡ r
+    → length (old path) + r < 2 ^ 62
     → length (new path) + s < 2 ^ 62
 same_room old new path r s files room fits = rw (files, room) fits

@@ -1,5 +1,6 @@
 -- One more call in the record of a disk in memory.
-use Rattle.std.proofs.Common.{◌≡◌, ◌⊎◌, inl, inr, ◌∙◌, ℕ, ◌+◌, ◌≤◌, List, [], ◌∷◌, ◌++◌, length, take, drop, refl, sym, ap, subst, arith, length-append, length-drop}
+use Rattle.std.proofs.Common.{◌≡◌, ◌⊎◌, inl, inr, ◌∙◌, ℕ, ◌+◌, ◌≤◌, List, [], ◌∷◌, ◌++◌, length, take, drop, refl, sym}
+use Rattle.std.proofs.Common.{ap, subst, arith, length-append, length-drop}
 use Rattle.std.proofs.lemmas.List.{append-nil, take_all, take-append-le, drop-append-le, nil_from_length}
 use Rattle.cr_disks.specs.Disk.{Holds}
 use Rattle.cr_disks.specs.Held.{DiskState, after_call, put_by, put_by_all, settled, state_after, states_before}
@@ -33,7 +34,8 @@ module _ (call : DiskCall) (bytes : List ℕ) (size : put_by call ≡ length byt
   state-push (c ∷ calls) put s total =
       let n : ℕ = put_by c in
       let others : ℕ = put_by_all calls in
-      ap (λ (l : List ℕ). state_after (calls ++ call ∷ []) (drop n (put ++ bytes)) (after_call c l s)) (front n others put total)
+      ap (λ (l : List ℕ). state_after (calls ++ call ∷ []) (drop n (put ++ bytes)) (after_call c l s))
+      (front n others put total)
       ∙ ap (λ (l : List ℕ). state_after (calls ++ call ∷ []) l (after_call c (take n put) s)) (rest n others put total)
       ∙ state-push calls (drop n put) (after_call c (take n put) s) (left n others put total)
 
@@ -43,9 +45,12 @@ module _ (call : DiskCall) (bytes : List ℕ) (size : put_by call ≡ length byt
   past-push (c ∷ calls) put s total =
       let n : ℕ = put_by c in
       let others : ℕ = put_by_all calls in
-      ap (λ (l : List ℕ). s ∷ states_before (calls ++ call ∷ []) (drop n (put ++ bytes)) (after_call c l s)) (front n others put total)
-      ∙ ap (λ (l : List ℕ). s ∷ states_before (calls ++ call ∷ []) l (after_call c (take n put) s)) (rest n others put total)
-      ∙ ap (λ (l : List DiskState). s ∷ l) (past-push calls (drop n put) (after_call c (take n put) s) (left n others put total))
+      ap (λ (l : List ℕ). s ∷ states_before (calls ++ call ∷ []) (drop n (put ++ bytes)) (after_call c l s))
+      (front n others put total)
+      ∙ ap (λ (l : List ℕ). s ∷ states_before (calls ++ call ∷ []) l (after_call c (take n put) s))
+      (rest n others put total)
+      ∙ ap (λ (l : List DiskState). s ∷ l) (past-push calls (drop n put) (after_call c (take n put) s)
+      (left n others put total))
 
 -- ---- a write
 
@@ -61,7 +66,8 @@ pub write-past : (first put piece : List ℕ) (calls : List DiskCall) (at len : 
 write-past first put piece calls at len total =
     past-push (Wrote at (length piece) len) piece refl calls put (settled first) total
 
-pub write-seen : (first put piece bytes new : List ℕ) (calls : List DiskCall) (at len : ℕ) → put_by_all calls ≡ length put
+pub write-seen : (first put piece bytes new : List ℕ) (calls : List DiskCall) (at len : ℕ)
+    → put_by_all calls ≡ length put
     → bytes ≡ (state_after calls put (settled first)).seen → Holds bytes at piece new
     → new ≡ (state_after (calls ++ Wrote at (length piece) len ∷ []) (put ++ piece) (settled first)).seen
 write-seen first put piece bytes new calls at len total seen holds =
@@ -78,7 +84,8 @@ write-total put piece calls at len total =
 
 module _ (call : DiskCall) (nothing : put_by call ≡ 0) where
   pub sync-state : (first put : List ℕ) (calls : List DiskCall) → put_by_all calls ≡ length put
-      → state_after (calls ++ call ∷ []) put (settled first) ≡ after_call call [] (state_after calls put (settled first))
+      → state_after (calls ++ call ∷ []) put (settled first)
+      ≡ after_call call [] (state_after calls put (settled first))
   sync-state first put calls total =
       ap (λ (l : List ℕ). state_after (calls ++ call ∷ []) l (settled first)) (sym (append-nil put))
       ∙ state-push call [] nothing calls put (settled first) total
@@ -96,5 +103,7 @@ module _ (call : DiskCall) (nothing : put_by call ≡ 0) where
 
 pub is_sync : (call : DiskCall) → (call ≡ Synced) ⊎ (call ≡ SyncFailed)
     → (put_by call ≡ 0) × ((s : DiskState) → (after_call call [] s).seen ≡ s.seen)
-is_sync call (inl is) = subst (λ (k : DiskCall). (put_by k ≡ 0) × ((s : DiskState) → (after_call k [] s).seen ≡ s.seen)) (sym is) (refl, λ s. refl)
-is_sync call (inr is) = subst (λ (k : DiskCall). (put_by k ≡ 0) × ((s : DiskState) → (after_call k [] s).seen ≡ s.seen)) (sym is) (refl, λ s. refl)
+is_sync call (inl is) = subst (λ (k : DiskCall). (put_by k ≡ 0) × ((s : DiskState) → (after_call k [] s).seen ≡ s.seen))
+    (sym is) (refl, λ s. refl)
+is_sync call (inr is) = subst (λ (k : DiskCall). (put_by k ≡ 0) × ((s : DiskState) → (after_call k [] s).seen ≡ s.seen))
+    (sym is) (refl, λ s. refl)

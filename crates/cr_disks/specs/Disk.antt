@@ -1,5 +1,6 @@
 -- What the calls of a disk do to its bytes, and what a stop may leave of them.
-use Rattle.std.specs.Prelude.{◌≡◌, ◌≢◌, ◌⊎◌, ℕ, ◌+◌, ◌≤◌, max, List, ◌++◌, length, take, drop, Result, OnOk, OnErr, cond, ⊤}
+use Rattle.std.specs.Prelude.{◌≡◌, ◌≢◌, ◌⊎◌, ℕ, ◌+◌, ◌≤◌, max, List, ◌++◌, length, take, drop, Result, OnOk, OnErr}
+use Rattle.std.specs.Prelude.{cond, ⊤}
 use Rattle.std.specs.Str.{bytes_eq}
 use Rattle.cr_ports.specs.Count.{Rises}
 use Rattle.cr_ports.specs.declared.source.ReadStep.{ReadStep}

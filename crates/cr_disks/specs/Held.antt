@@ -6,8 +6,8 @@ use Rattle.cr_disks.specs.Past.{Reaches, HadBeen}
 use Rattle.cr_disks.specs.declared.mem_disk.DiskCall.{DiskCall}
 use Rattle.cr_disks.specs.declared.mem_disk.DiskCall.TheVariants as calls
 
--- what a read gives at some moment, what the last sync that succeeded made durable, and the ranges written since, each an
--- offset and a length
+-- what a read gives at some moment, what the last sync that succeeded made durable, and the ranges written since,
+-- each an offset and a length
 pub record DiskState : Type 0 where
   pub seen : List ℕ
   pub base : List ℕ

@@ -12,8 +12,8 @@ pub trait Disks {
     /// What it opens. It may go to another thread.
     type Disk: Disk + Drop + Send;
 
-    /// The bytes at each path, none where nothing stands, where its disks tell theirs; those that are written stand there
-    /// once the disk was shut.
+    /// The bytes at each path, none where nothing stands, where its disks tell theirs; those that are written stand
+    /// there once the disk was shut.
     ghost files: { Self → List ℕ → List ℕ };
 
     /// Of which paths a disk may be taken back.
@@ -36,8 +36,8 @@ pub trait Disks {
         ensures same { IsTrue Self.Disk.tells → files self.new ≡ files self.old }
         ensures cause { HasCause (faults self.old) (faults self.new) result };
 
-    /// Takes back a disk that was opened at this path: its bytes then stand there. The count of faults rises by at least
-    /// the disk's. Takes no memory.
+    /// Takes back a disk that was opened at this path: its bytes then stand there. The count of faults rises by at
+    /// least the disk's. Takes no memory.
     fn shut(&mut self, path: &str, disk: Self::Disk)
         requires { has_opened self.old path.now }
         ensures kept { IsTrue Self.Disk.tells

@@ -31,8 +31,8 @@ pub enum DiskCall {
     SyncFailed,
 }
 
-/// Bytes in memory, and a record of each write and each sync. It fails exactly at those of them that are listed, a write
-/// after half of its bytes, and where it has no room for a call or its bytes. No call takes memory.
+/// Bytes in memory, and a record of each write and each sync. It fails exactly at those of them that are listed, a
+/// write after half of its bytes, and where it has no room for a call or its bytes. No call takes memory.
 ///
 /// Contracts see the record, the bytes, the list, the room and the count of faults.
 #[derive(Drop)]
@@ -117,8 +117,9 @@ pub(crate) fn append_within(bytes: &mut Vec<u8>, piece: &[u8])
 }
 
 impl MemDisk {
-    /// A disk that holds these bytes, all of them synced, and has room for so many more bytes and so many calls, writes and
-    /// syncs alike. Of these calls, numbered from 0, those in `failing` fail. The one error is lack of memory.
+    /// A disk that holds these bytes, all of them synced, and has room for so many more bytes and so many calls,
+    /// writes and syncs alike. Of these calls, numbered from 0, those in `failing` fail. The one error is lack of
+    /// memory.
     pub fn new(
         alloc: Global,
         first: Vec<u8>,
@@ -248,7 +249,8 @@ impl MemDisk {
         requires room { length piece.now ≤ self.old.room }
         requires calls { 0 < self.old.calls_left }
         ensures torn { Torn at (length piece.now) self.old.bytes self.new.bytes }
-        ensures crash { Follows (Torn at (length piece.now)) (left_in (state_of self.old)) (left_in (state_of self.new)) }
+        ensures crash { Follows (Torn at (length piece.now)) (left_in (state_of self.old))
+            (left_in (state_of self.new)) }
         ensures time { Elapses (length (past_of self.old)) (length (past_of self.new))
             (left_since_of self.old) (left_since_of self.new) (left_in (state_of self.new)) }
         ensures later { self.old.faults ≤ self.new.faults }

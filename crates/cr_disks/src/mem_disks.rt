@@ -1,5 +1,6 @@
 //! Disks in memory, by their paths.
-ghost use Rattle.std.specs.Prelude.{◌≡◌, ◌↔◌, ◌<◌, ◌≤◌, ◌+◌, ◌^◌, ◌-◌, [], ℕ, List, IfOk, IsFalse, IsTrue, OnOk, length, min};
+ghost use Rattle.std.specs.Prelude.{◌≡◌, ◌↔◌, ◌<◌, ◌≤◌, ◌+◌, ◌^◌, ◌-◌};
+ghost use Rattle.std.specs.Prelude.{[], ℕ, List, IfOk, IsFalse, IsTrue, OnOk, length, min};
 ghost use Rattle.cr_ports.specs.Count.{Gains};
 ghost use Rattle.cr_ports.specs.Keeping.{HasCause};
 ghost use Rattle.cr_disks.specs.Disk.{with_bytes};
@@ -62,8 +63,8 @@ impl Model for MemDisks {
 }
 
 impl MemDisks {
-    /// Disks with no file at any path, and no fault counted. Each that they open has room for so many bytes past those of
-    /// its file and for so many writes and syncs, and of these, numbered from 0, those in `failing` fail.
+    /// Disks with no file at any path, and no fault counted. Each that they open has room for so many bytes past
+    /// those of its file and for so many writes and syncs, and of these, numbered from 0, those in `failing` fail.
     pub fn new(alloc: Global, room: usize, calls: usize, failing: Vec<u64>) -> Self
         ensures files { bytes_at result.files ≡ (λ _. []) }
         ensures failing { result.failing ≡ failing.items }

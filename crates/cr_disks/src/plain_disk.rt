@@ -10,8 +10,8 @@ use cr_ports::ReadStep;
 use std::alloc::{AllocError, Global};
 use std::marker::Model;
 
-/// Bytes in memory, without a record of the calls, so that it takes no more than its bytes and their room. A write fails
-/// where it begins behind the end or has no room, and no other call does. No call takes memory.
+/// Bytes in memory, without a record of the calls, so that it takes no more than its bytes and their room. A write
+/// fails where it begins behind the end or has no room, and no other call does. No call takes memory.
 ///
 /// Contracts see the bytes, the room and the count of faults. What a stop would leave of it they don't see: it is for
 /// whoever looks at none.

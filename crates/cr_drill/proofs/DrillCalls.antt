@@ -25,11 +25,13 @@ judged-as : {E : Type 0} (r s : Result Drawn E) → ◌≡◌ {A = Outcome E} (J
 unfolding judged-of
 judged-as r s is = ap (judged-of r) is
 
-acts-followed : {E : Type 0} (H G : History) (r : Result Drawn E) (receipt : Receipt) → Acts (Judged r) H G receipt → G ≡ followed_by H r
+acts-followed : {E : Type 0} (H G : History) (r : Result Drawn E) (receipt : Receipt) → Acts (Judged r) H G receipt
+    → G ≡ followed_by H r
 acts-followed H G (Ok drawn) receipt acts = acts.1
 acts-followed H G (Err refusal) receipt acts = absurd acts
 
-acts-ok : {E : Type 0} (H G : History) (r : Result Drawn E) (receipt : Receipt) → Acts (Judged r) H G receipt → true ≡ is_ok r
+acts-ok : {E : Type 0} (H G : History) (r : Result Drawn E) (receipt : Receipt) → Acts (Judged r) H G receipt
+    → true ≡ is_ok r
 acts-ok H G (Ok drawn) receipt acts = refl
 acts-ok H G (Err refusal) receipt acts = absurd acts
 
@@ -44,16 +46,19 @@ module _ (H : History) (caller : Option ℕ) (command : Command) where
   judgement = judge (view caller H) (drill_call caller command)
 
   -- where the book accepts it, the history is the next one
-  pub accepts_stepped : (G : History) (receipt : Receipt) → Accepts H G (drill_call caller command) receipt → G ≡ step H (drill_call caller command)
+  pub accepts_stepped : (G : History) (receipt : Receipt) → Accepts H G (drill_call caller command) receipt
+      → G ≡ step H (drill_call caller command)
   unfolding judgement
   accepts_stepped G receipt accepts = acts-followed H G judgement receipt accepts
 
-  pub accepts_accepted : (G : History) (receipt : Receipt) → Accepts H G (drill_call caller command) receipt → true ≡ is_accepted H (drill_call caller command)
+  pub accepts_accepted : (G : History) (receipt : Receipt) → Accepts H G (drill_call caller command) receipt
+      → true ≡ is_accepted H (drill_call caller command)
   unfolding judgement
   accepts_accepted G receipt accepts = acts-ok H G judgement receipt accepts
 
   -- and whoever has registered stays
-  pub accepts_goes_on : (G : History) (receipt : Receipt) → Accepts H G (drill_call caller command) receipt → Legal G → GoesOn H G
+  pub accepts_goes_on : (G : History) (receipt : Receipt) → Accepts H G (drill_call caller command) receipt → Legal G
+      → GoesOn H G
   unfolding judgement
   accepts_goes_on G receipt accepts legal = record {
     legal = legal;
@@ -65,10 +70,12 @@ module _ (H : History) (caller : Option ℕ) (command : Command) where
   unfolding judgement
   broken rule is = judged-as judgement (Err rule) is
 
-  pub broken_stepped : (rule : Rule) → decide (view caller H) (drill_call caller command) ≡ Judged (Err rule) → H ≡ step H (drill_call caller command)
+  pub broken_stepped : (rule : Rule) → decide (view caller H) (drill_call caller command) ≡ Judged (Err rule)
+      → H ≡ step H (drill_call caller command)
   unfolding judgement
   broken_stepped rule is = sym (ap (followed_by H) (broken rule is))
 
-  pub broken_refused : (rule : Rule) → decide (view caller H) (drill_call caller command) ≡ Judged (Err rule) → false ≡ is_accepted H (drill_call caller command)
+  pub broken_refused : (rule : Rule) → decide (view caller H) (drill_call caller command) ≡ Judged (Err rule)
+      → false ≡ is_accepted H (drill_call caller command)
   unfolding judgement
   broken_refused rule is = sym (ap is_ok (broken rule is))

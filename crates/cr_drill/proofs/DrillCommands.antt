@@ -1,5 +1,6 @@
 -- The commands of a drill are within the bounds.
-use Rattle.std.proofs.Common.{◌≡◌, ℕ, zero, suc, ◌+◌, ◌<◌, ◌≤◌, ◌^◌, ◌%◌, ◌&&◌, List, [], ◌∷◌, ◌++◌, Bool, true, false, refl, arith, length, decimal, codes}
+use Rattle.std.proofs.Common.{◌≡◌, ℕ, zero, suc, ◌+◌, ◌<◌, ◌≤◌, ◌^◌, ◌%◌, ◌&&◌, List, [], ◌∷◌, ◌++◌, Bool, true, false}
+use Rattle.std.proofs.Common.{refl, arith, length, decimal, codes}
 use Rattle.std.specs.List.{list_all}
 use Rattle.std.specs.Str.{is_utf8}
 use Rattle.std.proofs.lemmas.Fmt.{decimal_by_steps, length-decimal-le, IsAscii-decimal}
@@ -28,11 +29,13 @@ digit (suc (suc (suc (suc (suc (suc (suc (suc zero)))))))) few = refl
 digit (suc (suc (suc (suc (suc (suc (suc (suc (suc zero))))))))) few = refl
 digit (suc (suc (suc (suc (suc (suc (suc (suc (suc (suc n)))))))))) few = absurd (omega (arith, few))
 
-all-more : (test : ℕ → Bool) (xs : List ℕ) (x : ℕ) → list_all test xs ≡ true → test x ≡ true → list_all test (xs ++ x ∷ []) ≡ true
+all-more : (test : ℕ → Bool) (xs : List ℕ) (x : ℕ) → list_all test xs ≡ true → test x ≡ true
+    → list_all test (xs ++ x ∷ []) ≡ true
 all-more test [] x h e = rw e refl
 all-more test (y ∷ ys) x h e = by_test (test y) h (λ (rest : list_all test ys ≡ true). all-more test ys x rest e)
   where
-    by_test : (b : Bool) → (b && list_all test ys) ≡ true → (list_all test ys ≡ true → list_all test (ys ++ x ∷ []) ≡ true)
+    by_test : (b : Bool) → (b && list_all test ys) ≡ true
+        → (list_all test ys ≡ true → list_all test (ys ++ x ∷ []) ≡ true)
         → (b && list_all test (ys ++ x ∷ [])) ≡ true
     by_test true h next = next h
     by_test false h next = absurd (cc)
@@ -44,7 +47,8 @@ digits = decimal_by_steps (λ (n : ℕ) (ds : List ℕ). list_all is_title_byte 
 
 utf8-title : (s : ℕ) → s < 2 ^ 64 → is_utf8 (step_title s) ≡ true
 utf8-title s small =
-    is_utf8-from_IsUtf8 (step_title s) (IsUtf8-from_ascii (step_title s) (IsAscii-cons 84 (decimal s) (omega arith) (IsAscii-decimal s small)))
+    is_utf8-from_IsUtf8 (step_title s) (IsUtf8-from_ascii (step_title s)
+    (IsAscii-cons 84 (decimal s) (omega arith) (IsAscii-decimal s small)))
 
 title : (s : ℕ) → s < 100000 → IsTitle (step_title s)
 title s few =
@@ -59,11 +63,13 @@ title s few =
 
 -- ---- commands
 
-pub bounded : (operation : Operation) (s : ℕ) (roll : Roll) → s < 100000 → roll.other ≤ 8 → IsBoundedCommand (command_of operation s roll)
+pub bounded : (operation : Operation) (s : ℕ) (roll : Roll) → s < 100000 → roll.other ≤ 8
+    → IsBoundedCommand (command_of operation s roll)
 bounded operations.Declare s roll few other = tt
 bounded operations.Clear s roll few other = tt
 bounded operations.Upload s roll few other = omega arith
-bounded operations.Submit s roll few other = (title s few, record { few = omega arith; utf8 = ascii-utf8 [] refl }, omega arith)
+bounded operations.Submit s roll few other =
+    (title s few, record { few = omega arith; utf8 = ascii-utf8 [] refl }, omega arith)
 bounded operations.Bid s roll few other = omega (arith, other)
 bounded operations.Tag s roll few other = refl
 bounded operations.Assign s roll few other = tt
@@ -74,5 +80,6 @@ bounded operations.Review s roll few other = record {
   to_authors = record { few = omega arith; utf8 = ascii-utf8 (codes "a") refl };
   to_pc = record { few = omega arith; utf8 = ascii-utf8 (codes "b") refl };
 }
-bounded operations.Comment s roll few other = record { some = omega arith; few = omega arith; utf8 = ascii-utf8 (codes "c") refl }
+bounded operations.Comment s roll few other =
+    record { some = omega arith; few = omega arith; utf8 = ascii-utf8 (codes "c") refl }
 bounded operations.Decide s roll few other = tt

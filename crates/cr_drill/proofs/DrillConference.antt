@@ -26,13 +26,17 @@ abbrev conference_in : Conference → Reply → Conference
 conference_in other (replies.Conference told) = told
 conference_in other _ = other
 
-pub conference-told : (H : History) (told : Conference) → Legal H → replies.Conference told ≡ answer None (view None H) queries.Phase → IsConference H told
+pub conference-told : (H : History) (told : Conference) → Legal H
+    → replies.Conference told ≡ answer None (view None H) queries.Phase → IsConference H told
 conference-told H told legal is =
     let t : Tables = tables_of H in
-    let same : told ≡ conference_in told (answer_by_role t None queries.Phase) = ap (conference_in told) (is ∙ Legal-answer None H queries.Phase legal) in
+    let same : told ≡ conference_in told (answer_by_role t None queries.Phase) =
+    ap (conference_in told) (is ∙ Legal-answer None H queries.Phase legal) in
     let tells = Legal-told H legal in
-    let count : length (papers_of H) ≡ length t.papers.papers = ap length tells.papers ∙ length-numbers_from 1 t.papers.papers in
-    let papers : told.papers ≡ length (papers_of H) = ap (λ (c : Conference). c.papers) same ∙ sym (ap length tells.papers) in
+    let count : length (papers_of H) ≡ length t.papers.papers =
+    ap length tells.papers ∙ length-numbers_from 1 t.papers.papers in
+    let papers : told.papers ≡ length (papers_of H) =
+    ap (λ (c : Conference). c.papers) same ∙ sym (ap length tells.papers) in
     let few = (sized-tables H (Legal-fits H legal)).papers in
     record {
       phase = ap (λ (c : Conference). c.phase) same ∙ sym (ap (λ (s : Standing). s.phase) (tells.standing None None));

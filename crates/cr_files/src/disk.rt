@@ -17,8 +17,8 @@ const MOST: u64 = 1 << 62;
 /// How often a read that a signal broke off is tried again.
 const AGAIN: u32 = 16;
 
-/// A file of the system, as a disk that doesn't tell its bytes. After a sync that failed each write and each sync fails:
-/// what the system then shows of the file may not be on the disk.
+/// A file of the system, as a disk that doesn't tell its bytes. After a sync that failed each write and each sync
+/// fails: what the system then shows of the file may not be on the disk.
 ///
 /// Contracts see the count of faults.
 #[derive(Drop)]

@@ -90,8 +90,8 @@ impl FileDisks {
         }
     }
 
-    /// Why the last file that wasn't opened wasn't, or what the last fault of a disk was that was shut later; none where
-    /// nothing has failed.
+    /// Why the last file that wasn't opened wasn't, or what the last fault of a disk was that was shut later; none
+    /// where nothing has failed.
     pub fn reason(&self) -> Option<Reason> {
         self.reason
     }

@@ -1,5 +1,6 @@
 -- What the tables count of each user is what a history tells of her.
-use Rattle.std.proofs.Common.{ℕ, Bool, true, false, cond, ◌≡◌, ◌+◌, List, [], ◌∷◌, ◌++◌, length, eqb, refl, sym, ap, ◌∙◌, arith, zero, suc, get_or, Option, Some, None}
+use Rattle.std.proofs.Common.{ℕ, Bool, true, false, cond, ◌≡◌, ◌+◌, List, [], ◌∷◌, ◌++◌, length, eqb, refl, sym, ap}
+use Rattle.std.proofs.Common.{◌∙◌, arith, zero, suc, get_or, Option, Some, None}
 use Rattle.std.proofs.lemmas.Bool.Decides.{nat_tests}
 use Rattle.cr_base.specs.declared.entry.Entry.{Entry}
 use Rattle.cr_base.specs.declared.entry.Stamped.{Stamped}
@@ -12,7 +13,8 @@ use Rattle.cr_history.proofs.Folds.{told-always}
 -- ---- a user's sum
 
 -- a sum is greater by so much at its index, and every other stays
-get-with_more : (i more k : ℕ) (sums : List ℕ) → get_or (with_more i more sums) k 0 ≡ cond (eqb k i) (get_or sums k 0 + more) (get_or sums k 0)
+get-with_more : (i more k : ℕ) (sums : List ℕ)
+    → get_or (with_more i more sums) k 0 ≡ cond (eqb k i) (get_or sums k 0 + more) (get_or sums k 0)
 get-with_more zero more zero [] = plus more
   where
     plus : (more : ℕ) → more ≡ 0 + more
@@ -38,7 +40,8 @@ get-with_more (suc i) more (suc k) [] = get-with_more i more k [] ∙ ap (λ b. 
   where
     step : (k i : ℕ) → eqb k i ≡ eqb (suc k) (suc i)
     step k i = grind (arith, nat_tests)
-get-with_more (suc i) more (suc k) (n ∷ sums) = get-with_more i more k sums ∙ ap (λ b. cond b (get_or sums k 0 + more) (get_or sums k 0)) (step k i)
+get-with_more (suc i) more (suc k) (n ∷ sums) =
+    get-with_more i more k sums ∙ ap (λ b. cond b (get_or sums k 0 + more) (get_or sums k 0)) (step k i)
   where
     step : (k i : ℕ) → eqb k i ≡ eqb (suc k) (suc i)
     step k i = grind (arith, nat_tests)
@@ -62,7 +65,8 @@ sum-with_more (Some v) maker more told n sums is =
 -- one value more, where it is the user's, is one more in her sum
 pub sum-with_one : {A : Type 0} (u : Option ℕ) (maker : ℕ) (x : A) (n : ℕ) (sums : List ℕ)
     → sum_at sums u + (length (given (is_number u maker) x) + n) ≡ sum_at (with_more maker 1 sums) u + n
-sum-with_one u maker x n sums = sum-with_more u maker 1 (length (given (is_number u maker) x)) n sums (by (is_number u maker))
+sum-with_one u maker x n sums =
+    sum-with_more u maker 1 (length (given (is_number u maker) x)) n sums (by (is_number u maker))
   where
     by : (b : Bool) → length (given b x) ≡ cond b 1 0
     by true = refl
@@ -83,7 +87,8 @@ module _ (size : List ℕ → ℕ) (nil : size [] ≡ 0) (append : (xs ys : List
       none u (size (all_told_by told H)) ∙ ap (λ (ns : List ℕ). sum_at ns u + size (all_told_by told H)) (sym first)
       ∙ told-always (λ n xs. n + size xs) (λ n. ap (λ m. n + m) nil
       ∙ plus_nothing n) (λ (t : Tables). sum_at (sums t) u) (λ (s : Stamped). told s.stamp.maker s.entry)
-      (λ t s rest. ap (λ n. sum_at (sums t) u + n) (append (told s.stamp.maker s.entry) rest) ∙ one t s (size rest)) no_tables H
+      (λ t s rest. ap (λ n. sum_at (sums t) u + n) (append (told s.stamp.maker s.entry) rest) ∙ one t s (size rest))
+      no_tables H
     where
       none : (u : Option ℕ) (n : ℕ) → n ≡ sum_at [] u + n
       none None n = omega arith

@@ -22,20 +22,25 @@ use Rattle.cr_history.proofs.StageAgreement.{phase_of-tables}
 decisions-entry : (p : ℕ) (decisions : DecisionsState) (e : Entry)
     → filed_of p decisions ++ decision_told p e ≡ filed_of p (decisions_after decisions e)
 decisions-entry p decisions (Decided paper decision) =
-    ap (λ b. filed_of p decisions ++ given b decision) (turned paper p) ∙ sym (filed_of-with_filed p (filed paper decision) decisions)
+    ap (λ b. filed_of p decisions ++ given b decision) (turned paper p)
+    ∙ sym (filed_of-with_filed p (filed paper decision) decisions)
 decisions-entry p decisions e = append-nil (filed_of p decisions)
 
 -- the last decision on a paper is the last that the table has
 pub decision_of-tables : (p : ℕ) (H : History) → decision_of p H ≡ decision_in (tables_of H).decisions p
-decision_of-tables p H = ap last (told-always ◌++◌ append-nil (λ (t : Tables). filed_of p t.decisions) (λ (s : Stamped). decision_told p s.entry)
+decision_of-tables p H =
+    ap last (told-always ◌++◌ append-nil (λ (t : Tables). filed_of p t.decisions)
+    (λ (s : Stamped). decision_told p s.entry)
     (λ t s rest.
     sym (append_assoc (filed_of p t.decisions) (decision_told p s.entry) rest)
     ∙ ap (λ (ds : List Decision). ds ++ rest) (decisions-entry p t.decisions s.entry)) no_tables H)
 
 -- a paper is accepted where the tables say so
-pub is_accepted-tables : (p : ℕ) (H : History) → FitInTurn no_tables H → is_accepted p H ≡ is_accepted_in (tables_of H) p
+pub is_accepted-tables : (p : ℕ) (H : History) → FitInTurn no_tables H
+    → is_accepted p H ≡ is_accepted_in (tables_of H) p
 is_accepted-tables p H fits =
     let t : Tables = tables_of H in
     ap (λ (now : Phase). is_accepted_when now (is_withdrawn p H) (decision_of p H)) (phase_of-tables H)
     ∙ ap (λ (gone : Bool). is_accepted_when t.stage.phase gone (decision_of p H)) (is_withdrawn-tables p H fits)
-    ∙ ap (λ (o : Option Decision). is_accepted_when t.stage.phase (is_withdrawn_at t.papers p) o) (decision_of-tables p H)
+    ∙ ap (λ (o : Option Decision). is_accepted_when t.stage.phase (is_withdrawn_at t.papers p) o)
+    (decision_of-tables p H)

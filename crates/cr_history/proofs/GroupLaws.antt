@@ -1,6 +1,7 @@
--- What follows of an entry from fitting the tables: its number and its name are the next and a new one, whom and what it is
--- about is there; and where the rules let a command add it, it is within its bounds, so that it has a row.
-use Rattle.std.proofs.Common.{ℕ, Bool, true, false, cond, ◌≡◌, ◌≤◌, ◌<◌, ◌+◌, ◌-◌, List, [], ◌∷◌, ◌++◌, length, eqb, refl, sym, ap, subst, ◌∙◌, arith, ◌||◌, ◌&&◌, Option, Some, None}
+-- What follows of an entry from fitting the tables: its number and its name are the next and a new one, whom and what
+-- it is about is there; and where the rules let a command add it, it is within its bounds, so that it has a row.
+use Rattle.std.proofs.Common.{ℕ, Bool, true, false, cond, ◌≡◌, ◌≤◌, ◌<◌, ◌+◌, ◌-◌, List, [], ◌∷◌, ◌++◌, length, eqb}
+use Rattle.std.proofs.Common.{refl, sym, ap, subst, ◌∙◌, arith, ◌||◌, ◌&&◌, Option, Some, None}
 use Rattle.std.specs.Prelude.{nat_le, map}
 use Rattle.std.specs.List.{All, AllByRecursion, list_any}
 use Rattle.std.proofs.lemmas.Bool.{eqb-true, true≢false}
@@ -9,15 +10,17 @@ use Rattle.std.proofs.lemmas.List.{length-map}
 use Rattle.std.proofs.lemmas.List.Elements.{All-from_recursion}
 use Rattle.cr_base.specs.declared.entry.Account.{Account}
 use Rattle.cr_base.specs.declared.entry.Entry.{Entry}
-use Rattle.cr_base.specs.declared.entry.Entry.TheVariants.{Registered, Named, PhaseSet, ModeSet, Submitted, Coauthor, Revised, Uploaded, Withdrawn}
-use Rattle.cr_base.specs.declared.entry.Entry.TheVariants.{Conflict, Bid, Assigned, Unassigned, Reviewed, Commented, Tagged, Decided, DeadlineSet}
-use Rattle.cr_base.specs.declared.entry.Entry.TheVariants.{Dismissed, Invited, Uninvited, Responded}
+use Rattle.cr_base.specs.declared.entry.Entry.TheVariants.{Registered, Named, PhaseSet, ModeSet, Submitted, Coauthor}
+use Rattle.cr_base.specs.declared.entry.Entry.TheVariants.{Revised, Uploaded, Withdrawn, Conflict, Bid, Assigned}
+use Rattle.cr_base.specs.declared.entry.Entry.TheVariants.{Unassigned, Reviewed, Commented, Tagged, Decided}
+use Rattle.cr_base.specs.declared.entry.Entry.TheVariants.{DeadlineSet, Dismissed, Invited, Uninvited, Responded}
 use Rattle.cr_base.specs.declared.entry.Stamp.{Stamp}
 use Rattle.cr_base.specs.declared.entry.Stamped.{Stamped}
 use Rattle.cr_base.specs.declared.reply.AccountLine.{AccountLine}
 use Rattle.cr_base.specs.declared.retry.RetryKey.{RetryKey}
 use Rattle.cr_base.specs.declared.words.Phase.{Phase}
-use Rattle.cr_base.specs.declared.words.Phase.TheVariants.{Setup, Submission, Bidding, Reviewing, Response, Discussion, Notification, Closed}
+use Rattle.cr_base.specs.declared.words.Phase.TheVariants.{Setup, Submission, Bidding, Reviewing, Response, Discussion}
+use Rattle.cr_base.specs.declared.words.Phase.TheVariants.{Notification, Closed}
 use Rattle.cr_base.specs.declared.words.Mode.{Mode}
 use Rattle.cr_base.specs.declared.words.Mode.TheVariants.{Overt, Blind, Anonymous}
 use Rattle.cr_base.specs.declared.words.Role.{Role}
@@ -36,15 +39,19 @@ use Rattle.cr_base.specs.Lists.{numbers_from}
 use Rattle.cr_base.specs.Papers.{IsPaper}
 use Rattle.cr_base.specs.Phases.{may_have_deadline}
 use Rattle.cr_base.specs.Reviews.{forms_in, written_told}
-use Rattle.cr_base.specs.Rows.{fields_of, shape_of, kind_of, key_number, key_mark, label_number, until_number, IsBoundedEntry}
-use Rattle.cr_base.specs.Shapes.{InRange, HasText, key_in, user_range, paper_range, role_range, review_kind_range, decision_range, ordinal_range, some_ordinal_range, deadline_phase_range, some_deadline_range, unused}
+use Rattle.cr_base.specs.Rows.{fields_of, shape_of, kind_of, key_number, key_mark, label_number, until_number}
+use Rattle.cr_base.specs.Rows.{IsBoundedEntry}
+use Rattle.cr_base.specs.Shapes.{InRange, HasText, key_in, user_range, paper_range, role_range, review_kind_range}
+use Rattle.cr_base.specs.Shapes.{decision_range, ordinal_range, some_ordinal_range, deadline_phase_range}
+use Rattle.cr_base.specs.Shapes.{some_deadline_range, unused}
 use Rattle.cr_base.specs.Tables.{no_tables, tables_of, Fits, FitInTurn}
 use Rattle.cr_base.specs.Talk.{comments_in, comment_as_told}
 use Rattle.cr_base.specs.Words.{phase_number, mode_number, role_number, review_kind_number, decision_number}
 use Rattle.cr_base.proofs.AccountLaws.{length-lines_of}
 use Rattle.cr_base.proofs.ListLaws.{length-numbers_from, list_any-numbers_from}
 use Rattle.cr_history.specs.Groups.{IsRuled, IsBoundedStamp, Adds, single, submitted, first_user, Grows, adds, goes_on}
-use Rattle.cr_history.specs.Invariants.{IsRegistered, IsMadeByUser, HasNextNumber, HasNewName, IsAboutThose, IsSubmitted, InTurn}
+use Rattle.cr_history.specs.Invariants.{IsRegistered, IsMadeByUser, HasNextNumber, HasNewName, IsAboutThose}
+use Rattle.cr_history.specs.Invariants.{IsSubmitted, InTurn}
 use Rattle.cr_history.proofs.CallerLaws.{registered-from}
 use Rattle.cr_history.proofs.SizeAgreement.{IsSized, sized-tables}
 use Rattle.cr_history.proofs.LineAgreement.{accounts_of-tables}
@@ -64,14 +71,16 @@ within p xs low high = list_any-numbers_from 1 p xs (omega arith) ∙ between p 
     between : (p n : ℕ) → 1 ≤ p → p ≤ n → (nat_le 1 p && nat_le p (1 + n - 1)) ≡ true
     between p n low high = grind (arith, nat_tests)
 
-any-lines : (user n : ℕ) (accounts : List Account) → list_any (λ (a : AccountLine). eqb a.user user) (lines_from n accounts)
+any-lines : (user n : ℕ) (accounts : List Account)
+    → list_any (λ (a : AccountLine). eqb a.user user) (lines_from n accounts)
     ≡ list_any (λ q. eqb q user) (numbers_from n accounts)
 any-lines user n [] = refl
 any-lines user n (a ∷ accounts) = ap (λ b. eqb n user || b) (any-lines user (n + 1) accounts)
 
 module _ (H : History) (fits : FitInTurn no_tables H) where
   any-registered : (user : ℕ) (rs : List Registration) → list_any (λ (r : Registration). eqb r.user user) rs
-      ≡ list_any (λ (a : AccountLine). eqb a.user user) (map (λ (r : Registration). record { user = r.user; name = r.name; role = role_of (Some r.user) H }) rs)
+      ≡ list_any (λ (a : AccountLine). eqb a.user user)
+      (map (λ (r : Registration). record { user = r.user; name = r.name; role = role_of (Some r.user) H }) rs)
   any-registered user [] = refl
   any-registered user (r ∷ rs) = ap (λ b. eqb r.user user || b) (any-registered user rs)
 
@@ -83,35 +92,49 @@ module _ (H : History) (fits : FitInTurn no_tables H) where
       ∙ within user (tables_of H).accounts low high
 
   submitted-within : (paper : ℕ) → 1 ≤ paper → paper ≤ length (tables_of H).papers.papers → IsSubmitted H paper
-  submitted-within paper low high = ap (list_any (λ q. eqb q paper)) (papers_of-tables H fits) ∙ within paper (tables_of H).papers.papers low high
+  submitted-within paper low high =
+      ap (list_any (λ q. eqb q paper)) (papers_of-tables H fits) ∙ within paper (tables_of H).papers.papers low high
 
   pub accounts-counted : length (tables_of H).accounts ≡ length (accounts_of H)
   accounts-counted = sym (ap length (accounts_of-tables H fits) ∙ length-lines_of (tables_of H).accounts)
 
-  pub fits-number : (stamp : Stamp) (more : Bool) (e : Entry) → Fits (tables_of H) (stamped stamp more e) → HasNextNumber H e
+  pub fits-number : (stamp : Stamp) (more : Bool) (e : Entry) → Fits (tables_of H) (stamped stamp more e)
+      → HasNextNumber H e
   fits-number stamp more (Registered user name digest) fit = fit.accounts.0 ∙ ap (λ n. n + 1) accounts-counted
   fits-number stamp more (Submitted paper title abstract) fit = fit.papers.0
       ∙ ap (λ n. n + 1) (sym (ap length (papers_of-tables H fits) ∙ length-numbers_from 1 (tables_of H).papers.papers))
-  fits-number stamp more (Uploaded paper version content) fit = fit.papers.1 ∙ ap (λ n. n + 1) (sym (ap length (uploads_of-tables paper H)))
-  fits-number stamp more (Assigned paper user kind ordinal) fit = fit.seats.0 ∙ ap (λ n. n + 1) (sym (labels-tables paper H))
+  fits-number stamp more (Uploaded paper version content) fit =
+      fit.papers.1 ∙ ap (λ n. n + 1) (sym (ap length (uploads_of-tables paper H)))
+  fits-number stamp more (Assigned paper user kind ordinal) fit =
+      fit.seats.0 ∙ ap (λ n. n + 1) (sym (labels-tables paper H))
   fits-number stamp more (Reviewed paper ordinal version form) fit =
       fit.reviews
-      ∙ ap (λ n. n + 1) (sym (ap length (forms_of-tables paper ordinal H) ∙ length-map (forms_in (tables_of H).reviews paper ordinal) written_told))
+      ∙ ap (λ n. n + 1)
+      (sym (ap length (forms_of-tables paper ordinal H) ∙ length-map (forms_in (tables_of H).reviews paper ordinal)
+      written_told))
   fits-number stamp more (Commented paper n ordinal text) fit =
-      fit.talk.0 ∙ ap (λ n. n + 1) (sym (ap length (comments_of-tables paper H) ∙ length-map (comments_in (tables_of H).talk paper) comment_as_told))
+      fit.talk.0
+      ∙ ap (λ n. n + 1)
+      (sym (ap length (comments_of-tables paper H) ∙ length-map (comments_in (tables_of H).talk paper)
+      comment_as_told))
   fits-number stamp more e fit = tt
 
   pub fits-name : (stamp : Stamp) (more : Bool) (e : Entry) → Fits (tables_of H) (stamped stamp more e) → HasNewName H e
   fits-name stamp more (Registered user name digest) fit = number_of-tables name H fits ∙ fit.accounts.2
   fits-name stamp more e fit = tt
 
-  pub fits-about : (stamp : Stamp) (more : Bool) (e : Entry) → Fits (tables_of H) (stamped stamp more e) → IsAboutThose H e
+  pub fits-about : (stamp : Stamp) (more : Bool) (e : Entry) → Fits (tables_of H) (stamped stamp more e)
+      → IsAboutThose H e
   fits-about stamp more (Named user role) fit = registered-within user fit.accounts.0 fit.accounts.1
-  fits-about stamp more (Coauthor paper user) fit = (submitted-within paper fit.papers.0 (let last = fit.papers.1 in omega (arith, last)), registered-within user fit.accounts.0 fit.accounts.1)
+  fits-about stamp more (Coauthor paper user) fit = (
+    submitted-within paper fit.papers.0 (let last = fit.papers.1 in omega (arith, last)),
+    registered-within user fit.accounts.0 fit.accounts.1,
+  )
   fits-about stamp more (Revised paper title abstract) fit = submitted-within paper fit.papers.0 fit.papers.1
   fits-about stamp more (Uploaded paper version content) fit = submitted-within paper fit.papers.0.0 fit.papers.0.1
   fits-about stamp more (Withdrawn paper) fit = submitted-within paper fit.papers.0 fit.papers.1
-  fits-about stamp more (Conflict paper user on) fit = (submitted-within paper fit.papers.0 fit.papers.1, registered-within user fit.accounts.0 fit.accounts.1)
+  fits-about stamp more (Conflict paper user on) fit =
+      (submitted-within paper fit.papers.0 fit.papers.1, registered-within user fit.accounts.0 fit.accounts.1)
   fits-about stamp more (Bid paper value) fit = submitted-within paper fit.papers.0 fit.papers.1
   fits-about stamp more (Assigned paper user kind ordinal) fit =
       (submitted-within paper fit.papers.0 fit.papers.1, registered-within user fit.accounts.0 fit.accounts.1)
@@ -122,8 +145,10 @@ module _ (H : History) (fits : FitInTurn no_tables H) where
   fits-about stamp more (Tagged paper tag on) fit = submitted-within paper fit.papers.0 fit.papers.1
   fits-about stamp more (Decided paper decision) fit = submitted-within paper fit.papers.0 fit.papers.1
   fits-about stamp more (Dismissed user) fit = registered-within user fit.accounts.0 fit.accounts.1
-  fits-about stamp more (Invited paper user) fit = (submitted-within paper fit.papers.0 fit.papers.1, registered-within user fit.accounts.0 fit.accounts.1)
-  fits-about stamp more (Uninvited paper user) fit = (submitted-within paper fit.papers.0 fit.papers.1, registered-within user fit.accounts.0 fit.accounts.1)
+  fits-about stamp more (Invited paper user) fit =
+      (submitted-within paper fit.papers.0 fit.papers.1, registered-within user fit.accounts.0 fit.accounts.1)
+  fits-about stamp more (Uninvited paper user) fit =
+      (submitted-within paper fit.papers.0 fit.papers.1, registered-within user fit.accounts.0 fit.accounts.1)
   fits-about stamp more (Responded paper text) fit = submitted-within paper fit.papers.0 fit.papers.1
   fits-about stamp more e fit = tt
 
@@ -168,7 +193,8 @@ raised_number before role.Member h = (omega arith, omega arith)
 raised_number before role.Chair h = (omega arith, omega arith)
 
 -- a label that may be none, where each that is there is a letter's
-label-few : (ordinal : Option ℕ) → ((o : ℕ) → ordinal ≡ Some o → InRange ordinal_range o) → InRange some_ordinal_range (label_number ordinal)
+label-few : (ordinal : Option ℕ) → ((o : ℕ) → ordinal ≡ Some o → InRange ordinal_range o)
+    → InRange some_ordinal_range (label_number ordinal)
 label-few None drawn = (omega arith, omega arith)
 label-few (Some o) drawn = let there = drawn o refl in by (eqb o 0) refl there.0 there.1
   where
@@ -177,7 +203,8 @@ label-few (Some o) drawn = let there = drawn o refl in by (eqb o 0) refl there.0
     by false some low high = (omega arith, high)
 
 -- the phase of a deadline
-deadline_phase-few : (phase : Phase) → may_have_deadline phase ≡ true → InRange deadline_phase_range (phase_number phase)
+deadline_phase-few : (phase : Phase) → may_have_deadline phase ≡ true
+    → InRange deadline_phase_range (phase_number phase)
 deadline_phase-few Submission h = ((omega arith, omega arith), refl)
 deadline_phase-few Bidding h = ((omega arith, omega arith), refl)
 deadline_phase-few Reviewing h = ((omega arith, omega arith), refl)
@@ -229,10 +256,16 @@ record IsToldIn (e : Entry) : Type 0 where
   pub b2 : HasText (shape_of (kind_of e)).b2 (fields_of e).b2
 
 -- and so is all of it, where its stamp's maker and what a request brings are
-told-bounded : (stamp : Stamp) (more : Bool) (e : Entry) → InRange user_range stamp.maker → IsBoundedStamp stamp → IsToldIn e
+told-bounded : (stamp : Stamp) (more : Bool) (e : Entry) → InRange user_range stamp.maker → IsBoundedStamp stamp
+    → IsToldIn e
     → IsBoundedEntry (stamped stamp more e)
 told-bounded stamp more e maker bounds told = record {
-  stamp = record { maker = maker; at = bounds.moment; key = subst IsKeyOrNone (sym (key-back stamp.key bounds.key)) bounds.key };
+  stamp =
+      record {
+        maker = maker;
+        at = bounds.moment;
+        key = subst IsKeyOrNone (sym (key-back stamp.key bounds.key)) bounds.key;
+      };
   unmarked = key-unmarked stamp.key bounds.key;
   more = bit_few more;
   n1 = told.n1;
@@ -261,40 +294,151 @@ module _ (H : History) (fits : FitInTurn no_tables H) where
 
   -- the ordinal under which a user reviews a paper, too
   label_drawn : (user paper ordinal : ℕ) → ordinal_of (Some user) paper H ≡ Some ordinal → InRange ordinal_range ordinal
-  label_drawn user paper ordinal is = seat-drawn H fits user paper ordinal (sym (ordinal_of-tables (Some user) paper H fits) ∙ is)
+  label_drawn user paper ordinal is =
+      seat-drawn H fits user paper ordinal (sym (ordinal_of-tables (Some user) paper H fits) ∙ is)
 
-  coauthor-told : (stamp : Stamp) (more : Bool) (paper user : ℕ) → Fits (tables_of H) (stamped stamp more (Coauthor paper user)) → IsToldIn (Coauthor paper user)
+  coauthor-told : (stamp : Stamp) (more : Bool) (paper user : ℕ)
+      → Fits (tables_of H) (stamped stamp more (Coauthor paper user)) → IsToldIn (Coauthor paper user)
   coauthor-told stamp more paper user fit =
       let last = fit.papers.1 in
-      record { n1 = paper_numbered paper (fit.papers.0, omega (arith, last)); n2 = account_numbered user fit.accounts; n3 = zero_in; n4 = zero_in; n5 = zero_in; b1 = refl; b2 = refl }
+      record {
+        n1 = paper_numbered paper (fit.papers.0, omega (arith, last));
+        n2 = account_numbered user fit.accounts;
+        n3 = zero_in;
+        n4 = zero_in;
+        n5 = zero_in;
+        b1 = refl;
+        b2 = refl;
+      }
 
-  told-in : (stamp : Stamp) (more : Bool) (e : Entry) → IsRuled H stamp.maker e → Fits (tables_of H) (stamped stamp more e) → IsToldIn e
+  told-in : (stamp : Stamp) (more : Bool) (e : Entry) → IsRuled H stamp.maker e
+      → Fits (tables_of H) (stamped stamp more e) → IsToldIn e
   told-in stamp more (Registered user name digest) ruled fit =
       let next = fit.accounts.0 in
-      record { n1 = (omega (arith, next), fit.accounts.1); n2 = zero_in; n3 = zero_in; n4 = zero_in; n5 = zero_in; b1 = ruled.texts.0; b2 = ruled.texts.1 }
+      record {
+        n1 = (omega (arith, next), fit.accounts.1);
+        n2 = zero_in;
+        n3 = zero_in;
+        n4 = zero_in;
+        n5 = zero_in;
+        b1 = ruled.texts.0;
+        b2 = ruled.texts.1;
+      }
   told-in stamp more (Named user to) ruled fit =
-      record { n1 = account_numbered user fit.accounts; n2 = raised_number _ to ruled.role; n3 = zero_in; n4 = zero_in; n5 = zero_in; b1 = refl; b2 = refl }
-  told-in stamp more (PhaseSet phase) ruled fit = record { n1 = (omega arith, phase_number-few phase); n2 = zero_in; n3 = zero_in; n4 = zero_in; n5 = zero_in; b1 = refl; b2 = refl }
-  told-in stamp more (ModeSet mode) ruled fit = record { n1 = (omega arith, mode_number-few mode); n2 = zero_in; n3 = zero_in; n4 = zero_in; n5 = zero_in; b1 = refl; b2 = refl }
+      record {
+        n1 = account_numbered user fit.accounts;
+        n2 = raised_number _ to ruled.role;
+        n3 = zero_in;
+        n4 = zero_in;
+        n5 = zero_in;
+        b1 = refl;
+        b2 = refl;
+      }
+  told-in stamp more (PhaseSet phase) ruled fit =
+      record {
+        n1 = (omega arith, phase_number-few phase);
+        n2 = zero_in;
+        n3 = zero_in;
+        n4 = zero_in;
+        n5 = zero_in;
+        b1 = refl;
+        b2 = refl;
+      }
+  told-in stamp more (ModeSet mode) ruled fit =
+      record {
+        n1 = (omega arith, mode_number-few mode);
+        n2 = zero_in;
+        n3 = zero_in;
+        n4 = zero_in;
+        n5 = zero_in;
+        b1 = refl;
+        b2 = refl;
+      }
   told-in stamp more (Submitted paper title abstract) ruled fit =
       let next = fit.papers.0 in
-      record { n1 = (omega (arith, next), fit.papers.1); n2 = zero_in; n3 = zero_in; n4 = zero_in; n5 = zero_in; b1 = ruled.texts.0; b2 = ruled.texts.1 }
+      record {
+        n1 = (omega (arith, next), fit.papers.1);
+        n2 = zero_in;
+        n3 = zero_in;
+        n4 = zero_in;
+        n5 = zero_in;
+        b1 = ruled.texts.0;
+        b2 = ruled.texts.1;
+      }
   told-in stamp more (Coauthor paper user) ruled fit = coauthor-told stamp more paper user fit
-  told-in stamp more (Revised paper title abstract) ruled fit = record { n1 = paper_numbered paper fit.papers; n2 = zero_in; n3 = zero_in; n4 = zero_in; n5 = zero_in; b1 = ruled.texts.0; b2 = ruled.texts.1 }
+  told-in stamp more (Revised paper title abstract) ruled fit =
+      record {
+        n1 = paper_numbered paper fit.papers;
+        n2 = zero_in;
+        n3 = zero_in;
+        n4 = zero_in;
+        n5 = zero_in;
+        b1 = ruled.texts.0;
+        b2 = ruled.texts.1;
+      }
   told-in stamp more (Uploaded paper version content) ruled fit =
       let next = fit.papers.1 in
-      record { n1 = paper_numbered paper fit.papers.0; n2 = (omega (arith, next), tt); n3 = zero_in; n4 = zero_in; n5 = zero_in; b1 = ruled.texts; b2 = refl }
-  told-in stamp more (Withdrawn paper) ruled fit = record { n1 = paper_numbered paper fit.papers; n2 = zero_in; n3 = zero_in; n4 = zero_in; n5 = zero_in; b1 = refl; b2 = refl }
+      record {
+        n1 = paper_numbered paper fit.papers.0;
+        n2 = (omega (arith, next), tt);
+        n3 = zero_in;
+        n4 = zero_in;
+        n5 = zero_in;
+        b1 = ruled.texts;
+        b2 = refl;
+      }
+  told-in stamp more (Withdrawn paper) ruled fit =
+      record {
+        n1 = paper_numbered paper fit.papers;
+        n2 = zero_in;
+        n3 = zero_in;
+        n4 = zero_in;
+        n5 = zero_in;
+        b1 = refl;
+        b2 = refl;
+      }
   told-in stamp more (Conflict paper user on) ruled fit =
-      record { n1 = paper_numbered paper fit.papers; n2 = account_numbered user fit.accounts; n3 = (omega arith, bit_few on); n4 = zero_in; n5 = zero_in; b1 = refl; b2 = refl }
+      record {
+        n1 = paper_numbered paper fit.papers;
+        n2 = account_numbered user fit.accounts;
+        n3 = (omega arith, bit_few on);
+        n4 = zero_in;
+        n5 = zero_in;
+        b1 = refl;
+        b2 = refl;
+      }
   told-in stamp more (Bid paper value) ruled fit =
-      record { n1 = paper_numbered paper fit.papers; n2 = (omega arith, ruled.texts); n3 = zero_in; n4 = zero_in; n5 = zero_in; b1 = refl; b2 = refl }
+      record {
+        n1 = paper_numbered paper fit.papers;
+        n2 = (omega arith, ruled.texts);
+        n3 = zero_in;
+        n4 = zero_in;
+        n5 = zero_in;
+        b1 = refl;
+        b2 = refl;
+      }
   told-in stamp more (Assigned paper user kind' ordinal) ruled fit =
       let next = fit.seats.0 in
-      record { n1 = paper_numbered paper fit.papers; n2 = account_numbered user fit.accounts; n3 = review_kind_number-few kind'; n4 = (omega (arith, next), fit.seats.1); n5 = zero_in; b1 = refl; b2 = refl }
+      record {
+        n1 = paper_numbered paper fit.papers;
+        n2 = account_numbered user fit.accounts;
+        n3 = review_kind_number-few kind';
+        n4 = (omega (arith, next), fit.seats.1);
+        n5 = zero_in;
+        b1 = refl;
+        b2 = refl;
+      }
   told-in stamp more (Unassigned paper user ordinal) ruled fit =
       let drawn = seat-drawn H fits user paper ordinal fit.seats in
-      record { n1 = paper_numbered paper fit.papers; n2 = account_numbered user fit.accounts; n3 = drawn; n4 = zero_in; n5 = zero_in; b1 = refl; b2 = refl }
+      record {
+        n1 = paper_numbered paper fit.papers;
+        n2 = account_numbered user fit.accounts;
+        n3 = drawn;
+        n4 = zero_in;
+        n5 = zero_in;
+        b1 = refl;
+        b2 = refl;
+      }
   told-in stamp more (Reviewed paper ordinal version form) ruled fit =
       let next = fit.reviews in
       record {
@@ -348,32 +492,80 @@ module _ (H : History) (fits : FitInTurn no_tables H) where
         b2 = refl;
       }
   told-in stamp more (Dismissed user) ruled fit =
-      record { n1 = account_numbered user fit.accounts; n2 = zero_in; n3 = zero_in; n4 = zero_in; n5 = zero_in; b1 = refl; b2 = refl }
+      record {
+        n1 = account_numbered user fit.accounts;
+        n2 = zero_in;
+        n3 = zero_in;
+        n4 = zero_in;
+        n5 = zero_in;
+        b1 = refl;
+        b2 = refl;
+      }
   told-in stamp more (Invited paper user) ruled fit =
-      record { n1 = paper_numbered paper fit.papers; n2 = account_numbered user fit.accounts; n3 = zero_in; n4 = zero_in; n5 = zero_in; b1 = refl; b2 = refl }
+      record {
+        n1 = paper_numbered paper fit.papers;
+        n2 = account_numbered user fit.accounts;
+        n3 = zero_in;
+        n4 = zero_in;
+        n5 = zero_in;
+        b1 = refl;
+        b2 = refl;
+      }
   told-in stamp more (Uninvited paper user) ruled fit =
-      record { n1 = paper_numbered paper fit.papers; n2 = account_numbered user fit.accounts; n3 = zero_in; n4 = zero_in; n5 = zero_in; b1 = refl; b2 = refl }
+      record {
+        n1 = paper_numbered paper fit.papers;
+        n2 = account_numbered user fit.accounts;
+        n3 = zero_in;
+        n4 = zero_in;
+        n5 = zero_in;
+        b1 = refl;
+        b2 = refl;
+      }
   told-in stamp more (Responded paper text) ruled fit =
-      record { n1 = paper_numbered paper fit.papers; n2 = zero_in; n3 = zero_in; n4 = zero_in; n5 = zero_in; b1 = ruled.texts; b2 = refl }
+      record {
+        n1 = paper_numbered paper fit.papers;
+        n2 = zero_in;
+        n3 = zero_in;
+        n4 = zero_in;
+        n5 = zero_in;
+        b1 = ruled.texts;
+        b2 = refl;
+      }
 
   -- who makes it has a number that a row can hold, the new user too
-  made-in : (stamp : Stamp) (more : Bool) (e : Entry) → IsMadeByUser H stamp.maker e → Fits (tables_of H) (stamped stamp more e) → InRange user_range stamp.maker
-  made-in stamp more (Registered user name digest) made fit = let next = fit.accounts.0 in let few = fit.accounts.1 in (omega (arith, made, next), omega (arith, made, few))
+  made-in : (stamp : Stamp) (more : Bool) (e : Entry) → IsMadeByUser H stamp.maker e
+      → Fits (tables_of H) (stamped stamp more e) → InRange user_range stamp.maker
+  made-in stamp more (Registered user name digest) made fit = let next = fit.accounts.0 in let few =
+      fit.accounts.1 in (omega (arith, made, next), omega (arith, made, few))
   made-in stamp more e made fit = numbered stamp.maker made
 
-  bounded-entry : (stamp : Stamp) (more : Bool) (e : Entry) → IsBoundedStamp stamp → IsMadeByUser H stamp.maker e → IsRuled H stamp.maker e → Fits (tables_of H) (stamped stamp more e)
+  bounded-entry : (stamp : Stamp) (more : Bool) (e : Entry) → IsBoundedStamp stamp → IsMadeByUser H stamp.maker e
+      → IsRuled H stamp.maker e → Fits (tables_of H) (stamped stamp more e)
       → IsBoundedEntry (stamped stamp more e)
-  bounded-entry stamp more e bounds made ruled fit = told-bounded stamp more e (made-in stamp more e made fit) bounds (told-in stamp more e ruled fit)
+  bounded-entry stamp more e bounds made ruled fit =
+      told-bounded stamp more e (made-in stamp more e made fit) bounds (told-in stamp more e ruled fit)
 
-  bounded-coauthor : (stamp : Stamp) (more : Bool) (paper user : ℕ) → IsBoundedStamp stamp → IsRegistered H stamp.maker → Fits (tables_of H) (stamped stamp more (Coauthor paper user))
+  bounded-coauthor : (stamp : Stamp) (more : Bool) (paper user : ℕ) → IsBoundedStamp stamp → IsRegistered H stamp.maker
+      → Fits (tables_of H) (stamped stamp more (Coauthor paper user))
       → IsBoundedEntry (stamped stamp more (Coauthor paper user))
   bounded-coauthor stamp more paper user bounds registered fit =
-      told-bounded stamp more (Coauthor paper user) (numbered stamp.maker registered) bounds (coauthor-told stamp more paper user fit)
+      told-bounded stamp more (Coauthor paper user) (numbered stamp.maker registered) bounds
+      (coauthor-told stamp more paper user fit)
 
-  bounded_chair : (stamp : Stamp) → IsBoundedStamp stamp → stamp.maker ≡ 1 → IsBoundedEntry (stamped stamp false (Named stamp.maker role.Chair))
+  bounded_chair : (stamp : Stamp) → IsBoundedStamp stamp → stamp.maker ≡ 1
+      → IsBoundedEntry (stamped stamp false (Named stamp.maker role.Chair))
   bounded_chair stamp bounds is =
       let first : InRange user_range stamp.maker = (omega (arith, is), omega (arith, is)) in
-      told-bounded stamp false (Named stamp.maker role.Chair) first bounds (record { n1 = first; n2 = (omega arith, omega arith); n3 = zero_in; n4 = zero_in; n5 = zero_in; b1 = refl; b2 = refl })
+      told-bounded stamp false (Named stamp.maker role.Chair) first bounds
+      (record {
+        n1 = first;
+        n2 = (omega arith, omega arith);
+        n3 = zero_in;
+        n4 = zero_in;
+        n5 = zero_in;
+        b1 = refl;
+        b2 = refl;
+      })
 
 -- ---- groups
 
@@ -381,20 +573,29 @@ in_turn-all : (Q : Stamped → Type 0) (before g : History) → InTurn (λ _ e. 
 in_turn-all Q before [] all = tt
 in_turn-all Q before (e ∷ g) all = (all.0, in_turn-all Q (before ++ e ∷ []) g all.1)
 
-added-bounded : (H : History) → FitInTurn no_tables H → (g : History) → Adds H g → FitInTurn (tables_of H) g → All IsBoundedEntry g
-added-bounded H fits g (single stamp e bounds made alone ruled) fit = All-from_recursion IsBoundedEntry (grouped stamp (e ∷ [])) (bounded-entry H fits stamp false e bounds made ruled fit.0, tt)
+added-bounded : (H : History) → FitInTurn no_tables H → (g : History) → Adds H g → FitInTurn (tables_of H) g
+    → All IsBoundedEntry g
+added-bounded H fits g (single stamp e bounds made alone ruled) fit = All-from_recursion IsBoundedEntry
+    (grouped stamp (e ∷ [])) (bounded-entry H fits stamp false e bounds made ruled fit.0, tt)
 added-bounded H fits g (submitted stamp paper title abstract users bounds made ruled registered) fit =
     All-from_recursion IsBoundedEntry (grouped stamp (submission stamp.maker paper title abstract users))
     (in_turn-all IsBoundedEntry H _
-    (submission-in_turn stamp paper (λ _ e. IsBoundedEntry e) (λ G more user before fit. bounded-coauthor G before.fits stamp more paper user bounds before.registered fit)
-    H title abstract users fits made ruled.phase (λ more fit. bounded-entry H fits stamp more (Submitted paper title abstract) bounds made ruled fit) fit))
+    (submission-in_turn stamp paper (λ _ e. IsBoundedEntry e)
+    (λ G more user before fit. bounded-coauthor G before.fits stamp more paper user bounds before.registered fit)
+    H title abstract users fits made ruled.phase
+    (λ more fit. bounded-entry H fits stamp more (Submitted paper title abstract) bounds made ruled fit) fit))
 added-bounded H fits g (first_user stamp name digest bounds is texts) fit =
     let user : ℕ = stamp.maker in
-    let ruled : IsRuled H user (Registered user name digest) = record { phase = tt; chair = tt; role = tt; member = tt; right = tt; seat = tt; texts = texts } in
-    All-from_recursion IsBoundedEntry (grouped stamp (Registered user name digest ∷ Named user role.Chair ∷ []))
-    (bounded-entry H fits stamp true (Registered user name digest) bounds refl ruled fit.0, (bounded_chair H fits stamp bounds is, tt))
+    let ruled : IsRuled H user (Registered user name digest) =
+    record { phase = tt; chair = tt; role = tt; member = tt; right = tt; seat = tt; texts = texts } in
+    All-from_recursion IsBoundedEntry (grouped stamp (Registered user name digest ∷ Named user role.Chair ∷ [])) (
+      bounded-entry H fits stamp true (Registered user name digest) bounds refl ruled fit.0,
+      (bounded_chair H fits stamp bounds is, tt),
+    )
 
-pub grown-bounded : (H : History) → FitInTurn no_tables H → (g : History) → Grows H g → FitInTurn (tables_of H) g → All IsBoundedEntry g
+pub grown-bounded : (H : History) → FitInTurn no_tables H → (g : History) → Grows H g → FitInTurn (tables_of H) g
+    → All IsBoundedEntry g
 grown-bounded H fits g (adds same added) fit = added-bounded H fits g added fit
 grown-bounded H fits g (goes_on stamp e bounds made goes ruled) fit =
-    All-from_recursion IsBoundedEntry (stamped stamp true e ∷ []) (bounded-entry H fits stamp true e bounds made ruled fit.0, tt)
+    All-from_recursion IsBoundedEntry (stamped stamp true e ∷ [])
+    (bounded-entry H fits stamp true e bounds made ruled fit.0, tt)

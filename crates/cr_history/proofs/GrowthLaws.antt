@@ -15,7 +15,9 @@ use Rattle.cr_history.proofs.InTime.{in_time-nil, in_time-append, discussed-appe
 use Rattle.cr_history.proofs.InviteAgreement.{is_invited-tables}
 use Rattle.cr_history.proofs.LineAgreement.{accounts_of-tables}
 use Rattle.cr_history.proofs.NumberAgreement.{number_of-tables, caller_of-tables}
-use Rattle.cr_history.proofs.PaperAgreement.{papers_of-tables, own_papers_of-tables, own_bytes_of-tables, title_of-tables, abstract_of-tables, uploads_of-tables, is_withdrawn-tables, authors_of-tables}
+use Rattle.cr_history.proofs.PaperAgreement.{papers_of-tables, own_papers_of-tables, own_bytes_of-tables}
+use Rattle.cr_history.proofs.PaperAgreement.{title_of-tables, abstract_of-tables, uploads_of-tables}
+use Rattle.cr_history.proofs.PaperAgreement.{is_withdrawn-tables, authors_of-tables}
 use Rattle.cr_history.proofs.ReviewAgreement.{forms_of-tables}
 use Rattle.cr_history.proofs.SeatAgreement.{ordinal_of-tables, seats_of-tables, labels-tables, reviewers_of-tables}
 use Rattle.cr_history.proofs.StageAgreement.{deadline_of-tables, had_response-tables}
@@ -59,9 +61,20 @@ tables_tell H fits first = record {
 
 pub growth_keeps : GrowthKeeps
 growth_keeps = record {
-  first = record { bounded = All-nil IsBoundedEntry; spelled = λ k d within. restored-row_of _ (All-nil IsBoundedEntry k d within); fits = tt; in_order = tt; declared_in_time = in_time-nil; discussed = refl; responded = responded-nil; stay = All-nil _ };
+  first =
+      record {
+        bounded = All-nil IsBoundedEntry;
+        spelled = λ k d within. restored-row_of _ (All-nil IsBoundedEntry k d within);
+        fits = tt;
+        in_order = tt;
+        declared_in_time = in_time-nil;
+        discussed = refl;
+        responded = responded-nil;
+        stay = All-nil _;
+      };
   more = λ H g kept grows fits.
-      let all : All IsBoundedEntry (H ++ g) = All-append IsBoundedEntry H g kept.bounded (grown-bounded H kept.fits g grows fits) in
+      let all : All IsBoundedEntry (H ++ g) =
+      All-append IsBoundedEntry H g kept.bounded (grown-bounded H kept.fits g grows fits) in
       record {
         bounded = all;
         spelled = λ k d within. restored-row_of _ (all k d within);

@@ -1,8 +1,10 @@
 -- Each entry of a legal history is in order on the history before it, and no command's entries are cut off.
-use Rattle.std.proofs.Common.{ℕ, Bool, true, false, ◌≡◌, List, [], ◌∷◌, ◌++◌, length, refl, sym, subst, ◌∙◌, arith, append_assoc, append-nil}
+use Rattle.std.proofs.Common.{ℕ, Bool, true, false, ◌≡◌, List, [], ◌∷◌, ◌++◌, length, refl, sym, subst, ◌∙◌, arith}
+use Rattle.std.proofs.Common.{append_assoc, append-nil}
 use Rattle.std.proofs.lemmas.Bool.{false≢true}
 use Rattle.cr_base.specs.declared.entry.Entry.{Entry}
-use Rattle.cr_base.specs.declared.entry.Entry.TheVariants.{Registered, Named, Submitted, Coauthor, Conflict, Assigned, Unassigned, Tagged}
+use Rattle.cr_base.specs.declared.entry.Entry.TheVariants.{Registered, Named, Submitted, Coauthor, Conflict, Assigned}
+use Rattle.cr_base.specs.declared.entry.Entry.TheVariants.{Unassigned, Tagged}
 use Rattle.cr_base.specs.declared.entry.Stamp.{Stamp}
 use Rattle.cr_base.specs.declared.entry.Stamped.{Stamped}
 use Rattle.cr_base.specs.declared.words.Role.TheVariants.{Chair}
@@ -34,10 +36,40 @@ nothing_before (e ∷ after) h none = absurd (no_entry e.entry e.stamp e.more af
 abbrev first_group : Stamp → List ℕ → List ℕ → History
 first_group stamp name digest = grouped stamp (Registered stamp.maker name digest ∷ Named stamp.maker Chair ∷ [])
 
-first-in_order : (stamp : Stamp) (name digest : List ℕ) → InTurn IsInOrder [] (first_group (record stamp { maker = 1 }) name digest)
+first-in_order : (stamp : Stamp) (name digest : List ℕ)
+    → InTurn IsInOrder [] (first_group (record stamp { maker = 1 }) name digest)
 first-in_order stamp name digest = (
-  record { maker = refl; mark = refl; number = refl; name = refl; about = tt; phase = tt; chair = tt; role = tt; member = tt; right = tt; seat = tt; first = tt },
-  (record { maker = refl; mark = refl; number = tt; name = tt; about = refl; phase = refl; chair = refl; role = omega arith; member = tt; right = tt; seat = tt; first = tt }, tt),
+  record {
+    maker = refl;
+    mark = refl;
+    number = refl;
+    name = refl;
+    about = tt;
+    phase = tt;
+    chair = tt;
+    role = tt;
+    member = tt;
+    right = tt;
+    seat = tt;
+    first = tt;
+  },
+  (
+    record {
+      maker = refl;
+      mark = refl;
+      number = tt;
+      name = tt;
+      about = refl;
+      phase = refl;
+      chair = refl;
+      role = omega arith;
+      member = tt;
+      right = tt;
+      seat = tt;
+      first = tt;
+    },
+    tt,
+  ),
 )
 
 -- ---- a group
@@ -70,8 +102,10 @@ going-first H (Coauthor paper user) goes = absurd goes
 going-first H e goes = tt
 
 -- a co-author behind her paper
-coauthor-in_order : (stamp : Stamp) (paper : ℕ) (H : History) (more : Bool) (user : ℕ) → IsSubmitting stamp.maker paper H
-    → Fits (tables_of H) (stamped stamp more (Coauthor paper user)) → IsInOrder H (stamped stamp more (Coauthor paper user))
+coauthor-in_order : (stamp : Stamp) (paper : ℕ) (H : History) (more : Bool) (user : ℕ)
+    → IsSubmitting stamp.maker paper H
+    → Fits (tables_of H) (stamped stamp more (Coauthor paper user))
+    → IsInOrder H (stamped stamp more (Coauthor paper user))
 coauthor-in_order stamp paper H more user before fit = record {
   maker = before.registered;
   mark = tt;
@@ -88,7 +122,8 @@ coauthor-in_order stamp paper H more user before fit = record {
 }
 
 -- an entry that the rules allow and that fits
-ruled-in_order : (H : History) → FitInTurn no_tables H → (stamp : Stamp) (more : Bool) (e : Entry) → IsMadeByUser H stamp.maker e → IsRuled H stamp.maker e
+ruled-in_order : (H : History) → FitInTurn no_tables H → (stamp : Stamp) (more : Bool) (e : Entry)
+    → IsMadeByUser H stamp.maker e → IsRuled H stamp.maker e
     → Fits (tables_of H) (stamped stamp more e) → IsMarked more e → ComesFirst H e → IsInOrder H (stamped stamp more e)
 ruled-in_order H fits stamp more e made ruled fit marked first = record {
   maker = made;
@@ -106,11 +141,13 @@ ruled-in_order H fits stamp more e made ruled fit marked first = record {
 }
 
 -- what is added to a history in order is in order
-added-in_order : (H g : History) → FitInTurn no_tables H → InTurn IsInOrder [] H → Adds H g → FitInTurn (tables_of H) g → InTurn IsInOrder H g
+added-in_order : (H g : History) → FitInTurn no_tables H → InTurn IsInOrder [] H → Adds H g → FitInTurn (tables_of H) g
+    → InTurn IsInOrder H g
 added-in_order H g fits kept (single stamp e bounds made alone ruled) fit =
     (ruled-in_order H fits stamp false e made ruled fit.0 (alone-marked e alone) (alone-first H e alone), tt)
 added-in_order H g fits kept (submitted stamp paper title abstract users bounds made ruled registered) fit =
-    submission-in_turn stamp paper IsInOrder (coauthor-in_order stamp paper) H title abstract users fits made ruled.phase
+    submission-in_turn stamp paper IsInOrder (coauthor-in_order stamp paper) H title abstract users fits made
+    ruled.phase
     (λ more fit. record {
       maker = made;
       mark = tt;
@@ -130,22 +167,26 @@ added-in_order H g fits kept (first_user stamp name digest bounds is texts) fit 
     let count = accounts-counted H fits in
     let none : H ≡ [] = nothing_before H kept (omega (arith, next, count, is)) in
     subst (λ (G : History). InTurn IsInOrder G (first_group stamp name digest)) (sym none)
-    (subst (λ (n : ℕ). InTurn IsInOrder [] (first_group (record stamp { maker = n }) name digest)) (sym is) (first-in_order stamp name digest))
+    (subst (λ (n : ℕ). InTurn IsInOrder [] (first_group (record stamp { maker = n }) name digest)) (sym is)
+    (first-in_order stamp name digest))
 
 -- and so is what it grows by
-grown-in_order : (H g : History) → FitInTurn no_tables H → InTurn IsInOrder [] H → Grows H g → FitInTurn (tables_of H) g → InTurn IsInOrder H g
+grown-in_order : (H g : History) → FitInTurn no_tables H → InTurn IsInOrder [] H → Grows H g → FitInTurn (tables_of H) g
+    → InTurn IsInOrder H g
 grown-in_order H g fits kept (adds same added) fit = added-in_order H g fits kept added fit
 grown-in_order H g fits kept (goes_on stamp e bounds made goes ruled) fit =
     (ruled-in_order H fits stamp true e made ruled fit.0 (going-marked e goes) (going-first H e goes), tt)
 
 added-whole : (H g : History) → Adds H g → IsWhole g
 added-whole H g (single stamp e bounds made alone ruled) = refl
-added-whole H g (submitted stamp paper title abstract users bounds made ruled registered) = grouped-whole stamp (submission stamp.maker paper title abstract users)
+added-whole H g (submitted stamp paper title abstract users bounds made ruled registered) =
+    grouped-whole stamp (submission stamp.maker paper title abstract users)
 added-whole H g (first_user stamp name digest bounds is texts) = ((λ more. refl), refl)
 
 -- ---- one behind another
 
-in_turn-map : (P Q : History → Stamped → Type 0) → ((before : History) (e : Stamped) → P before e → Q before e) → (before H : History) → InTurn P before H
+in_turn-map : (P Q : History → Stamped → Type 0) → ((before : History) (e : Stamped) → P before e → Q before e)
+    → (before H : History) → InTurn P before H
     → InTurn Q before H
 in_turn-map P Q f before [] all = tt
 in_turn-map P Q f before (e ∷ H) all = (f before e all.0, in_turn-map P Q f (before ++ e ∷ []) H all.1)
@@ -154,9 +195,14 @@ in_turn-map P Q f before (e ∷ H) all = (f before e all.0, in_turn-map P Q f (b
 pub tell_first : (before H : History) → InTurn IsInOrder before H → InTurn TellFirst before H
 tell_first before H kept = in_turn-map IsInOrder TellFirst (λ before e in_order. in_order.first) before H kept
 
-pub in_turn-append : (P : History → Stamped → Type 0) (before H g : History) → InTurn P before H → InTurn P (before ++ H) g → InTurn P before (H ++ g)
+pub in_turn-append : (P : History → Stamped → Type 0) (before H g : History) → InTurn P before H
+    → InTurn P (before ++ H) g → InTurn P before (H ++ g)
 in_turn-append P before [] g first then = subst (λ (G : History). InTurn P G g) (append-nil before) then
-in_turn-append P before (e ∷ H) g first then = (first.0, in_turn-append P (before ++ e ∷ []) H g first.1 (subst (λ (G : History). InTurn P G g) (sym (append_assoc before (e ∷ []) H)) then))
+in_turn-append P before (e ∷ H) g first then = (
+  first.0,
+  in_turn-append P (before ++ e ∷ []) H g first.1
+      (subst (λ (G : History). InTurn P G g) (sym (append_assoc before (e ∷ []) H)) then),
+)
 
 pub whole-append : (H g : History) → IsWhole H → IsWhole g → IsWhole (H ++ g)
 whole-append [] g h then = then
@@ -167,7 +213,8 @@ whole-append (e ∷ next ∷ H) g h then = (h.0, whole-append (next ∷ H) g h.1
 -- ---- the step
 
 -- what is so of a history is so with a group behind it that the rules allow and that fits
-pub in_order-append : (H g : History) → FitInTurn no_tables H → Grows H g → FitInTurn (tables_of H) g → InTurn IsInOrder [] H → InTurn IsInOrder [] (H ++ g)
+pub in_order-append : (H g : History) → FitInTurn no_tables H → Grows H g → FitInTurn (tables_of H) g
+    → InTurn IsInOrder [] H → InTurn IsInOrder [] (H ++ g)
 in_order-append H g fits grows fit kept = in_turn-append IsInOrder [] H g kept (grown-in_order H g fits kept grows fit)
 
 pub whole-added : (H g : History) → IsWhole H → Adds H g → IsWhole (H ++ g)

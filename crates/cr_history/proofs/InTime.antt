@@ -1,5 +1,6 @@
 -- Which users make the conflict entries of a legal history, before the bidding and from it on.
-use Rattle.std.proofs.Common.{◌≡◌, ℕ, Bool, true, false, cond, List, [], ◌∷◌, ◌++◌, refl, sym, ap, ◌∙◌, subst, ◌||◌, ◌&&◌, Option, Some, eqb, arith, ◌+◌}
+use Rattle.std.proofs.Common.{◌≡◌, ℕ, Bool, true, false, cond, List, [], ◌∷◌, ◌++◌, refl, sym, ap, ◌∙◌, subst, ◌||◌}
+use Rattle.std.proofs.Common.{◌&&◌, Option, Some, eqb, arith, ◌+◌}
 use Rattle.std.specs.Prelude.{not, nat_le}
 use Rattle.std.specs.List.{AllByRecursion, list_any}
 use Rattle.std.proofs.lemmas.Bool.{false≢true}
@@ -11,15 +12,18 @@ use Rattle.cr_base.specs.declared.entry.Entry.TheVariants.{PhaseSet, Submitted, 
 use Rattle.cr_base.specs.declared.entry.Stamp.{Stamp}
 use Rattle.cr_base.specs.declared.entry.Stamped.{Stamped}
 use Rattle.cr_base.specs.declared.words.Phase.{Phase}
-use Rattle.cr_base.specs.declared.words.Phase.TheVariants.{Setup, Submission, Bidding, Reviewing, Response, Discussion, Notification, Closed}
+use Rattle.cr_base.specs.declared.words.Phase.TheVariants.{Setup, Submission, Bidding, Reviewing, Response, Discussion}
+use Rattle.cr_base.specs.declared.words.Phase.TheVariants.{Notification, Closed}
 use Rattle.cr_base.specs.Lists.{last_or, is_number, until, since}
 use Rattle.cr_base.specs.History.{History, all_told, opens, phase_told, author_told}
 use Rattle.cr_base.specs.HistoryFacts.{phase_of, authors_of, is_author}
 use Rattle.cr_base.specs.Phases.{phase_rank, is_from, is_next, is_phase, authors_have_declared}
 use Rattle.cr_base.specs.Drawn.{stamped, submission}
 use Rattle.cr_history.proofs.Folds.{last_or-append}
-use Rattle.cr_history.specs.Invariants.{is_opening, ByAuthor, ByHerselfOrOther, Early, Late, DeclaresInTime, IsDiscussedInTime, IsRespondedInTime, IsInPhase, IsByRight}
-use Rattle.cr_history.proofs.ListCuts.{AllByRecursion-append, AllByRecursion-map, AllByRecursion-until, until-none, since-none, until-append, since-append, until-before, since-before}
+use Rattle.cr_history.specs.Invariants.{is_opening, ByAuthor, ByHerselfOrOther, Early, Late, DeclaresInTime}
+use Rattle.cr_history.specs.Invariants.{IsDiscussedInTime, IsRespondedInTime, IsInPhase, IsByRight}
+use Rattle.cr_history.proofs.ListCuts.{AllByRecursion-append, AllByRecursion-map, AllByRecursion-until, until-none}
+use Rattle.cr_history.proofs.ListCuts.{since-none, until-append, since-append, until-before, since-before}
 use Rattle.cr_history.specs.Groups.{IsRuled, Adds, single, submitted, first_user, Grows, adds, goes_on}
 use Rattle.cr_history.proofs.Grouped.{grouped-each, submission-each, all-silent}
 
@@ -45,15 +49,18 @@ added-allowed : (H g : History) → Adds H g → AllByRecursion (Allowed H) g
 added-allowed H g (single stamp e bounds made marked ruled) = (ruled-allowed H stamp.maker e ruled, tt)
 added-allowed H g (submitted stamp paper title abstract users bounds made ruled registered) =
     grouped-each stamp (Allowed H) (submission stamp.maker paper title abstract users)
-    (submission-each (λ (e : Entry). (more : Bool) → EntryAllowed H stamp.maker e) stamp.maker paper title abstract users (λ more. ruled.phase) (λ user more. ruled.phase))
+    (submission-each (λ (e : Entry). (more : Bool) → EntryAllowed H stamp.maker e) stamp.maker paper title abstract
+    users (λ more. ruled.phase) (λ user more. ruled.phase))
 added-allowed H g (first_user stamp name digest bounds is texts) = (tt, (tt, tt))
 
 -- a group moves the phase on and does nothing else, or leaves the phase
 data Moves (H : History) : History → Type 0 where
-  moved : (stamp : Stamp) (more : Bool) (to : Phase) → is_next (phase_of H) to ≡ true → Moves H (stamped stamp more (PhaseSet to) ∷ [])
+  moved : (stamp : Stamp) (more : Bool) (to : Phase) → is_next (phase_of H) to ≡ true
+      → Moves H (stamped stamp more (PhaseSet to) ∷ [])
   stayed : (g : History) → all_told phase_told g ≡ [] → Moves H g
 
-ruled-moves : (H : History) (stamp : Stamp) (more : Bool) (e : Entry) → IsRuled H stamp.maker e → Moves H (stamped stamp more e ∷ [])
+ruled-moves : (H : History) (stamp : Stamp) (more : Bool) (e : Entry) → IsRuled H stamp.maker e
+    → Moves H (stamped stamp more e ∷ [])
 ruled-moves H stamp more (PhaseSet to) ruled = moved stamp more to ruled.phase
 ruled-moves H stamp more e ruled = stayed _ refl
 
@@ -62,7 +69,8 @@ added-moves H g (single stamp e bounds made marked ruled) = ruled-moves H stamp 
 added-moves H g (submitted stamp paper title abstract users bounds made ruled registered) =
     stayed _ (all-silent (λ (e : Stamped). phase_told e.entry) _
     (grouped-each stamp (λ (e : Stamped). phase_told e.entry ≡ []) (submission stamp.maker paper title abstract users)
-    (submission-each (λ (e : Entry). (more : Bool) → phase_told e ≡ []) stamp.maker paper title abstract users (λ more. refl) (λ user more. refl))))
+    (submission-each (λ (e : Entry). (more : Bool) → phase_told e ≡ []) stamp.maker paper title abstract users
+    (λ more. refl) (λ user more. refl))))
 added-moves H g (first_user stamp name digest bounds is texts) = stayed _ refl
 
 -- and so of all by which a history grows
@@ -76,32 +84,37 @@ grown-moves H g (goes_on stamp e bounds made goes ruled) = ruled-moves H stamp t
 
 -- ---- authors of more entries
 
-pub author-append : (u : Option ℕ) (p : ℕ) (H g : History) → is_author u p (H ++ g) ≡ (is_author u p H || is_author u p g)
+pub author-append : (u : Option ℕ) (p : ℕ) (H g : History)
+    → is_author u p (H ++ g) ≡ (is_author u p H || is_author u p g)
 author-append u p H g =
     ap (list_any (is_number u)) (flat_map-append (λ (e : Stamped). author_told p e.stamp.maker e.entry) H g)
     ∙ list_any-append (is_number u) (authors_of p H) (authors_of p g)
 
 -- who made an early entry stays an author
 early-more : (H g : History) (maker : ℕ) (e : Entry) → ByAuthor H maker e → ByAuthor (H ++ g) maker e
-early-more H g maker (Conflict paper user on) h = author-append (Some maker) paper H g ∙ ap (λ b. b || is_author (Some maker) paper g) h
+early-more H g maker (Conflict paper user on) h =
+    author-append (Some maker) paper H g ∙ ap (λ b. b || is_author (Some maker) paper g) h
 early-more H g maker e h = tt
 
 -- who made a late entry becomes no author, where nobody does
-late-more : (H g : History) → ((p : ℕ) → authors_of p g ≡ []) → (maker : ℕ) (e : Entry) → ByHerselfOrOther H maker e → ByHerselfOrOther (H ++ g) maker e
+late-more : (H g : History) → ((p : ℕ) → authors_of p g ≡ []) → (maker : ℕ) (e : Entry) → ByHerselfOrOther H maker e
+    → ByHerselfOrOther (H ++ g) maker e
 late-more H g none maker (Conflict paper user on) h = λ other.
     author-append (Some maker) paper H g
     ∙ ap (λ b. b || is_author (Some maker) paper g) (h other)
     ∙ ap (list_any (is_number (Some maker))) (none paper)
 late-more H g none maker e h = tt
 
-early-new : (H : History) → authors_have_declared (phase_of H) ≡ false → (maker : ℕ) (e : Entry) → EntryAllowed H maker e → ByAuthor H maker e
+early-new : (H : History) → authors_have_declared (phase_of H) ≡ false → (maker : ℕ) (e : Entry)
+    → EntryAllowed H maker e → ByAuthor H maker e
 early-new H soon maker (Conflict paper user on) h = by_author _ _ _ _ soon h
   where
     by_author : (begun other author on : Bool) → begun ≡ false → cond begun other (author && on) ≡ true → author ≡ true
     by_author begun other author on soon h = grind arith
 early-new H soon maker e h = tt
 
-late-new : (H : History) → authors_have_declared (phase_of H) ≡ true → (maker : ℕ) (e : Entry) → EntryAllowed H maker e → ByHerselfOrOther H maker e
+late-new : (H : History) → authors_have_declared (phase_of H) ≡ true → (maker : ℕ) (e : Entry) → EntryAllowed H maker e
+    → ByHerselfOrOther H maker e
 late-new H begun maker (Conflict paper user on) h = by_other _ _ _ _ _ _ _ begun h
   where
     by_other : (begun own on may chair author declared : Bool) → begun ≡ true
@@ -121,15 +134,18 @@ not_both Discussion h k = false≢true h
 not_both Notification h k = false≢true h
 not_both Closed h k = false≢true h
 
-no_author-entry : (H : History) → is_from Bidding (phase_of H) ≡ true → (p maker : ℕ) (e : Entry) → EntryAllowed H maker e → author_told p maker e ≡ []
+no_author-entry : (H : History) → is_from Bidding (phase_of H) ≡ true → (p maker : ℕ) (e : Entry)
+    → EntryAllowed H maker e → author_told p maker e ≡ []
 no_author-entry H begun p maker (Submitted paper title abstract) h = absurd (not_both (phase_of H) h begun)
 no_author-entry H begun p maker (Coauthor paper user) h = absurd (not_both (phase_of H) h begun)
 no_author-entry H begun p maker e h = refl
 
-no_authors : (H : History) → is_from Bidding (phase_of H) ≡ true → (p : ℕ) (g : History) → AllByRecursion (Allowed H) g → authors_of p g ≡ []
+no_authors : (H : History) → is_from Bidding (phase_of H) ≡ true → (p : ℕ) (g : History) → AllByRecursion (Allowed H) g
+    → authors_of p g ≡ []
 no_authors H begun p g h =
     all-silent (λ (e : Stamped). author_told p e.stamp.maker e.entry) g
-    (AllByRecursion-map (Allowed H) (λ (e : Stamped). author_told p e.stamp.maker e.entry ≡ []) (λ e k. no_author-entry H begun p e.stamp.maker e.entry k) g h)
+    (AllByRecursion-map (Allowed H) (λ (e : Stamped). author_told p e.stamp.maker e.entry ≡ [])
+    (λ e k. no_author-entry H begun p e.stamp.maker e.entry k) g h)
 
 -- ---- the phase after a group
 
@@ -141,7 +157,8 @@ phase-append H g =
 pub phase_stays : (H g : History) → all_told phase_told g ≡ [] → phase_of (H ++ g) ≡ phase_of H
 phase_stays H g h = phase-append H g ∙ ap (last_or (phase_of H)) h
 
-phase_moves : (H : History) (stamp : Stamp) (more : Bool) (to : Phase) → phase_of (H ++ stamped stamp more (PhaseSet to) ∷ []) ≡ to
+phase_moves : (H : History) (stamp : Stamp) (more : Bool) (to : Phase)
+    → phase_of (H ++ stamped stamp more (PhaseSet to) ∷ []) ≡ to
 phase_moves H stamp more to = phase-append H (stamped stamp more (PhaseSet to) ∷ [])
 
 empty_parts : {A : Type 0} (xs ys : List A) → xs ++ ys ≡ [] → (xs ≡ []) × (ys ≡ [])
@@ -189,18 +206,23 @@ module _ (first : Phase) where
   still_open k m n e h = grind (arith, nat_tests, e, h)
 
   -- the response, whose rank is 4, is the one that may be skipped
-  opens_now : (k m n : ℕ) → eqb k 4 ≡ false → (eqb n (m + 1) || (eqb m 3 && eqb n 5)) ≡ true → nat_le k m ≡ false → (eqb n k || false) ≡ nat_le k n
+  opens_now : (k m n : ℕ) → eqb k 4 ≡ false → (eqb n (m + 1) || (eqb m 3 && eqb n 5)) ≡ true → nat_le k m ≡ false
+      → (eqb n k || false) ≡ nat_le k n
   opens_now k m n other e h = grind (arith, nat_tests, other, e, h)
 
-  in_time-after : eqb (phase_rank first) 4 ≡ false → (H g : History) → Moves H g → IsOpenedInTime H → IsOpenedInTime (H ++ g)
-  in_time-after other H g moves kept = list_any-append opens_first H g ∙ by H g moves (list_any opens_first H) (sym kept)
+  in_time-after : eqb (phase_rank first) 4 ≡ false → (H g : History) → Moves H g → IsOpenedInTime H
+      → IsOpenedInTime (H ++ g)
+  in_time-after other H g moves kept =
+      list_any-append opens_first H g ∙ by H g moves (list_any opens_first H) (sym kept)
     where
       by : (H g : History) → Moves H g → (opened : Bool) → is_from first (phase_of H) ≡ opened
           → (opened || list_any opens_first g) ≡ is_from first (phase_of (H ++ g))
       by H g (moved stamp more to e) true h =
-          still_open (phase_rank first) (phase_rank (phase_of H)) (phase_rank to) e h ∙ ap (is_from first) (sym (phase_moves H stamp more to))
+          still_open (phase_rank first) (phase_rank (phase_of H)) (phase_rank to) e h
+          ∙ ap (is_from first) (sym (phase_moves H stamp more to))
       by H g (moved stamp more to e) false h =
-          opens_now (phase_rank first) (phase_rank (phase_of H)) (phase_rank to) other e h ∙ ap (is_from first) (sym (phase_moves H stamp more to))
+          opens_now (phase_rank first) (phase_rank (phase_of H)) (phase_rank to) other e h
+          ∙ ap (is_from first) (sym (phase_moves H stamp more to))
       by H g (stayed k e) true h = sym (ap (is_from first) (phase_stays H g e) ∙ h)
       by H g (stayed k e) false h = no_opening g e ∙ sym (ap (is_from first) (phase_stays H g e) ∙ h)
 
@@ -222,13 +244,17 @@ in_time-append H g grows kept = by (list_any is_opening H) refl
     by : (b : Bool) → list_any is_opening H ≡ b → DeclaresInTime (H ++ g)
     by true h =
         let begun : is_from Bidding (phase_of H) ≡ true = sym kept.begun ∙ h in
-        let more : (e : Stamped) → Late H e → Late (H ++ g) e = λ (e : Stamped) k. late-more H g (λ p. no_authors H begun p g entries) e.stamp.maker e.entry k in
+        let more : (e : Stamped) → Late H e → Late (H ++ g) e =
+        λ (e : Stamped) k. late-more H g (λ p. no_authors H begun p g entries) e.stamp.maker e.entry k in
         record {
-          early = subst (AllByRecursion (Early (H ++ g))) (sym (until-before is_opening H g h)) (AllByRecursion-map (Early H) (Early (H ++ g)) (λ e k. early-more H g e.stamp.maker e.entry k) (until is_opening H) kept.early);
+          early = subst (AllByRecursion (Early (H ++ g))) (sym (until-before is_opening H g h))
+              (AllByRecursion-map (Early H) (Early (H ++ g)) (λ e k. early-more H g e.stamp.maker e.entry k)
+              (until is_opening H) kept.early);
           late = subst (AllByRecursion (Late (H ++ g))) (sym (since-before is_opening H g h))
               (AllByRecursion-append (Late (H ++ g)) (since is_opening H) g
               (AllByRecursion-map (Late H) (Late (H ++ g)) more (since is_opening H) kept.late)
-              (AllByRecursion-map (Allowed H) (Late (H ++ g)) (λ e k. more e (late-new H begun e.stamp.maker e.entry k)) g entries));
+              (AllByRecursion-map (Allowed H) (Late (H ++ g)) (λ e k. more e (late-new H begun e.stamp.maker e.entry k))
+              g entries));
           begun = in_time-after Bidding refl H g moves kept.begun;
         }
     by false h =
@@ -236,10 +262,13 @@ in_time-append H g grows kept = by (list_any is_opening H) refl
         record {
           early = subst (AllByRecursion (Early (H ++ g))) (sym (until-append is_opening H g h))
               (AllByRecursion-append (Early (H ++ g)) H (until is_opening g)
-              (AllByRecursion-map (Early H) (Early (H ++ g)) (λ e k. early-more H g e.stamp.maker e.entry k) H (subst (AllByRecursion (Early H)) (until-none is_opening H h) kept.early))
+              (AllByRecursion-map (Early H) (Early (H ++ g)) (λ e k. early-more H g e.stamp.maker e.entry k) H
+              (subst (AllByRecursion (Early H)) (until-none is_opening H h) kept.early))
               (AllByRecursion-until (Early (H ++ g)) is_opening g
-              (AllByRecursion-map (Allowed H) (Early (H ++ g)) (λ e k. early-more H g e.stamp.maker e.entry (early-new H soon e.stamp.maker e.entry k)) g entries)));
-          late = subst (AllByRecursion (Late (H ++ g))) (sym (since-append is_opening H g h ∙ group_since Bidding H g moves)) tt;
+              (AllByRecursion-map (Allowed H) (Early (H ++ g))
+              (λ e k. early-more H g e.stamp.maker e.entry (early-new H soon e.stamp.maker e.entry k)) g entries)));
+          late = subst (AllByRecursion (Late (H ++ g)))
+              (sym (since-append is_opening H g h ∙ group_since Bidding H g moves)) tt;
           begun = in_time-after Bidding refl H g moves kept.begun;
         }
 
@@ -253,7 +282,8 @@ responded-nil h = absurd (false≢true h)
 
 pub responded-append : (H g : History) → Grows H g → IsRespondedInTime H → IsRespondedInTime (H ++ g)
 responded-append H g grows kept opened =
-    by g (grown-moves H g grows) (list_any (opens_first Response) H) refl (sym (list_any-append (opens_first Response) H g) ∙ opened)
+    by g (grown-moves H g grows) (list_any (opens_first Response) H) refl
+    (sym (list_any-append (opens_first Response) H g) ∙ opened)
   where
     from_it : (n : ℕ) → (eqb n 4 || false) ≡ true → nat_le 4 n ≡ true
     from_it n h = grind (arith, nat_tests, h)
@@ -263,6 +293,7 @@ responded-append H g grows kept opened =
     by g (moved stamp more to e) true is h =
         ap (is_from Response) (phase_moves H stamp more to)
         ∙ sym (still_open Response (phase_rank Response) (phase_rank (phase_of H)) (phase_rank to) e (kept is))
-    by g (moved stamp more to e) false is h = ap (is_from Response) (phase_moves H stamp more to) ∙ from_it (phase_rank to) h
+    by g (moved stamp more to e) false is h =
+        ap (is_from Response) (phase_moves H stamp more to) ∙ from_it (phase_rank to) h
     by g (stayed k e) true is h = ap (is_from Response) (phase_stays H g e) ∙ kept is
     by g (stayed k e) false is h = absurd (false≢true (sym (no_opening Response g e) ∙ h))

@@ -19,6 +19,7 @@ pub mod PaperAgreement
 pub mod RecordLaws
 pub mod ReviewAgreement
 pub mod RoleAgreement
+pub mod RuleFacts
 pub mod RuleLaws
 pub mod SeatAgreement
 pub mod SizeAgreement

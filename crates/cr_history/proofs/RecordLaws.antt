@@ -1,12 +1,13 @@
--- Each entry adds at most one record to those that the tables keep of its paper, and none to those of another, so that they are no
--- more than the entries on it.
-use Rattle.std.proofs.Common.{ℕ, suc, Bool, true, false, cond, ◌≡◌, ◌≤◌, ◌+◌, List, [], ◌∷◌, ◌++◌, length, eqb, refl, sym, ap, ◌∙◌, subst, arith, length-append, Some}
+-- Each entry adds at most one record to those that the tables keep of its paper, and none to those of another, so
+-- that they are no more than the entries on it.
+use Rattle.std.proofs.Common.{ℕ, suc, Bool, true, false, cond, ◌≡◌, ◌≤◌, ◌+◌, List, [], ◌∷◌, ◌++◌, length, eqb, refl}
+use Rattle.std.proofs.Common.{sym, ap, ◌∙◌, subst, arith, length-append, Some}
 use Rattle.std.specs.Prelude.{not, filter}
 use Rattle.std.proofs.lemmas.Bool.{true≢false}
 use Rattle.std.proofs.lemmas.List.{length-map}
 use Rattle.cr_base.specs.declared.entry.Entry.{Entry}
-use Rattle.cr_base.specs.declared.entry.Entry.TheVariants.{Submitted, Coauthor, Uploaded, Conflict}
-use Rattle.cr_base.specs.declared.entry.Entry.TheVariants.{Bid, Assigned, Unassigned, Reviewed, Tagged, Invited, Uninvited}
+use Rattle.cr_base.specs.declared.entry.Entry.TheVariants.{Submitted, Coauthor, Uploaded, Conflict, Bid, Assigned}
+use Rattle.cr_base.specs.declared.entry.Entry.TheVariants.{Unassigned, Reviewed, Tagged, Invited, Uninvited}
 use Rattle.cr_base.specs.declared.entry.Stamped.{Stamped}
 use Rattle.cr_base.specs.declared.filed.Filed.{Filed}
 use Rattle.cr_base.specs.declared.pairs.Order.TheVariants.{ByPaper}
@@ -57,10 +58,12 @@ both-shorter : {A : Type 0} (test other : A → Bool) → ((x : A) → test x �
     → length (filter test xs) + length (filter other xs) ≤ length xs
 both-shorter test other apart [] = omega arith
 both-shorter test other apart (x ∷ xs) =
-    by (test x) (other x) (apart x) _ _ _ _ (length xs) (length-kept (test x) x (filter test xs)) (length-kept (other x) x (filter other xs))
+    by (test x) (other x) (apart x) _ _ _ _ (length xs) (length-kept (test x) x (filter test xs))
+    (length-kept (other x) x (filter other xs))
     (both-shorter test other apart xs)
   where
-    by : (b c : Bool) → (b ≡ true → c ≡ false) → (n m k l r : ℕ) → n ≡ one b + m → k ≡ one c + l → m + l ≤ r → n + k ≤ suc r
+    by : (b c : Bool) → (b ≡ true → c ≡ false) → (n m k l r : ℕ) → n ≡ one b + m → k ≡ one c + l → m + l ≤ r
+        → n + k ≤ suc r
     by true true apart n m k l r h i le = absurd (true≢false (apart refl))
     by true false apart n m k l r h i le = omega (arith, h, i, le)
     by false true apart n m k l r h i le = omega (arith, h, i, le)
@@ -103,7 +106,8 @@ module _ {V : Type 0} (p : ℕ) where
       omega (arith, same, less)
 
 -- a pair that is switched
-tied-switched : (p : ℕ) (on : Bool) (paper user : ℕ) (ts : BareTies) → tied p (switched on paper user ts) ≤ tied p ts + one (eqb p paper)
+tied-switched : (p : ℕ) (on : Bool) (paper user : ℕ) (ts : BareTies)
+    → tied p (switched on paper user ts) ≤ tied p ts + one (eqb p paper)
 tied-switched p true paper user ts = tied-with p (bare_tie paper user) ts
 tied-switched p false paper user ts = let less = tied-without p (pair_of paper user) ts in omega (arith, less)
 
@@ -113,7 +117,8 @@ tied-switched p false paper user ts = let less = tied-without p (pair_of paper u
 length-users : (p : ℕ) (ts : BareTies) → length (users_tied_to p ts) ≡ tied p ts
 length-users p ts = length-map (ties_of ByPaper p ts) (λ (t : Tie (Unit {0})). t.pair.user)
 
-authors-more : (p paper user : ℕ) (ts : BareTies) → length (users_tied_to p (ts ++ bare_tie paper user ∷ [])) ≤ length (users_tied_to p ts) + one (eqb p paper)
+authors-more : (p paper user : ℕ) (ts : BareTies)
+    → length (users_tied_to p (ts ++ bare_tie paper user ∷ [])) ≤ length (users_tied_to p ts) + one (eqb p paper)
 authors-more p paper user ts =
     let same = ap (λ (us : List ℕ). length us) (users_tied_to-push p ts paper user) in
     let both = length-append (users_tied_to p ts) (given (eqb p paper) user) in
@@ -129,12 +134,14 @@ conflicts-more p on paper user ts =
     omega (arith, before, after, more)
 
 declared-more : (p : ℕ) (by_author : Bool) (paper user : ℕ) (ts : BareTies)
-    → length (users_tied_to p (cond by_author (with_tie ByPaper (bare_tie paper user) ts) ts)) ≤ length (users_tied_to p ts) + one (eqb p paper)
+    → length (users_tied_to p (cond by_author (with_tie ByPaper (bare_tie paper user) ts) ts))
+    ≤ length (users_tied_to p ts) + one (eqb p paper)
 declared-more p true paper user ts = conflicts-more p true paper user ts
 declared-more p false paper user ts = omega arith
 
 bids-more : (p paper user value : ℕ) (ties : TiesState)
-    → length (bids_in (record ties { bids = with_tie ByPaper (bid_tie paper user value) ties.bids }) p) ≤ length (bids_in ties p) + one (eqb p paper)
+    → length (bids_in (record ties { bids = with_tie ByPaper (bid_tie paper user value) ties.bids }) p)
+    ≤ length (bids_in ties p) + one (eqb p paper)
 bids-more p paper user value ties =
     let bids : List (Tie ℕ) = with_tie ByPaper (bid_tie paper user value) ties.bids in
     let told : Tie ℕ → BidTold = λ t. record { user = t.pair.user; value = t.value } in
@@ -143,7 +150,8 @@ bids-more p paper user value ties =
     let more = tied-with p (bid_tie paper user value) ties.bids in
     omega (arith, before, after, more)
 
-filed-more : {V : Type 0} (p : ℕ) (x : Filed V) (xs : List (Filed V)) → length (filed_of p (with_filed x xs)) ≤ length (filed_of p xs) + one (eqb p x.paper)
+filed-more : {V : Type 0} (p : ℕ) (x : Filed V) (xs : List (Filed V))
+    → length (filed_of p (with_filed x xs)) ≤ length (filed_of p xs) + one (eqb p x.paper)
 filed-more {V} p x xs =
     let same = ap (λ (us : List V). length us) (filed_of-with_filed p x xs) in
     let both = length-append (filed_of p xs) (given (eqb p x.paper) x.value) in
@@ -155,49 +163,64 @@ with_tag-more : (on : Bool) (t : SetTag) (ts : List SetTag) → length (with_tag
 with_tag-more on t ts =
     let before : List SetTag = filter (λ (s : SetTag). tag_before s t) ts in
     let behind : List SetTag = filter (λ (s : SetTag). tag_before t s) ts in
-    by on _ _ _ _ _ (length ts) (length-append (before ++ given on t) behind) (length-append before (given on t)) (length-given on t)
+    by on _ _ _ _ _ (length ts) (length-append (before ++ given on t) behind) (length-append before (given on t))
+    (length-given on t)
     (both-shorter (λ (s : SetTag). tag_before s t) (λ (s : SetTag). tag_before t s) (λ s h. tag_before-turned s t h) ts)
   where
     by : (on : Bool) (n m k l b r : ℕ) → n ≡ m + l → m ≡ b + k → k ≡ one on → b + l ≤ r → n ≤ r + 1
     by true n m k l b r h i j le = omega (arith, h, i, j, le)
     by false n m k l b r h i j le = omega (arith, h, i, j, le)
 
-tags-more : (p : ℕ) (on : Bool) (x : Filed SetTag) (xs : TagsState) → length (filed_of p (tag_switched on x xs)) ≤ length (filed_of p xs) + one (eqb p x.paper)
+tags-more : (p : ℕ) (on : Bool) (x : Filed SetTag) (xs : TagsState)
+    → length (filed_of p (tag_switched on x xs)) ≤ length (filed_of p xs) + one (eqb p x.paper)
 tags-more p on x xs =
     let same = ap (λ (us : List SetTag). length us) (filed_of-tag_switched p on x xs) in
     subst (λ (n : ℕ). n ≤ length (filed_of p xs) + one (eqb p x.paper)) (sym same) (by (eqb p x.paper))
   where
-    by : (b : Bool) → length (cond b (with_tag on x.value (filed_of p xs)) (filed_of p xs)) ≤ length (filed_of p xs) + one b
+    by : (b : Bool) → length (cond b (with_tag on x.value (filed_of p xs)) (filed_of p xs)) ≤ length (filed_of p xs)
+        + one b
     by true = with_tag-more on x.value (filed_of p xs)
     by false = omega arith
 
-seats-more : (p : ℕ) (s : Tie Seat) (ts : SeatsState) → length (ties_of ByPaper p (with_seat s ts)) ≤ length (ties_of ByPaper p ts) + one (eqb p s.pair.paper)
+seats-more : (p : ℕ) (s : Tie Seat) (ts : SeatsState)
+    → length (ties_of ByPaper p (with_seat s ts)) ≤ length (ties_of ByPaper p ts) + one (eqb p s.pair.paper)
 seats-more p s ts =
     let same = ap (λ (us : SeatsState). length us) (ties_of-with_seat p s ts) in
     let both = length-append (ties_of ByPaper p ts) (given (eqb p s.pair.paper) s) in
     let given_one = length-given (eqb p s.pair.paper) s in
     omega (arith, same, both, given_one)
 
-seats-left : (p paper ordinal : ℕ) (ts : SeatsState) → length (ties_of ByPaper p (without_seat paper ordinal ts)) ≡ length (ties_of ByPaper p ts)
+seats-left : (p paper ordinal : ℕ) (ts : SeatsState)
+    → length (ties_of ByPaper p (without_seat paper ordinal ts)) ≡ length (ties_of ByPaper p ts)
 seats-left p paper ordinal ts =
-    ap (λ (us : SeatsState). length us) (ties_of-without_seat p paper ordinal ts) ∙ length-map (ties_of ByPaper p ts) (left_at paper ordinal)
+    ap (λ (us : SeatsState). length us) (ties_of-without_seat p paper ordinal ts)
+    ∙ length-map (ties_of ByPaper p ts) (left_at paper ordinal)
 
 -- ---- one entry
 
 -- it adds to one list at most, and there to its paper's alone
-kept-entry : (p : ℕ) (t : Tables) (s : Stamped) → records_on p (tables_after t s) ≤ records_on p t + one (is_on p s.entry)
+kept-entry : (p : ℕ) (t : Tables) (s : Stamped)
+    → records_on p (tables_after t s) ≤ records_on p t + one (is_on p s.entry)
 kept-entry p t s = by s.entry
   where
-    by : (e : Entry) → records_on p (tables_after t (record { stamp = s.stamp; more = s.more; entry = e })) ≤ records_on p t + one (is_on p e)
-    by (Submitted paper title abstract) = let more = authors-more p paper s.stamp.maker t.ties.authors in omega (arith, more)
+    by : (e : Entry) → records_on p (tables_after t (record { stamp = s.stamp; more = s.more; entry = e }))
+        ≤ records_on p t + one (is_on p e)
+    by (Submitted paper title abstract) = let more =
+        authors-more p paper s.stamp.maker t.ties.authors in omega (arith, more)
     by (Coauthor paper user) = let more = authors-more p paper user t.ties.authors in omega (arith, more)
-    by (Uploaded paper version content) = let more = filed-more p (filed paper (record { version = version; content = content })) t.papers.uploads in omega (arith, more)
+    by (Uploaded paper version content) = let more =
+        filed-more p (filed paper (record { version = version; content = content })) t.papers.uploads in omega
+        (arith, more)
     by (Conflict paper user on) = let more = conflicts-more p on paper user t.ties.conflicts in omega (arith, more)
     by (Bid paper value) = let more = bids-more p paper s.stamp.maker value t.ties in omega (arith, more)
-    by (Assigned paper user kind ordinal) = let more = seats-more p (seat_tie paper user kind ordinal) t.seats in omega (arith, more)
+    by (Assigned paper user kind ordinal) = let more =
+        seats-more p (seat_tie paper user kind ordinal) t.seats in omega (arith, more)
     by (Unassigned paper user ordinal) = let left = seats-left p paper ordinal t.seats in omega (arith, left)
     by (Reviewed paper ordinal version form) =
-        let more = filed-more p (filed paper (record { ordinal = ordinal; version = version; phase = t.reviews.phase; form = form })) t.reviews.forms in
+        let more =
+        filed-more p
+        (filed paper (record { ordinal = ordinal; version = version; phase = t.reviews.phase; form = form }))
+        t.reviews.forms in
         omega (arith, more)
     by (Tagged paper tag on) =
         let more = tags-more p on (filed paper (record { tag = tag; owner = tag_owner tag s.stamp.maker })) t.tags in
@@ -206,19 +229,30 @@ kept-entry p t s = by s.entry
     by (Uninvited paper user) = let more = conflicts-more p false paper user t.invites in omega (arith, more)
     by e = omega arith
 
-declared-entry : (p : ℕ) (t : Tables) (s : Stamped) → records_declared p (tables_after t s) ≤ records_declared p t + one (is_on p s.entry)
+declared-entry : (p : ℕ) (t : Tables) (s : Stamped)
+    → records_declared p (tables_after t s) ≤ records_declared p t + one (is_on p s.entry)
 declared-entry p t s = by s.entry
   where
-    by : (e : Entry) → records_declared p (tables_after t (record { stamp = s.stamp; more = s.more; entry = e })) ≤ records_declared p t + one (is_on p e)
-    by (Submitted paper title abstract) = let more = authors-more p paper s.stamp.maker t.ties.authors in omega (arith, more)
+    by : (e : Entry) → records_declared p (tables_after t (record { stamp = s.stamp; more = s.more; entry = e }))
+        ≤ records_declared p t + one (is_on p e)
+    by (Submitted paper title abstract) = let more =
+        authors-more p paper s.stamp.maker t.ties.authors in omega (arith, more)
     by (Coauthor paper user) = let more = authors-more p paper user t.ties.authors in omega (arith, more)
-    by (Uploaded paper version content) = let more = filed-more p (filed paper (record { version = version; content = content })) t.papers.uploads in omega (arith, more)
-    by (Conflict paper user on) = let more = declared-more p (is_author_in t.ties (Some s.stamp.maker) paper) paper user t.ties.declared in omega (arith, more)
+    by (Uploaded paper version content) = let more =
+        filed-more p (filed paper (record { version = version; content = content })) t.papers.uploads in omega
+        (arith, more)
+    by (Conflict paper user on) = let more =
+        declared-more p (is_author_in t.ties (Some s.stamp.maker) paper) paper user t.ties.declared in omega
+        (arith, more)
     by (Bid paper value) = let more = bids-more p paper s.stamp.maker value t.ties in omega (arith, more)
-    by (Assigned paper user kind ordinal) = let more = seats-more p (seat_tie paper user kind ordinal) t.seats in omega (arith, more)
+    by (Assigned paper user kind ordinal) = let more =
+        seats-more p (seat_tie paper user kind ordinal) t.seats in omega (arith, more)
     by (Unassigned paper user ordinal) = let left = seats-left p paper ordinal t.seats in omega (arith, left)
     by (Reviewed paper ordinal version form) =
-        let more = filed-more p (filed paper (record { ordinal = ordinal; version = version; phase = t.reviews.phase; form = form })) t.reviews.forms in
+        let more =
+        filed-more p
+        (filed paper (record { ordinal = ordinal; version = version; phase = t.reviews.phase; form = form }))
+        t.reviews.forms in
         omega (arith, more)
     by (Tagged paper tag on) =
         let more = tags-more p on (filed paper (record { tag = tag; owner = tag_owner tag s.stamp.maker })) t.tags in
@@ -244,4 +278,5 @@ pub records-few : (p : ℕ) (H : History) → records_on p (tables_of H) ≤ ent
 records-few p H = let few = number-from p (records_on p) (kept-entry p) no_tables H in omega (arith, few)
 
 pub records-declared-few : (p : ℕ) (H : History) → records_declared p (tables_of H) ≤ entries_on p H
-records-declared-few p H = let few = number-from p (records_declared p) (declared-entry p) no_tables H in omega (arith, few)
+records-declared-few p H = let few =
+    number-from p (records_declared p) (declared-entry p) no_tables H in omega (arith, few)

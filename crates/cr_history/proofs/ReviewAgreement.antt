@@ -1,5 +1,6 @@
 -- The forms that a history tells are those that the table of reviews has.
-use Rattle.std.proofs.Common.{ℕ, Bool, true, false, cond, ◌≡◌, List, [], ◌∷◌, ◌++◌, append_assoc, append-nil, eqb, refl, sym, ap, ◌∙◌, ◌&&◌, None}
+use Rattle.std.proofs.Common.{ℕ, Bool, true, false, cond, ◌≡◌, List, [], ◌∷◌, ◌++◌, append_assoc, append-nil, eqb, refl}
+use Rattle.std.proofs.Common.{sym, ap, ◌∙◌, ◌&&◌, None}
 use Rattle.std.specs.Prelude.{map, filter, not}
 use Rattle.std.specs.Option.{option_map}
 use Rattle.std.proofs.lemmas.List.{map-append}
@@ -36,7 +37,8 @@ forms_in-after p o reviews (Reviewed paper ordinal version form) =
     let under : WrittenForm → Bool = λ w. eqb w.ordinal o in
     ap (filter under) (filed_of-with_filed p (filed paper w) reviews.forms)
     ∙ filter-append under (filed_of p reviews.forms) (given (eqb p paper) w)
-    ∙ ap (λ (ws : List WrittenForm). forms_in reviews p o ++ ws) (by (eqb p paper) ∙ ap (λ b. given (b && eqb ordinal o) w) (turned p paper))
+    ∙ ap (λ (ws : List WrittenForm). forms_in reviews p o ++ ws)
+    (by (eqb p paper) ∙ ap (λ b. given (b && eqb ordinal o) w) (turned p paper))
   where
     w : WrittenForm
     w = record { ordinal = ordinal; version = version; phase = reviews.phase; form = form }
@@ -57,7 +59,8 @@ none-either true = refl
 none-either false = refl
 
 written-when : (test : Phase → Bool) (p o : ℕ) (phase : Phase) (e : Entry)
-    → map written_told (filter (λ (w : WrittenForm). test w.phase) (form_written p o phase e)) ≡ cond (test phase) (form_told p o e) []
+    → map written_told (filter (λ (w : WrittenForm). test w.phase) (form_written p o phase e))
+    ≡ cond (test phase) (form_told p o e) []
 written-when test p o phase (Reviewed paper ordinal version form) = by (eqb paper p && eqb ordinal o)
   where
     w : WrittenForm
@@ -67,14 +70,16 @@ written-when test p o phase (Reviewed paper ordinal version form) = by (eqb pape
     one true = refl
     one false = refl
 
-    by : (b : Bool) → map written_told (filter (λ (w : WrittenForm). test w.phase) (given b w)) ≡ cond (test phase) (given b (whole_form version form)) []
+    by : (b : Bool) → map written_told (filter (λ (w : WrittenForm). test w.phase) (given b w))
+        ≡ cond (test phase) (given b (whole_form version form)) []
     by true = one (test phase)
     by false = none-either (test phase)
 written-when test p o phase e = none-either (test phase)
 
 -- what the entry tells comes behind them, where the phase passes
 pub forms_when-after : (test : Phase → Bool) (p o : ℕ) (reviews : ReviewsState) (e : Entry)
-    → forms_when test (reviews_after reviews e) p o ≡ forms_when test reviews p o ++ cond (test reviews.phase) (form_told p o e) []
+    → forms_when test (reviews_after reviews e) p o ≡ forms_when test reviews p o ++ cond (test reviews.phase)
+    (form_told p o e) []
 forms_when-after test p o reviews e =
     let passes : WrittenForm → Bool = λ w. test w.phase in
     ap (λ (ws : List WrittenForm). map written_told (filter passes ws)) (forms_in-after p o reviews e)
@@ -100,8 +105,10 @@ is_written-tables p o H =
     ap (λ (fs : List FormTold). not (is_nothing fs)) (forms_of-tables p o H)
     ∙ ap not (is_nothing-map written_told (forms_in (tables_of H).reviews p o))
 
-pub last_form_of-tables : (p o : ℕ) (H : History) → last_form_of p o H ≡ option_map written_told (last_form_in (tables_of H).reviews p o)
-last_form_of-tables p o H = ap last (forms_of-tables p o H) ∙ last_from-map written_told None (forms_in (tables_of H).reviews p o)
+pub last_form_of-tables : (p o : ℕ) (H : History)
+    → last_form_of p o H ≡ option_map written_told (last_form_in (tables_of H).reviews p o)
+last_form_of-tables p o H =
+    ap last (forms_of-tables p o H) ∙ last_from-map written_told None (forms_in (tables_of H).reviews p o)
 
 -- ---- the phase
 

@@ -19,7 +19,8 @@ use Rattle.cr_base.proofs.RoleLaws.{role_in-push, role_in-with_role}
 use Rattle.cr_history.proofs.Folds.{told-fitting}
 
 -- the accounts after an entry have the role that it tells, or else the one from before; nobody has none
-role-entry : (u : Option ℕ) (accounts : List Account) (e : Entry) → AccountsFit accounts e → (rest : List Role) → last_or (role_in accounts u) (role_told u e ++ rest) ≡ last_or (role_in (accounts_after accounts e) u) rest
+role-entry : (u : Option ℕ) (accounts : List Account) (e : Entry) → AccountsFit accounts e → (rest : List Role)
+    → last_or (role_in accounts u) (role_told u e ++ rest) ≡ last_or (role_in (accounts_after accounts e) u) rest
 role-entry None accounts (Registered user name digest) fits rest = refl
 role-entry None accounts (Named user role') fits rest = refl
 role-entry None accounts (Dismissed user) fits rest = refl
@@ -36,8 +37,12 @@ role-entry u accounts e fits rest = refl
 
 role-first : (u : Option ℕ) → role_in [] u ≡ role.Account
 role-first None = refl
-role-first (Some n) = ap (λ (o : Option Account). unwrap_or (option_map (λ (a : Account). a.role) o) role.Account) (numbered-nil n)
+role-first (Some n) =
+    ap (λ (o : Option Account). unwrap_or (option_map (λ (a : Account). a.role) o) role.Account) (numbered-nil n)
 
 -- the role of a user is the one in her account
-pub role_of-tables : (u : Option ℕ) (H : History) → FitInTurn no_tables H → role_of u H ≡ role_in (tables_of H).accounts u
-role_of-tables u H fits = ap (λ r. last_or r (all_told (role_told u) H)) (sym (role-first u)) ∙ told-fitting last_or (λ _. refl) (λ (t : Tables). role_in t.accounts u) (λ (s : Stamped). role_told u s.entry) (λ t s fit. role-entry u t.accounts s.entry fit.accounts) no_tables H fits
+pub role_of-tables : (u : Option ℕ) (H : History) → FitInTurn no_tables H
+    → role_of u H ≡ role_in (tables_of H).accounts u
+role_of-tables u H fits = ap (λ r. last_or r (all_told (role_told u) H)) (sym (role-first u))
+    ∙ told-fitting last_or (λ _. refl) (λ (t : Tables). role_in t.accounts u) (λ (s : Stamped). role_told u s.entry)
+    (λ t s fit. role-entry u t.accounts s.entry fit.accounts) no_tables H fits

@@ -1,261 +1,88 @@
 -- What an accepted command adds, by the rules on the history before it.
 use Rattle.std.proofs.Common.{ℕ, Bool, true, false, cond, ◌≡◌, ◌≤◌, ◌<◌, ◌+◌, arith, List, [], ◌∷◌, length, eqb, refl}
 use Rattle.std.proofs.Common.{sym, ap, subst, ◌∙◌, ◌||◌, ◌&&◌, Option, Some, None, Ok}
-use Rattle.std.specs.Prelude.{not, nat_le, is_some, is_none, unwrap_or, map}
-use Rattle.std.specs.List.{AllByRecursion, list_any, find, flat_map}
+use Rattle.std.specs.Prelude.{not, nat_le, is_some, is_none, unwrap_or}
+use Rattle.std.specs.List.{list_any, flat_map}
 use Rattle.std.specs.Option.{option_map}
-use Rattle.std.specs.Str.{bytes_eq}
-use Rattle.std.proofs.lemmas.Bool.{eqb-true, eq-eqb, leb-false, true≢false, and_parts, not-true, not-false, or_left, or_right}
+use Rattle.std.proofs.lemmas.Bool.{eqb-true, leb-false, true≢false, not-false, or_left}
 use Rattle.cr_base.specs.declared.command.Command.{Command}
-use Rattle.cr_base.specs.declared.command.Command.TheVariants.{Register, SetPhase, Submit, Revise, Upload, Withdraw, Name, SetMode, SetConflict}
-use Rattle.cr_base.specs.declared.command.Command.TheVariants.{Bid, Assign, Unassign, Review, Comment, Tag, Decide, SetDeadline}
-use Rattle.cr_base.specs.declared.command.Command.TheVariants.{Dismiss, Invite, Uninvite, Respond}
+use Rattle.cr_base.specs.declared.command.Command.TheVariants.{Register, SetPhase, Submit, Revise, Upload, Withdraw}
+use Rattle.cr_base.specs.declared.command.Command.TheVariants.{Name, SetMode, SetConflict, Bid, Assign, Unassign}
+use Rattle.cr_base.specs.declared.command.Command.TheVariants.{Review, Comment, Tag, Decide, SetDeadline, Dismiss}
+use Rattle.cr_base.specs.declared.command.Command.TheVariants.{Invite, Uninvite, Respond}
 use Rattle.cr_base.specs.declared.entry.Entry.TheVariants as entries
 use Rattle.cr_base.specs.declared.entry.Stamp.{Stamp}
-use Rattle.cr_base.specs.declared.entry.Entry.TheVariants.{Registered, Named, PhaseSet, ModeSet, Revised, Uploaded, Withdrawn, Conflict, Assigned, Unassigned}
-use Rattle.cr_base.specs.declared.entry.Entry.TheVariants.{Reviewed, Commented, Tagged, Decided, DeadlineSet, Dismissed, Invited, Uninvited, Responded}
+use Rattle.cr_base.specs.declared.entry.Entry.TheVariants.{Registered, Named, PhaseSet, ModeSet, Revised, Uploaded}
+use Rattle.cr_base.specs.declared.entry.Entry.TheVariants.{Withdrawn, Conflict, Assigned, Unassigned, Reviewed}
+use Rattle.cr_base.specs.declared.entry.Entry.TheVariants.{Commented, Tagged, Decided, DeadlineSet, Dismissed, Invited}
+use Rattle.cr_base.specs.declared.entry.Entry.TheVariants.{Uninvited, Responded}
 use Rattle.cr_base.specs.declared.form.Form.{Form}
-use Rattle.cr_base.specs.declared.reply.AccountLine.{AccountLine}
 use Rattle.cr_base.specs.declared.standing.Standing.{Standing}
 use Rattle.cr_base.specs.declared.target.Target.{Target}
 use Rattle.cr_base.specs.declared.words.Decision.{Decision}
 use Rattle.cr_base.specs.declared.words.Kind.{Kind}
-use Rattle.cr_base.specs.declared.words.Phase.{Phase}
-use Rattle.cr_base.specs.declared.words.Phase.TheVariants.{Setup, Submission, Bidding, Reviewing, Response, Discussion, Notification, Closed}
+use Rattle.cr_base.specs.declared.words.Phase.TheVariants.{Bidding}
+use Rattle.cr_base.specs.declared.words.Phase.TheVariants.{Notification}
 use Rattle.cr_base.specs.declared.words.Role.{Role}
 use Rattle.cr_base.specs.declared.words.Role.TheVariants.{Account, Chair}
 use Rattle.cr_base.specs.Lists.{at_some, is_number, listed}
-use Rattle.cr_base.specs.History.{History, Registration, all_told, registration_told}
-use Rattle.cr_base.specs.HistoryFacts.{phase_of, deadline_of, role_of, accounts_of, papers_of, own_papers_of, own_bytes_of}
-use Rattle.cr_base.specs.HistoryFacts.{is_external, is_invited, had_response_of}
-use Rattle.cr_base.specs.HistoryFacts.{is_author, is_conflicted, bid_of, ordinal_of, seats_of, is_written, own_forms_of, own_comments_of, is_accepted, standing_of}
+use Rattle.cr_base.specs.History.{History}
+use Rattle.cr_base.specs.HistoryFacts.{phase_of, role_of, accounts_of}
+use Rattle.cr_base.specs.HistoryFacts.{is_external}
+use Rattle.cr_base.specs.HistoryFacts.{standing_of}
 use Rattle.cr_base.specs.Accounts.{chair_count}
-use Rattle.cr_base.specs.Page.{gets_conflicts, is_admitted}
-use Rattle.cr_base.specs.Phases.{is_from, is_next, mode_may_be_set, accepts_submissions, authors_have_declared, conflicts_are_final, committee_works, bids_are_taken, reviews_are_written, responses_are_written, comments_are_written, decisions_are_made}
+use Rattle.cr_base.specs.Page.{is_admitted}
+use Rattle.cr_base.specs.Phases.{is_from, is_next, mode_may_be_set, authors_have_declared}
+use Rattle.cr_base.specs.Phases.{conflicts_are_final, committee_works, bids_are_taken, reviews_are_written}
+use Rattle.cr_base.specs.Phases.{responses_are_written, comments_are_written, decisions_are_made}
 use Rattle.cr_base.specs.Words.{role_number, is_member, is_chair}
 use Rattle.cr_base.specs.Bounds.{IsForm, IsBoundedCommand}
 use Rattle.cr_base.specs.TagTexts.{is_tag, is_for_chairs}
 use Rattle.cr_base.specs.Texts.{IsName, IsCommentText}
-use Rattle.cr_base.specs.Checks.{Check, of_role, target_role, register_checks, phase_checks, deadline_checks, submit_checks, revise_checks, upload_checks, name_checks, mode_checks}
-use Rattle.cr_base.specs.Checks.{chair_checks, conflict_case, conflict_checks, bid_checks, assign_checks, unassign_checks}
+use Rattle.cr_base.specs.Checks.{Check, of_role, target_role, register_checks, phase_checks, deadline_checks}
+use Rattle.cr_base.specs.Checks.{submit_checks, revise_checks, upload_checks, name_checks, mode_checks, chair_checks}
+use Rattle.cr_base.specs.Checks.{conflict_checks, bid_checks, assign_checks, unassign_checks}
 use Rattle.cr_base.specs.Checks.{review_checks, respond_checks, comment_checks, tag_checks, decide_checks}
 use Rattle.cr_base.specs.Checks.{dismiss_checks, invite_checks, uninvite_checks}
-use Rattle.cr_base.specs.Drawn.{Drawn, grouped, registration_drawn, phase_drawn, submission_drawn, revision_drawn, upload_drawn}
-use Rattle.cr_base.specs.Drawn.{withdrawal_drawn, naming_drawn, mode_drawn, conflict_drawn, bid_drawn, assignment_drawn, unassignment_drawn}
-use Rattle.cr_base.specs.Drawn.{review_drawn, comment_drawn, tag_drawn, decision_drawn, deadline_drawn}
-use Rattle.cr_base.specs.Drawn.{dismissal_drawn, invitation_drawn, uninvitation_drawn, response_drawn}
+use Rattle.cr_base.specs.Drawn.{Drawn, grouped, registration_drawn, phase_drawn, submission_drawn, revision_drawn}
+use Rattle.cr_base.specs.Drawn.{upload_drawn, withdrawal_drawn, naming_drawn, mode_drawn, conflict_drawn, bid_drawn}
+use Rattle.cr_base.specs.Drawn.{assignment_drawn, unassignment_drawn, review_drawn, comment_drawn, tag_drawn}
+use Rattle.cr_base.specs.Drawn.{decision_drawn, deadline_drawn, dismissal_drawn, invitation_drawn, uninvitation_drawn}
+use Rattle.cr_base.specs.Drawn.{response_drawn}
 use Rattle.cr_base.specs.Judging.{judge_by}
-use Rattle.cr_base.specs.Sources.{Facts, Shown, number_in, user_among, users_among, role_among, paper_named, target_named, is_late}
+use Rattle.cr_base.specs.Sources.{Facts, Shown, number_in, user_among, users_among, role_among, paper_named}
+use Rattle.cr_base.specs.Sources.{target_named, is_late}
 use Rattle.cr_base.proofs.CheckLaws.{NoneBroken, judged-Ok}
-use Rattle.cr_base.proofs.CoauthorLaws.{users-each}
 use Rattle.cr_base.proofs.FitLaws.{none-where, some-where}
 use Rattle.cr_base.proofs.TargetLaws.{is_none-asked, target_role-of}
-use Rattle.cr_history.specs.Invariants.{IsRegistered, IsByRight, is_of_paper}
+use Rattle.cr_history.specs.Invariants.{IsRegistered}
 use Rattle.cr_history.specs.Groups.{IsRuled, IsBoundedStamp, Adds, single, submitted, first_user}
-
--- ---- the facts of a history
-
-abbrev pub facts_of : Option ℕ → History → Facts
-facts_of u H = record {
-  standing = λ paper. standing_of u paper H;
-  accounts = accounts_of H;
-  papers = papers_of H;
-  own_papers = own_papers_of u H;
-  own_bytes = own_bytes_of u H;
-  own_bid = λ p. bid_of u p H;
-  own_ordinal = λ p. ordinal_of u p H;
-  own_forms = λ p. own_forms_of u p H;
-  own_comments = own_comments_of u H;
-  accepted = λ p. is_accepted p H;
-  deadline = λ phase. deadline_of phase H;
-  had_response = had_response_of H;
-}
-
--- a user named, if there is one, has registered, and her role is the one that the history tells
-module _ (H : History) where
-  abbrev line : Registration → AccountLine
-  line r = record { user = r.user; name = r.name; role = role_of (Some r.user) H }
-
-  abbrev role_found : ℕ → List Registration → Option Role
-  role_found v rs = option_map (λ (a : AccountLine). a.role) (find (λ (a : AccountLine). eqb a.user v) (map line rs))
-
-  role-found : (v : ℕ) (rs : List Registration) → is_none (role_found v rs) ≡ false
-      → (unwrap_or (role_found v rs) Account ≡ role_of (Some v) H) × (list_any (λ (r : Registration). eqb r.user v) rs ≡ true)
-  role-found v [] h = absurd (true≢false h)
-  role-found v (r ∷ rs) h = by (eqb r.user v) refl h (role-found v rs)
-    where
-      found : Bool → Option Role
-      found b = option_map (λ (a : AccountLine). a.role) (cond b (Some (line r)) (find (λ (a : AccountLine). eqb a.user v) (map line rs)))
-
-      others : Bool
-      others = list_any (λ (r : Registration). eqb r.user v) rs
-
-      by : (b : Bool) → eqb r.user v ≡ b → is_none (found b) ≡ false
-          → (is_none (role_found v rs) ≡ false → (unwrap_or (role_found v rs) Account ≡ role_of (Some v) H) × (others ≡ true))
-          → (unwrap_or (found b) Account ≡ role_of (Some v) H) × ((eqb r.user v || others) ≡ true)
-      by true same h rest = (ap (λ n. role_of (Some n) H) (eqb-true r.user v same), or_left (eqb r.user v) others same)
-      by false same h rest = let k = rest h in (k.0, or_right (eqb r.user v) others k.1)
-
-  role-among : (target : Option ℕ) → is_none (role_among (accounts_of H) target) ≡ false
-      → (unwrap_or (role_among (accounts_of H) target) Account ≡ role_of (Some (unwrap_or target 0)) H) × IsRegistered H (unwrap_or target 0)
-  role-among None h = absurd (true≢false h)
-  role-among (Some v) h = role-found v (all_told registration_told H) h
-
--- ---- users of names
-
-number-found : (H : History) (name : List ℕ) (v : ℕ) (rs : List Registration)
-    → option_map (λ (a : AccountLine). a.user) (find (λ (a : AccountLine). bytes_eq a.name name) (map (line H) rs)) ≡ Some v
-    → list_any (λ (r : Registration). eqb r.user v) rs ≡ true
-number-found H name v [] found = cc
-number-found H name v (r ∷ rs) found = by (bytes_eq r.name name) found (number-found H name v rs)
-  where
-    rest : Option AccountLine
-    rest = find (λ (a : AccountLine). bytes_eq a.name name) (map (line H) rs)
-
-    by : (b : Bool) → option_map (λ (a : AccountLine). a.user) (cond b (Some (line H r)) rest) ≡ Some v
-        → (option_map (λ (a : AccountLine). a.user) rest ≡ Some v → list_any (λ (r : Registration). eqb r.user v) rs ≡ true)
-        → (eqb r.user v || list_any (λ (r : Registration). eqb r.user v) rs) ≡ true
-    by true is later = let e : r.user ≡ v = cc in or_left (eqb r.user v) (list_any (λ (r : Registration). eqb r.user v) rs) (eq-eqb r.user v e)
-    by false is later = or_right (eqb r.user v) (list_any (λ (r : Registration). eqb r.user v) rs) (later is)
-
--- the users of names have registered, as many of them as are there
-users-registered : (H : History) (names : List (Option (List ℕ))) → AllByRecursion (IsRegistered H) (flat_map listed (users_among (accounts_of H) names))
-users-registered H names = users-each (IsRegistered H) (accounts_of H) (λ name v at. number-found H name v (all_told registration_told H) at) names
-
--- ---- papers of the maker
-
--- an entry that only an author of a paper makes, in the submission
-module _ (H : History) (maker : ℕ) where
-  author-named : (paper : Option ℕ) → not (at_some (λ p. is_author (Some maker) p H) paper) ≡ false → is_author (Some maker) (unwrap_or paper 0) H ≡ true
-  author-named None h = absurd (true≢false h)
-  author-named (Some p) h = not-false (is_author (Some maker) p H) h
-
-  submitting : not (accepts_submissions (phase_of H)) ≡ false → accepts_submissions (phase_of H) ≡ true
-  submitting h = not-false (accepts_submissions (phase_of H)) h
-
--- ---- conflicts
-
--- before the bidding it isn't the notification yet
-not_final : (phase : Phase) → authors_have_declared phase ≡ false → conflicts_are_final phase ≡ false
-not_final Setup h = refl
-not_final Submission h = refl
-not_final Bidding h = absurd (true≢false h)
-not_final Reviewing h = absurd (true≢false h)
-not_final Response h = absurd (true≢false h)
-not_final Discussion h = absurd (true≢false h)
-not_final Notification h = absurd (true≢false h)
-not_final Closed h = absurd (true≢false h)
-
-clear-right : (begun own on member chair conflicted author : Bool) → begun ≡ true → chair ≡ true → conflicted ≡ false
-    → cond begun ((own && (on && member)) || (chair && not conflicted)) (author && on) ≡ true
-clear-right true own on member true false author hb hc hf = or_right (own && (on && member)) true refl
-clear-right true own on member true true author hb hc hf = absurd (true≢false hf)
-clear-right true own on member false conflicted author hb hc hf = absurd (true≢false (sym hc))
-clear-right false own on member chair conflicted author hb hc hf = absurd (true≢false (sym hb))
-
-own-right : (begun own member chair conflicted author : Bool) → begun ≡ true → own ≡ true → member ≡ true
-    → cond begun ((own && (true && member)) || (chair && not conflicted)) (author && true) ≡ true
-own-right true true true chair conflicted author hb ho hm = refl
-own-right true true false chair conflicted author hb ho hm = absurd (true≢false (sym hm))
-own-right true false member chair conflicted author hb ho hm = absurd (true≢false (sym ho))
-own-right false own member chair conflicted author hb ho hm = absurd (true≢false (sym hb))
-
-author-right : (begun own member chair conflicted author : Bool) → begun ≡ false → author ≡ true
-    → cond begun ((own && (true && member)) || (chair && not conflicted)) (author && true) ≡ true
-author-right true own member chair conflicted author hb ha = absurd (true≢false hb)
-author-right false own member chair conflicted true hb ha = refl
-author-right false own member chair conflicted false hb ha = absurd (true≢false (sym ha))
-
--- the five lists of rules say who turns which conflict when
-module _ (H : History) (maker paper user : ℕ) where
-  abbrev begun : Bool
-  begun = authors_have_declared (phase_of H)
-
-  abbrev final : Bool
-  final = conflicts_are_final (phase_of H)
-
-  abbrev by_maker : Standing
-  by_maker = standing_of (Some maker) (Some paper) H
-
-  conflict-ruled : (on : Bool) → final ≡ false → is_of_paper H user paper ≡ true → IsByRight H maker (Conflict paper user on)
-      → IsRuled H maker (Conflict paper user on)
-  conflict-ruled on early member right = record { phase = early; chair = tt; role = tt; member = member; right = right; seat = tt; texts = tt }
-
-  abbrev outside : Bool
-  outside = is_external (Some user) paper H
-
-  -- a member is of the paper, and so is an external
-  member-of : (role : Role) → role ≡ role_of (Some user) H → is_member role ≡ true → is_of_paper H user paper ≡ true
-  member-of role r h = or_left (is_member (role_of (Some user) H)) outside (ap is_member (sym r) ∙ h)
-
-  of-paper : (role : Role) (external : Bool) → role ≡ role_of (Some user) H → external ≡ outside → (is_member role || external) ≡ true
-      → is_of_paper H user paper ≡ true
-  of-paper role external r e h = sym (λ i. is_member (r i) || e i) ∙ h
-
-  -- a chair in no conflict with the paper is told all of its conflicts, from the bidding
-  told-all : (chair conflicted early : Bool) → chair ≡ true → conflicted ≡ false → early ≡ true → ((chair && not conflicted) && early) ≡ true
-  told-all chair conflicted early hc hf hb = grind arith
-
-  abbrev named : Role → Bool → Bool → Bool → Bool → Bool → Target
-  named role herself author conflicted reviewer external =
-      record { role = role; herself = herself; author = author; conflicted = conflicted; reviewer = reviewer; external = external }
-
-  case-ruled : (on bidding after withdrawn late : Bool) (role : Role) (herself author conflicted reviewer external : Bool) → begun ≡ bidding → final ≡ after
-      → role ≡ role_of (Some user) H → eqb user maker ≡ herself → (gets_conflicts by_maker ≡ true → external ≡ outside)
-      → NoneBroken (conflict_case on bidding after by_maker withdrawn (named role herself author conflicted reviewer external) late)
-      → IsRuled H maker (Conflict paper user on)
-  case-ruled false bidding after withdrawn late role herself author conflicted reviewer external b l r h e none =
-      let now = and_parts begun (not final) (not-false (begun && not final) none.1.1.0) in
-      let chair = not-false (is_chair by_maker.role) none.0 in
-      let told = told-all (is_chair by_maker.role) by_maker.conflicted begun chair none.1.0 now.0 in
-      conflict-ruled false (not-true final now.1) (of-paper role external r (e told) (not-false (is_member role || external) none.1.1.1.1.0))
-      (clear-right begun (eqb user maker) false (is_member by_maker.role) (is_chair by_maker.role) by_maker.conflicted by_maker.author now.0 chair none.1.0)
-  case-ruled true false after withdrawn late role herself author conflicted reviewer external b l r h e none =
-      conflict-ruled true (not_final (phase_of H) b) (member-of role r (not-false (is_member role) none.1.1.1.0))
-      (author-right begun (eqb user maker) (is_member by_maker.role) (is_chair by_maker.role) by_maker.conflicted by_maker.author b (not-false by_maker.author none.0))
-  case-ruled true true true withdrawn late role herself author conflicted reviewer external b l r h e none = absurd (true≢false none.0)
-  case-ruled true true false withdrawn late role true author conflicted reviewer external b l r h e none =
-      conflict-ruled true l
-      (member-of (role_of (Some user) H) refl (ap (λ n. is_member (role_of (Some n) H)) (eqb-true user maker h) ∙ not-false (is_member by_maker.role) none.0))
-      (own-right begun (eqb user maker) (is_member by_maker.role) (is_chair by_maker.role) by_maker.conflicted by_maker.author b h
-      (not-false (is_member by_maker.role) none.0))
-  case-ruled true true false withdrawn late role false author conflicted reviewer external b l r h e none =
-      let chair = not-false (is_chair by_maker.role) none.0 in
-      let told = told-all (is_chair by_maker.role) by_maker.conflicted begun chair none.1.0 b in
-      conflict-ruled true l (of-paper role external r (e told) (not-false (is_member role || external) none.1.1.1.0))
-      (clear-right begun (eqb user maker) true (is_member by_maker.role) (is_chair by_maker.role) by_maker.conflicted by_maker.author b chair none.1.0)
-
--- ---- seats
-
--- the user is a chair in no conflict with the paper, and it is the bidding or later
-abbrev pub is_told_all : History → ℕ → ℕ → Bool
-is_told_all H maker p = gets_conflicts (standing_of (Some maker) (Some p) H)
-
--- where the maker is such a chair, she is shown of a user and of a paper's labels what the history tells, under which of
--- them a form is written, and who is invited to the paper
-pub record TellsSeats (H : History) (maker : ℕ) (shown : Shown) : Type 0 where
-  pub conflicted : (p v : ℕ) → IsRegistered H v → is_told_all H maker p ≡ true
-      → (list_any (is_number (Some v)) (shown.authors p) || list_any (is_number (Some v)) (shown.conflicts p)) ≡ is_conflicted (Some v) p H
-  pub ordinal : (p v : ℕ) → is_told_all H maker p ≡ true → shown.ordinal (Some v) p ≡ ordinal_of (Some v) p H
-  pub labels : (p : ℕ) → is_told_all H maker p ≡ true → shown.labels p ≡ length (seats_of p H)
-  pub written : (p o : ℕ) → is_told_all H maker p ≡ true → shown.written p o ≡ is_written p o H
-  pub invited : (p v : ℕ) → is_told_all H maker p ≡ true → shown.invited (Some v) p ≡ is_invited (Some v) p H
+use Rattle.cr_history.proofs.RuleFacts.{facts_of, role-among, users-registered, author-named, submitting, begun}
+use Rattle.cr_history.proofs.RuleFacts.{of-paper, named, case-ruled, is_told_all, TellsSeats}
 
 -- ---- all commands
 
-pub registration-adds : (H : History) (stamp : Stamp) (facts : Facts) (shown : Shown) (name digest : List ℕ) (drawn : Drawn)
-    → IsBoundedStamp stamp → IsName name × (length digest ≡ 32) → judge_by facts shown stamp (Register name digest) ≡ Ok drawn → Adds H drawn.group
+pub registration-adds : (H : History) (stamp : Stamp) (facts : Facts) (shown : Shown) (name digest : List ℕ)
+    (drawn : Drawn)
+    → IsBoundedStamp stamp → IsName name × (length digest ≡ 32)
+    → judge_by facts shown stamp (Register name digest) ≡ Ok drawn → Adds H drawn.group
 registration-adds H stamp facts shown name digest drawn bounds bounded accepted =
     let n : ℕ = length facts.accounts in
-    let k = judged-Ok (register_checks (is_some (number_in facts.accounts name)) n) (registration_drawn stamp (n + 1) name digest) drawn accepted in
+    let k = judged-Ok (register_checks (is_some (number_in facts.accounts name)) n)
+    (registration_drawn stamp (n + 1) name digest) drawn accepted in
     subst (λ (d : Drawn). Adds H d.group) k.1 (by (n + 1) (eqb (n + 1) 1) refl)
   where
     by : (user : ℕ) (b : Bool) → eqb user 1 ≡ b
-        → Adds H (grouped (record stamp { maker = user }) (cond b (Registered user name digest ∷ Named user Chair ∷ []) (Registered user name digest ∷ [])))
-    by user true is = first_user (record stamp { maker = user }) name digest (record { moment = bounds.moment; key = bounds.key }) (eqb-true user 1 is) bounded
-    by user false is = single (record stamp { maker = user }) (Registered user name digest) (record { moment = bounds.moment; key = bounds.key }) refl is (record { phase = tt; chair = tt; role = tt; member = tt; right = tt; seat = tt; texts = bounded })
+        → Adds H (grouped (record stamp { maker = user })
+        (cond b (Registered user name digest ∷ Named user Chair ∷ []) (Registered user name digest ∷ [])))
+    by user true is = first_user (record stamp { maker = user }) name digest
+        (record { moment = bounds.moment; key = bounds.key }) (eqb-true user 1 is) bounded
+    by user false is = single (record stamp { maker = user }) (Registered user name digest)
+        (record { moment = bounds.moment; key = bounds.key }) refl is
+        (record { phase = tt; chair = tt; role = tt; member = tt; right = tt; seat = tt; texts = bounded })
 
-module _ (H : History) (stamp : Stamp) (shown : Shown) (bounds : IsBoundedStamp stamp) (registered : IsRegistered H stamp.maker) (tells : TellsSeats H stamp.maker shown) where
+module _ (H : History) (stamp : Stamp) (shown : Shown) (bounds : IsBoundedStamp stamp)
+    (registered : IsRegistered H stamp.maker) (tells : TellsSeats H stamp.maker shown) where
   abbrev maker : ℕ
   maker = stamp.maker
 
@@ -270,7 +97,8 @@ module _ (H : History) (stamp : Stamp) (shown : Shown) (bounds : IsBoundedStamp 
   late = is_late facts stamp.at
 
   abbrev checks : Option ℕ → Option ℕ → Bool → List Check
-  checks paper target on = conflict_checks (standing_of (Some maker) paper H) (paper_named facts shown paper) (target_named facts shown (Some maker) paper target) on late
+  checks paper target on = conflict_checks (standing_of (Some maker) paper H) (paper_named facts shown paper)
+      (target_named facts shown (Some maker) paper target) on late
 
   -- the user named, as the rules ask of her
   abbrev asked : Option ℕ → Option ℕ → Option Target
@@ -290,12 +118,14 @@ module _ (H : History) (stamp : Stamp) (shown : Shown) (bounds : IsBoundedStamp 
   abbrev external_by : ℕ → ℕ → Role → Bool
   external_by p v role = not (is_member role) && shown.invited (Some v) p
 
-  outside-told : (p v : ℕ) (role : Role) → role ≡ role_of (Some v) H → is_told_all H maker p ≡ true → external_by p v role ≡ is_external (Some v) p H
+  outside-told : (p v : ℕ) (role : Role) → role ≡ role_of (Some v) H → is_told_all H maker p ≡ true
+      → external_by p v role ≡ is_external (Some v) p H
   outside-told p v role held all = λ i. not (is_member (held i)) && tells.invited p v all i
 
   abbrev asked_in : ℕ → ℕ → Role → Target
   asked_in p v role =
-      named H maker p v role (eqb v maker) (wrote p v) (wrote p v || declared p v) (is_some (shown.ordinal (Some v) p)) (external_by p v role)
+      named H maker p v role (eqb v maker) (wrote p v) (wrote p v || declared p v) (is_some (shown.ordinal (Some v) p))
+      (external_by p v role)
 
   -- what holds of a user named who is there
   record HoldsOf (P : Option Target → Type 0) (p v : ℕ) : Type 0 where
@@ -304,15 +134,22 @@ module _ (H : History) (stamp : Stamp) (shown : Shown) (bounds : IsBoundedStamp 
     there : IsRegistered H v
     holds : P (Some (asked_in p v role))
 
-  asked-there : (P : Option Target → Type 0) (p v : ℕ) → is_none (asked (Some p) (Some v)) ≡ false → P (asked (Some p) (Some v)) → HoldsOf P p v
+  asked-there : (P : Option Target → Type 0) (p v : ℕ) → is_none (asked (Some p) (Some v)) ≡ false
+      → P (asked (Some p) (Some v)) → HoldsOf P p v
   asked-there P p v there holds = by (role_among facts.accounts (Some v)) refl there holds
     where
-      by : (role : Option Role) → role_among facts.accounts (Some v) ≡ role → is_none (option_map (asked_in p v) role) ≡ false
+      by : (role : Option Role) → role_among facts.accounts (Some v) ≡ role
+          → is_none (option_map (asked_in p v) role) ≡ false
           → P (option_map (asked_in p v) role) → HoldsOf P p v
       by None is there holds = absurd (true≢false there)
       by (Some role) is there holds =
           let k = role-among H (Some v) (ap is_none is) in
-          record { role = role; held = ap (λ (o : Option Role). unwrap_or o Account) (sym is) ∙ k.0; there = k.1; holds = holds }
+          record {
+            role = role;
+            held = ap (λ (o : Option Role). unwrap_or o Account) (sym is) ∙ k.0;
+            there = k.1;
+            holds = holds;
+          }
 
   conflict-ruled_for : (paper target : Option ℕ) (on : Bool) → NoneBroken (checks paper target on)
       → IsRuled H maker (Conflict (unwrap_or paper 0) (unwrap_or target 0) on)
@@ -320,9 +157,12 @@ module _ (H : History) (stamp : Stamp) (shown : Shown) (bounds : IsBoundedStamp 
   conflict-ruled_for (Some p) None on none = absurd (true≢false none.1.0)
   conflict-ruled_for (Some p) (Some v) on none =
       let by = standing_of (Some maker) (Some p) H in
-      let k = asked-there (λ target. NoneBroken (conflict_checks by (paper_named facts shown (Some p)) target on late)) p v none.1.0 none in
-      case-ruled H maker p v on (authors_have_declared (phase_of H)) (conflicts_are_final (phase_of H)) (shown.withdrawn p) late k.role
-      (eqb v maker) (wrote p v) (wrote p v || declared p v) (is_some (shown.ordinal (Some v) p)) (external_by p v k.role) refl refl k.held refl
+      let k = asked-there (λ target. NoneBroken (conflict_checks by (paper_named facts shown (Some p)) target on late))
+      p v none.1.0 none in
+      case-ruled H maker p v on (authors_have_declared (phase_of H)) (conflicts_are_final (phase_of H))
+      (shown.withdrawn p) late k.role
+      (eqb v maker) (wrote p v) (wrote p v || declared p v) (is_some (shown.ordinal (Some v) p))
+      (external_by p v k.role) refl refl k.held refl
       (outside-told p v k.role k.held) k.holds.1.1
 
   -- ---- bids and assignments
@@ -331,7 +171,8 @@ module _ (H : History) (stamp : Stamp) (shown : Shown) (bounds : IsBoundedStamp 
   clear : (member conflicted : Bool) → member ≡ true → conflicted ≡ false → (member && not conflicted) ≡ true
   clear member conflicted hm hf = grind arith
 
-  bid-ruled : (paper : Option ℕ) (value : ℕ) → value ≤ 40 → NoneBroken (bid_checks (standing_of (Some maker) paper H) (paper_named facts shown paper) late)
+  bid-ruled : (paper : Option ℕ) (value : ℕ) → value ≤ 40
+      → NoneBroken (bid_checks (standing_of (Some maker) paper H) (paper_named facts shown paper) late)
       → IsRuled H maker (entries.Bid (unwrap_or paper 0) value)
   bid-ruled None value bounded none = absurd (true≢false none.0)
   bid-ruled (Some p) value bounded none =
@@ -347,26 +188,32 @@ module _ (H : History) (stamp : Stamp) (shown : Shown) (bounds : IsBoundedStamp 
       }
 
   -- a chair who assigns or unassigns is told all of the paper's conflicts and reviewers
-  chair-told : (p : ℕ) (withdrawn : Bool) → NoneBroken (chair_checks (standing_of (Some maker) (Some p) H) withdrawn) → is_told_all H maker p ≡ true
+  chair-told : (p : ℕ) (withdrawn : Bool) → NoneBroken (chair_checks (standing_of (Some maker) (Some p) H) withdrawn)
+      → is_told_all H maker p ≡ true
   chair-told p withdrawn none =
       let by = standing_of (Some maker) (Some p) H in
       all (is_chair by.role) by.conflicted (is_from Bidding by.phase) (is_from Notification by.phase)
       (not-false (is_chair by.role) none.0) none.1.0 (not-false (committee_works by.phase) none.1.1.0)
     where
-      all : (chair conflicted begun over : Bool) → chair ≡ true → conflicted ≡ false → (begun && not over) ≡ true → ((chair && not conflicted) && begun) ≡ true
+      all : (chair conflicted begun over : Bool) → chair ≡ true → conflicted ≡ false → (begun && not over) ≡ true
+          → ((chair && not conflicted) && begun) ≡ true
       all chair conflicted begun over hc hf hb = grind arith
 
   assigned-ruled : (paper target : Option ℕ) (kind : Kind) (ordinal : ℕ)
-      → NoneBroken (assign_checks (standing_of (Some maker) paper H) (paper_named facts shown paper) (asked paper target) (shown.labels (unwrap_or paper 0)))
+      → NoneBroken (assign_checks (standing_of (Some maker) paper H) (paper_named facts shown paper)
+      (asked paper target) (shown.labels (unwrap_or paper 0)))
       → IsRuled H maker (Assigned (unwrap_or paper 0) (unwrap_or target 0) kind ordinal)
   assigned-ruled None target kind ordinal none = absurd (true≢false none.0)
   assigned-ruled (Some p) None kind ordinal none = absurd (true≢false none.1.0)
   assigned-ruled (Some p) (Some v) kind ordinal none =
       let by = standing_of (Some maker) (Some p) H in
-      let k = asked-there (λ target. NoneBroken (assign_checks by (paper_named facts shown (Some p)) target (shown.labels p))) p v none.1.0 none in
+      let k =
+      asked-there (λ target. NoneBroken (assign_checks by (paper_named facts shown (Some p)) target (shown.labels p)))
+      p v none.1.0 none in
       let of_chair = k.holds.1.1 in
       let of_target = of_chair.1.1.1.1 in
-      let all = chair-told p (shown.withdrawn p) (of_chair.0, (of_chair.1.0, (of_chair.1.1.0, (of_chair.1.1.1.0, tt)))) in
+      let all =
+      chair-told p (shown.withdrawn p) (of_chair.0, (of_chair.1.0, (of_chair.1.1.0, (of_chair.1.1.1.0, tt)))) in
       record {
         phase = not-false (committee_works by.phase) of_chair.1.1.0;
         chair = not-false (is_chair by.role) of_chair.0;
@@ -383,16 +230,23 @@ module _ (H : History) (stamp : Stamp) (shown : Shown) (bounds : IsBoundedStamp 
       }
 
   unassigned-ruled : (paper target : Option ℕ)
-      → NoneBroken (unassign_checks (standing_of (Some maker) paper H) (paper_named facts shown paper) (asked paper target) (under_label paper target))
-      → IsRuled H maker (Unassigned (unwrap_or paper 0) (unwrap_or target 0) (unwrap_or (shown.ordinal target (unwrap_or paper 0)) 0))
+      → NoneBroken (unassign_checks (standing_of (Some maker) paper H) (paper_named facts shown paper)
+      (asked paper target) (under_label paper target))
+      → IsRuled H maker (Unassigned (unwrap_or paper 0) (unwrap_or target 0)
+      (unwrap_or (shown.ordinal target (unwrap_or paper 0)) 0))
   unassigned-ruled None target none = absurd (true≢false none.0)
   unassigned-ruled (Some p) None none = absurd (true≢false none.1.0)
   unassigned-ruled (Some p) (Some v) none =
       let by = standing_of (Some maker) (Some p) H in
-      let k = asked-there (λ target. NoneBroken (unassign_checks by (paper_named facts shown (Some p)) target (under_label (Some p) (Some v)))) p v none.1.0 none in
+      let k =
+      asked-there
+      (λ target. NoneBroken (unassign_checks by (paper_named facts shown (Some p)) target
+      (under_label (Some p) (Some v)))) p v none.1.0 none in
       let of_chair = k.holds.1.1 in
-      let all = chair-told p (shown.withdrawn p) (of_chair.0, (of_chair.1.0, (of_chair.1.1.0, (of_chair.1.1.1.0, tt)))) in
-      let taken = some-where (shown.ordinal (Some v) p) (not-false (is_some (shown.ordinal (Some v) p)) of_chair.1.1.1.1.0) in
+      let all =
+      chair-told p (shown.withdrawn p) (of_chair.0, (of_chair.1.0, (of_chair.1.1.0, (of_chair.1.1.1.0, tt)))) in
+      let taken =
+      some-where (shown.ordinal (Some v) p) (not-false (is_some (shown.ordinal (Some v) p)) of_chair.1.1.1.1.0) in
       record {
         phase = not-false (committee_works by.phase) of_chair.1.1.0;
         chair = not-false (is_chair by.role) of_chair.0;
@@ -410,16 +264,21 @@ module _ (H : History) (stamp : Stamp) (shown : Shown) (bounds : IsBoundedStamp 
   -- ---- invitations
 
   invited-ruled : (paper target : Option ℕ)
-      → NoneBroken (invite_checks (standing_of (Some maker) paper H) (paper_named facts shown paper) (asked paper target) (at_some (shown.invited target) paper))
+      → NoneBroken (invite_checks (standing_of (Some maker) paper H) (paper_named facts shown paper)
+      (asked paper target) (at_some (shown.invited target) paper))
       → IsRuled H maker (Invited (unwrap_or paper 0) (unwrap_or target 0))
   invited-ruled None target none = absurd (true≢false none.0)
   invited-ruled (Some p) None none = absurd (true≢false none.1.0)
   invited-ruled (Some p) (Some v) none =
       let by = standing_of (Some maker) (Some p) H in
-      let k = asked-there (λ target. NoneBroken (invite_checks by (paper_named facts shown (Some p)) target (shown.invited (Some v) p))) p v none.1.0 none in
+      let k =
+      asked-there
+      (λ target. NoneBroken (invite_checks by (paper_named facts shown (Some p)) target (shown.invited (Some v) p))) p
+      v none.1.0 none in
       let of_chair = k.holds.1.1 in
       let of_target = of_chair.1.1.1.1 in
-      let all = chair-told p (shown.withdrawn p) (of_chair.0, (of_chair.1.0, (of_chair.1.1.0, (of_chair.1.1.1.0, tt)))) in
+      let all =
+      chair-told p (shown.withdrawn p) (of_chair.0, (of_chair.1.0, (of_chair.1.1.0, (of_chair.1.1.1.0, tt)))) in
       record {
         phase = not-false (committee_works by.phase) of_chair.1.1.0;
         chair = not-false (is_chair by.role) of_chair.0;
@@ -431,16 +290,21 @@ module _ (H : History) (stamp : Stamp) (shown : Shown) (bounds : IsBoundedStamp 
       }
 
   uninvited-ruled : (paper target : Option ℕ)
-      → NoneBroken (uninvite_checks (standing_of (Some maker) paper H) (paper_named facts shown paper) (asked paper target) (at_some (shown.invited target) paper))
+      → NoneBroken (uninvite_checks (standing_of (Some maker) paper H) (paper_named facts shown paper)
+      (asked paper target) (at_some (shown.invited target) paper))
       → IsRuled H maker (Uninvited (unwrap_or paper 0) (unwrap_or target 0))
   uninvited-ruled None target none = absurd (true≢false none.0)
   uninvited-ruled (Some p) None none = absurd (true≢false none.1.0)
   uninvited-ruled (Some p) (Some v) none =
       let by = standing_of (Some maker) (Some p) H in
-      let k = asked-there (λ target. NoneBroken (uninvite_checks by (paper_named facts shown (Some p)) target (shown.invited (Some v) p))) p v none.1.0 none in
+      let k =
+      asked-there
+      (λ target. NoneBroken (uninvite_checks by (paper_named facts shown (Some p)) target (shown.invited (Some v) p)))
+      p v none.1.0 none in
       let of_chair = k.holds.1.1 in
       let of_target = of_chair.1.1.1.1 in
-      let all = chair-told p (shown.withdrawn p) (of_chair.0, (of_chair.1.0, (of_chair.1.1.0, (of_chair.1.1.1.0, tt)))) in
+      let all =
+      chair-told p (shown.withdrawn p) (of_chair.0, (of_chair.1.0, (of_chair.1.1.0, (of_chair.1.1.1.0, tt)))) in
       record {
         phase = not-false (committee_works by.phase) of_chair.1.1.0;
         chair = not-false (is_chair by.role) of_chair.0;
@@ -458,7 +322,8 @@ module _ (H : History) (stamp : Stamp) (shown : Shown) (bounds : IsBoundedStamp 
 
   reviewed-ruled : (paper : Option ℕ) (version : ℕ) (form : Form) → IsForm form
       → NoneBroken (review_checks (standing_of (Some maker) paper H) (paper_named facts shown paper) late)
-      → IsRuled H maker (Reviewed (unwrap_or paper 0) (unwrap_or (facts.own_ordinal (unwrap_or paper 0)) 0) version form)
+      → IsRuled H maker (Reviewed (unwrap_or paper 0) (unwrap_or (facts.own_ordinal (unwrap_or paper 0)) 0) version
+      form)
   reviewed-ruled None version form bounded none = absurd (true≢false none.0)
   reviewed-ruled (Some p) version form bounded none =
       let by = standing_of (Some maker) (Some p) H in
@@ -499,7 +364,8 @@ module _ (H : History) (stamp : Stamp) (shown : Shown) (bounds : IsBoundedStamp 
         chair = tt;
         role = tt;
         member = tt;
-        right = (clear (is_member by.role) by.conflicted (not-false (is_member by.role) none.1.1.0) none.1.1.1.0, none.1.0);
+        right =
+            (clear (is_member by.role) by.conflicted (not-false (is_member by.role) none.1.1.0) none.1.1.1.0, none.1.0);
         seat = tt;
         texts = bounded;
       }
@@ -520,44 +386,99 @@ module _ (H : History) (stamp : Stamp) (shown : Shown) (bounds : IsBoundedStamp 
         texts = tt;
       }
 
-  pub command-adds : (command : Command) (drawn : Drawn) → IsBoundedCommand command → judge_by facts shown stamp command ≡ Ok drawn → Adds H drawn.group
-  command-adds (Register name digest) drawn bounded accepted = registration-adds H stamp facts shown name digest drawn bounds bounded accepted
+  pub command-adds : (command : Command) (drawn : Drawn) → IsBoundedCommand command
+      → judge_by facts shown stamp command ≡ Ok drawn → Adds H drawn.group
+  command-adds (Register name digest) drawn bounded accepted =
+      registration-adds H stamp facts shown name digest drawn bounds bounded accepted
   command-adds (SetPhase to) drawn bounded accepted =
       let k = judged-Ok (phase_checks standing (phase_of H) to) (phase_drawn stamp to) drawn accepted in
       subst (λ (d : Drawn). Adds H d.group) k.1
-      (single stamp (PhaseSet to) bounds registered tt (record { phase = not-false (is_next (phase_of H) to) k.0.1.0; chair = not-false (is_chair standing.role) k.0.0; role = tt; member = tt; right = tt; seat = tt; texts = tt }))
+      (single stamp (PhaseSet to) bounds registered tt
+      (record {
+        phase = not-false (is_next (phase_of H) to) k.0.1.0;
+        chair = not-false (is_chair standing.role) k.0.0;
+        role = tt;
+        member = tt;
+        right = tt;
+        seat = tt;
+        texts = tt;
+      }))
   command-adds (Submit title abstract names) drawn bounded accepted =
       let n : ℕ = length facts.papers in
       let users : List (Option ℕ) = users_among facts.accounts names in
       let others : List ℕ = flat_map listed users in
-      let k = judged-Ok (submit_checks (list_any is_none users) standing n facts.own_papers late) (submission_drawn stamp (n + 1) title abstract others) drawn accepted in
+      let k = judged-Ok (submit_checks (list_any is_none users) standing n facts.own_papers late)
+      (submission_drawn stamp (n + 1) title abstract others) drawn accepted in
       subst (λ (d : Drawn). Adds H d.group) k.1
-      (submitted stamp (n + 1) title abstract others bounds registered (record { phase = submitting H maker k.0.1.0; chair = tt; role = tt; member = tt; right = tt; seat = tt; texts = (bounded.0, bounded.1) }) (users-registered H names))
+      (submitted stamp (n + 1) title abstract others bounds registered
+      (record {
+        phase = submitting H maker k.0.1.0;
+        chair = tt;
+        role = tt;
+        member = tt;
+        right = tt;
+        seat = tt;
+        texts = (bounded.0, bounded.1);
+      }) (users-registered H names))
   command-adds (Revise paper title abstract) drawn bounded accepted =
-      let k = judged-Ok (revise_checks (standing_of (Some maker) paper H) (paper_named facts shown paper) late) (revision_drawn stamp (unwrap_or paper 0) title abstract) drawn accepted in
+      let k = judged-Ok (revise_checks (standing_of (Some maker) paper H) (paper_named facts shown paper) late)
+      (revision_drawn stamp (unwrap_or paper 0) title abstract) drawn accepted in
       subst (λ (d : Drawn). Adds H d.group) k.1
-      (single stamp (Revised (unwrap_or paper 0) title abstract) bounds registered tt (record { phase = submitting H maker k.0.1.1.0; chair = tt; role = tt; member = tt; right = author-named H maker paper k.0.1.0; seat = tt; texts = bounded }))
+      (single stamp (Revised (unwrap_or paper 0) title abstract) bounds registered tt
+      (record {
+        phase = submitting H maker k.0.1.1.0;
+        chair = tt;
+        role = tt;
+        member = tt;
+        right = author-named H maker paper k.0.1.0;
+        seat = tt;
+        texts = bounded;
+      }))
   command-adds (Upload paper content) drawn bounded accepted =
       let version : ℕ = length (shown.uploads (unwrap_or paper 0)) + 1 in
-      let k = judged-Ok (upload_checks (standing_of (Some maker) paper H) (paper_named facts shown paper) facts.own_bytes (length content) late) (upload_drawn stamp (unwrap_or paper 0) version content) drawn accepted in
+      let k =
+      judged-Ok (upload_checks (standing_of (Some maker) paper H) (paper_named facts shown paper) facts.own_bytes
+      (length content) late) (upload_drawn stamp (unwrap_or paper 0) version content) drawn accepted in
       subst (λ (d : Drawn). Adds H d.group) k.1
-      (single stamp (Uploaded (unwrap_or paper 0) version content) bounds registered tt (record { phase = submitting H maker k.0.1.1.0; chair = tt; role = tt; member = tt; right = author-named H maker paper k.0.1.0; seat = tt; texts = bounded }))
+      (single stamp (Uploaded (unwrap_or paper 0) version content) bounds registered tt
+      (record {
+        phase = submitting H maker k.0.1.1.0;
+        chair = tt;
+        role = tt;
+        member = tt;
+        right = author-named H maker paper k.0.1.0;
+        seat = tt;
+        texts = bounded;
+      }))
   command-adds (Withdraw paper) drawn bounded accepted =
-      let k = judged-Ok (revise_checks (standing_of (Some maker) paper H) (paper_named facts shown paper) late) (withdrawal_drawn stamp (unwrap_or paper 0)) drawn accepted in
+      let k = judged-Ok (revise_checks (standing_of (Some maker) paper H) (paper_named facts shown paper) late)
+      (withdrawal_drawn stamp (unwrap_or paper 0)) drawn accepted in
       subst (λ (d : Drawn). Adds H d.group) k.1
-      (single stamp (Withdrawn (unwrap_or paper 0)) bounds registered tt (record { phase = submitting H maker k.0.1.1.0; chair = tt; role = tt; member = tt; right = author-named H maker paper k.0.1.0; seat = tt; texts = tt }))
+      (single stamp (Withdrawn (unwrap_or paper 0)) bounds registered tt
+      (record {
+        phase = submitting H maker k.0.1.1.0;
+        chair = tt;
+        role = tt;
+        member = tt;
+        right = author-named H maker paper k.0.1.0;
+        seat = tt;
+        texts = tt;
+      }))
   command-adds (Name name role) drawn bounded accepted =
       let target : Option ℕ = user_among facts.accounts name in
       let before : Option Role = role_among facts.accounts target in
       let asked : Option Target = option_map of_role before in
-      let k = judged-Ok (name_checks standing asked role) (naming_drawn stamp (unwrap_or target 0) (unwrap_or name []) role) drawn accepted in
-      let rises : role_number (target_role asked) < role_number role = leb-false (role_number role) (role_number (target_role asked)) k.0.1.1.1.0 in
+      let k = judged-Ok (name_checks standing asked role)
+      (naming_drawn stamp (unwrap_or target 0) (unwrap_or name []) role) drawn accepted in
+      let rises : role_number (target_role asked) < role_number role =
+      leb-false (role_number role) (role_number (target_role asked)) k.0.1.1.1.0 in
       let there : is_none before ≡ false = sym (is_none-asked of_role before) ∙ k.0.0 in
       subst (λ (d : Drawn). Adds H d.group) k.1
       (single stamp (Named (unwrap_or target 0) role) bounds registered tt (record {
         phase = k.0.1.1.0;
         chair = or_left (is_chair standing.role) (eqb (length H) 1) (not-false (is_chair standing.role) k.0.1.0);
-        role = subst (λ (r : Role). role_number r < role_number role) (target_role-of before ∙ (role-among H target there).0) rises;
+        role = subst (λ (r : Role). role_number r < role_number role)
+            (target_role-of before ∙ (role-among H target there).0) rises;
         member = tt;
         right = tt;
         seat = tt;
@@ -566,30 +487,49 @@ module _ (H : History) (stamp : Stamp) (shown : Shown) (bounds : IsBoundedStamp 
   command-adds (SetMode to) drawn bounded accepted =
       let k = judged-Ok (mode_checks standing (phase_of H)) (mode_drawn stamp to) drawn accepted in
       subst (λ (d : Drawn). Adds H d.group) k.1
-      (single stamp (ModeSet to) bounds registered tt (record { phase = not-false (mode_may_be_set (phase_of H)) k.0.1.0; chair = not-false (is_chair standing.role) k.0.0; role = tt; member = tt; right = tt; seat = tt; texts = tt }))
+      (single stamp (ModeSet to) bounds registered tt
+      (record {
+        phase = not-false (mode_may_be_set (phase_of H)) k.0.1.0;
+        chair = not-false (is_chair standing.role) k.0.0;
+        role = tt;
+        member = tt;
+        right = tt;
+        seat = tt;
+        texts = tt;
+      }))
   command-adds (SetConflict paper name on) drawn bounded accepted =
       let target : Option ℕ = user_among facts.accounts name in
-      let k = judged-Ok (checks paper target on) (conflict_drawn stamp (unwrap_or paper 0) (unwrap_or target 0) on) drawn accepted in
-      subst (λ (d : Drawn). Adds H d.group) k.1 (single stamp (Conflict (unwrap_or paper 0) (unwrap_or target 0) on) bounds registered tt (conflict-ruled_for paper target on k.0))
+      let k = judged-Ok (checks paper target on) (conflict_drawn stamp (unwrap_or paper 0) (unwrap_or target 0) on)
+      drawn accepted in
+      subst (λ (d : Drawn). Adds H d.group) k.1
+      (single stamp (Conflict (unwrap_or paper 0) (unwrap_or target 0) on) bounds registered tt
+      (conflict-ruled_for paper target on k.0))
   command-adds (Bid paper value) drawn bounded accepted =
       let k = judged-Ok (bid_checks (standing_of (Some maker) paper H) (paper_named facts shown paper) late)
       (bid_drawn stamp (unwrap_or paper 0) value) drawn accepted in
-      subst (λ (d : Drawn). Adds H d.group) k.1 (single stamp (entries.Bid (unwrap_or paper 0) value) bounds registered tt (bid-ruled paper value bounded k.0))
+      subst (λ (d : Drawn). Adds H d.group) k.1
+      (single stamp (entries.Bid (unwrap_or paper 0) value) bounds registered tt (bid-ruled paper value bounded k.0))
   command-adds (Assign paper name kind) drawn bounded accepted =
       let target : Option ℕ = user_among facts.accounts name in
       let labels : ℕ = shown.labels (unwrap_or paper 0) in
-      let k = judged-Ok (assign_checks (standing_of (Some maker) paper H) (paper_named facts shown paper) (asked paper target) labels)
+      let k =
+      judged-Ok (assign_checks (standing_of (Some maker) paper H) (paper_named facts shown paper) (asked paper target)
+      labels)
       (assignment_drawn stamp (unwrap_or paper 0) (unwrap_or target 0) kind (labels + 1)) drawn accepted in
       subst (λ (d : Drawn). Adds H d.group) k.1
-      (single stamp (Assigned (unwrap_or paper 0) (unwrap_or target 0) kind (labels + 1)) bounds registered tt (assigned-ruled paper target kind (labels + 1) k.0))
+      (single stamp (Assigned (unwrap_or paper 0) (unwrap_or target 0) kind (labels + 1)) bounds registered tt
+      (assigned-ruled paper target kind (labels + 1) k.0))
   command-adds (Unassign paper name) drawn bounded accepted =
       let target : Option ℕ = user_among facts.accounts name in
       let p : ℕ = unwrap_or paper 0 in
       let ordinal : ℕ = unwrap_or (shown.ordinal target p) 0 in
-      let k = judged-Ok (unassign_checks (standing_of (Some maker) paper H) (paper_named facts shown paper) (asked paper target) (under_label paper target))
+      let k =
+      judged-Ok (unassign_checks (standing_of (Some maker) paper H) (paper_named facts shown paper)
+      (asked paper target) (under_label paper target))
       (unassignment_drawn stamp p (unwrap_or target 0) ordinal) drawn accepted in
       subst (λ (d : Drawn). Adds H d.group) k.1
-      (single stamp (Unassigned p (unwrap_or target 0) ordinal) bounds registered tt (unassigned-ruled paper target k.0))
+      (single stamp (Unassigned p (unwrap_or target 0) ordinal) bounds registered tt
+      (unassigned-ruled paper target k.0))
   command-adds (Review paper form) drawn bounded accepted =
       let p : ℕ = unwrap_or paper 0 in
       let ordinal : ℕ = unwrap_or (facts.own_ordinal p) 0 in
@@ -597,16 +537,21 @@ module _ (H : History) (stamp : Stamp) (shown : Shown) (bounds : IsBoundedStamp 
       let k = judged-Ok (review_checks (standing_of (Some maker) paper H) (paper_named facts shown paper) late)
       (review_drawn stamp p ordinal version form) drawn accepted in
       subst (λ (d : Drawn). Adds H d.group) k.1
-      (single stamp (Reviewed p ordinal version form) bounds registered tt (reviewed-ruled paper version form bounded k.0))
+      (single stamp (Reviewed p ordinal version form) bounds registered tt
+      (reviewed-ruled paper version form bounded k.0))
   command-adds (Comment paper text) drawn bounded accepted =
       let p : ℕ = unwrap_or paper 0 in
       let n : ℕ = length (shown.comments p) + 1 in
-      let k = judged-Ok (comment_checks (standing_of (Some maker) paper H) (paper_named facts shown paper) facts.own_comments late)
+      let k =
+      judged-Ok (comment_checks (standing_of (Some maker) paper H) (paper_named facts shown paper) facts.own_comments
+      late)
       (comment_drawn stamp p n (facts.own_ordinal p) text) drawn accepted in
       subst (λ (d : Drawn). Adds H d.group) k.1
-      (single stamp (Commented p n (facts.own_ordinal p) text) bounds registered tt (commented-ruled paper n facts.own_comments text bounded k.0))
+      (single stamp (Commented p n (facts.own_ordinal p) text) bounds registered tt
+      (commented-ruled paper n facts.own_comments text bounded k.0))
   command-adds (Tag paper tag on) drawn bounded accepted =
-      let k = judged-Ok (tag_checks (standing_of (Some maker) paper H) (paper_named facts shown paper) (is_for_chairs tag))
+      let k =
+      judged-Ok (tag_checks (standing_of (Some maker) paper H) (paper_named facts shown paper) (is_for_chairs tag))
       (tag_drawn stamp (unwrap_or paper 0) tag on) drawn accepted in
       subst (λ (d : Drawn). Adds H d.group) k.1
       (single stamp (Tagged (unwrap_or paper 0) tag on) bounds registered tt (tagged-ruled paper tag on bounded k.0))
@@ -616,20 +561,33 @@ module _ (H : History) (stamp : Stamp) (shown : Shown) (bounds : IsBoundedStamp 
       subst (λ (d : Drawn). Adds H d.group) k.1
       (single stamp (Decided (unwrap_or paper 0) decision) bounds registered tt (decided-ruled paper decision k.0))
   command-adds (SetDeadline phase until) drawn bounded accepted =
-      let k = judged-Ok (deadline_checks standing (phase_of H) phase) (deadline_drawn stamp phase until) drawn accepted in
+      let k =
+      judged-Ok (deadline_checks standing (phase_of H) phase) (deadline_drawn stamp phase until) drawn accepted in
       subst (λ (d : Drawn). Adds H d.group) k.1
-      (single stamp (DeadlineSet phase until) bounds registered tt (record { phase = (not-false (is_from (phase_of H) phase) k.0.1.0, bounded.0); chair = not-false (is_chair standing.role) k.0.0; role = tt; member = tt; right = tt; seat = tt; texts = bounded.1 }))
+      (single stamp (DeadlineSet phase until) bounds registered tt
+      (record {
+        phase = (not-false (is_from (phase_of H) phase) k.0.1.0, bounded.0);
+        chair = not-false (is_chair standing.role) k.0.0;
+        role = tt;
+        member = tt;
+        right = tt;
+        seat = tt;
+        texts = bounded.1;
+      }))
   command-adds (Dismiss name) drawn bounded accepted =
       let target : Option ℕ = user_among facts.accounts name in
       let before : Option Role = role_among facts.accounts target in
       let asked : Option Target = option_map of_role before in
-      let k = judged-Ok (dismiss_checks standing asked (chair_count facts.accounts)) (dismissal_drawn stamp (unwrap_or target 0) (unwrap_or name [])) drawn accepted in
+      let k = judged-Ok (dismiss_checks standing asked (chair_count facts.accounts))
+      (dismissal_drawn stamp (unwrap_or target 0) (unwrap_or name [])) drawn accepted in
       let there : is_none before ≡ false = sym (is_none-asked of_role before) ∙ k.0.0 in
       subst (λ (d : Drawn). Adds H d.group) k.1
       (single stamp (Dismissed (unwrap_or target 0)) bounds registered tt (record {
         phase = k.0.1.1.0;
         chair = not-false (is_chair standing.role) k.0.1.0;
-        role = subst (λ (r : Role). (is_member r ≡ true) × ((is_chair r && nat_le (chair_count (accounts_of H)) 1) ≡ false))
+        role =
+            subst (λ (r : Role). (is_member r ≡ true)
+            × ((is_chair r && nat_le (chair_count (accounts_of H)) 1) ≡ false))
             (target_role-of before ∙ (role-among H target there).0)
             (not-false (is_member (target_role asked)) k.0.1.1.1.0, k.0.1.1.1.1.0);
         member = tt;
@@ -639,19 +597,27 @@ module _ (H : History) (stamp : Stamp) (shown : Shown) (bounds : IsBoundedStamp 
       }))
   command-adds (Invite paper name) drawn bounded accepted =
       let target : Option ℕ = user_among facts.accounts name in
-      let k = judged-Ok (invite_checks (standing_of (Some maker) paper H) (paper_named facts shown paper) (asked paper target) (at_some (shown.invited target) paper))
+      let k =
+      judged-Ok (invite_checks (standing_of (Some maker) paper H) (paper_named facts shown paper) (asked paper target)
+      (at_some (shown.invited target) paper))
       (invitation_drawn stamp (unwrap_or paper 0) (unwrap_or target 0)) drawn accepted in
       subst (λ (d : Drawn). Adds H d.group) k.1
-      (single stamp (Invited (unwrap_or paper 0) (unwrap_or target 0)) bounds registered tt (invited-ruled paper target k.0))
+      (single stamp (Invited (unwrap_or paper 0) (unwrap_or target 0)) bounds registered tt
+      (invited-ruled paper target k.0))
   command-adds (Uninvite paper name) drawn bounded accepted =
       let target : Option ℕ = user_among facts.accounts name in
-      let k = judged-Ok (uninvite_checks (standing_of (Some maker) paper H) (paper_named facts shown paper) (asked paper target) (at_some (shown.invited target) paper))
+      let k =
+      judged-Ok (uninvite_checks (standing_of (Some maker) paper H) (paper_named facts shown paper)
+      (asked paper target) (at_some (shown.invited target) paper))
       (uninvitation_drawn stamp (unwrap_or paper 0) (unwrap_or target 0)) drawn accepted in
       subst (λ (d : Drawn). Adds H d.group) k.1
-      (single stamp (Uninvited (unwrap_or paper 0) (unwrap_or target 0)) bounds registered tt (uninvited-ruled paper target k.0))
+      (single stamp (Uninvited (unwrap_or paper 0) (unwrap_or target 0)) bounds registered tt
+      (uninvited-ruled paper target k.0))
   command-adds (Respond paper text) drawn bounded accepted =
       let p : ℕ = unwrap_or paper 0 in
-      let k = judged-Ok (respond_checks (standing_of (Some maker) paper H) (paper_named facts shown paper) (is_some (shown.response p)) late)
+      let k =
+      judged-Ok (respond_checks (standing_of (Some maker) paper H) (paper_named facts shown paper)
+      (is_some (shown.response p)) late)
       (response_drawn stamp p text) drawn accepted in
       subst (λ (d : Drawn). Adds H d.group) k.1
       (single stamp (Responded p text) bounds registered tt (record {

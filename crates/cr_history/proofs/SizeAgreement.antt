@@ -1,5 +1,5 @@
--- Where each entry fits in its turn, the tables hold no more accounts and papers than rows can number, and ties and seats at no
--- others.
+-- Where each entry fits in its turn, the tables hold no more accounts and papers than rows can number, and ties and
+-- seats at no others.
 use Rattle.std.proofs.Common.{ℕ, ◌≤◌, ◌-◌, List, [], ◌∷◌, length, refl, arith, length-append, IsTrue}
 use Rattle.cr_base.specs.declared.entry.Account.{Account}
 use Rattle.cr_base.specs.declared.entry.Entry.{Entry}
@@ -22,15 +22,18 @@ pub record IsSized (t : Tables) : Type 0 where
   pub ties : AreWithin (paper_count t.papers) t.ties
   pub seats : IsTrue (are_within (paper_count t.papers) t.seats)
 
-accounts-few : (accounts : List Account) (e : Entry) → AccountsFit accounts e → length accounts ≤ 9999 → length (accounts_after accounts e) ≤ 9999
+accounts-few : (accounts : List Account) (e : Entry) → AccountsFit accounts e → length accounts ≤ 9999
+    → length (accounts_after accounts e) ≤ 9999
 accounts-few accounts (Registered user name digest) fits h =
     let a : Account = record { name = name; digest = digest; role = role.Account } in
     let n = length-append accounts (a ∷ []) in
     let next = fits.0 in
     let few = fits.1 in
     omega (arith, n, next, few)
-accounts-few accounts (Named user role') fits h = let n = length-with_role accounts (user - 1) role' in omega (arith, n, h)
-accounts-few accounts (Dismissed user) fits h = let n = length-with_role accounts (user - 1) role.Account in omega (arith, n, h)
+accounts-few accounts (Named user role') fits h = let n =
+    length-with_role accounts (user - 1) role' in omega (arith, n, h)
+accounts-few accounts (Dismissed user) fits h = let n =
+    length-with_role accounts (user - 1) role.Account in omega (arith, n, h)
 accounts-few accounts e fits h = h
 
 papers-few : (state : PapersState) (maker : ℕ) (e : Entry) → PapersFit state maker e → paper_count state ≤ 9999
@@ -40,8 +43,10 @@ papers-few state maker (Submitted paper title abstract) fits h =
     let next = fits.0 in
     let few = fits.1 in
     omega (arith, n, next, few)
-papers-few state maker (Revised paper title abstract) fits h = let n = length-with_paper paper (with_texts title abstract) state.papers in omega (arith, n, h)
-papers-few state maker (Withdrawn paper) fits h = let n = length-with_paper paper as_withdrawn state.papers in omega (arith, n, h)
+papers-few state maker (Revised paper title abstract) fits h = let n =
+    length-with_paper paper (with_texts title abstract) state.papers in omega (arith, n, h)
+papers-few state maker (Withdrawn paper) fits h = let n =
+    length-with_paper paper as_withdrawn state.papers in omega (arith, n, h)
 papers-few state maker e fits h = h
 
 sized-from : (t : Tables) (H : History) → FitInTurn t H → IsSized t → IsSized (tables_from t H)
@@ -55,4 +60,10 @@ sized-from t (s ∷ H) fits sized =
     })
 
 pub sized-tables : (H : History) → FitInTurn no_tables H → IsSized (tables_of H)
-sized-tables H fits = sized-from no_tables H fits (record { accounts = omega arith; papers = omega arith; ties = record { authors = refl; conflicts = refl }; seats = refl })
+sized-tables H fits = sized-from no_tables H fits
+    (record {
+      accounts = omega arith;
+      papers = omega arith;
+      ties = record { authors = refl; conflicts = refl };
+      seats = refl;
+    })

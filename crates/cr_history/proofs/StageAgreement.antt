@@ -11,7 +11,8 @@ use Rattle.cr_base.specs.declared.words.Phase.{Phase}
 use Rattle.cr_base.specs.declared.words.Phase.TheVariants.{Setup, Submission, Bidding, Reviewing, Response, Discussion}
 use Rattle.cr_base.specs.Deadlines.{no_deadlines, deadline_in, with_deadline}
 use Rattle.cr_base.specs.Lists.{last_or}
-use Rattle.cr_base.specs.History.{History, all_told, phase_told, mode_told, deadline_given, deadline_told, opens, opens_response}
+use Rattle.cr_base.specs.History.{History, all_told, phase_told, mode_told, deadline_given, deadline_told, opens}
+use Rattle.cr_base.specs.History.{opens_response}
 use Rattle.cr_base.specs.HistoryFacts.{phase_of, mode_of, deadline_of, had_response_of}
 use Rattle.cr_base.specs.Phases.{is_phase}
 use Rattle.cr_base.specs.Stage.{StageState, stage_after}
@@ -21,13 +22,15 @@ use Rattle.cr_history.proofs.Folds.{told-always}
 
 -- ---- the phase
 
-phase-entry : (stage : StageState) (e : Entry) (rest : List Phase) → last_or stage.phase (phase_told e ++ rest) ≡ last_or (stage_after stage e).phase rest
+phase-entry : (stage : StageState) (e : Entry) (rest : List Phase)
+    → last_or stage.phase (phase_told e ++ rest) ≡ last_or (stage_after stage e).phase rest
 phase-entry stage (PhaseSet next) rest = last_or-cons stage.phase next rest
 phase-entry stage e rest = refl
 
 -- the phase is the last one set
 pub phase_of-tables : (H : History) → phase_of H ≡ (tables_of H).stage.phase
-phase_of-tables H = told-always last_or (λ _. refl) (λ (t : Tables). t.stage.phase) (λ (s : Stamped). phase_told s.entry) (λ t s. phase-entry t.stage s.entry) no_tables H
+phase_of-tables H = told-always last_or (λ _. refl) (λ (t : Tables). t.stage.phase)
+    (λ (s : Stamped). phase_told s.entry) (λ t s. phase-entry t.stage s.entry) no_tables H
 
 -- ---- whether the response was opened
 
@@ -42,7 +45,8 @@ opened-entry stage (PhaseSet next) rest = by stage.had_response (is_phase next R
     by false false rest = refl
 opened-entry stage e rest = refl
 
-opened-from : (t : Tables) (H : History) → (t.stage.had_response || list_any opens_response H) ≡ (tables_from t H).stage.had_response
+opened-from : (t : Tables) (H : History)
+    → (t.stage.had_response || list_any opens_response H) ≡ (tables_from t H).stage.had_response
 opened-from t [] = by t.stage.had_response
   where
     by : (had : Bool) → (had || false) ≡ had
@@ -56,18 +60,21 @@ had_response-tables H = opened-from no_tables H
 
 -- ---- the mode
 
-mode-entry : (stage : StageState) (e : Entry) (rest : List Mode) → last_or stage.mode (mode_told e ++ rest) ≡ last_or (stage_after stage e).mode rest
+mode-entry : (stage : StageState) (e : Entry) (rest : List Mode)
+    → last_or stage.mode (mode_told e ++ rest) ≡ last_or (stage_after stage e).mode rest
 mode-entry stage (ModeSet next) rest = last_or-cons stage.mode next rest
 mode-entry stage e rest = refl
 
 -- the mode is the last one set
 pub mode_of-tables : (H : History) → mode_of H ≡ (tables_of H).stage.mode
-mode_of-tables H = told-always last_or (λ _. refl) (λ (t : Tables). t.stage.mode) (λ (s : Stamped). mode_told s.entry) (λ t s. mode-entry t.stage s.entry) no_tables H
+mode_of-tables H = told-always last_or (λ _. refl) (λ (t : Tables). t.stage.mode) (λ (s : Stamped). mode_told s.entry)
+    (λ t s. mode-entry t.stage s.entry) no_tables H
 
 -- ---- the deadlines
 
 deadline-set : (deadlines : Deadlines) (set phase : Phase) (until : Option ℕ) (rest : List (Option ℕ))
-    → last_or (deadline_in deadlines phase) (deadline_given phase set until ++ rest) ≡ last_or (deadline_in (with_deadline set until deadlines) phase) rest
+    → last_or (deadline_in deadlines phase) (deadline_given phase set until ++ rest)
+    ≡ last_or (deadline_in (with_deadline set until deadlines) phase) rest
 deadline-set deadlines Submission Submission until rest = last_or-cons deadlines.submission until rest
 deadline-set deadlines Bidding Bidding until rest = last_or-cons deadlines.bidding until rest
 deadline-set deadlines Reviewing Reviewing until rest = last_or-cons deadlines.reviewing until rest
@@ -76,7 +83,8 @@ deadline-set deadlines Discussion Discussion until rest = last_or-cons deadlines
 deadline-set deadlines set phase until rest = refl
 
 deadline-entry : (phase : Phase) (stage : StageState) (e : Entry) (rest : List (Option ℕ))
-    → last_or (deadline_in stage.deadlines phase) (deadline_told phase e ++ rest) ≡ last_or (deadline_in (stage_after stage e).deadlines phase) rest
+    → last_or (deadline_in stage.deadlines phase) (deadline_told phase e ++ rest)
+    ≡ last_or (deadline_in (stage_after stage e).deadlines phase) rest
 deadline-entry phase stage (DeadlineSet set until) rest = deadline-set stage.deadlines set phase until rest
 deadline-entry phase stage e rest = refl
 
@@ -85,8 +93,10 @@ none-first Setup = refl
 none-first phase = refl
 
 -- the deadline of a phase is the last one set, where the phase may have one
-pub deadline_of-tables : (phase : Phase) (H : History) → deadline_of phase H ≡ deadline_in (tables_of H).stage.deadlines phase
+pub deadline_of-tables : (phase : Phase) (H : History)
+    → deadline_of phase H ≡ deadline_in (tables_of H).stage.deadlines phase
 deadline_of-tables phase H =
     ap (λ (first : Option ℕ). last_or first (all_told (deadline_told phase) H)) (none-first phase)
-    ∙ told-always last_or (λ _. refl) (λ (t : Tables). deadline_in t.stage.deadlines phase) (λ (s : Stamped). deadline_told phase s.entry)
+    ∙ told-always last_or (λ _. refl) (λ (t : Tables). deadline_in t.stage.deadlines phase)
+    (λ (s : Stamped). deadline_told phase s.entry)
     (λ t s. deadline-entry phase t.stage s.entry) no_tables H

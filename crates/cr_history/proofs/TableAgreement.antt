@@ -1,5 +1,5 @@
--- The tables and rows of more entries; and where each fits in its turn, how a user stands by a history is how she stands by
--- its tables.
+-- The tables and rows of more entries; and where each fits in its turn, how a user stands by a history is how she
+-- stands by its tables.
 use Rattle.std.proofs.Common.{ℕ, Bool, ◌≡◌, [], ◌∷◌, ◌++◌, ap, Option}
 use Rattle.std.specs.Prelude.{is_some}
 use Rattle.std.proofs.lemmas.List.{map-append}
@@ -28,7 +28,8 @@ pub rows_of-append : (H g : History) → rows_of (H ++ g) ≡ rows_of H ++ rows_
 rows_of-append H g = map-append row_of H g
 
 -- entries that fit in their turn, and more that fit behind them
-pub FitInTurn-append : (t : Tables) (H g : History) → FitInTurn t H → FitInTurn (tables_from t H) g → FitInTurn t (H ++ g)
+pub FitInTurn-append : (t : Tables) (H g : History) → FitInTurn t H → FitInTurn (tables_from t H) g
+    → FitInTurn t (H ++ g)
 FitInTurn-append t [] g first then = then
 FitInTurn-append t (s ∷ H) g first then = (first.0, FitInTurn-append (tables_after t s) H g first.1 then)
 
@@ -40,7 +41,8 @@ FitInTurn-behind t (s ∷ H) g fits = FitInTurn-behind (tables_after t s) H g fi
 -- ---- the facts
 
 -- how a user stands by a history is how she stands by its tables
-pub standing_of-tables : (u paper : Option ℕ) (H : History) → FitInTurn no_tables H → standing_of u paper H ≡ standing_at (tables_of H) u paper
+pub standing_of-tables : (u paper : Option ℕ) (H : History) → FitInTurn no_tables H
+    → standing_of u paper H ≡ standing_at (tables_of H) u paper
 standing_of-tables u paper H fits =
     let author = ap (λ (says : ℕ → Bool). at_some says paper) (λ i p. is_author-tables u p H i) in
     let conflicted = ap (λ (says : ℕ → Bool). at_some says paper) (λ i p. is_conflicted-tables u p H i) in

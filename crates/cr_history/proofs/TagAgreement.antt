@@ -32,7 +32,8 @@ tag-entry p tags maker (Tagged paper tag on) rest =
     told : TagTold
     told = record { tag = set; on = on }
 
-    by : (b : Bool) → turned_on (filed_of p tags) (given b told ++ rest) ≡ turned_on (cond b (with_tag on set (filed_of p tags)) (filed_of p tags)) rest
+    by : (b : Bool) → turned_on (filed_of p tags) (given b told ++ rest)
+        ≡ turned_on (cond b (with_tag on set (filed_of p tags)) (filed_of p tags)) rest
     by true = refl
     by false = refl
 tag-entry p tags maker e rest = refl
@@ -40,5 +41,6 @@ tag-entry p tags maker e rest = refl
 -- a paper's tags are those that the table has
 pub tags_of-tables : (p : ℕ) (H : History) → tags_of p H ≡ filed_of p (tables_of H).tags
 tags_of-tables p H =
-    told-always turned_on (λ _. refl) (λ (t : Tables). filed_of p t.tags) (λ (s : Stamped). tag_told p s.stamp.maker s.entry)
+    told-always turned_on (λ _. refl) (λ (t : Tables). filed_of p t.tags)
+    (λ (s : Stamped). tag_told p s.stamp.maker s.entry)
     (λ t s. tag-entry p t.tags s.stamp.maker s.entry) no_tables H

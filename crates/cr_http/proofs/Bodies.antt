@@ -1,6 +1,6 @@
 -- A body that is read beside the buffer, into a block of its own.
-use Rattle.std.proofs.Common.{◌≡◌, ◌∙◌, ℕ, ◌+◌, ◌<◌, ◌≤◌, List, [], ◌++◌, length, take, drop, Option, refl, sym, ap, inl, inr, arith, append_assoc}
-use Rattle.std.proofs.Common.{append-nil, length-append, length-drop, length-take}
+use Rattle.std.proofs.Common.{◌≡◌, ◌∙◌, ℕ, ◌+◌, ◌<◌, ◌≤◌, List, [], ◌++◌, length, take, drop, Option, refl, sym, ap}
+use Rattle.std.proofs.Common.{inl, inr, arith, append_assoc, append-nil, length-append, length-drop, length-take}
 use Rattle.std.specs.Prelude.{replicate}
 use Rattle.std.proofs.lemmas.List.{drop-append-le, take-append-le, take-append-drop, length-replicate}
 use Rattle.std.proofs.Math.Seq.{drop-append_seam}
@@ -26,13 +26,15 @@ beside-length head old block b =
     omega (arith, l, r, d, w)
 
 -- what came behind the head, where so many bytes came in all
-behind : (head : ℕ) (old block got : List ℕ) → IsBeside head old block → drop head (block ++ got) ≡ drop head (old ++ got)
+behind : (head : ℕ) (old block got : List ℕ) → IsBeside head old block
+    → drop head (block ++ got) ≡ drop head (old ++ got)
 behind head old block got b =
     let zeros = replicate head 0 in
     let l = beside-length head old block b in
     let w = b.within in
     let seam : drop head (zeros ++ drop head old) ≡ drop head old =
-    ap (λ n. drop n (zeros ++ drop head old)) (sym (length-replicate {A = ℕ} head 0)) ∙ drop-append_seam zeros (drop head old) in
+    ap (λ n. drop n (zeros ++ drop head old)) (sym (length-replicate {A = ℕ} head 0))
+    ∙ drop-append_seam zeros (drop head old) in
     drop-append-le head block got (omega (arith, l, w))
     ∙ ap (λ t. t ++ got) (ap (drop head) b.is ∙ seam)
     ∙ sym (drop-append-le head old got w)
@@ -41,7 +43,8 @@ before : (head : ℕ) (old got : List ℕ) → head ≤ length old → take head
 before head old got w = sym (take-append-le head old got w)
 
 -- the block put in the place of the buffer goes no further than to this end
-pub put_back_within : (head end : ℕ) (old now kept : List ℕ) → kept ≡ take head old ++ drop head now → head ≤ end → length now ≤ end → length kept ≤ end
+pub put_back_within : (head end : ℕ) (old now kept : List ℕ) → kept ≡ take head old ++ drop head now → head ≤ end
+    → length now ≤ end → length kept ≤ end
 put_back_within head end old now kept is h n =
     let l = ap length is ∙ length-append (take head old) (drop head now) in
     let t = length-take head old in
@@ -49,7 +52,8 @@ put_back_within head end old now kept is h n =
     omega (arith, l, t, d, h, n)
 
 -- nor does what the buffer has, once the body is whole
-pub keeps_within : (head end : ℕ) (old now kept : List ℕ) (answer : BodyFill) → head ≤ end → length now ≤ end → KeepsBlock answer head now old kept
+pub keeps_within : (head end : ℕ) (old now kept : List ℕ) (answer : BodyFill) → head ≤ end → length now ≤ end
+    → KeepsBlock answer head now old kept
     → length kept ≤ end
 keeps_within head end old now kept fills.Buffer h n is = put_back_within head end old now kept is h n
 keeps_within head end old now kept (fills.Block blob) h n is =
@@ -62,17 +66,21 @@ keeps_within head end old now kept fills.OutOfMemory h n is = absurd is
 
 module _ {S : Type 0} (left : S → Option (List ℕ)) (gives : S → S → List ℕ → Type 0) where
   -- what is read into the block while that is too short
-  reads_beside : (end : ℕ) (a b : S) (old block now : List ℕ) (m : Moves (left a) (left b) block now) → length block ≡ length old
-      → ReadsWhile left gives (λ t. length t < end) a b block now → ReadsWhile left gives (λ t. length t < end) a b old (old ++ m.got)
+  reads_beside : (end : ℕ) (a b : S) (old block now : List ℕ) (m : Moves (left a) (left b) block now)
+      → length block ≡ length old
+      → ReadsWhile left gives (λ t. length t < end) a b block now
+      → ReadsWhile left gives (λ t. length t < end) a b old (old ++ m.got)
   reads_beside end a b old block now m same (inl still) =
       let none : m.got ≡ [] = cancel block m.got [] (sym m.kept ∙ still.1 ∙ sym (append-nil block)) in
       inl (still.0, ap (λ g. old ++ g) none ∙ append-nil old)
   reads_beside end a b old block now m same (inr last) =
       let came = last.before.got in
       let longer : length (old ++ came) ≡ length last.text =
-      length-append old came ∙ ap (λ n. n + length came) (sym same) ∙ sym (length-append block came) ∙ ap length (sym last.before.kept) in
+      length-append old came ∙ ap (λ n. n + length came) (sym same) ∙ sym (length-append block came)
+      ∙ ap length (sym last.before.kept) in
       let parts : m.got ≡ came ++ last.piece =
-      cancel block m.got (came ++ last.piece) (sym m.kept ∙ last.kept ∙ ap (λ t. t ++ last.piece) last.before.kept ∙ append_assoc block came last.piece) in
+      cancel block m.got (came ++ last.piece) (sym m.kept ∙ last.kept ∙ ap (λ t. t ++ last.piece) last.before.kept
+      ∙ append_assoc block came last.piece) in
       inr (record {
         at = last.at;
         text = old ++ came;
@@ -95,14 +103,17 @@ module _ {S : Type 0} (left : S → Option (List ℕ)) (gives : S → S → List
     holds = holds;
   }
 
-  all_length : (head : ℕ) (l l' : Option (List ℕ)) (old block now : List ℕ) → IsBeside head old block → (m : Moves l l' block now)
+  all_length : (head : ℕ) (l l' : Option (List ℕ)) (old block now : List ℕ) → IsBeside head old block
+      → (m : Moves l l' block now)
       → length (old ++ m.got) ≡ length now
   all_length head l l' old block now beside m =
-      length-append old m.got ∙ ap (λ n. n + length m.got) (sym (beside-length head old block beside)) ∙ sym (length-append block m.got)
+      length-append old m.got ∙ ap (λ n. n + length m.got) (sym (beside-length head old block beside))
+      ∙ sym (length-append block m.got)
       ∙ ap length (sym m.kept)
 
   -- the block put in the place of the buffer has all that came
-  put_back_is : (head : ℕ) (l l' : Option (List ℕ)) (old block now : List ℕ) → IsBeside head old block → (m : Moves l l' block now)
+  put_back_is : (head : ℕ) (l l' : Option (List ℕ)) (old block now : List ℕ) → IsBeside head old block
+      → (m : Moves l l' block now)
       → take head old ++ drop head now ≡ old ++ m.got
   put_back_is head l l' old block now beside m =
       ap (λ t. take head old ++ drop head t) m.kept
@@ -113,7 +124,8 @@ module _ {S : Type 0} (left : S → Option (List ℕ)) (gives : S → S → List
   -- where the body isn't whole
   pub fills_short : (head end : ℕ) (a b : S) (old block now kept : List ℕ) (answer : BodyFill)
       → ((text : List ℕ) → kept ≡ text → length text < end → HoldsBody answer head end text kept)
-      → IsBeside head old block → Moves (left a) (left b) block now → ReadsWhile left gives (λ t. length t < end) a b block now
+      → IsBeside head old block → Moves (left a) (left b) block now
+      → ReadsWhile left gives (λ t. length t < end) a b block now
       → kept ≡ take head old ++ drop head now → length now < end
       → FillsBody left gives a b old kept head end answer
   fills_short head end a b old block now kept answer holds beside m needed is short =
@@ -132,8 +144,11 @@ module _ {S : Type 0} (left : S → Option (List ℕ)) (gives : S → S → List
       (is ∙ put_back_is head (left a) (left b) old block now beside m, omega (arith, all))
   fills_whole head end a b old block now kept (fills.Block blob) beside m needed is full =
       let all = all_length head (left a) (left b) old block now beside m ∙ full in
-      fills_beside head end a b old block now kept (fills.Block blob) beside m needed
-      (is.1 ∙ before head old m.got beside.within, is.0 ∙ ap (drop head) m.kept ∙ behind head old block m.got beside, all)
+      fills_beside head end a b old block now kept (fills.Block blob) beside m needed (
+        is.1 ∙ before head old m.got beside.within,
+        is.0 ∙ ap (drop head) m.kept ∙ behind head old block m.got beside,
+        all,
+      )
   fills_whole head end a b old block now kept fills.Ended beside m needed is full = absurd is
   fills_whole head end a b old block now kept fills.Failed beside m needed is full = absurd is
   fills_whole head end a b old block now kept fills.OutOfMemory beside m needed is full = absurd is

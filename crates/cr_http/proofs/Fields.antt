@@ -4,8 +4,8 @@ use Rattle.std.specs.Prelude.{◌==◌, if◌then◌else◌}
 use Rattle.std.specs.List.{flat_map}
 use Rattle.std.proofs.lemmas.List.Sums.{sum_by-append}
 use Rattle.httparse.specs.Ascii.{colon, space}
-use Rattle.httparse.specs.Grammar.{LineEnd, crlf, lf, print_end, Field, print_field, print_section, print_blank, print_version, RequestHead, print_request}
-use Rattle.httparse.specs.Grammar.{ReadsRequest}
+use Rattle.httparse.specs.Grammar.{LineEnd, crlf, lf, print_end, Field, print_field, print_section, print_blank}
+use Rattle.httparse.specs.Grammar.{print_version, RequestHead, print_request, ReadsRequest}
 use Rattle.cr_http.specs.Found.{line_feeds}
 
 line_feeds-append : (a b : List ℕ) → line_feeds (a ++ b) ≡ line_feeds a + line_feeds b
@@ -36,13 +36,16 @@ section_lines fields last =
 print_request_lines : (h : RequestHead) → length h.fields + 2 ≤ line_feeds (print_request h)
 unfolding print_request
 print_request_lines h =
-    let e = line_feeds-append (print_blank h.blank ++ h.method ++ space ∷ h.target ++ space ∷ print_version h.minor ++ print_end h.line_end)
+    let e =
+    line_feeds-append (print_blank h.blank ++ h.method ++ space ∷ h.target ++ space ∷ print_version h.minor
+    ++ print_end h.line_end)
     (print_section h.fields h.last) in
     let o = at_end (print_blank h.blank ++ h.method ++ space ∷ h.target ++ space ∷ print_version h.minor) h.line_end in
     let i = section_lines h.fields h.last in
     omega (arith, e, o, i)
 
-pub few_fields : (bytes rest : List ℕ) (h : RequestHead) → ReadsRequest bytes h rest → line_feeds bytes ≤ 66 → length h.fields ≤ 64
+pub few_fields : (bytes rest : List ℕ) (h : RequestHead) → ReadsRequest bytes h rest → line_feeds bytes ≤ 66
+    → length h.fields ≤ 64
 few_fields bytes rest h reads few =
     let e = line_feeds-append (print_request h) rest in
     let f : line_feeds bytes ≡ line_feeds (print_request h ++ rest) = ap line_feeds reads.1 in

@@ -1,4 +1,5 @@
-use Rattle.std.proofs.Common.{◌≡◌, ◌∙◌, ℕ, List, [], ◌++◌, ◌<◌, length, Option, Some, None, refl, sym, ap, subst, inl, inr, append_assoc, append-nil}
+use Rattle.std.proofs.Common.{◌≡◌, ◌∙◌, ℕ, List, [], ◌++◌, ◌<◌, length, Option, Some, None, refl, sym, ap, subst, inl}
+use Rattle.std.proofs.Common.{inr, append_assoc, append-nil}
 use Rattle.cr_ports.specs.Stream.{and_left}
 use Rattle.cr_http.specs.Filling.{Moves, ReadsWhile}
 
@@ -28,7 +29,8 @@ module _ {S : Type 0} (left : S → Option (List ℕ)) (gives : S → S → List
   pub reads_on : (W : List ℕ → Type 0) (a b c : S) (t u v : List ℕ) → Moves (left a) (left b) t u
       → ReadsWhile left gives W a b t u → ReadsWhile left gives W b c u v → ReadsWhile left gives W a c t v
   reads_on W a b c t u v m first (inl still) =
-      subst (λ (s : S). ReadsWhile left gives W a s t v) (sym still.0) (subst (ReadsWhile left gives W a b t) (sym still.1) first)
+      subst (λ (s : S). ReadsWhile left gives W a s t v) (sym still.0)
+      (subst (ReadsWhile left gives W a b t) (sym still.1) first)
   reads_on W a b c t u v m first (inr last) = inr (record {
     at = last.at;
     text = last.text;
@@ -40,8 +42,18 @@ module _ {S : Type 0} (left : S → Option (List ℕ)) (gives : S → S → List
   })
 
   -- one read
-  pub one_read : (a b : S) (t u piece : List ℕ) → gives a b piece → u ≡ t ++ piece → ReadsWhile left gives (λ text. text ≡ t) a b t u
-  one_read a b t u piece given kept = inr (record { at = a; text = t; before = stays (left a) t; wants = refl; piece = piece; given = given; kept = kept })
+  pub one_read : (a b : S) (t u piece : List ℕ) → gives a b piece → u ≡ t ++ piece
+      → ReadsWhile left gives (λ text. text ≡ t) a b t u
+  one_read a b t u piece given kept =
+      inr (record {
+        at = a;
+        text = t;
+        before = stays (left a) t;
+        wants = refl;
+        piece = piece;
+        given = given;
+        kept = kept;
+      })
 
   -- a text that wants more for the one reason does so for the other
   pub reads_for : (V W : List ℕ → Type 0) (a b : S) (t u : List ℕ)
@@ -60,11 +72,15 @@ module _ {S : Type 0} (left : S → Option (List ℕ)) (gives : S → S → List
 
   -- and then one read more, at a text that wants it
   pub reads_once : (W : List ℕ → Type 0) (a b c : S) (t u v : List ℕ) → Moves (left a) (left b) t u → W u
-      → ReadsWhile left gives W a b t u → ReadsWhile left gives (λ text. text ≡ u) b c u v → ReadsWhile left gives W a c t v
+      → ReadsWhile left gives W a b t u → ReadsWhile left gives (λ text. text ≡ u) b c u v
+      → ReadsWhile left gives W a c t v
   reads_once W a b c t u v m wants first once =
-      reads_on W a b c t u v m first (reads_for (λ text. text ≡ u) W b c u v (λ text left' moves is. subst W (sym is) wants) once)
+      reads_on W a b c t u v m first (reads_for (λ text. text ≡ u) W b c u v
+      (λ text left' moves is. subst W (sym is) wants) once)
 
   -- the same of a text that is shorter than wanted
-  pub reads_below : (len : ℕ) (a b c : S) (t u v : List ℕ) → Moves (left a) (left b) t u → ReadsWhile left gives (λ text. length text < len) a b t u
-      → length u < len → ReadsWhile left gives (λ text. text ≡ u) b c u v → ReadsWhile left gives (λ text. length text < len) a c t v
+  pub reads_below : (len : ℕ) (a b c : S) (t u v : List ℕ) → Moves (left a) (left b) t u
+      → ReadsWhile left gives (λ text. length text < len) a b t u
+      → length u < len → ReadsWhile left gives (λ text. text ≡ u) b c u v
+      → ReadsWhile left gives (λ text. length text < len) a c t v
   reads_below len a b c t u v m first short once = reads_once (λ text. length text < len) a b c t u v m short first once

@@ -6,12 +6,14 @@ use Rattle.std.specs.Prelude.{◌==◌, ◌&&◌, if◌then◌else◌}
 use Rattle.cr_http.specs.HeadRange.{empty_line_len, blank_end_from}
 
 pub blank_end_from-step : (at : ℕ) (bytes : List ℕ)
-    → blank_end_from at bytes ≡ (if empty_line_len bytes == 0 then at else blank_end_from (at + empty_line_len bytes) (drop (empty_line_len bytes) bytes))
+    → blank_end_from at bytes ≡ (if empty_line_len bytes == 0 then at else blank_end_from (at + empty_line_len bytes)
+    (drop (empty_line_len bytes) bytes))
 blank_end_from-step at [] = refl
 blank_end_from-step at (a ∷ []) = one (a == 10)
   where
     one : (t : Bool) → (if t then at + 1 else at)
-        ≡ (if (if t then 1 else 0) == 0 then at else blank_end_from (at + (if t then 1 else 0)) (drop (if t then 1 else 0) (a ∷ [])))
+        ≡ (if (if t then 1 else 0) == 0 then at else blank_end_from (at + (if t then 1 else 0))
+        (drop (if t then 1 else 0) (a ∷ [])))
     one true = refl
     one false = refl
 blank_end_from-step at (a ∷ b ∷ bytes) = two (a == 10) (a == 13 && b == 10)
@@ -19,7 +21,8 @@ blank_end_from-step at (a ∷ b ∷ bytes) = two (a == 10) (a == 13 && b == 10)
     two : (t u : Bool)
         → (if t then blank_end_from (at + 1) (b ∷ bytes) else if u then blank_end_from (at + 2) bytes else at)
         ≡ (if (if t then 1 else if u then 2 else 0) == 0 then at
-        else blank_end_from (at + (if t then 1 else if u then 2 else 0)) (drop (if t then 1 else if u then 2 else 0) (a ∷ b ∷ bytes)))
+        else blank_end_from (at + (if t then 1 else if u then 2 else 0))
+        (drop (if t then 1 else if u then 2 else 0) (a ∷ b ∷ bytes)))
     two true u = refl
     two false true = refl
     two false false = refl

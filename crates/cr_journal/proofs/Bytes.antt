@@ -1,5 +1,6 @@
 -- What a write leaves of the bytes in front and of those round one byte.
-use Rattle.std.proofs.Common.{◌≡◌, ℕ, ◌+◌, ◌≤◌, ◌<◌, List, [], ◌∷◌, ◌++◌, length, take, drop, sym, ◌∙◌, ap, arith, append_assoc, length-append}
+use Rattle.std.proofs.Common.{◌≡◌, ℕ, ◌+◌, ◌≤◌, ◌<◌, List, [], ◌∷◌, ◌++◌, length, take, drop, sym, ◌∙◌, ap, arith}
+use Rattle.std.proofs.Common.{append_assoc, length-append}
 use Rattle.std.proofs.lemmas.List.{take_at, drop_at, length-take-le, length-drop}
 use Rattle.cr_disks.specs.Disk.{Holds, Torn}
 use Rattle.cr_journal.specs.Gates.{SameTo, SameBut}
@@ -31,7 +32,15 @@ holds_but gate v d c inside holds =
     record {
       front = ap (λ (l : List ℕ). take gate l) whole ∙ take_at (take gate d) (v ∷ rest) gate size;
       back = ap (λ (l : List ℕ). drop (gate + 1) l) whole ∙ past size;
-      long = omega (arith, size, inside, ap length whole, length-append (take gate d) (v ∷ rest), length-drop (gate + 1) d);
+      long =
+          omega (
+            arith,
+            size,
+            inside,
+            ap length whole,
+            length-append (take gate d) (v ∷ rest),
+            length-drop (gate + 1) d,
+          );
     }
   where
     regrouped : (l r : List ℕ) → l ++ v ∷ r ≡ (l ++ v ∷ []) ++ r
@@ -40,7 +49,8 @@ holds_but gate v d c inside holds =
     past : length (take gate d) ≡ gate → drop (gate + 1) (take gate d ++ v ∷ drop (gate + 1) d) ≡ drop (gate + 1) d
     past size =
         ap (λ (l : List ℕ). drop (gate + 1) l) (regrouped (take gate d) (drop (gate + 1) d))
-        ∙ drop_at (take gate d ++ v ∷ []) (drop (gate + 1) d) (gate + 1) (omega (arith, size, length-append (take gate d) (v ∷ [])))
+        ∙ drop_at (take gate d ++ v ∷ []) (drop (gate + 1) d) (gate + 1)
+        (omega (arith, size, length-append (take gate d) (v ∷ [])))
 
 pub but_after : (gate : ℕ) (a b c : List ℕ) → SameBut gate a b → SameBut gate b c → SameBut gate a c
 but_after gate a b c first second =

@@ -1,5 +1,6 @@
 -- From what a call wrote and from what it left to the state of the gate.
-use Rattle.std.proofs.Common.{◌≡◌, ◌⊎◌, ℕ, ◌+◌, ◌≤◌, ◌<◌, ◌^◌, List, [], ◌∷◌, ◌++◌, length, take, drop, refl, sym, ◌∙◌, ap, subst, arith, append_assoc, length-append}
+use Rattle.std.proofs.Common.{◌≡◌, ◌⊎◌, ℕ, ◌+◌, ◌≤◌, ◌<◌, ◌^◌, List, [], ◌∷◌, ◌++◌, length, take, drop, refl, sym, ◌∙◌}
+use Rattle.std.proofs.Common.{ap, subst, arith, append_assoc, length-append}
 use Rattle.std.proofs.lemmas.List.{take_at, drop_at, append-nil}
 use Rattle.cr_disks.specs.Disk.{Only, Holds}
 use Rattle.cr_journal.specs.Gates.{SameTo, SameBut, IsShut, MayBeOpen}
@@ -48,7 +49,8 @@ module _ (file : List ℕ) (images : List ℕ → Type 0) (gate : ℕ) (kept : L
         behind = ap (λ (l : List ℕ). drop (gate + 1) l) whole
             ∙ drop_at (front kept ++ s.value ∷ []) behind (gate + 1) size
             ∙ append_assoc (field p) (0 ∷ []) r;
-        synced = λ c now. subst (λ (l : List ℕ). SameBut gate new l) (sym (only c now)) (record { front = refl; back = refl; long = refl });
+        synced = λ c now. subst (λ (l : List ℕ). SameBut gate new l) (sym (only c now))
+            (record { front = refl; back = refl; long = refl });
       }
 
   -- a write of the gate or its sync failed
@@ -80,8 +82,10 @@ module _ (file : List ℕ) (images : List ℕ → Type 0) (gate : ℕ) (kept : L
       let behind : List ℕ = field p ++ 0 ∷ m.rest in
       let whole : new ≡ (front kept ++ 0 ∷ []) ++ behind =
       gate_holds p new 0 m holds ∙ sym (append_assoc (front kept) (0 ∷ []) behind) in
-      let size : length (front kept ++ 0 ∷ []) ≡ gate + 1 = omega (arith, m.size, length-append (front kept) (0 ∷ [])) in
-      let long : gate + 1 ≤ length new = omega (arith, size, ap length whole, length-append (front kept ++ 0 ∷ []) behind) in
+      let size : length (front kept ++ 0 ∷ []) ≡ gate + 1 =
+      omega (arith, m.size, length-append (front kept) (0 ∷ [])) in
+      let long : gate + 1 ≤ length new =
+      omega (arith, size, ap length whole, length-append (front kept ++ 0 ∷ []) behind) in
       record {
         value = 0;
         shut = omega arith;
@@ -89,7 +93,8 @@ module _ (file : List ℕ) (images : List ℕ → Type 0) (gate : ℕ) (kept : L
         size = m.size;
         long = long;
         closed = ap (λ (l : List ℕ). take (gate + 1) l) whole ∙ take_at (front kept ++ 0 ∷ []) behind (gate + 1) size;
-        synced = λ c now. subst (λ (l : List ℕ). SameTo (gate + 1) new l) (sym (only c now)) (record { front = refl; long = long });
+        synced = λ c now. subst (λ (l : List ℕ). SameTo (gate + 1) new l) (sym (only c now))
+            (record { front = refl; long = long });
       }
 
   -- the last two calls succeeded
@@ -99,12 +104,23 @@ module _ (file : List ℕ) (images : List ℕ → Type 0) (gate : ℕ) (kept : L
   opened_now p new n left m n_is holds only =
       let now : List (List ℕ) = kept ++ p ∷ [] in
       let whole : new ≡ (front now ++ 0 ∷ []) ++ m.rest =
-      gate_holds p new 1 m holds ∙ sym (front-push kept p (0 ∷ m.rest)) ∙ sym (append_assoc (front now) (0 ∷ []) m.rest) in
-      let front_is : front now ≡ front kept ++ 1 ∷ (field p ++ []) = sym (append-nil (front now)) ∙ front-push kept p [] in
+      gate_holds p new 1 m holds ∙ sym (front-push kept p (0 ∷ m.rest))
+      ∙ sym (append_assoc (front now) (0 ∷ []) m.rest) in
+      let front_is : front now ≡ front kept ++ 1 ∷ (field p ++ []) =
+      sym (append-nil (front now)) ∙ front-push kept p [] in
       let front_size : length (front now) ≡ n =
-      omega (arith, n_is, m.size, ap length front_is, length-append (front kept) (1 ∷ (field p ++ [])), length-append (field p) [], length-append (field p) (0 ∷ [])) in
+      omega (
+        arith,
+        n_is,
+        m.size,
+        ap length front_is,
+        length-append (front kept) (1 ∷ (field p ++ [])),
+        length-append (field p) [],
+        length-append (field p) (0 ∷ []),
+      ) in
       let size : length (front now ++ 0 ∷ []) ≡ n + 1 = omega (arith, front_size, length-append (front now) (0 ∷ [])) in
-      let long : n + 1 ≤ length new = omega (arith, size, ap length whole, length-append (front now ++ 0 ∷ []) m.rest) in
+      let long : n + 1 ≤ length new =
+      omega (arith, size, ap length whole, length-append (front now ++ 0 ∷ []) m.rest) in
       record {
         value = 0;
         shut = omega arith;
@@ -112,5 +128,6 @@ module _ (file : List ℕ) (images : List ℕ → Type 0) (gate : ℕ) (kept : L
         size = sym front_size;
         long = long;
         closed = ap (λ (l : List ℕ). take (n + 1) l) whole ∙ take_at (front now ++ 0 ∷ []) m.rest (n + 1) size;
-        synced = λ c now_left. subst (λ (l : List ℕ). SameTo (n + 1) new l) (sym (only c now_left)) (record { front = refl; long = long });
+        synced = λ c now_left. subst (λ (l : List ℕ). SameTo (n + 1) new l) (sym (only c now_left))
+            (record { front = refl; long = long });
       }

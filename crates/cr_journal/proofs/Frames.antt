@@ -1,18 +1,21 @@
 -- A gate and what stands behind it.
-use Rattle.std.proofs.Common.{◌≡◌, ◌≢◌, ◌⊎◌, inl, inr, ℕ, ◌+◌, ◌<◌, ◌^◌, List, [], ◌∷◌, ◌++◌, length, get_or, take, drop, sym, ◌∙◌, ap, arith, append_assoc, take-append-drop}
+use Rattle.std.proofs.Common.{◌≡◌, ◌≢◌, ◌⊎◌, inl, inr, ℕ, ◌+◌, ◌<◌, ◌^◌, List, [], ◌∷◌, ◌++◌, length, get_or, take}
+use Rattle.std.proofs.Common.{drop, sym, ◌∙◌, ap, arith, append_assoc, take-append-drop}
 use Rattle.std.proofs.lemmas.List.{drop_more, append-nil}
 use Rattle.std.proofs.lemmas.Bool.{cases_eq}
 use Rattle.cr_journal.specs.Gates.{SameTo, SameBut}
 use Rattle.cr_journal.specs.Grammar.{magic, field, frames, front, AreSized, IsJournal}
 
-pub frames-push : (ps : List (List ℕ)) (p rest : List ℕ) → frames (ps ++ p ∷ []) ++ rest ≡ frames ps ++ 1 ∷ (field p ++ rest)
+pub frames-push : (ps : List (List ℕ)) (p rest : List ℕ)
+    → frames (ps ++ p ∷ []) ++ rest ≡ frames ps ++ 1 ∷ (field p ++ rest)
 frames-push [] p rest = ap (λ (l : List ℕ). l ++ rest) (append-nil (1 ∷ field p))
 frames-push (q ∷ ps) p rest =
     append_assoc (1 ∷ field q) (frames (ps ++ p ∷ [])) rest
     ∙ ap (λ (l : List ℕ). (1 ∷ field q) ++ l) (frames-push ps p rest)
     ∙ sym (append_assoc (1 ∷ field q) (frames ps) (1 ∷ (field p ++ rest)))
 
-pub front-push : (ps : List (List ℕ)) (p rest : List ℕ) → front (ps ++ p ∷ []) ++ rest ≡ front ps ++ 1 ∷ (field p ++ rest)
+pub front-push : (ps : List (List ℕ)) (p rest : List ℕ)
+    → front (ps ++ p ∷ []) ++ rest ≡ front ps ++ 1 ∷ (field p ++ rest)
 front-push ps p rest =
     append_assoc magic (frames (ps ++ p ∷ [])) rest
     ∙ ap (λ (l : List ℕ). magic ++ l) (frames-push ps p rest)
@@ -56,7 +59,8 @@ parts ps p rest file c gate long before behind same =
     sym (take-append-drop gate c)
     ∙ ap (λ (l : List ℕ). l ++ drop gate c) (same.front ∙ before)
     ∙ ap (λ (l : List ℕ). front ps ++ l)
-    (drop_more c gate 0 (omega (arith, long, same.long)) ∙ ap (λ (l : List ℕ). get_or c gate 0 ∷ l) (same.back ∙ behind))
+    (drop_more c gate 0 (omega (arith, long, same.long))
+    ∙ ap (λ (l : List ℕ). get_or c gate 0 ∷ l) (same.back ∙ behind))
 
 pub doubt_opens : (ps : List (List ℕ)) (p rest file c : List ℕ) (gate : ℕ) → AreSized ps → AreSized (ps ++ p ∷ [])
     → gate < length file → take gate file ≡ front ps → drop (gate + 1) file ≡ field p ++ 0 ∷ rest → SameBut gate file c

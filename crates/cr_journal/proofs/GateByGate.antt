@@ -1,5 +1,6 @@
 -- A journal is read gate by gate.
-use Rattle.std.proofs.Common.{◌≡◌, ◌∙◌, ℕ, ◌+◌, ◌-◌, ◌≤◌, ◌<◌, ◌^◌, List, [], ◌∷◌, ◌++◌, length, take, drop, map, refl, sym, ap, subst, arith, append_assoc, length-append, length-drop, take-append-drop}
+use Rattle.std.proofs.Common.{◌≡◌, ◌∙◌, ℕ, ◌+◌, ◌-◌, ◌≤◌, ◌<◌, ◌^◌, List, [], ◌∷◌, ◌++◌, length, take, drop, map, refl}
+use Rattle.std.proofs.Common.{sym, ap, subst, arith, append_assoc, length-append, length-drop, take-append-drop}
 use Rattle.std.specs.List.{AllByRecursion}
 use Rattle.std.proofs.lemmas.List.{append-nil, drop-drop, drop_all, length-take-le, map_push, take_at}
 use Rattle.cr_base.specs.declared.row.Row.{Row}
@@ -60,13 +61,16 @@ module _ (file : List ℕ) (at : ℕ) (groups : List (List Row)) (gate : IsAtGat
         ∙ ap (λ (l : List ℕ). 1 ∷ l) (sym (append_assoc (number (length p)) p rest))
 
     -- it is that of no group
-    pub no_payload : (hs : List (List Row)) → ((g : List Row) → FitsGroup g → p ≡ payload g → ⊥) → IsJournalOf hs file → ⊥
+    pub no_payload : (hs : List (List Row)) → ((g : List Row) → FitsGroup g → p ≡ payload g → ⊥) → IsJournalOf hs file
+        → ⊥
     no_payload hs none j =
         let r = goes_on hs j in
-        let f = first_of r.others p rest (omega (arith, size, short)) (subst (λ (l : List ℕ). IsTail r.others l) opened r.tail) in
+        let f = first_of r.others p rest (omega (arith, size, short))
+        (subst (λ (l : List ℕ). IsTail r.others l) opened r.tail) in
         among groups hs f.others j.fit (r.all_are ∙ ap (λ (l : List (List ℕ)). kept ++ l) f.all_are)
       where
-        among : (gs hs : List (List Row)) (others : List (List ℕ)) → FitGroups hs → map payload hs ≡ map payload gs ++ p ∷ others → ⊥
+        among : (gs hs : List (List Row)) (others : List (List ℕ)) → FitGroups hs
+            → map payload hs ≡ map payload gs ++ p ∷ others → ⊥
         among [] [] others fit e = absurd (cc e)
         among [] (h ∷ hs) others fit e =
             let same : p ≡ payload h = cc e in none h fit.0 same
@@ -88,10 +92,20 @@ module _ (file : List ℕ) (at : ℕ) (groups : List (List Row)) (gate : IsAtGat
         sym (append-nil (front now)) ∙ front-push kept (payload g) [] in
         let payload_size : length (payload g) ≡ len = ap length (sym is) ∙ size in
         let front_size : length (front now) ≡ at + 9 + len =
-        omega (arith, gate.size, payload_size, ap length front_is, length-append (front kept) (1 ∷ (field (payload g) ++ [])), length-append (field (payload g)) [], length-append (number (length (payload g))) (payload g), length-number (length (payload g))) in
+        omega (
+          arith,
+          gate.size,
+          payload_size,
+          ap length front_is,
+          length-append (front kept) (1 ∷ (field (payload g) ++ [])),
+          length-append (field (payload g)) [],
+          length-append (number (length (payload g))) (payload g),
+          length-number (length (payload g)),
+        ) in
         record {
           fit = all-push FitsGroup groups g gate.fit fits;
-          sized = subst (λ (ps : List (List ℕ)). AllByRecursion (λ (q : List ℕ). length q < 2 ^ 64) ps) (sym map_is) (sized-push kept (payload g) gate.sized (omega (arith, payload_size, short)));
+          sized = subst (λ (ps : List (List ℕ)). AllByRecursion (λ (q : List ℕ). length q < 2 ^ 64) ps) (sym map_is)
+              (sized-push kept (payload g) gate.sized (omega (arith, payload_size, short)));
           size = sym front_size ∙ ap (λ (l : List (List ℕ)). length (front l)) (sym map_is);
           before = ap (λ (l : List ℕ). take (at + 9 + len) l) whole ∙ take_at (front now) rest (at + 9 + len) front_size
               ∙ ap front (sym map_is);
@@ -113,15 +127,20 @@ module _ (file : List ℕ) (at : ℕ) (groups : List (List Row)) (gate : IsAtGat
 
     pub is_shut : (images : List ℕ → Type 0) → Only file images → IsShut file images at kept
     is_shut images only =
-        let whole : file ≡ (front kept ++ v ∷ []) ++ closed.1 = end_is ∙ sym (append_assoc (front kept) (v ∷ []) closed.1) in
-        let front_size : length (front kept ++ v ∷ []) ≡ at + 1 = omega (arith, gate.size, length-append (front kept) (v ∷ [])) in
-        let long : at + 1 ≤ length file = omega (arith, front_size, ap length whole, length-append (front kept ++ v ∷ []) closed.1) in
+        let whole : file ≡ (front kept ++ v ∷ []) ++ closed.1 =
+        end_is ∙ sym (append_assoc (front kept) (v ∷ []) closed.1) in
+        let front_size : length (front kept ++ v ∷ []) ≡ at + 1 =
+        omega (arith, gate.size, length-append (front kept) (v ∷ [])) in
+        let long : at + 1 ≤ length file =
+        omega (arith, front_size, ap length whole, length-append (front kept ++ v ∷ []) closed.1) in
         record {
           value = v;
           shut = closed.2;
           sized = gate.sized;
           size = gate.size;
           long = long;
-          closed = ap (λ (l : List ℕ). take (at + 1) l) whole ∙ take_at (front kept ++ v ∷ []) closed.1 (at + 1) front_size;
-          synced = λ c now. subst (λ (l : List ℕ). SameTo (at + 1) file l) (sym (only c now)) (record { front = refl; long = long });
+          closed =
+              ap (λ (l : List ℕ). take (at + 1) l) whole ∙ take_at (front kept ++ v ∷ []) closed.1 (at + 1) front_size;
+          synced = λ c now. subst (λ (l : List ℕ). SameTo (at + 1) file l) (sym (only c now))
+              (record { front = refl; long = long });
         }

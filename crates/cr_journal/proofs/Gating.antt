@@ -1,5 +1,7 @@
 -- What stands at a gate, by the first nine bytes there.
-use Rattle.std.proofs.Common.{◌≡◌, ◌≢◌, ◌∙◌, ℕ, ◌+◌, ◌-◌, ◌≤◌, ◌<◌, Bool, true, false, cond, ltb, List, [], ◌∷◌, ◌++◌, length, take, drop, Option, Some, None, refl, sym, ap, subst, arith, length-append, length-drop, length-take, take-append-drop}
+use Rattle.std.proofs.Common.{◌≡◌, ◌≢◌, ◌∙◌, ℕ, ◌+◌, ◌-◌, ◌≤◌, ◌<◌, Bool, true, false, cond, ltb, List, [], ◌∷◌, ◌++◌}
+use Rattle.std.proofs.Common.{length, take, drop, Option, Some, None, refl, sym, ap, subst, arith, length-append}
+use Rattle.std.proofs.Common.{length-drop, length-take, take-append-drop}
 use Rattle.std.proofs.lemmas.Bool.{ltb-true, lt-ltb}
 use Rattle.std.proofs.lemmas.List.{append-nil, drop-drop, nil_from_length}
 use Rattle.std.specs.Int.{w64, from_be_bytes}
@@ -29,7 +31,8 @@ module _ (r h : List ℕ) (is : take 8 r ≡ h) where
   no_number : number_at h ≡ None → field_at r ≡ None
   unfolding field_at number_at
   no_number none =
-      let few : length h < 8 = ltb-true (length h) 8 (missing (ltb (length h) 8) (from_be_bytes w64 (take 8 h), drop 8 h) none) in
+      let few : length h < 8 =
+      ltb-true (length h) 8 (missing (ltb (length h) 8) (from_be_bytes w64 (take 8 h), drop 8 h) none) in
       let fewer : ltb (length r) 8 ≡ true = lt-ltb (length r) 8 (omega (arith, few, ap length is, length-take 8 r)) in
       let read : ℕ × List ℕ = (from_be_bytes w64 (take 8 r), drop 8 r) in
       ap (λ (b : Bool). cond b None (Some read) >>= λ n. front_of n.0 n.1) fewer
@@ -41,12 +44,19 @@ module _ (r h : List ℕ) (is : take 8 r ≡ h) where
   module _ (fits : IsBytes h) (len : ℕ) (x : List ℕ) (e : number_at h ≡ Some (len, x)) where
     nothing_more : x ≡ []
     nothing_more = nil_from_length x
-        (omega (arith, short, ap length (number_takes h len x fits e).0.parts, length-append (number len) x, length-number len))
+        (omega (
+          arith,
+          short,
+          ap length (number_takes h len x fits e).0.parts,
+          length-append (number len) x,
+          length-number len,
+        ))
 
     whole : r ≡ number len ++ drop 8 r
     whole = sym (take-append-drop 8 r)
         ∙ ap (λ (l : List ℕ). l ++ drop 8 r)
-        (is ∙ (number_takes h len x fits e).0.parts ∙ ap (λ (l : List ℕ). number len ++ l) nothing_more ∙ append-nil (number len))
+        (is ∙ (number_takes h len x fits e).0.parts ∙ ap (λ (l : List ℕ). number len ++ l) nothing_more
+        ∙ append-nil (number len))
 
     long : 8 ≤ length r
     long = omega (arith, ap length whole, length-append (number len) (drop 8 r), length-number len)
@@ -79,12 +89,15 @@ module _ (bytes h : List ℕ) (many : ℕ) (is : take 9 bytes ≡ 1 ∷ h) (size
   pub no_length : number_at h ≡ None → GateRead gates.Cut bytes
   no_length none = from_field (no_number r h (starts bytes is).1 none)
 
-  pub too_long : (len : ℕ) (x : List ℕ) → IsBytes h → number_at h ≡ Some (len, x) → many < 9 + len → GateRead gates.Cut bytes
+  pub too_long : (len : ℕ) (x : List ℕ) → IsBytes h → number_at h ≡ Some (len, x) → many < 9 + len
+      → GateRead gates.Cut bytes
   too_long len x fits e few =
       from_field (cut_short r h (starts bytes is).1 fits len x e (omega (arith, counted, few)))
 
-  pub open_there : (len : ℕ) (x : List ℕ) → IsBytes h → number_at h ≡ Some (len, x) → 9 + len ≤ many → GateRead (gates.Open len) bytes
+  pub open_there : (len : ℕ) (x : List ℕ) → IsBytes h → number_at h ≡ Some (len, x) → 9 + len ≤ many
+      → GateRead (gates.Open len) bytes
   open_there len x fits e enough = (
     omega (arith, enough, size),
-    (starts bytes is).0 ∙ ap (λ (l : List ℕ). 1 ∷ l) (whole r h (starts bytes is).1 fits len x e ∙ ap (λ (l : List ℕ). number len ++ l) (drop-drop 8 1 bytes)),
+    (starts bytes is).0 ∙ ap (λ (l : List ℕ). 1 ∷ l)
+        (whole r h (starts bytes is).1 fits len x e ∙ ap (λ (l : List ℕ). number len ++ l) (drop-drop 8 1 bytes)),
   )

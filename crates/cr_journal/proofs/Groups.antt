@@ -1,5 +1,6 @@
 -- Groups and their payloads: a payload is that of one group at most.
-use Rattle.std.proofs.Common.{◌≡◌, ◌≢◌, ℕ, ◌+◌, ◌<◌, List, [], ◌∷◌, ◌++◌, length, map, Option, Some, None, refl, sym, ap, ◌∙◌, append_assoc, arith, length-append}
+use Rattle.std.proofs.Common.{◌≡◌, ◌≢◌, ℕ, ◌+◌, ◌<◌, List, [], ◌∷◌, ◌++◌, length, map, Option, Some, None, refl, sym}
+use Rattle.std.proofs.Common.{ap, ◌∙◌, append_assoc, arith, length-append}
 use Rattle.std.specs.List.{AllByRecursion, flat_map}
 use Rattle.std.proofs.lemmas.List.{append-nil}
 use Rattle.std.proofs.lemmas.List.Concat.{flat_map-cons}
@@ -12,7 +13,8 @@ use Rattle.cr_journal.proofs.RowLaws.{row_again}
 
 -- ---- one more row, one more group
 
-pub payload-cons : (r : Row) (group : List Row) (rest : List ℕ) → payload (r ∷ group) ++ rest ≡ row_text r ++ (payload group ++ rest)
+pub payload-cons : (r : Row) (group : List Row) (rest : List ℕ)
+    → payload (r ∷ group) ++ rest ≡ row_text r ++ (payload group ++ rest)
 payload-cons r group rest =
     ap (λ (l : List ℕ). l ++ rest) (flat_map-cons row_text r group) ∙ append_assoc (row_text r) (payload group) rest
 
@@ -24,13 +26,15 @@ payload-push (q ∷ group) r =
     ∙ sym (append_assoc (row_text q) (payload group) (row_text r))
     ∙ ap (λ (l : List ℕ). l ++ row_text r) (sym (flat_map-cons row_text q group))
 
-pub all-push : {T : Type 0} (P : T → Type 0) (xs : List T) (x : T) → AllByRecursion P xs → P x → AllByRecursion P (xs ++ x ∷ [])
+pub all-push : {T : Type 0} (P : T → Type 0) (xs : List T) (x : T) → AllByRecursion P xs → P x
+    → AllByRecursion P (xs ++ x ∷ [])
 all-push P [] x all holds = (holds, tt)
 all-push P (y ∷ xs) x all holds = (all.0, all-push P xs x all.1 holds)
 
 pub rows-push : (groups : List (List Row)) (group : List Row) → rows_of (groups ++ group ∷ []) ≡ rows_of groups ++ group
 rows-push [] group = append-nil group
-rows-push (g ∷ groups) group = ap (λ (l : List Row). g ++ l) (rows-push groups group) ∙ sym (append_assoc g (rows_of groups) group)
+rows-push (g ∷ groups) group =
+    ap (λ (l : List Row). g ++ l) (rows-push groups group) ∙ sym (append_assoc g (rows_of groups) group)
 
 -- ---- one group at most
 
@@ -67,7 +71,8 @@ pub record Behind (got group : List Row) (rest : List ℕ) : Type 0 where
   pub rest_is : rest ≡ payload others
   pub group_is : group ≡ got ++ others
 
-pub strip : (got group : List Row) (rest : List ℕ) → FitsGroup got → FitsGroup group → payload got ++ rest ≡ payload group
+pub strip : (got group : List Row) (rest : List ℕ) → FitsGroup got → FitsGroup group
+    → payload got ++ rest ≡ payload group
     → Behind got group rest
 strip [] group rest fit fits e = record { others = group; fit = fits; rest_is = e; group_is = refl }
 strip (r ∷ got) [] rest fit fits e = some_text r (payload got ++ rest) fit.0 (sym (payload-cons r got rest) ∙ e)
@@ -88,7 +93,8 @@ abbrev pub HasRead : List ℕ → List ℕ → List Row → List Row → Type 0
 HasRead bytes rest old new =
     (group : List Row) × FitsGroup group × (bytes ≡ payload group ++ rest) × (new ≡ old ++ group)
 
-pub row_more : (bytes rest behind : List ℕ) (old mid new : List Row) (r q : Row) → FitsRow r → q ≡ r → rest ≡ row_text r ++ behind
+pub row_more : (bytes rest behind : List ℕ) (old mid new : List Row) (r q : Row) → FitsRow r → q ≡ r
+    → rest ≡ row_text r ++ behind
     → new ≡ mid ++ q ∷ [] → HasRead bytes rest old mid → HasRead bytes behind old new
 row_more bytes rest behind old mid new r q fits same is pushed h = (
   h.0 ++ r ∷ [],
@@ -120,9 +126,11 @@ payload_unique g h one other e = ends b.others b.fit b.rest_is b.group_is
 
     ends : (others : List Row) → FitsGroup others → [] ≡ payload others → h ≡ g ++ others → g ≡ h
     ends [] fit rest_is is = sym (is ∙ append-nil g)
-    ends (r ∷ others) fit rest_is is = some_text r (payload others) fit.0 (sym (flat_map-cons row_text r others) ∙ sym rest_is)
+    ends (r ∷ others) fit rest_is is =
+        some_text r (payload others) fit.0 (sym (flat_map-cons row_text r others) ∙ sym rest_is)
 
-pub payloads_unique : (gs hs : List (List Row)) → FitGroups gs → FitGroups hs → map payload gs ≡ map payload hs → gs ≡ hs
+pub payloads_unique : (gs hs : List (List Row)) → FitGroups gs → FitGroups hs → map payload gs ≡ map payload hs
+    → gs ≡ hs
 payloads_unique [] [] one other e = refl
 payloads_unique [] (h ∷ hs) one other e = absurd cc
 payloads_unique (g ∷ gs) [] one other e = absurd cc

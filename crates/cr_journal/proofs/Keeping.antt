@@ -1,5 +1,6 @@
 -- From payloads to the rows of groups.
-use Rattle.std.proofs.Common.{◌≡◌, ◌⊎◌, inl, inr, ⊎_elim, Bool, true, false, ℕ, ◌+◌, List, [], ◌∷◌, ◌++◌, map, refl, sym, ◌∙◌, ap, subst}
+use Rattle.std.proofs.Common.{◌≡◌, ◌⊎◌, inl, inr, ⊎_elim, Bool, true, false, ℕ, ◌+◌, List, [], ◌∷◌, ◌++◌, map, refl}
+use Rattle.std.proofs.Common.{sym, ◌∙◌, ap, subst}
 use Rattle.std.proofs.lemmas.List.{map_push}
 use Rattle.cr_base.specs.declared.row.Row.{Row}
 use Rattle.cr_ports.specs.Stopping.{IsAmong}
@@ -50,17 +51,20 @@ opens_of groups tried c fit fits (inr one) =
     )
 
 -- any more groups may have been tried
-pub opens_wider : (rows : List Row) (few many : List (List Row)) (c : List ℕ) → ((g : List Row) → IsAmong few g → IsAmong many g)
+pub opens_wider : (rows : List Row) (few many : List (List Row)) (c : List ℕ)
+    → ((g : List Row) → IsAmong few g → IsAmong many g)
     → OpensTo rows few c → OpensTo rows many c
 opens_wider rows few many c wider (inl same) = inl same
 opens_wider rows few many c wider (inr one) = inr (one.0, wider one.0 one.1, one.2)
 
 -- of a group and of a list of groups
-pub among_first : (group : List Row) (tried : List (List Row)) (g : List Row) → IsAmong (group ∷ []) g → IsAmong (group ∷ tried) g
+pub among_first : (group : List Row) (tried : List (List Row)) (g : List Row) → IsAmong (group ∷ []) g
+    → IsAmong (group ∷ tried) g
 among_first group tried g (inl is) = inl is
 among_first group tried g (inr none) = absurd none
 
-pub among_rest : (group : List Row) (tried : List (List Row)) (g : List Row) → IsAmong tried g → IsAmong (group ∷ tried) g
+pub among_rest : (group : List Row) (tried : List (List Row)) (g : List Row) → IsAmong tried g
+    → IsAmong (group ∷ tried) g
 among_rest group tried g there = inr there
 
 pub doubted_payload : (b : Bool) (d : List Row) → doubted b (payload d) ≡ map payload (doubted b d)
@@ -89,11 +93,13 @@ module _ {D : Type 0} (seen : D → List ℕ) (may_leave : D → List ℕ → Ty
     rows_are = rows-push k.groups group ∙ ap (λ (l : List Row). l ++ group) k.rows_are;
     doubt_fits = none;
     stands = stands_any new (map payload (k.groups ++ group ∷ [])) (payload group) (payload empty) off
-        (subst (λ (ps : List (List ℕ)). Stands seen may_leave new ps (payload group)) (sym (map_push payload k.groups group)) s);
+        (subst (λ (ps : List (List ℕ)). Stands seen may_leave new ps (payload group))
+        (sym (map_push payload k.groups group)) s);
   }
 
   -- none was, and this one may stand behind the gate
-  pub kept_same : (old new : Journal D) (rows doubt group : List Row) (k : Keeps seen may_leave old rows doubt) → FitsGroup group
+  pub kept_same : (old new : Journal D) (rows doubt group : List Row) (k : Keeps seen may_leave old rows doubt)
+      → FitsGroup group
       → Stands seen may_leave new (map payload k.groups) (payload group) → Keeps seen may_leave new rows group
   kept_same old new rows doubt group k fits s =
       record { groups = k.groups; fit = k.fit; rows_are = k.rows_are; doubt_fits = fits; stands = s }
@@ -116,12 +122,14 @@ module _ {D : Type 0} (seen : D → List ℕ) (may_leave : D → List ℕ → Ty
           let s = k.stands.shut off in
           subst (λ (l : List Row). OpensTo l [] c) k.rows_are
           (opens_of k.groups [] c k.fit tt
-          (inl (shut_opens (seen journal.disk) (may_leave journal.disk) journal.gate (map payload k.groups) c s (to off))))
+          (inl (shut_opens (seen journal.disk) (may_leave journal.disk) journal.gate (map payload k.groups) c s
+          (to off))))
       go true on =
           let m = k.stands.doubt on in
           subst (λ (l : List Row). OpensTo l (doubt ∷ []) c) k.rows_are
           (opens_of k.groups (doubt ∷ []) c k.fit (k.doubt_fits, tt)
-          (one (may_opens (seen journal.disk) (may_leave journal.disk) journal.gate (map payload k.groups) (payload doubt) c m (but on))))
+          (one (may_opens (seen journal.disk) (may_leave journal.disk) journal.gate (map payload k.groups)
+          (payload doubt) c m (but on))))
         where
           one : IsJournal (map payload k.groups) c ⊎ IsJournal (map payload k.groups ++ payload doubt ∷ []) c
               → IsKeptOrOneMore (map payload k.groups) (payload doubt ∷ []) c
@@ -132,14 +140,16 @@ module _ {D : Type 0} (seen : D → List ℕ) (may_leave : D → List ℕ → Ty
   pub stops_between : (journal : Journal D) (rows doubt : List Row) → Keeps seen may_leave journal rows doubt
       → (c : List ℕ) → may_leave journal.disk c → OpensTo rows (doubted journal.in_doubt doubt) c
   stops_between journal rows doubt k c left =
-      opens_near journal rows doubt k c (λ off. (k.stands.shut off).synced c left) (λ on. (k.stands.doubt on).synced c left)
+      opens_near journal rows doubt k c (λ off. (k.stands.shut off).synced c left)
+      (λ on. (k.stands.doubt on).synced c left)
 
   -- and what a read gives
   pub opens_seen : (journal : Journal D) (rows doubt : List Row) → Keeps seen may_leave journal rows doubt
       → OpensTo rows (doubted journal.in_doubt doubt) (seen journal.disk)
   opens_seen journal rows doubt k =
       opens_near journal rows doubt k (seen journal.disk)
-      (λ off. record { front = refl; long = (k.stands.shut off).long }) (λ on. record { front = refl; back = refl; long = refl })
+      (λ off. record { front = refl; long = (k.stands.shut off).long })
+      (λ on. record { front = refl; back = refl; long = refl })
 
 -- what a stop leaves while a group is appended behind a gate that isn't in doubt
 pub opens_one : (groups : List (List Row)) (rows group : List Row) (c : List ℕ) → FitGroups groups → FitsGroup group
@@ -148,7 +158,8 @@ opens_one groups rows group c fit fits is o =
     subst (λ (l : List Row). OpensTo l (group ∷ []) c) is (opens_of groups (group ∷ []) c fit (fits, tt) o)
 
 -- and while a gate is closed again
-pub opens_doubted : (groups : List (List Row)) (rows doubt group : List Row) (b : Bool) (c : List ℕ) → FitGroups groups → FitsGroup doubt
+pub opens_doubted : (groups : List (List Row)) (rows doubt group : List Row) (b : Bool) (c : List ℕ) → FitGroups groups
+    → FitsGroup doubt
     → rows_of groups ≡ rows → IsKeptOrOneMore (map payload groups) (doubted b (payload doubt)) c
     → OpensTo rows (group ∷ doubted b doubt) c
 opens_doubted groups rows doubt group b c fit fits is o =

@@ -1,8 +1,10 @@
 -- A number or a field that is read is the one that was written, and what was written is read again.
-use Rattle.std.proofs.Common.{◌≡◌, ℕ, ◌+◌, ◌^◌, ◌<◌, ◌≤◌, Bool, true, false, cond, ltb, List, ◌++◌, length, get_or, take, drop, Option, Some, None, refl, sym, ap, subst, ◌∙◌, append_assoc, arith, inl, inr}
+use Rattle.std.proofs.Common.{◌≡◌, ℕ, ◌+◌, ◌^◌, ◌<◌, ◌≤◌, Bool, true, false, cond, ltb, List, ◌++◌, length, get_or}
+use Rattle.std.proofs.Common.{take, drop, Option, Some, None, refl, sym, ap, subst, ◌∙◌, append_assoc, arith, inl, inr}
 use Rattle.std.specs.Int.{w64, from_be_bytes}
 use Rattle.std.proofs.lemmas.Bool.{cases_lt, ltb-false, le-ltb}
-use Rattle.std.proofs.lemmas.List.{take_at, drop_at, take-append-drop, length-append, length-take, length-take-le, get_or-drop, get_or-take, get_or_past}
+use Rattle.std.proofs.lemmas.List.{take_at, drop_at, take-append-drop, length-append, length-take, length-take-le}
+use Rattle.std.proofs.lemmas.List.{get_or-drop, get_or-take, get_or_past}
 use Rattle.std.proofs.lemmas.Nat.{be_bytes_8, from_be_bytes-to_be_bytes_8}
 use Rattle.cr_journal.specs.Grammar.{field, number}
 use Rattle.cr_journal.specs.Reading.{◌>>=◌, number_at, front_of, field_at}
@@ -21,7 +23,8 @@ IsBytes-take n bytes h i =
     ]
 
 -- the value of a step that gave one
-pub bind_some : {A B : Type 0} (r : Option A) (f : A → Option B) (y : B) → (r >>= f) ≡ Some y → (x : A) × (r ≡ Some x) × (f x ≡ Some y)
+pub bind_some : {A B : Type 0} (r : Option A) (f : A → Option B) (y : B) → (r >>= f) ≡ Some y → (x : A) × (r ≡ Some x)
+    × (f x ≡ Some y)
 bind_some (Some x) f y e = (x, refl, e)
 bind_some None f y e = absurd cc
 
@@ -71,7 +74,8 @@ number_takes bytes n rest fits e =
     let front = IsBytes-take 8 bytes fits in
     subst (λ (x : ℕ × List ℕ). Takes bytes (number x.0) x.1 × (x.0 < 2 ^ 64)) g.1 (
       record {
-        parts = sym (take-append-drop 8 bytes) ∙ ap (λ (l : List ℕ). l ++ drop 8 bytes) (sym (number_back (take 8 bytes) size front));
+        parts = sym (take-append-drop 8 bytes) ∙ ap (λ (l : List ℕ). l ++ drop 8 bytes)
+            (sym (number_back (take 8 bytes) size front));
         rest_fits = IsBytes-drop 8 bytes fits;
       },
       number_below (take 8 bytes) front,
@@ -93,8 +97,10 @@ pub front_takes : (n : ℕ) (bytes text rest : List ℕ) → IsBytes bytes → f
 front_takes n bytes text rest fits e =
     let g = guard_some (ltb (length bytes) n) (take n bytes, drop n bytes) (text, rest) e in
     let enough : n ≤ length bytes = ltb-false (length bytes) n g.0 in
-    subst (λ (x : List ℕ × List ℕ). Takes bytes x.0 x.1 × (length x.0 ≡ n)) g.1
-    (record { parts = sym (take-append-drop n bytes); rest_fits = IsBytes-drop n bytes fits }, length-take-le n bytes enough)
+    subst (λ (x : List ℕ × List ℕ). Takes bytes x.0 x.1 × (length x.0 ≡ n)) g.1 (
+      record { parts = sym (take-append-drop n bytes); rest_fits = IsBytes-drop n bytes fits },
+      length-take-le n bytes enough,
+    )
 
 pub front_again : (text rest : List ℕ) → front_of (length text) (text ++ rest) ≡ Some (text, rest)
 front_again text rest =

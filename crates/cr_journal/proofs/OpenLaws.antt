@@ -1,5 +1,6 @@
 -- What the calls of an opening come to.
-use Rattle.std.proofs.Common.{◌≡◌, ◌∙◌, ℕ, ◌+◌, ◌<◌, ◌^◌, false, List, [], ◌∷◌, ◌++◌, take, drop, sym, ap, subst, arith, append_assoc}
+use Rattle.std.proofs.Common.{◌≡◌, ◌∙◌, ℕ, ◌+◌, ◌<◌, ◌^◌, false, List, [], ◌∷◌, ◌++◌, take, drop, sym, ap, subst, arith}
+use Rattle.std.proofs.Common.{append_assoc}
 use Rattle.cr_base.specs.declared.row.Row.{Row}
 use Rattle.cr_disks.specs.Disk.{Only}
 use Rattle.cr_journal.specs.Grammar.{FitsGroup, payload}
@@ -12,7 +13,8 @@ use Rattle.cr_journal.proofs.Groups.{rows-push}
 use Rattle.cr_journal.proofs.Whole.{not_both}
 
 -- what stands at a gate, of a file that is the same
-pub gate_now : (found gate : Gate) (at : ℕ) (was file : List ℕ) → found ≡ gate → was ≡ file → GateRead found (drop at was)
+pub gate_now : (found gate : Gate) (at : ℕ) (was file : List ℕ) → found ≡ gate → was ≡ file
+    → GateRead found (drop at was)
     → GateRead gate (drop at file)
 gate_now found gate at was file is same read =
     subst (λ (l : List ℕ). GateRead gate (drop at l)) same (subst (λ (x : Gate). GateRead x (drop at was)) is read)
@@ -22,7 +24,8 @@ abbrev pub ReadSoFar : List ℕ → ℕ → List Row → List Row → Type 0
 ReadSoFar file at old new = (groups : List (List Row)) × IsAtGate file at groups × (new ≡ old ++ rows_of groups)
 
 -- one group more
-pub group_more : (file : List ℕ) (at len : ℕ) (old mid new : List Row) → len < 2 ^ 64 → GateRead (gates.Open len) (drop at file)
+pub group_more : (file : List ℕ) (at len : ℕ) (old mid new : List Row) → len < 2 ^ 64
+    → GateRead (gates.Open len) (drop at file)
     → ReadSoFar file at old mid
     → (group : List Row) × FitsGroup group × (take len (drop (at + 9) file) ≡ payload group) × (new ≡ mid ++ group)
     → ReadSoFar file (at + (9 + len)) old new
@@ -36,7 +39,8 @@ group_more file at len old mid new short opens s r =
     )
 
 -- the journal that was read stands
-pub opened_keeps : {D : Type 0} (seen : D → List ℕ) (may_leave : D → List ℕ → Type 0) (journal : Journal D) (rows doubt : List Row)
+pub opened_keeps : {D : Type 0} (seen : D → List ℕ) (may_leave : D → List ℕ → Type 0) (journal : Journal D)
+    (rows doubt : List Row)
     → journal.in_doubt ≡ false → FitsGroup doubt → ReadSoFar (seen journal.disk) journal.gate [] rows
     → GateRead gates.Closed (drop journal.gate (seen journal.disk)) → Only (seen journal.disk) (may_leave journal.disk)
     → Keeps seen may_leave journal rows doubt

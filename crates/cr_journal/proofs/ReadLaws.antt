@@ -1,5 +1,6 @@
 -- What reads into a buffer give, one after the other.
-use Rattle.std.proofs.Common.{◌≡◌, ◌∙◌, ℕ, ◌+◌, ◌≤◌, List, ◌++◌, length, take, drop, sym, ap, arith, append_assoc, length-append, length-drop, length-take, take-append-drop}
+use Rattle.std.proofs.Common.{◌≡◌, ◌∙◌, ℕ, ◌+◌, ◌≤◌, List, ◌++◌, length, take, drop, sym, ap, arith, append_assoc}
+use Rattle.std.proofs.Common.{length-append, length-drop, length-take, take-append-drop}
 use Rattle.std.proofs.lemmas.List.{take_at}
 
 -- the first n of a list and so many of the rest
@@ -7,7 +8,14 @@ pub take-more : (n k : ℕ) (l : List ℕ) → n + k ≤ length l → take (n + 
 take-more n k l long =
     ap (λ (m : List ℕ). take (n + k) m) (sym whole)
     ∙ take_at (take n l ++ take k (drop n l)) (drop k (drop n l)) (n + k)
-    (omega (arith, long, length-append (take n l) (take k (drop n l)), length-take n l, length-take k (drop n l), length-drop n l))
+    (omega (
+      arith,
+      long,
+      length-append (take n l) (take k (drop n l)),
+      length-take n l,
+      length-take k (drop n l),
+      length-drop n l,
+    ))
   where
     whole : (take n l ++ take k (drop n l)) ++ drop k (drop n l) ≡ l
     whole =

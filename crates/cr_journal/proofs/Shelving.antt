@@ -1,5 +1,6 @@
 -- What a shelf of journals tells of the rows at its paths.
-use Rattle.std.proofs.Common.{◌≡◌, ◌≢◌, ◌⊎◌, inl, inr, ℕ, List, [], ◌∷◌, ◌++◌, Bool, true, false, Option, Some, None, Result, Err, refl, sym, ap, subst, ◌∙◌}
+use Rattle.std.proofs.Common.{◌≡◌, ◌≢◌, ◌⊎◌, inl, inr, ℕ, List, [], ◌∷◌, ◌++◌, Bool, true, false, Option, Some, None}
+use Rattle.std.proofs.Common.{Result, Err, refl, sym, ap, subst, ◌∙◌}
 use Rattle.std.specs.Prelude.{IfSome, IsTrue}
 use Rattle.cr_base.specs.declared.row.Row.{Row}
 use Rattle.cr_disks.specs.Disk.{with_bytes}
@@ -14,7 +15,8 @@ use Rattle.cr_journal.proofs.Stored.{stored_opens}
 
 -- the keeper has the rows that were told
 pub told_before : (b : Bool) (files : List ℕ → List ℕ) (path : List ℕ) (rows : List Row)
-    → (IsTrue b → stored_rows (files path) ≡ Some rows) → IfSome (rows_at b files path) (λ there. Some rows ≡ Some there)
+    → (IsTrue b → stored_rows (files path) ≡ Some rows)
+    → IfSome (rows_at b files path) (λ there. Some rows ≡ Some there)
 told_before true files path rows is =
     subst (λ (o : Option (List Row)). IfSome o (λ there. Some rows ≡ Some there)) (sym (is refl)) refl
 told_before false files path rows is = tt
@@ -22,12 +24,14 @@ told_before false files path rows is = tt
 -- no file was changed
 pub told_same : {K : Type 0} (b : Bool) (old new : List ℕ → List ℕ) (path : List ℕ) (result : Result K KeeperError)
     → (IsTrue b → new ≡ old) → StaysOpened b path result (rows_at b old) (rows_at b new)
-told_same true old new path result is = inl (λ other. ap (λ (files : List ℕ → List ℕ). stored_rows (files other)) (is refl))
+told_same true old new path result is =
+    inl (λ other. ap (λ (files : List ℕ → List ℕ). stored_rows (files other)) (is refl))
 told_same false old new path result is = inl (λ other. refl)
 
 -- a file was given back with these bytes, its own where it had any
 pub told_failed : {K : Type 0} (b : Bool) (old mid new : List ℕ → List ℕ) (path seen : List ℕ)
-    → (IsTrue b → mid ≡ old) → (IsTrue b → old path ≢ [] → seen ≡ old path) → (IsTrue b → new ≡ with_bytes mid path seen)
+    → (IsTrue b → mid ≡ old) → (IsTrue b → old path ≢ [] → seen ≡ old path)
+    → (IsTrue b → new ≡ with_bytes mid path seen)
     → StaysOpened {K = K} b path (Err Failed) (rows_at b old) (rows_at b new)
 told_failed {K} false old mid new path seen same spared put = inl (λ other. refl)
 told_failed {K} true old mid new path seen same spared put = go (old path) refl
@@ -35,12 +39,14 @@ told_failed {K} true old mid new path seen same spared put = go (old path) refl
     is : new ≡ with_bytes old path seen
     is = put refl ∙ ap (λ (files : List ℕ → List ℕ). with_bytes files path seen) (same refl)
 
-    go : (bytes : List ℕ) → old path ≡ bytes → StaysOpened {K = K} true path (Err Failed) (rows_at true old) (rows_at true new)
+    go : (bytes : List ℕ) → old path ≡ bytes
+        → StaysOpened {K = K} true path (Err Failed) (rows_at true old) (rows_at true new)
     go [] none = inr (
       refl,
       refl,
       ap stored_rows none,
-      λ other apart. ap stored_rows (ap (λ (files : List ℕ → List ℕ). files other) is ∙ cond_apart path other seen (old other) apart),
+      λ other apart. ap stored_rows (ap (λ (files : List ℕ → List ℕ). files other) is ∙ cond_apart path other seen
+          (old other) apart),
     )
     go (b ∷ bytes) some = inl (λ other. ap stored_rows (ap (λ (files : List ℕ → List ℕ). files other) is
         ∙ ap (λ (s : List ℕ). with_bytes old path s other) (spared refl (λ none. absurd (cc (none, some))))
@@ -65,8 +71,10 @@ told_after true old new path seen rows tried put opens = go (stored_rows (old pa
         of (inr one) = inr (refl, (one.0, one.1, is ∙ stored_opens seen (rows ++ one.0) one.2))
 
 -- at each other path stands what stood there
-pub told_others : (b : Bool) (old new : List ℕ → List ℕ) (path seen other : List ℕ) → (IsTrue b → new ≡ with_bytes old path seen)
+pub told_others : (b : Bool) (old new : List ℕ → List ℕ) (path seen other : List ℕ)
+    → (IsTrue b → new ≡ with_bytes old path seen)
     → other ≢ path → rows_at b new other ≡ rows_at b old other
 told_others false old new path seen other put apart = refl
 told_others true old new path seen other put apart =
-    ap stored_rows (ap (λ (files : List ℕ → List ℕ). files other) (put refl) ∙ cond_apart path other seen (old other) apart)
+    ap stored_rows (ap (λ (files : List ℕ → List ℕ). files other) (put refl) ∙ cond_apart path other seen (old other)
+    apart)

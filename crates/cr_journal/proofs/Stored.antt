@@ -5,7 +5,8 @@ use Rattle.std.proofs.Common.{append_assoc, arith, length-append}
 use Rattle.std.proofs.lemmas.List.Concat.{flat_map-cons}
 use Rattle.std.proofs.lemmas.Bool.Decides.{Decides-eqb}
 use Rattle.cr_base.specs.declared.row.Row.{Row}
-use Rattle.cr_journal.specs.Grammar.{AreSized, FitGroups, FitsGroup, FitsRow, IsJournalOf, empty_journal, field, frames, magic, payload, row_text}
+use Rattle.cr_journal.specs.Grammar.{AreSized, FitGroups, FitsGroup, FitsRow, IsJournalOf, empty_journal, field, frames}
+use Rattle.cr_journal.specs.Grammar.{magic, payload, row_text}
 use Rattle.cr_journal.specs.Keeping.{Opens, rows_of}
 use Rattle.cr_journal.specs.Reading.{row_at}
 use Rattle.cr_journal.specs.Stored.{groups_at, rows_at, stored_rows}
@@ -30,7 +31,8 @@ rows_again : (group : List Row) (size : ℕ) → FitsGroup group → length (pay
 unfolding rows_at
 rows_again [] size fits le = refl
 rows_again (r ∷ group) size fits le =
-    row_first r group (λ n few. rows_again group n fits.1 few) (payload (r ∷ group)) size fits.0 (flat_map-cons row_text r group) le
+    row_first r group (λ n few. rows_again group n fits.1 few) (payload (r ∷ group)) size fits.0
+    (flat_map-cons row_text r group) le
 
 not_open : (gate : ℕ) → gate ≢ 1 → (gate == 1) ≡ false
 not_open gate shut = go (gate == 1) refl
@@ -60,7 +62,8 @@ frames_long [] = omega arith
 frames_long (group ∷ groups) =
     omega (arith, frames_long groups, length-append (1 ∷ field (payload group)) (frames (map payload groups)))
 
-pub stored_of : (groups : List (List Row)) (file : List ℕ) → IsJournalOf groups file → stored_rows file ≡ Some (rows_of groups)
+pub stored_of : (groups : List (List Row)) (file : List ℕ) → IsJournalOf groups file
+    → stored_rows file ≡ Some (rows_of groups)
 stored_of groups file j =
     let payloads = map payload groups in
     let gate = j.journal.gate in
@@ -77,7 +80,8 @@ stored_opens file rows o = stored_of o.groups file o.journal ∙ ap Some o.rows_
 
 -- what a file was opened to, which was made where it was empty
 pub stored_opened : (groups : List (List Row)) (rows : List Row) (before now : List ℕ) → (before ≢ [] → now ≡ before)
-    → (before ≡ [] → now ≡ empty_journal) → IsJournalOf groups now → rows_of groups ≡ rows → stored_rows before ≡ Some rows
+    → (before ≡ [] → now ≡ empty_journal) → IsJournalOf groups now → rows_of groups ≡ rows
+    → stored_rows before ≡ Some rows
 unfolding groups_at
 stored_opened groups rows [] now same made j are =
     sym (ap stored_rows (made refl)) ∙ stored_of groups now j ∙ ap Some are

@@ -11,7 +11,8 @@ use Rattle.cr_ports.proofs.StopLaws.{weaken}
 pub not_both : {A : Type 0} (b : Bool) → b ≡ false → b ≡ true → A
 not_both b off on = absurd (cc (off, on))
 
-pub wider : (kept tried : List (List ℕ)) (p c : List ℕ) → IsKeptOrOneMore kept tried c → IsKeptOrOneMore kept (p ∷ tried) c
+pub wider : (kept tried : List (List ℕ)) (p c : List ℕ) → IsKeptOrOneMore kept tried c
+    → IsKeptOrOneMore kept (p ∷ tried) c
 wider kept tried p c (inl same) = inl same
 wider kept tried p c (inr one) = inr (one.0, inr one.1, one.2)
 
@@ -24,7 +25,8 @@ pub in_doubt : (b : Bool) (d : List ℕ) → b ≡ true → IsAmong (doubted b d
 in_doubt true d on = inl refl
 in_doubt false d on = absurd cc
 
-module _ {D : Type 0} (moment : D → ℕ) (left_since : D → ℕ → List ℕ → Type 0) (old new : D) (file : List ℕ) (images : List ℕ → Type 0) (gate : ℕ) (kept tried : List (List ℕ)) where
+module _ {D : Type 0} (moment : D → ℕ) (left_since : D → ℕ → List ℕ → Type 0) (old new : D) (file : List ℕ)
+    (images : List ℕ → Type 0) (gate : ℕ) (kept tried : List (List ℕ)) where
   -- during the first two calls
   pub while_shut : IsShut file images gate kept → LeavesOnly moment left_since old new (SameTo (gate + 1) file)
       → LeavesOnly moment left_since old new (IsKeptOrOneMore kept tried)

@@ -5,7 +5,8 @@ use Rattle.cr_journal.specs.declared.either.EitherKeeper.{EitherKeeper}
 use Rattle.cr_journal.specs.declared.either.EitherKeeper.TheVariants.{First, Second}
 
 -- the rows of whichever it is
-abbrev pub either_rows : {K L : Type 0} → (K → Option (List Row)) → (L → Option (List Row)) → EitherKeeper K L → Option (List Row)
+abbrev pub either_rows : {K L : Type 0} → (K → Option (List Row)) → (L → Option (List Row)) → EitherKeeper K L
+    → Option (List Row)
 either_rows first second (First keeper) = first keeper
 either_rows first second (Second keeper) = second keeper
 

@@ -25,7 +25,8 @@ pub record IsShut (file : List ℕ) (images : List ℕ → Type 0) (gate : ℕ) 
   pub synced : (image : List ℕ) → images image → SameTo (gate + 1) file image
 
 -- the gate may hold anything; a whole payload and a closed gate are synced behind it
-pub record MayBeOpen (file : List ℕ) (images : List ℕ → Type 0) (gate : ℕ) (kept : List (List ℕ)) (p : List ℕ) : Type 0 where
+pub record MayBeOpen (file : List ℕ) (images : List ℕ → Type 0) (gate : ℕ) (kept : List (List ℕ)) (p : List ℕ) : Type
+    0 where
   pub sized : AreSized (kept ++ p ∷ [])
   pub sized_before : AreSized kept
   pub size : gate ≡ length (front kept)

@@ -1,5 +1,6 @@
 -- What a keeper over a disk keeps, and what the file that a stop leaves opens to.
-use Rattle.std.specs.Prelude.{◌≡◌, ◌≢◌, ◌⊎◌, ℕ, ◌+◌, ◌≤◌, ◌<◌, List, [], ◌∷◌, ◌++◌, length, take, drop, map, Result, Ok, Err, ⊤}
+use Rattle.std.specs.Prelude.{◌≡◌, ◌≢◌, ◌⊎◌, ℕ, ◌+◌, ◌≤◌, ◌<◌, List, [], ◌∷◌, ◌++◌, length, take, drop, map, Result, Ok}
+use Rattle.std.specs.Prelude.{Err, ⊤}
 use Rattle.cr_base.specs.declared.row.Row.{Row}
 use Rattle.cr_ports.specs.Count.{Rises}
 use Rattle.cr_ports.specs.Stopping as stopping
@@ -59,7 +60,8 @@ pub record OpenCause {T : Type 0} (before now : ℕ) (result : Result T OpenErro
 -- a read behind the first bytes of a buffer, `filled` of them, gave the next of these, or there were no more
 abbrev pub ReadsOn : ReadStep → ℕ → List ℕ → List ℕ → List ℕ → Type 0
 ReadsOn (reads.Got n) filled old new bytes =
-    (0 < n) × (filled + n ≤ length old) × (take filled new ≡ take filled old) × (take n (drop filled new) ≡ take n (drop filled bytes))
+    (0 < n) × (filled + n ≤ length old) × (take filled new ≡ take filled old)
+    × (take n (drop filled new) ≡ take n (drop filled bytes))
     × (filled + n ≤ length bytes)
 ReadsOn reads.End filled old new bytes = (take filled new ≡ take filled old) × (length bytes ≤ filled)
 ReadsOn reads.Failed filled old new bytes = ⊤
@@ -67,7 +69,8 @@ ReadsOn reads.Failed filled old new bytes = ⊤
 -- ---- a keeper
 
 -- The journal keeps the rows of these groups, and where its gate is in doubt this group may stand behind it.
-pub record Keeps {D : Type 0} (seen : D → List ℕ) (may_leave : D → List ℕ → Type 0) (journal : Journal D) (rows : List Row) (doubt : List Row) : Type 0 where
+pub record Keeps {D : Type 0} (seen : D → List ℕ) (may_leave : D → List ℕ → Type 0) (journal : Journal D)
+    (rows : List Row) (doubt : List Row) : Type 0 where
   pub groups : List (List Row)
   pub fit : FitGroups groups
   pub rows_are : rows_of groups ≡ rows

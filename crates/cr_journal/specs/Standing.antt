@@ -4,7 +4,8 @@ use Rattle.cr_journal.specs.Gates.{IsShut, MayBeOpen}
 use Rattle.cr_journal.specs.declared.state.Journal.{Journal}
 
 -- These payloads are kept; where the gate is in doubt, this one may stand behind it.
-pub record Stands {D : Type 0} (seen : D → List ℕ) (may_leave : D → List ℕ → Type 0) (journal : Journal D) (kept : List (List ℕ)) (p : List ℕ) : Type 0 where
+pub record Stands {D : Type 0} (seen : D → List ℕ) (may_leave : D → List ℕ → Type 0) (journal : Journal D)
+    (kept : List (List ℕ)) (p : List ℕ) : Type 0 where
   pub shut : journal.in_doubt ≡ false → IsShut (seen journal.disk) (may_leave journal.disk) journal.gate kept
   pub doubt : journal.in_doubt ≡ true → MayBeOpen (seen journal.disk) (may_leave journal.disk) journal.gate kept p
 

@@ -1,5 +1,6 @@
 //! The journal: an append in four device calls, and two before them after one that failed in its third or fourth.
-ghost use Rattle.std.specs.Prelude.{◌≡◌, ◌≤◌, ◌<◌, ◌+◌, ◌^◌, ◌++◌, [], ◌∷◌, false, true, List, ℕ, length, OnOk, OnErr, IsTrue};
+ghost use Rattle.std.specs.Prelude.{◌≡◌, ◌≤◌, ◌<◌, ◌+◌, ◌^◌, ◌++◌};
+ghost use Rattle.std.specs.Prelude.{[], ◌∷◌, false, true, List, ℕ, length, OnOk, OnErr, IsTrue};
 ghost use Rattle.cr_disks.specs.Disk.{HasCause};
 ghost use Rattle.cr_ports.specs.Stopping.{LeavesOnly};
 ghost use Rattle.cr_journal.specs.Grammar.{field};

@@ -5,5 +5,6 @@ ghost use Rattle.cr_journal.specs.Grammar.{IsJournalOf};
 
 /// A file is a journal of one list of groups at most.
 pub fn law_one_reading()
-    ensures one { (one other : List (List Row)) (file : List ℕ) → IsJournalOf one file → IsJournalOf other file → one ≡ other }
+    ensures one { (one other : List (List Row)) (file : List ℕ) → IsJournalOf one file → IsJournalOf other file
+        → one ≡ other }
 {}

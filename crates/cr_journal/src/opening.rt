@@ -101,8 +101,8 @@ fn fill<D: Disk>(disk: &mut D, at: u64, bytes: &mut [u8]) -> Result<usize, DiskF
     Ok(filled)
 }
 
-/// The open gate with which some bytes begin, by the eight behind it, or all where they are fewer, and by how many bytes
-/// there are.
+/// The open gate with which some bytes begin, by the eight behind it, or all where they are fewer, and by how many
+/// bytes there are.
 fn payload_in(behind: &[u8], many: u64) -> Gate
     ensures gate { (bytes : List ℕ) → take 9 bytes ≡ 1 ∷ behind.now → length bytes ≡ many → GateRead result bytes }
     ensures fits { (len : ℕ) → result ≡ Open len → 9 + len ≤ many }

@@ -90,7 +90,8 @@ fn parts_at(bytes: &[u8]) -> Option<Parts<'_>>
 
 /// The parts of the row with which the bytes begin; none where they begin with no row.
 fn next_row(bytes: &[u8]) -> Option<Parts<'_>>
-    ensures found { IfSome result (λ p. (bytes.now ≡ row_text (row_of p.numbers p.mark.now p.b1.now p.b2.now) ++ p.rest.now)
+    ensures found { IfSome result (λ p.
+        (bytes.now ≡ row_text (row_of p.numbers p.mark.now p.b1.now p.b2.now) ++ p.rest.now)
         × FitsRow (row_of p.numbers p.mark.now p.b1.now p.b2.now)) }
     ensures none { IfNone result ((row : Row) (rest : List ℕ) → FitsRow row → bytes.now ≡ row_text row ++ rest → ⊥) }
 {
@@ -140,7 +141,8 @@ pub(crate) fn read_rows(
 ) -> Result<bool, AllocError>
     ensures read { IfOk result (λ all. IsTrue all → (group : List Row) × FitsGroup group × (bytes.now ≡ payload group)
         × (rows.new.items ≡ rows.old.items ++ group)) }
-    ensures none { IfOk result (λ all. IsFalse all → (group : List Row) → FitsGroup group → bytes.now ≡ payload group → ⊥) }
+    ensures none { IfOk result (λ all. IsFalse all → (group : List Row) → FitsGroup group
+        → bytes.now ≡ payload group → ⊥) }
 {
     let mut rest = bytes;
     'rows: while !rest.is_empty() {

@@ -115,7 +115,8 @@ impl<D: Disks> Shelf for JournalShelf<D> {
             → IfOk result (λ k. (opened_at D.Disk.moment self.new ≡ D.Disk.moment k.disk) × (k.doubted ≡ [])) }
         ensures same { StaysOpened D.Disk.tells path.now result (rows_at D.Disk.tells (D.files self.old.disks))
             (rows_at D.Disk.tells (D.files self.new.disks)) }
-        ensures cause { HasCause (D.faults self.old.disks + self.old.refused) (D.faults self.new.disks + self.new.refused) result }
+        ensures cause { HasCause (D.faults self.old.disks + self.old.refused)
+            (D.faults self.new.disks + self.new.refused) result }
 
         // The rows are those of the groups of which the file is a journal.
         ensures journal { IsTrue D.Disk.tells → IfOk result (λ k. (groups : List (List Row))

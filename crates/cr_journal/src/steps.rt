@@ -9,7 +9,8 @@ use cr_disks::{Disk, DiskFailed};
 /// Writes behind what is synced, and syncs: the first two calls of an append.
 pub(crate) fn stage<D: Disk>(disk: &mut D, at: u64, block: &[u8]) -> Result<(), DiskFailed>
     requires inside { IsTrue D.tells → at ≤ length (D.seen disk.old) }
-    requires synced { IsTrue D.tells → (image : List ℕ) → D.may_leave disk.old image → SameTo at (D.seen disk.old) image }
+    requires synced { IsTrue D.tells → (image : List ℕ) → D.may_leave disk.old image
+        → SameTo at (D.seen disk.old) image }
     ensures within { OnOk result (at + length block.now ≤ 2 ^ 62) }
     ensures written { OnOk result (IsTrue D.tells
         → Holds (D.seen disk.old) at block.now (D.seen disk.new) × Only (D.seen disk.new) (D.may_leave disk.new)) }
@@ -28,7 +29,8 @@ pub(crate) fn stage<D: Disk>(disk: &mut D, at: u64, block: &[u8]) -> Result<(), 
 /// Writes the gate, and syncs: the last two calls of an append (1), and the two before the next one (0).
 pub(crate) fn set_gate<D: Disk>(disk: &mut D, gate: u64, value: u8) -> Result<(), DiskFailed>
     requires inside { IsTrue D.tells → gate < length (D.seen disk.old) }
-    requires synced { IsTrue D.tells → (image : List ℕ) → D.may_leave disk.old image → SameBut gate (D.seen disk.old) image }
+    requires synced { IsTrue D.tells → (image : List ℕ) → D.may_leave disk.old image
+        → SameBut gate (D.seen disk.old) image }
     ensures written { OnOk result (IsTrue D.tells
         → Holds (D.seen disk.old) gate (value ∷ []) (D.seen disk.new) × Only (D.seen disk.new) (D.may_leave disk.new)) }
     ensures seen { IsTrue D.tells → SameBut gate (D.seen disk.old) (D.seen disk.new) }

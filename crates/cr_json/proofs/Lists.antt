@@ -20,11 +20,15 @@ module _ {X : Type 0} (text_of : X → List ℕ) where
       let front = slice_range xs i j in
       let parts : flat_map text_of (drop i xs) ≡ flat_map text_of front ++ flat_map text_of (drop j xs) =
       ap (flat_map text_of) (drop_split xs i j h) ∙ flat_map-append text_of front (drop j xs) in
-      record { rest = rw add (append_assoc now (flat_map text_of front) (flat_map text_of (drop j xs)) ∙ ap (λ s. now ++ s) (sym parts) ∙ w.rest) }
+      record {
+        rest = rw add (append_assoc now (flat_map text_of front) (flat_map text_of (drop j xs))
+            ∙ ap (λ s. now ++ s) (sym parts) ∙ w.rest);
+      }
 
 -- ---- items with commas
 
 module _ {X : Type 0} (text_of : X → List ℕ) where
   pub record Listed (start now : Bytes) (is_first : Bool) (xs : List X) (i : ℕ) : Type 0 where
-    pub rest : now.items ++ separated is_first (map text_of (drop i xs)) ≡ start.items ++ separated true (map text_of xs)
+    pub rest : now.items ++ separated is_first (map text_of (drop i xs)) ≡ start.items
+        ++ separated true (map text_of xs)
     -- a comma unless it is the first, and the item

@@ -1,10 +1,13 @@
 -- An object written member by member.
-use Rattle.std.proofs.Common.{◌≡◌, Bool, true, false, ◌∙◌, ℕ, List, [], ◌∷◌, ◌++◌, refl, sym, ap, append_assoc, append-nil, codes, Result, Ok, Err}
+use Rattle.std.proofs.Common.{◌≡◌, Bool, true, false, ◌∙◌, ℕ, List, [], ◌∷◌, ◌++◌, refl, sym, ap, append_assoc}
+use Rattle.std.proofs.Common.{append-nil, codes, Result, Ok, Err}
 use Rattle.std.specs.Prelude.{map}
 use Rattle.cr_json.specs.Put.{Appends, Bytes}
-use Rattle.cr_json.specs.Json.{Member, Added, AddsMembers, comma, separated, key_text, member_text, object_text, still_first}
+use Rattle.cr_json.specs.Json.{Member, Added, AddsMembers, comma, separated, key_text, member_text, object_text}
+use Rattle.cr_json.specs.Json.{still_first}
 
-still_first-append : (is_first : Bool) (xs ys : List Member) → still_first is_first (xs ++ ys) ≡ still_first (still_first is_first xs) ys
+still_first-append : (is_first : Bool) (xs ys : List Member)
+    → still_first is_first (xs ++ ys) ≡ still_first (still_first is_first xs) ys
 still_first-append is_first [] ys = refl
 still_first-append is_first (x ∷ xs) [] = refl
 still_first-append is_first (x ∷ xs) (y ∷ ys) = refl
@@ -19,10 +22,12 @@ separated-append is_first (x ∷ y ∷ xs) ys =
     ∙ sym (append_assoc front (separated false (map member_text (y ∷ xs))) (separated false (map member_text ys)))
 
 infixl 10 ◌then◌
-pub ◌then◌ : {a b d : Bytes} {f g h : Bool} {xs ys : List Member} → Added a b f g xs → Added b d g h ys → Added a d f h (xs ++ ys)
+pub ◌then◌ : {a b d : Bytes} {f g h : Bool} {xs ys : List Member} → Added a b f g xs → Added b d g h ys
+    → Added a d f h (xs ++ ys)
 ◌then◌ {a} {b} {d} {f} {g} {h} {xs} {ys} p q =
     let added : d.items ≡ b.items ++ separated (still_first f xs) (map member_text ys) = rw p.first at q.text in
-    let grouped = append_assoc a.items (separated f (map member_text xs)) (separated (still_first f xs) (map member_text ys)) in
+    let grouped =
+    append_assoc a.items (separated f (map member_text xs)) (separated (still_first f xs) (map member_text ys)) in
     record {
       text = added ∙ rw (p.text, separated-append f xs ys) grouped;
       first = q.first ∙ rw (p.first, still_first-append f xs ys) refl;
@@ -40,8 +45,10 @@ added_one (Ok done) a b d f g key value written behind added = record {
 added_one (Err error) a b d f g key value written behind added = tt
 
 -- the whole object, unless memory ran out
-pub closed : {E : Type 0} (r : Result (Unit {0}) E) (a b d e : Bytes) (f g : Bool) (members : List Member) → b.items ≡ a.items ++ codes "{" → f ≡ true
+pub closed : {E : Type 0} (r : Result (Unit {0}) E) (a b d e : Bytes) (f g : Bool) (members : List Member)
+    → b.items ≡ a.items ++ codes "{" → f ≡ true
     → Added b d f g members → Appends r d e (codes "}") → Appends r a e (object_text members)
 unfolding object_text
-closed (Ok done) a b d e f g members opened first added closes = rw (closes, added.text, opened, first) (simp append_assoc)
+closed (Ok done) a b d e f g members opened first added closes =
+    rw (closes, added.text, opened, first) (simp append_assoc)
 closed (Err error) a b d e f g members opened first added closes = tt

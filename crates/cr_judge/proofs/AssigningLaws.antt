@@ -1,5 +1,6 @@
 -- What a command draws that names a paper and a user, by reads of the tables; `user` is whom they have for the name.
-use Rattle.std.proofs.Common.{ℕ, Bool, true, false, ◌≡◌, ◌+◌, List, ◌∷◌, refl, sym, ap, subst, ◌∙◌, ◌||◌, ◌&&◌, Option, Some, None, Result, Ok}
+use Rattle.std.proofs.Common.{ℕ, Bool, true, false, ◌≡◌, ◌+◌, List, ◌∷◌, refl, sym, ap, subst, ◌∙◌, ◌||◌, ◌&&◌, Option}
+use Rattle.std.proofs.Common.{Some, None, Result, Ok}
 use Rattle.std.specs.Prelude.{IsSome, is_some, not, unwrap_or}
 use Rattle.std.specs.List.{list_any}
 use Rattle.std.specs.Option.{option_map, option_map_or, option_and_then}
@@ -13,9 +14,10 @@ use Rattle.cr_base.specs.declared.target.Target.{Target}
 use Rattle.cr_base.specs.declared.words.Kind.{Kind}
 use Rattle.cr_base.specs.declared.words.Role.{Role}
 use Rattle.cr_base.specs.Accounts.{role_at}
-use Rattle.cr_base.specs.Checks.{Check, NamedPaper, ◌breaks◌, judged, conflict_case, conflict_checks, assign_checks, unassign_checks}
-use Rattle.cr_base.specs.Checks.{invite_checks, uninvite_checks}
-use Rattle.cr_base.specs.Drawn.{Drawn, conflict_drawn, assignment_drawn, unassignment_drawn, invitation_drawn, uninvitation_drawn}
+use Rattle.cr_base.specs.Checks.{Check, NamedPaper, ◌breaks◌, judged, conflict_case, conflict_checks, assign_checks}
+use Rattle.cr_base.specs.Checks.{unassign_checks, invite_checks, uninvite_checks}
+use Rattle.cr_base.specs.Drawn.{Drawn, conflict_drawn, assignment_drawn, unassignment_drawn, invitation_drawn}
+use Rattle.cr_base.specs.Drawn.{uninvitation_drawn}
 use Rattle.cr_base.specs.Invites.{InvitesState, is_invited_in}
 use Rattle.cr_base.specs.Lists.{at_some, is_number}
 use Rattle.cr_base.specs.Pairs.{users_tied_to}
@@ -34,28 +36,34 @@ use Rattle.cr_assign.specs.Targets as seats
 use Rattle.cr_conflicts.specs.Targets as ties
 use Rattle.cr_view.proofs.JudgeLaws.{made_of, judged-made}
 use Rattle.cr_judge.specs.declared.named.Named.{Named}
-use Rattle.cr_judge.specs.Named.{there_in, named_at, target_with, written_at, asked_at, conflict_at, assignment_at, unassignment_at, invitation_at, uninvitation_at}
+use Rattle.cr_judge.specs.Named.{there_in, named_at, target_with, written_at, asked_at, conflict_at, assignment_at}
+use Rattle.cr_judge.specs.Named.{unassignment_at, invitation_at, uninvitation_at}
 use Rattle.cr_judge.proofs.NamedLaws.{there-judged}
 
 -- ---- the user
 
 -- where the rule isn't broken that she isn't there, she is
-pub target-there : {A : Type 0} (accounts : List Account) (user : Option ℕ) (target : Option (ℕ × Role)) → target ≡ target_with accounts user
-    → (of_target : ℕ × Role → Target) (checks : Option Target → List Check) → (NoneBroken (checks None) → ⊥) → (x given : A)
+pub target-there : {A : Type 0} (accounts : List Account) (user : Option ℕ) (target : Option (ℕ × Role))
+    → target ≡ target_with accounts user
+    → (of_target : ℕ × Role → Target) (checks : Option Target → List Check) → (NoneBroken (checks None) → ⊥)
+    → (x given : A)
     → ◌≡◌ {A = Result A Rule} (Ok given) (judged (checks (option_map of_target target)) x) → IsSome user
 target-there accounts user target has of_target checks refused x given h =
     by user
-    (subst (λ (o : Option (ℕ × Role)). NoneBroken (checks (option_map of_target o))) has (judged-Ok (checks (option_map of_target target)) x given (sym h)).0)
+    (subst (λ (o : Option (ℕ × Role)). NoneBroken (checks (option_map of_target o))) has
+    (judged-Ok (checks (option_map of_target target)) x given (sym h)).0)
   where
     by : (v : Option ℕ) → NoneBroken (checks (option_map of_target (target_with accounts v))) → IsSome v
     by None none = absurd (refused none)
     by (Some v) none = refl
 
 -- the role of a user who has an account goes on with her
-pub target-some : (accounts seen : List Account) → seen ≡ accounts → (user : Option ℕ) (v : ℕ) (role : Option Role) → user ≡ Some v
+pub target-some : (accounts seen : List Account) → seen ≡ accounts → (user : Option ℕ) (v : ℕ) (role : Option Role)
+    → user ≡ Some v
     → role ≡ role_at seen v → option_map (λ (r : Role). (v, r)) role ≡ target_with accounts user
 target-some accounts seen same user v role is told =
-    ap (option_map (λ (r : Role). (v, r))) (told ∙ ap (λ (x : List Account). role_at x v) same) ∙ sym (ap (target_with accounts) is)
+    ap (option_map (λ (r : Role). (v, r))) (told ∙ ap (λ (x : List Account). role_at x v) same)
+    ∙ sym (ap (target_with accounts) is)
 
 -- ---- what the rules ask of her
 
@@ -75,7 +83,8 @@ module _ (t : Tables) (stamp : Stamp) where
   }
 
   -- the facts of the tables ask the same of her
-  target-asked : (paper user : Option ℕ) → asked_at t maker paper user ≡ option_map (asked_for paper user) (option_and_then (role_at t.accounts) user)
+  target-asked : (paper user : Option ℕ) → asked_at t maker paper user ≡ option_map (asked_for paper user)
+      (option_and_then (role_at t.accounts) user)
   target-asked paper None = refl
   target-asked None (Some v) = ap (option_map (asked_for None (Some v))) (role_among-lines_of t.accounts (Some v))
   target-asked (Some p) (Some v) =
@@ -92,18 +101,22 @@ module _ (t : Tables) (stamp : Stamp) where
       ∙ ap (λ (b : Bool). option_map (asked b) (role_at t.accounts v)) (list_any-others_of ByPaper p v t.ties.conflicts)
 
   -- what is asked of her with her role is what the rules ask of her, if the second of them is that she isn't there
-  target-judged : {A : Type 0} (at user : Option ℕ) (asked : Option (ℕ × Role) → Result A Rule) (due : Option Target → Result A Rule)
+  target-judged : {A : Type 0} (at user : Option ℕ) (asked : Option (ℕ × Role) → Result A Rule)
+      (due : Option Target → Result A Rule)
       → asked None ≡ due None
       → ((v : ℕ) (role : Role) → user ≡ Some v → asked (Some (v, role)) ≡ due (Some (asked_for at (Some v) role)))
       → asked (target_with t.accounts user) ≡ due (asked_at t maker at user)
   target-judged at user asked due none some = by user some ∙ sym (ap due (target-asked at user))
     where
-      by : (o : Option ℕ) → ((v : ℕ) (role : Role) → o ≡ Some v → asked (Some (v, role)) ≡ due (Some (asked_for at (Some v) role)))
-          → asked (target_with t.accounts o) ≡ due (option_map (asked_for at o) (option_and_then (role_at t.accounts) o))
+      by : (o : Option ℕ)
+          → ((v : ℕ) (role : Role) → o ≡ Some v → asked (Some (v, role)) ≡ due (Some (asked_for at (Some v) role)))
+          → asked (target_with t.accounts o) ≡ due
+          (option_map (asked_for at o) (option_and_then (role_at t.accounts) o))
       by None told = none
       by (Some v) told = of_role (role_at t.accounts v)
         where
-          of_role : (r : Option Role) → asked (option_map (λ (role : Role). (v, role)) r) ≡ due (option_map (asked_for at (Some v)) r)
+          of_role : (r : Option Role) → asked (option_map (λ (role : Role). (v, role)) r)
+              ≡ due (option_map (asked_for at (Some v)) r)
           of_role None = none
           of_role (Some role) = told v role refl
 
@@ -126,20 +139,34 @@ module _ (t : Tables) (stamp : Stamp) where
 
     -- whether the user named is an external of the paper
     abbrev external_of : Option ℕ → Option (ℕ × Role) → Bool
-    external_of at o = option_map_or (λ (x : ℕ × Role). at_some (λ p. not (is_member x.1) && is_invited_in t.invites (Some x.0) p) at) o false
+    external_of at o =
+        option_map_or (λ (x : ℕ × Role). at_some (λ p. not (is_member x.1) && is_invited_in t.invites (Some x.0) p) at)
+        o
+        false
 
     -- a conflict: no rule reads whether she reviews the paper
     pub conflict-drawn : (on late : Bool) → late ≡ is_late_in t.stage stamp.at → (seen : TiesState) → seen ≡ t.ties
         → (external : Bool) → external ≡ external_of named.paper target → (kept : Result (Unit {0}) Rule)
-        → kept ≡ judged (conflict_checks named.by told (ties.target_of seen maker named.paper target external) on late) tt
-        → made_of (λ (done : Unit {0}). conflict_drawn stamp (unwrap_or named.paper 0) (unwrap_or user 0) on) kept ≡ conflict_at t stamp paper user on
+        → kept ≡ judged (conflict_checks named.by told (ties.target_of seen maker named.paper target external) on late)
+        tt
+        → made_of (λ (done : Unit {0}). conflict_drawn stamp (unwrap_or named.paper 0) (unwrap_or user 0) on) kept
+        ≡ conflict_at t stamp paper user on
     conflict-drawn on late when seen same external outside kept judges =
         judged-made (conflict_checks named.by told (ties.target_of seen maker named.paper target external) on past)
         (λ (done : Unit {0}). made named.paper) tt kept
-        (judges ∙ ap (λ (b : Bool). judged (conflict_checks named.by told (ties.target_of seen maker named.paper target external) on b) tt) when)
-        ∙ ap (λ (x : TiesState). judged (conflict_checks named.by told (ties.target_of x maker named.paper target external) on past) (made named.paper)) same
-        ∙ ap (λ (b : Bool). judged (conflict_checks named.by told (ties.target_of t.ties maker named.paper target b) on past) (made named.paper)) outside
-        ∙ ap (λ (o : Option (ℕ × Role)). judged (conflict_checks named.by told (ties.target_of t.ties maker named.paper o (external_of named.paper o)) on past) (made named.paper)) has
+        (judges
+        ∙ ap
+        (λ (b : Bool). judged (conflict_checks named.by told (ties.target_of seen maker named.paper target external)
+        on b) tt) when)
+        ∙ ap
+        (λ (x : TiesState). judged (conflict_checks named.by told (ties.target_of x maker named.paper target external)
+        on past) (made named.paper)) same
+        ∙ ap
+        (λ (b : Bool). judged (conflict_checks named.by told (ties.target_of t.ties maker named.paper target b) on
+        past) (made named.paper)) outside
+        ∙ ap
+        (λ (o : Option (ℕ × Role)). judged (conflict_checks named.by told
+        (ties.target_of t.ties maker named.paper o (external_of named.paper o)) on past) (made named.paper)) has
         ∙ ap (λ (n : Named). judged (conflict_checks n.by (record { there = is_some n.paper; withdrawn = n.withdrawn })
         (ties.target_of t.ties maker n.paper mine (external_of n.paper mine)) on past) (made n.paper)) given
         ∙ there-judged t.papers asked due refl (λ (at : Option ℕ). refl) some paper
@@ -151,13 +178,18 @@ module _ (t : Tables) (stamp : Stamp) where
         made at = conflict_drawn stamp (unwrap_or at 0) (unwrap_or user 0) on
 
         asked : Option ℕ → Result Drawn Rule
-        asked at = judged (conflict_checks (standing_here at) (paper_told (is_some at) at) (ties.target_of t.ties maker at mine (external_of at mine)) on past) (made at)
+        asked at =
+            judged (conflict_checks (standing_here at) (paper_told (is_some at) at)
+            (ties.target_of t.ties maker at mine (external_of at mine)) on past) (made at)
 
         due : Bool → Option ℕ → Result Drawn Rule
-        due there at = judged (conflict_checks (standing_here at) (paper_told there at) (asked_at t maker at user) on past) (made at)
+        due there at =
+            judged (conflict_checks (standing_here at) (paper_told there at) (asked_at t maker at user) on past)
+            (made at)
 
         alike : (p v : ℕ) (role : Role) (external reviews turned bidding final : Bool)
-            → conflict_case turned bidding final (standing_here (Some p)) (is_withdrawn_at t.papers p) (ties.target_in t.ties maker (Some p) external v role) past
+            → conflict_case turned bidding final (standing_here (Some p)) (is_withdrawn_at t.papers p)
+            (ties.target_in t.ties maker (Some p) external v role) past
             ≡ conflict_case turned bidding final (standing_here (Some p)) (is_withdrawn_at t.papers p)
             (record (ties.target_in t.ties maker (Some p) external v role) { reviewer = reviews }) past
         alike p v role external reviews false bidding final = refl
@@ -170,28 +202,48 @@ module _ (t : Tables) (stamp : Stamp) where
             target-judged (Some p) user
             (λ (o : Option (ℕ × Role)). judged (conflict_checks (standing_here (Some p)) (paper_told true (Some p))
             (ties.target_of t.ties maker (Some p) o (external_of (Some p) o)) on past) (made (Some p)))
-            (λ (o : Option Target). judged (conflict_checks (standing_here (Some p)) (paper_told true (Some p)) o on past) (made (Some p)))
+            (λ (o : Option Target). judged (conflict_checks (standing_here (Some p)) (paper_told true (Some p)) o on
+            past) (made (Some p)))
             refl
             (λ (v : ℕ) (role : Role) is.
-            ap (λ (checks : List Check). judged (false breaks rules.NoPaper ∷ false breaks rules.NoUser ∷ checks) (made (Some p)))
-            (alike p v role (not (is_member role) && is_invited_in t.invites (Some v) p) (is_some (ordinal_in t.seats (Some v) p)) on (authors_have_declared (standing_here (Some p)).phase)
+            ap (λ (checks : List Check). judged (false breaks rules.NoPaper ∷ false breaks rules.NoUser ∷ checks)
+            (made (Some p)))
+            (alike p v role (not (is_member role) && is_invited_in t.invites (Some v) p)
+            (is_some (ordinal_in t.seats (Some v) p)) on (authors_have_declared (standing_here (Some p)).phase)
             (conflicts_are_final (standing_here (Some p)).phase)))
 
     -- an assignment: no rule reads whether she is the caller, or an author
-    pub assignment-drawn : (kind : Kind) (seen : SeatsState) → seen ≡ t.seats → (invites : InvitesState) → invites ≡ t.invites → (conflicted : Bool)
+    pub assignment-drawn : (kind : Kind) (seen : SeatsState) → seen ≡ t.seats → (invites : InvitesState)
+        → invites ≡ t.invites → (conflicted : Bool)
         → conflicted ≡ at_some (is_conflicted_in t.ties user) named.paper → (r : Result ℕ Rule)
-        → r ≡ judged (assign_checks named.by told (seats.target_of seen invites conflicted named.paper target) (seats.labels_at seen named.paper)) (seats.labels_at seen named.paper + 1)
-        → made_of (assignment_drawn stamp (unwrap_or named.paper 0) (unwrap_or user 0) kind) r ≡ assignment_at t stamp paper user kind
+        → r ≡ judged (assign_checks named.by told (seats.target_of seen invites conflicted named.paper target)
+        (seats.labels_at seen named.paper)) (seats.labels_at seen named.paper + 1)
+        → made_of (assignment_drawn stamp (unwrap_or named.paper 0) (unwrap_or user 0) kind) r
+        ≡ assignment_at t stamp paper user kind
     assignment-drawn kind seen same invites asks conflicted clear r judges =
-        judged-made (assign_checks named.by told (seats.target_of seen invites conflicted named.paper target) (seats.labels_at seen named.paper))
-        (assignment_drawn stamp (unwrap_or named.paper 0) (unwrap_or user 0) kind) (seats.labels_at seen named.paper + 1) r judges
-        ∙ ap (λ (x : SeatsState). judged (assign_checks named.by told (seats.target_of x invites conflicted named.paper target) (seats.labels_at x named.paper))
+        judged-made (assign_checks named.by told (seats.target_of seen invites conflicted named.paper target)
+        (seats.labels_at seen named.paper))
+        (assignment_drawn stamp (unwrap_or named.paper 0) (unwrap_or user 0) kind)
+        (seats.labels_at seen named.paper + 1) r judges
+        ∙ ap
+        (λ (x : SeatsState).
+        judged (assign_checks named.by told (seats.target_of x invites conflicted named.paper target)
+        (seats.labels_at x named.paper))
         (made named.paper (seats.labels_at x named.paper + 1))) same
-        ∙ ap (λ (x : InvitesState). judged (assign_checks named.by told (seats.target_of t.seats x conflicted named.paper target) (labels named.paper)) (made named.paper (labels named.paper + 1))) asks
-        ∙ ap (λ (o : Option (ℕ × Role)). judged (assign_checks named.by told (seats.target_of t.seats t.invites conflicted named.paper o) (labels named.paper)) (made named.paper (labels named.paper + 1))) has
-        ∙ ap (λ (c : Bool). judged (assign_checks named.by told (seats.target_of t.seats t.invites c named.paper mine) (labels named.paper)) (made named.paper (labels named.paper + 1))) clear
+        ∙ ap
+        (λ (x : InvitesState).
+        judged (assign_checks named.by told (seats.target_of t.seats x conflicted named.paper target)
+        (labels named.paper)) (made named.paper (labels named.paper + 1))) asks
+        ∙ ap
+        (λ (o : Option (ℕ × Role)).
+        judged (assign_checks named.by told (seats.target_of t.seats t.invites conflicted named.paper o)
+        (labels named.paper)) (made named.paper (labels named.paper + 1))) has
+        ∙ ap
+        (λ (c : Bool). judged (assign_checks named.by told (seats.target_of t.seats t.invites c named.paper mine)
+        (labels named.paper)) (made named.paper (labels named.paper + 1))) clear
         ∙ ap (λ (n : Named). judged (assign_checks n.by (record { there = is_some n.paper; withdrawn = n.withdrawn })
-        (seats.target_of t.seats t.invites (at_some (is_conflicted_in t.ties user) n.paper) n.paper mine) (labels n.paper)) (made n.paper (labels n.paper + 1))) given
+        (seats.target_of t.seats t.invites (at_some (is_conflicted_in t.ties user) n.paper) n.paper mine)
+        (labels n.paper)) (made n.paper (labels n.paper + 1))) given
         ∙ there-judged t.papers asked due refl (λ (at : Option ℕ). refl) some paper
       where
         made : Option ℕ → ℕ → Drawn
@@ -202,35 +254,59 @@ module _ (t : Tables) (stamp : Stamp) where
 
         asked : Option ℕ → Result Drawn Rule
         asked at =
-            judged (assign_checks (standing_here at) (paper_told (is_some at) at) (seats.target_of t.seats t.invites (at_some (is_conflicted_in t.ties user) at) at mine) (labels at)) (made at (labels at + 1))
+            judged (assign_checks (standing_here at) (paper_told (is_some at) at)
+            (seats.target_of t.seats t.invites (at_some (is_conflicted_in t.ties user) at) at mine) (labels at))
+            (made at (labels at + 1))
 
         due : Bool → Option ℕ → Result Drawn Rule
-        due there at = judged (assign_checks (standing_here at) (paper_told there at) (asked_at t maker at user) (labels at)) (made at (labels at + 1))
+        due there at =
+            judged (assign_checks (standing_here at) (paper_told there at) (asked_at t maker at user) (labels at))
+            (made at (labels at + 1))
 
         some : (p : ℕ) → asked (Some p) ≡ due true (Some p)
         some p =
             target-judged (Some p) user
             (λ (o : Option (ℕ × Role)). judged (assign_checks (standing_here (Some p)) (paper_told true (Some p))
-            (seats.target_of t.seats t.invites (is_conflicted_in t.ties user p) (Some p) o) (labels (Some p))) (made (Some p) (labels (Some p) + 1)))
-            (λ (o : Option Target). judged (assign_checks (standing_here (Some p)) (paper_told true (Some p)) o (labels (Some p))) (made (Some p) (labels (Some p) + 1)))
+            (seats.target_of t.seats t.invites (is_conflicted_in t.ties user p) (Some p) o) (labels (Some p)))
+            (made (Some p) (labels (Some p) + 1)))
+            (λ (o : Option Target). judged (assign_checks (standing_here (Some p)) (paper_told true (Some p)) o
+            (labels (Some p))) (made (Some p) (labels (Some p) + 1)))
             refl
             (λ (v : ℕ) (role : Role) is.
             ap (λ (u : Option ℕ). judged (assign_checks (standing_here (Some p)) (paper_told true (Some p))
-            (seats.target_of t.seats t.invites (is_conflicted_in t.ties u p) (Some p) (Some (v, role))) (labels (Some p))) (made (Some p) (labels (Some p) + 1))) is)
+            (seats.target_of t.seats t.invites (is_conflicted_in t.ties u p) (Some p) (Some (v, role)))
+            (labels (Some p))) (made (Some p) (labels (Some p) + 1))) is)
 
     -- and its end: nor whether she is in conflict with the paper
-    pub unassignment-drawn : (seen : SeatsState) → seen ≡ t.seats → (invites : InvitesState) → invites ≡ t.invites → (written : Bool) → written ≡ written_at t user named.paper → (r : Result ℕ Rule)
-        → r ≡ judged (unassign_checks named.by told (seats.target_of seen invites false named.paper target) written) (seats.held_at seen named.paper target)
-        → made_of (unassignment_drawn stamp (unwrap_or named.paper 0) (unwrap_or user 0)) r ≡ unassignment_at t stamp paper user
+    pub unassignment-drawn : (seen : SeatsState) → seen ≡ t.seats → (invites : InvitesState) → invites ≡ t.invites
+        → (written : Bool) → written ≡ written_at t user named.paper → (r : Result ℕ Rule)
+        → r ≡ judged (unassign_checks named.by told (seats.target_of seen invites false named.paper target) written)
+        (seats.held_at seen named.paper target)
+        → made_of (unassignment_drawn stamp (unwrap_or named.paper 0) (unwrap_or user 0)) r ≡ unassignment_at t stamp
+        paper user
     unassignment-drawn seen same invites asks written is r judges =
         judged-made (unassign_checks named.by told (seats.target_of seen invites false named.paper target) written)
-        (unassignment_drawn stamp (unwrap_or named.paper 0) (unwrap_or user 0)) (seats.held_at seen named.paper target) r judges
-        ∙ ap (λ (x : SeatsState). judged (unassign_checks named.by told (seats.target_of x invites false named.paper target) written) (made named.paper (seats.held_at x named.paper target))) same
-        ∙ ap (λ (x : InvitesState). judged (unassign_checks named.by told (seats.target_of t.seats x false named.paper target) written) (made named.paper (seats.held_at t.seats named.paper target))) asks
-        ∙ ap (λ (o : Option (ℕ × Role)). judged (unassign_checks named.by told (seats.target_of t.seats t.invites false named.paper o) written) (made named.paper (seats.held_at t.seats named.paper o))) has
-        ∙ ap (λ (w : Bool). judged (unassign_checks named.by told (seats.target_of t.seats t.invites false named.paper mine) w) (made named.paper (seats.held_at t.seats named.paper mine))) is
+        (unassignment_drawn stamp (unwrap_or named.paper 0) (unwrap_or user 0)) (seats.held_at seen named.paper target)
+        r judges
+        ∙ ap
+        (λ (x : SeatsState). judged (unassign_checks named.by told
+        (seats.target_of x invites false named.paper target) written)
+        (made named.paper (seats.held_at x named.paper target))) same
+        ∙ ap
+        (λ (x : InvitesState). judged (unassign_checks named.by told
+        (seats.target_of t.seats x false named.paper target) written)
+        (made named.paper (seats.held_at t.seats named.paper target))) asks
+        ∙ ap
+        (λ (o : Option (ℕ × Role)). judged (unassign_checks named.by told
+        (seats.target_of t.seats t.invites false named.paper o) written)
+        (made named.paper (seats.held_at t.seats named.paper o))) has
+        ∙ ap
+        (λ (w : Bool). judged (unassign_checks named.by told
+        (seats.target_of t.seats t.invites false named.paper mine) w)
+        (made named.paper (seats.held_at t.seats named.paper mine))) is
         ∙ ap (λ (n : Named). judged (unassign_checks n.by (record { there = is_some n.paper; withdrawn = n.withdrawn })
-        (seats.target_of t.seats t.invites false n.paper mine) (written_at t user n.paper)) (made n.paper (seats.held_at t.seats n.paper mine))) given
+        (seats.target_of t.seats t.invites false n.paper mine) (written_at t user n.paper))
+        (made n.paper (seats.held_at t.seats n.paper mine))) given
         ∙ there-judged t.papers asked due refl (λ (at : Option ℕ). refl) some paper
       where
         made : Option ℕ → ℕ → Drawn
@@ -240,36 +316,56 @@ module _ (t : Tables) (stamp : Stamp) where
         seat at = unwrap_or (ordinal_in t.seats user (unwrap_or at 0)) 0
 
         asked : Option ℕ → Result Drawn Rule
-        asked at = judged (unassign_checks (standing_here at) (paper_told (is_some at) at) (seats.target_of t.seats t.invites false at mine) (written_at t user at)) (made at (seats.held_at t.seats at mine))
+        asked at =
+            judged (unassign_checks (standing_here at) (paper_told (is_some at) at)
+            (seats.target_of t.seats t.invites false at mine) (written_at t user at))
+            (made at (seats.held_at t.seats at mine))
 
         due : Bool → Option ℕ → Result Drawn Rule
         due there at =
-            judged (unassign_checks (standing_here at) (paper_told there at) (asked_at t maker at user) (written_at t user (Some (unwrap_or at 0)))) (made at (seat at))
+            judged (unassign_checks (standing_here at) (paper_told there at) (asked_at t maker at user)
+            (written_at t user (Some (unwrap_or at 0)))) (made at (seat at))
 
         some : (p : ℕ) → asked (Some p) ≡ due true (Some p)
         some p =
             target-judged (Some p) user
-            (λ (o : Option (ℕ × Role)). judged (unassign_checks (standing_here (Some p)) (paper_told true (Some p)) (seats.target_of t.seats t.invites false (Some p) o) (written_at t user (Some p)))
+            (λ (o : Option (ℕ × Role)). judged (unassign_checks (standing_here (Some p)) (paper_told true (Some p))
+            (seats.target_of t.seats t.invites false (Some p) o) (written_at t user (Some p)))
             (made (Some p) (seats.held_at t.seats (Some p) o)))
-            (λ (o : Option Target). judged (unassign_checks (standing_here (Some p)) (paper_told true (Some p)) o (written_at t user (Some p))) (made (Some p) (seat (Some p))))
+            (λ (o : Option Target). judged (unassign_checks (standing_here (Some p)) (paper_told true (Some p)) o
+            (written_at t user (Some p))) (made (Some p) (seat (Some p))))
             refl
             (λ (v : ℕ) (role : Role) is.
-            ap (λ (u : Option ℕ). judged (unassign_checks (standing_here (Some p)) (paper_told true (Some p)) (seats.target_of t.seats t.invites false (Some p) (Some (v, role)))
+            ap
+            (λ (u : Option ℕ). judged (unassign_checks (standing_here (Some p)) (paper_told true (Some p))
+            (seats.target_of t.seats t.invites false (Some p) (Some (v, role)))
             (written_at t user (Some p))) (made (Some p) (unwrap_or (ordinal_in t.seats u p) 0))) (sym is))
 
     -- an invitation: no rule reads whether she is the caller, an author, a reviewer or an external
     pub invitation-drawn : (seen : SeatsState) (invites : InvitesState) → invites ≡ t.invites → (conflicted : Bool)
         → conflicted ≡ at_some (is_conflicted_in t.ties user) named.paper → (kept : Result (Unit {0}) Rule)
-        → kept ≡ judged (invite_checks named.by told (seats.target_of seen invites conflicted named.paper target) (seats.invited_at invites named.paper target)) tt
-        → made_of (λ (done : Unit {0}). invitation_drawn stamp (unwrap_or named.paper 0) (unwrap_or user 0)) kept ≡ invitation_at t stamp paper user
+        → kept ≡ judged (invite_checks named.by told (seats.target_of seen invites conflicted named.paper target)
+        (seats.invited_at invites named.paper target)) tt
+        → made_of (λ (done : Unit {0}). invitation_drawn stamp (unwrap_or named.paper 0) (unwrap_or user 0)) kept
+        ≡ invitation_at t stamp paper user
     invitation-drawn seen invites asks conflicted clear kept judges =
-        judged-made (invite_checks named.by told (seats.target_of seen invites conflicted named.paper target) (seats.invited_at invites named.paper target))
+        judged-made (invite_checks named.by told (seats.target_of seen invites conflicted named.paper target)
+        (seats.invited_at invites named.paper target))
         (λ (done : Unit {0}). made named.paper) tt kept judges
-        ∙ ap (λ (x : InvitesState). judged (invite_checks named.by told (seats.target_of seen x conflicted named.paper target) (seats.invited_at x named.paper target)) (made named.paper)) asks
-        ∙ ap (λ (o : Option (ℕ × Role)). judged (invite_checks named.by told (seats.target_of seen t.invites conflicted named.paper o) (seats.invited_at t.invites named.paper o)) (made named.paper)) has
-        ∙ ap (λ (c : Bool). judged (invite_checks named.by told (seats.target_of seen t.invites c named.paper mine) (seats.invited_at t.invites named.paper mine)) (made named.paper)) clear
+        ∙ ap
+        (λ (x : InvitesState).
+        judged (invite_checks named.by told (seats.target_of seen x conflicted named.paper target)
+        (seats.invited_at x named.paper target)) (made named.paper)) asks
+        ∙ ap
+        (λ (o : Option (ℕ × Role)).
+        judged (invite_checks named.by told (seats.target_of seen t.invites conflicted named.paper o)
+        (seats.invited_at t.invites named.paper o)) (made named.paper)) has
+        ∙ ap
+        (λ (c : Bool). judged (invite_checks named.by told (seats.target_of seen t.invites c named.paper mine)
+        (seats.invited_at t.invites named.paper mine)) (made named.paper)) clear
         ∙ ap (λ (n : Named). judged (invite_checks n.by (record { there = is_some n.paper; withdrawn = n.withdrawn })
-        (seats.target_of seen t.invites (at_some (is_conflicted_in t.ties user) n.paper) n.paper mine) (seats.invited_at t.invites n.paper mine)) (made n.paper)) given
+        (seats.target_of seen t.invites (at_some (is_conflicted_in t.ties user) n.paper) n.paper mine)
+        (seats.invited_at t.invites n.paper mine)) (made n.paper)) given
         ∙ there-judged t.papers asked due refl (λ (at : Option ℕ). refl) some paper
       where
         made : Option ℕ → Drawn
@@ -278,35 +374,56 @@ module _ (t : Tables) (stamp : Stamp) where
         asked : Option ℕ → Result Drawn Rule
         asked at =
             judged (invite_checks (standing_here at) (paper_told (is_some at) at)
-            (seats.target_of seen t.invites (at_some (is_conflicted_in t.ties user) at) at mine) (seats.invited_at t.invites at mine)) (made at)
+            (seats.target_of seen t.invites (at_some (is_conflicted_in t.ties user) at) at mine)
+            (seats.invited_at t.invites at mine)) (made at)
 
         due : Bool → Option ℕ → Result Drawn Rule
-        due there at = judged (invite_checks (standing_here at) (paper_told there at) (asked_at t maker at user) (at_some (is_invited_in t.invites user) at)) (made at)
+        due there at =
+            judged (invite_checks (standing_here at) (paper_told there at) (asked_at t maker at user)
+            (at_some (is_invited_in t.invites user) at)) (made at)
 
         some : (p : ℕ) → asked (Some p) ≡ due true (Some p)
         some p =
             let told_of : Option Target → Bool → Result Drawn Rule = λ target invited.
             judged (invite_checks (standing_here (Some p)) (paper_told true (Some p)) target invited) (made (Some p)) in
             target-judged (Some p) user
-            (λ (o : Option (ℕ × Role)). told_of (seats.target_of seen t.invites (is_conflicted_in t.ties user p) (Some p) o) (seats.invited_at t.invites (Some p) o))
+            (λ (o : Option (ℕ × Role)). told_of (seats.target_of seen t.invites (is_conflicted_in t.ties user p)
+            (Some p) o) (seats.invited_at t.invites (Some p) o))
             (λ (o : Option Target). told_of o (is_invited_in t.invites user p))
             refl
             (λ (v : ℕ) (role : Role) is.
-            ap (λ (u : Option ℕ). told_of (seats.target_of seen t.invites (is_conflicted_in t.ties u p) (Some p) (Some (v, role))) (is_invited_in t.invites (Some v) p)) is
-            ∙ ap (λ (u : Option ℕ). told_of (Some (asked_for (Some p) (Some v) role)) (is_invited_in t.invites u p)) (sym is))
+            ap
+            (λ (u : Option ℕ). told_of (seats.target_of seen t.invites (is_conflicted_in t.ties u p) (Some p)
+            (Some (v, role))) (is_invited_in t.invites (Some v) p)) is
+            ∙ ap (λ (u : Option ℕ). told_of (Some (asked_for (Some p) (Some v) role)) (is_invited_in t.invites u p))
+            (sym is))
 
     -- and its end: nor whether she is in conflict with the paper, but whether she reviews it
-    pub uninvitation-drawn : (seen : SeatsState) → seen ≡ t.seats → (invites : InvitesState) → invites ≡ t.invites → (kept : Result (Unit {0}) Rule)
-        → kept ≡ judged (uninvite_checks named.by told (seats.target_of seen invites false named.paper target) (seats.invited_at invites named.paper target)) tt
-        → made_of (λ (done : Unit {0}). uninvitation_drawn stamp (unwrap_or named.paper 0) (unwrap_or user 0)) kept ≡ uninvitation_at t stamp paper user
+    pub uninvitation-drawn : (seen : SeatsState) → seen ≡ t.seats → (invites : InvitesState) → invites ≡ t.invites
+        → (kept : Result (Unit {0}) Rule)
+        → kept ≡ judged (uninvite_checks named.by told (seats.target_of seen invites false named.paper target)
+        (seats.invited_at invites named.paper target)) tt
+        → made_of (λ (done : Unit {0}). uninvitation_drawn stamp (unwrap_or named.paper 0) (unwrap_or user 0)) kept
+        ≡ uninvitation_at t stamp paper user
     uninvitation-drawn seen same invites asks kept judges =
-        judged-made (uninvite_checks named.by told (seats.target_of seen invites false named.paper target) (seats.invited_at invites named.paper target))
+        judged-made (uninvite_checks named.by told (seats.target_of seen invites false named.paper target)
+        (seats.invited_at invites named.paper target))
         (λ (done : Unit {0}). made named.paper) tt kept judges
-        ∙ ap (λ (x : SeatsState). judged (uninvite_checks named.by told (seats.target_of x invites false named.paper target) (seats.invited_at invites named.paper target)) (made named.paper)) same
-        ∙ ap (λ (x : InvitesState). judged (uninvite_checks named.by told (seats.target_of t.seats x false named.paper target) (seats.invited_at x named.paper target)) (made named.paper)) asks
-        ∙ ap (λ (o : Option (ℕ × Role)). judged (uninvite_checks named.by told (seats.target_of t.seats t.invites false named.paper o) (seats.invited_at t.invites named.paper o)) (made named.paper)) has
+        ∙ ap
+        (λ (x : SeatsState). judged (uninvite_checks named.by told
+        (seats.target_of x invites false named.paper target) (seats.invited_at invites named.paper target))
+        (made named.paper)) same
+        ∙ ap
+        (λ (x : InvitesState). judged (uninvite_checks named.by told
+        (seats.target_of t.seats x false named.paper target) (seats.invited_at x named.paper target))
+        (made named.paper)) asks
+        ∙ ap
+        (λ (o : Option (ℕ × Role)). judged (uninvite_checks named.by told
+        (seats.target_of t.seats t.invites false named.paper o) (seats.invited_at t.invites named.paper o))
+        (made named.paper)) has
         ∙ ap (λ (n : Named). judged (uninvite_checks n.by (record { there = is_some n.paper; withdrawn = n.withdrawn })
-        (seats.target_of t.seats t.invites false n.paper mine) (seats.invited_at t.invites n.paper mine)) (made n.paper)) given
+        (seats.target_of t.seats t.invites false n.paper mine) (seats.invited_at t.invites n.paper mine))
+        (made n.paper)) given
         ∙ there-judged t.papers asked due refl (λ (at : Option ℕ). refl) some paper
       where
         made : Option ℕ → Drawn
@@ -314,17 +431,23 @@ module _ (t : Tables) (stamp : Stamp) where
 
         asked : Option ℕ → Result Drawn Rule
         asked at =
-            judged (uninvite_checks (standing_here at) (paper_told (is_some at) at) (seats.target_of t.seats t.invites false at mine) (seats.invited_at t.invites at mine)) (made at)
+            judged (uninvite_checks (standing_here at) (paper_told (is_some at) at)
+            (seats.target_of t.seats t.invites false at mine) (seats.invited_at t.invites at mine)) (made at)
 
         due : Bool → Option ℕ → Result Drawn Rule
-        due there at = judged (uninvite_checks (standing_here at) (paper_told there at) (asked_at t maker at user) (at_some (is_invited_in t.invites user) at)) (made at)
+        due there at =
+            judged (uninvite_checks (standing_here at) (paper_told there at) (asked_at t maker at user)
+            (at_some (is_invited_in t.invites user) at)) (made at)
 
         some : (p : ℕ) → asked (Some p) ≡ due true (Some p)
         some p =
             let told_of : Option Target → Bool → Result Drawn Rule = λ target invited.
-            judged (uninvite_checks (standing_here (Some p)) (paper_told true (Some p)) target invited) (made (Some p)) in
+            judged (uninvite_checks (standing_here (Some p)) (paper_told true (Some p)) target invited)
+            (made (Some p)) in
             target-judged (Some p) user
-            (λ (o : Option (ℕ × Role)). told_of (seats.target_of t.seats t.invites false (Some p) o) (seats.invited_at t.invites (Some p) o))
+            (λ (o : Option (ℕ × Role)). told_of (seats.target_of t.seats t.invites false (Some p) o)
+            (seats.invited_at t.invites (Some p) o))
             (λ (o : Option Target). told_of o (is_invited_in t.invites user p))
             refl
-            (λ (v : ℕ) (role : Role) is. ap (λ (u : Option ℕ). told_of (Some (asked_for (Some p) (Some v) role)) (is_invited_in t.invites u p)) (sym is))
+            (λ (v : ℕ) (role : Role) is. ap (λ (u : Option ℕ). told_of (Some (asked_for (Some p) (Some v) role))
+            (is_invited_in t.invites u p)) (sym is))

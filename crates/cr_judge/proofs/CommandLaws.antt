@@ -1,5 +1,6 @@
 -- What single commands draw that name no user, by reads of the tables.
-use Rattle.std.proofs.Common.{ℕ, Bool, true, false, cond, ◌≡◌, ◌+◌, ◌==◌, List, [], ◌∷◌, length, refl, ap, ◌∙◌, Option, Some, None, Result, Ok, Err}
+use Rattle.std.proofs.Common.{ℕ, Bool, true, false, cond, ◌≡◌, ◌+◌, ◌==◌, List, [], ◌∷◌, length, refl, ap, ◌∙◌, Option}
+use Rattle.std.proofs.Common.{Some, None, Result, Ok, Err}
 use Rattle.std.specs.Prelude.{is_some, unwrap_or}
 use Rattle.cr_base.specs.declared.command.Command.TheVariants.{SetPhase, SetMode, SetDeadline, Upload}
 use Rattle.cr_base.specs.declared.entry.Account.{Account}
@@ -15,8 +16,10 @@ use Rattle.cr_base.specs.declared.words.Phase.{Phase}
 use Rattle.cr_base.specs.declared.words.Role.TheVariants.{Chair}
 use Rattle.cr_base.specs.Accounts.{number_at}
 use Rattle.cr_base.specs.Calls.{call_by, stamp_by}
-use Rattle.cr_base.specs.Checks.{judged, register_checks, phase_checks, mode_checks, deadline_checks, revise_checks, upload_checks}
-use Rattle.cr_base.specs.Drawn.{Drawn, grouped, registration_drawn, phase_drawn, mode_drawn, deadline_drawn, upload_drawn}
+use Rattle.cr_base.specs.Checks.{judged, register_checks, phase_checks, mode_checks, deadline_checks, revise_checks}
+use Rattle.cr_base.specs.Checks.{upload_checks}
+use Rattle.cr_base.specs.Drawn.{Drawn, grouped, registration_drawn, phase_drawn, mode_drawn, deadline_drawn}
+use Rattle.cr_base.specs.Drawn.{upload_drawn}
 use Rattle.cr_base.specs.Judging.{judge_by_role}
 use Rattle.cr_base.specs.Papers.{PapersState, uploads_at, own_bytes}
 use Rattle.cr_base.specs.Sources.{standing_at}
@@ -30,36 +33,49 @@ use Rattle.cr_judge.specs.Effects.{behind, drawn_by}
 use Rattle.cr_judge.specs.Named.{registration_at}
 
 -- a registration; the first user is made a chair
-module _ (t : Tables) (at : ℕ) (key : Option RetryKey) (name digest : List ℕ) (seen : List Account) (same : seen ≡ t.accounts) where
-  registration-made : (r : Result ℕ Rule) → r ≡ judged (register_checks (is_some (number_at seen name)) (length seen)) (length seen + 1)
-      → made_of (λ (user : ℕ). registration_drawn (stamp_by user at key) user name digest) r ≡ registration_at t at key name digest
+module _ (t : Tables) (at : ℕ) (key : Option RetryKey) (name digest : List ℕ) (seen : List Account)
+    (same : seen ≡ t.accounts) where
+  registration-made : (r : Result ℕ Rule) → r ≡ judged (register_checks (is_some (number_at seen name)) (length seen))
+      (length seen + 1)
+      → made_of (λ (user : ℕ). registration_drawn (stamp_by user at key) user name digest) r ≡ registration_at t at key
+      name digest
   registration-made r judges =
-      judged-made (register_checks (is_some (number_at seen name)) (length seen)) (λ (user : ℕ). registration_drawn (stamp_by user at key) user name digest) (length seen + 1) r judges
-      ∙ ap (λ (x : List Account). judged (register_checks (is_some (number_at x name)) (length x)) (registration_drawn (stamp_by (length x + 1) at key) (length x + 1) name digest)) same
+      judged-made (register_checks (is_some (number_at seen name)) (length seen))
+      (λ (user : ℕ). registration_drawn (stamp_by user at key) user name digest) (length seen + 1) r judges
+      ∙ ap (λ (x : List Account). judged (register_checks (is_some (number_at x name)) (length x))
+      (registration_drawn (stamp_by (length x + 1) at key) (length x + 1) name digest)) same
 
   pub registration-refused : (rule : Rule)
-      → ◌≡◌ {A = Result ℕ Rule} (Err rule) (judged (register_checks (is_some (number_at seen name)) (length seen)) (length seen + 1))
+      → ◌≡◌ {A = Result ℕ Rule} (Err rule) (judged (register_checks (is_some (number_at seen name)) (length seen))
+      (length seen + 1))
       → ◌≡◌ {A = Result Drawn Rule} (Err rule) (registration_at t at key name digest)
   registration-refused rule judges = registration-made (Err rule) judges
 
   pub registration-drawn : (user : ℕ)
-      → ◌≡◌ {A = Result ℕ Rule} (Ok user) (judged (register_checks (is_some (number_at seen name)) (length seen)) (length seen + 1))
+      → ◌≡◌ {A = Result ℕ Rule} (Ok user) (judged (register_checks (is_some (number_at seen name)) (length seen))
+      (length seen + 1))
       → (rest : Rest) → rest ≡ cond (user == 1) (rests.FirstChair user) rests.Nothing
       → ◌≡◌ {A = Result Drawn Rule}
-      (Ok (drawn_by t.accounts (record { stamp = stamp_by user at key; first = Registered user name digest; rest = rest }))) (registration_at t at key name digest)
+      (Ok
+      (drawn_by t.accounts
+      (record { stamp = stamp_by user at key; first = Registered user name digest; rest = rest })))
+      (registration_at t at key name digest)
   registration-drawn user judges rest is =
-      ap (λ (es : List Entry). Ok (record { group = grouped (stamp_by user at key) es; receipt = receipts.User user })) (ap (λ (r : Rest). first ∷ behind r) is ∙ by (user == 1))
+      ap (λ (es : List Entry). Ok (record { group = grouped (stamp_by user at key) es; receipt = receipts.User user }))
+      (ap (λ (r : Rest). first ∷ behind r) is ∙ by (user == 1))
       ∙ registration-made (Ok user) judges
     where
       first : Entry
       first = Registered user name digest
 
-      by : (b : Bool) → first ∷ behind (cond b (rests.FirstChair user) rests.Nothing) ≡ cond b (first ∷ Named user Chair ∷ []) (first ∷ [])
+      by : (b : Bool) → first ∷ behind (cond b (rests.FirstChair user) rests.Nothing)
+          ≡ cond b (first ∷ Named user Chair ∷ []) (first ∷ [])
       by true = refl
       by false = refl
 
 -- the phase, the mode and the deadlines
-module _ (t : Tables) (stamp : Stamp) (by : Standing) (stands : by ≡ standing_at t (Some stamp.maker) None) (seen : StageState) (same : seen ≡ t.stage)
+module _ (t : Tables) (stamp : Stamp) (by : Standing) (stands : by ≡ standing_at t (Some stamp.maker) None)
+    (seen : StageState) (same : seen ≡ t.stage)
     (kept : Result (Unit {0}) Rule) where
   pub phase-drawn : (to : Phase) → kept ≡ judged (phase_checks by seen.phase to) tt
       → made_of (λ (done : Unit {0}). phase_drawn stamp to) kept ≡ judge_by_role t (call_by stamp (SetPhase to))
@@ -74,28 +90,39 @@ module _ (t : Tables) (stamp : Stamp) (by : Standing) (stands : by ≡ standing_
       ∙ (λ i. judged (mode_checks (stands i) (same i).phase) (mode_drawn stamp to))
 
   pub deadline-drawn : (phase : Phase) (until : Option ℕ) → kept ≡ judged (deadline_checks by seen.phase phase) tt
-      → made_of (λ (done : Unit {0}). deadline_drawn stamp phase until) kept ≡ judge_by_role t (call_by stamp (SetDeadline phase until))
+      → made_of (λ (done : Unit {0}). deadline_drawn stamp phase until) kept
+      ≡ judge_by_role t (call_by stamp (SetDeadline phase until))
   deadline-drawn phase until judges =
-      judged-made (deadline_checks by seen.phase phase) (λ (done : Unit {0}). deadline_drawn stamp phase until) tt kept judges
+      judged-made (deadline_checks by seen.phase phase) (λ (done : Unit {0}). deadline_drawn stamp phase until) tt kept
+      judges
       ∙ (λ i. judged (deadline_checks (stands i) (same i).phase phase) (deadline_drawn stamp phase until))
 
 -- what an author does with her paper, until it is too late
-module _ (t : Tables) (stamp : Stamp) (paper : Option ℕ) (by : Standing) (stands : by ≡ standing_at t (Some stamp.maker) paper)
+module _ (t : Tables) (stamp : Stamp) (paper : Option ℕ) (by : Standing)
+    (stands : by ≡ standing_at t (Some stamp.maker) paper)
     (seen : PapersState) (same : seen ≡ t.papers) (late : Bool) (when : late ≡ is_late_in t.stage stamp.at) where
   -- a revision or a withdrawal, of which the same is asked
-  pub revision-drawn : (draw : ℕ → Drawn) (kept : Result (Unit {0}) Rule) → kept ≡ judged (revise_checks by (named_in seen paper) late) tt
+  pub revision-drawn : (draw : ℕ → Drawn) (kept : Result (Unit {0}) Rule)
+      → kept ≡ judged (revise_checks by (named_in seen paper) late) tt
       → made_of (λ (done : Unit {0}). draw (unwrap_or paper 0)) kept
-      ≡ judged (revise_checks (standing_at t (Some stamp.maker) paper) (named_in t.papers paper) (is_late_in t.stage stamp.at)) (draw (unwrap_or paper 0))
+      ≡ judged (revise_checks (standing_at t (Some stamp.maker) paper) (named_in t.papers paper)
+      (is_late_in t.stage stamp.at)) (draw (unwrap_or paper 0))
   revision-drawn draw kept judges =
-      judged-made (revise_checks by (named_in seen paper) late) (λ (done : Unit {0}). draw (unwrap_or paper 0)) tt kept judges
+      judged-made (revise_checks by (named_in seen paper) late) (λ (done : Unit {0}). draw (unwrap_or paper 0)) tt kept
+      judges
       ∙ (λ i. judged (revise_checks (stands i) (named_in (same i) paper) (when i)) (draw (unwrap_or paper 0)))
 
   -- an upload, judged by so many bytes
   pub upload-made : (content : List ℕ) (count : ℕ) → count ≡ length content → (r : Result ℕ Rule)
-      → r ≡ judged (upload_checks by (named_in seen paper) (own_bytes seen (Some stamp.maker)) count late) (length (uploads_at seen (unwrap_or paper 0)) + 1)
-      → made_of (λ (version : ℕ). upload_drawn stamp (unwrap_or paper 0) version content) r ≡ judge_by_role t (call_by stamp (Upload paper content))
+      → r ≡ judged (upload_checks by (named_in seen paper) (own_bytes seen (Some stamp.maker)) count late)
+      (length (uploads_at seen (unwrap_or paper 0)) + 1)
+      → made_of (λ (version : ℕ). upload_drawn stamp (unwrap_or paper 0) version content) r
+      ≡ judge_by_role t (call_by stamp (Upload paper content))
   upload-made content count counted r judges =
-      judged-made (upload_checks by (named_in seen paper) (own_bytes seen (Some stamp.maker)) count late) (λ (version : ℕ). upload_drawn stamp (unwrap_or paper 0) version content)
+      judged-made (upload_checks by (named_in seen paper) (own_bytes seen (Some stamp.maker)) count late)
+      (λ (version : ℕ). upload_drawn stamp (unwrap_or paper 0) version content)
       (length (uploads_at seen (unwrap_or paper 0)) + 1) r judges
-      ∙ (λ i. judged (upload_checks (stands i) (named_in (same i) paper) (own_bytes (same i) (Some stamp.maker)) (counted i) (when i))
+      ∙
+      (λ i. judged (upload_checks (stands i) (named_in (same i) paper) (own_bytes (same i) (Some stamp.maker))
+      (counted i) (when i))
       (upload_drawn stamp (unwrap_or paper 0) (length (uploads_at (same i) (unwrap_or paper 0)) + 1) content))

@@ -1,5 +1,6 @@
 -- How the entries of a command are marked.
-use Rattle.std.proofs.Common.{ℕ, Bool, true, false, ◌≡◌, ◌≤◌, ◌+◌, List, [], ◌∷◌, ◌++◌, length, take, refl, sym, ap, ◌∙◌, arith, zero, suc, Some, None}
+use Rattle.std.proofs.Common.{ℕ, Bool, true, false, ◌≡◌, ◌≤◌, ◌+◌, List, [], ◌∷◌, ◌++◌, length, take, refl, sym, ap}
+use Rattle.std.proofs.Common.{◌∙◌, arith, zero, suc, Some, None}
 use Rattle.std.specs.Prelude.{nat_lt, slice_get}
 use Rattle.std.proofs.lemmas.Bool.Decides.{nat_tests}
 use Rattle.std.proofs.lemmas.List.{take_all}
@@ -28,7 +29,8 @@ not-last : (n m : ℕ) → n + 1 ≤ m → nat_lt n m ≡ true
 not-last n m h = grind (arith, nat_tests, h)
 
 -- one more of them
-marked-more : (stamp : Stamp) (es : List Entry) (i : ℕ) (e : Entry) (more : Bool) → slice_get es i ≡ Some e → more ≡ nat_lt (suc i) (length es)
+marked-more : (stamp : Stamp) (es : List Entry) (i : ℕ) (e : Entry) (more : Bool) → slice_get es i ≡ Some e
+    → more ≡ nat_lt (suc i) (length es)
     → take (suc i) (grouped stamp es) ≡ take i (grouped stamp es) ++ stamped stamp more e ∷ []
 marked-more stamp [] i e more h is = absurd (none_some e h)
 marked-more stamp (x ∷ []) zero e more h is =
@@ -56,18 +58,22 @@ pub group-first : (stamp : Stamp) (first : Entry) (others : List Entry) (count :
 group-first stamp first others count counted items new none pushed =
     pushed
     ∙ ap (λ (xs : List Stamped). xs ++ stamped stamp (nat_lt 0 count) first ∷ []) none
-    ∙ sym (marked-more stamp (first ∷ others) 0 first (nat_lt 0 count) refl (ap (nat_lt 0) counted ∙ sym (shifted 0 (length others))))
+    ∙ sym (marked-more stamp (first ∷ others) 0 first (nat_lt 0 count) refl
+    (ap (nat_lt 0) counted ∙ sym (shifted 0 (length others))))
 
 -- one more
 pub group-more : (stamp : Stamp) (first : Entry) (others : List Entry) (count : ℕ) → count ≡ length others
-    → (i : ℕ) (e : Entry) (items new : List Stamped) → slice_get others i ≡ Some e → items ≡ take (i + 1) (grouped stamp (first ∷ others))
-    → new ≡ items ++ stamped stamp (nat_lt (i + 1) count) e ∷ [] → new ≡ take ((i + 1) + 1) (grouped stamp (first ∷ others))
+    → (i : ℕ) (e : Entry) (items new : List Stamped) → slice_get others i ≡ Some e
+    → items ≡ take (i + 1) (grouped stamp (first ∷ others))
+    → new ≡ items ++ stamped stamp (nat_lt (i + 1) count) e ∷ []
+    → new ≡ take ((i + 1) + 1) (grouped stamp (first ∷ others))
 group-more stamp first others count counted i e items new at so pushed =
     let is : i + 1 ≡ suc i = omega arith in
     let later : suc (suc i) ≡ (i + 1) + 1 = omega arith in
     let more : nat_lt (i + 1) count ≡ nat_lt (suc (suc i)) (suc (length others)) =
     ap (λ (k : ℕ). nat_lt k count) is ∙ ap (nat_lt (suc i)) counted ∙ sym (shifted (suc i) (length others)) in
-    let step : take (suc (suc i)) (grouped stamp (first ∷ others)) ≡ take (suc i) (grouped stamp (first ∷ others)) ++ stamped stamp (nat_lt (i + 1) count) e ∷ [] =
+    let step : take (suc (suc i)) (grouped stamp (first ∷ others)) ≡ take (suc i) (grouped stamp (first ∷ others))
+    ++ stamped stamp (nat_lt (i + 1) count) e ∷ [] =
     marked-more stamp (first ∷ others) (suc i) e (nat_lt (i + 1) count) at more in
     pushed
     ∙ ap (λ (xs : List Stamped). xs ++ stamped stamp (nat_lt (i + 1) count) e ∷ []) so
@@ -77,9 +83,11 @@ group-more stamp first others count counted i e items new at so pushed =
 
 -- none is left
 pub group-all : (stamp : Stamp) (first : Entry) (others : List Entry) (count : ℕ) → count ≡ length others
-    → (i : ℕ) (items : List Stamped) → count ≤ i → items ≡ take (i + 1) (grouped stamp (first ∷ others)) → items ≡ grouped stamp (first ∷ others)
+    → (i : ℕ) (items : List Stamped) → count ≤ i → items ≡ take (i + 1) (grouped stamp (first ∷ others))
+    → items ≡ grouped stamp (first ∷ others)
 group-all stamp first others count counted i items end so =
-    so ∙ take_all (i + 1) (grouped stamp (first ∷ others)) (enough (length (grouped stamp (first ∷ others))) (length others) (length-grouped stamp (first ∷ others)) counted)
+    so ∙ take_all (i + 1) (grouped stamp (first ∷ others))
+    (enough (length (grouped stamp (first ∷ others))) (length others) (length-grouped stamp (first ∷ others)) counted)
   where
     enough : (all left : ℕ) → all ≡ suc left → count ≡ left → all ≤ i + 1
     enough all left is same = omega (arith, end, is, same)

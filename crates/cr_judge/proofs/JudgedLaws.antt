@@ -21,25 +21,31 @@ use Rattle.cr_judge.specs.Callers.{HasCaller}
 use Rattle.cr_judge.specs.Effects.{alone, alone_or_rule, drawn_by, drawn_or_rule, entry_or_rule, group_of}
 
 -- a broken rule that is passed up is told
-pub passed-up : (accounts : List Account) (r : Result Effect Rule) (rule : Rule) (due : Result Drawn Rule) → IsErrAnd r (λ (e : Rule). e ≡ rule)
+pub passed-up : (accounts : List Account) (r : Result Effect Rule) (rule : Rule) (due : Result Drawn Rule)
+    → IsErrAnd r (λ (e : Rule). e ≡ rule)
     → ◌≡◌ {A = Result Drawn Rule} (Err rule) due → drawn_or_rule accounts r ≡ due
 passed-up accounts (Ok effect) rule due is told = absurd is
 passed-up accounts (Err e) rule due is told = ap (λ (x : Rule). Err x) is ∙ told
 
-pub entry-passed-up : (accounts : List Account) (stamp : Stamp) (r : Result Entry Rule) (rule : Rule) (due : Result Drawn Rule) → IsErrAnd r (λ (e : Rule). e ≡ rule)
+pub entry-passed-up : (accounts : List Account) (stamp : Stamp) (r : Result Entry Rule) (rule : Rule)
+    (due : Result Drawn Rule) → IsErrAnd r (λ (e : Rule). e ≡ rule)
     → ◌≡◌ {A = Result Drawn Rule} (Err rule) due → entry_or_rule accounts stamp r ≡ due
 entry-passed-up accounts stamp (Ok entry) rule due is told = absurd is
 entry-passed-up accounts stamp (Err e) rule due is told = ap (λ (x : Rule). Err x) is ∙ told
 
 -- the effect of an entry, as its command draws it
-pub one-entry : (accounts : List Account) (stamp : Stamp) (entry : Entry) (effect : Effect) (due : Result Drawn Rule) → effect ≡ alone stamp entry
-    → ◌≡◌ {A = Result Drawn Rule} (Ok (drawn_by accounts (alone stamp entry))) due → ◌≡◌ {A = Result Drawn Rule} (Ok (drawn_by accounts effect)) due
+pub one-entry : (accounts : List Account) (stamp : Stamp) (entry : Entry) (effect : Effect) (due : Result Drawn Rule)
+    → effect ≡ alone stamp entry
+    → ◌≡◌ {A = Result Drawn Rule} (Ok (drawn_by accounts (alone stamp entry))) due
+    → ◌≡◌ {A = Result Drawn Rule} (Ok (drawn_by accounts effect)) due
 one-entry accounts stamp entry effect due is told =
-    let same : ◌≡◌ {A = Result Drawn Rule} (Ok (drawn_by accounts effect)) (Ok (drawn_by accounts (alone stamp entry))) = ap (λ (e : Effect). Ok (drawn_by accounts e)) is in
+    let same : ◌≡◌ {A = Result Drawn Rule} (Ok (drawn_by accounts effect))
+    (Ok (drawn_by accounts (alone stamp entry))) = ap (λ (e : Effect). Ok (drawn_by accounts e)) is in
     same ∙ told
 
 -- and of a judgement of one
-pub of-entry : (accounts : List Account) (stamp : Stamp) (judged : Result Entry Rule) (r : Result Effect Rule) (due : Result Drawn Rule)
+pub of-entry : (accounts : List Account) (stamp : Stamp) (judged : Result Entry Rule) (r : Result Effect Rule)
+    (due : Result Drawn Rule)
     → r ≡ alone_or_rule stamp judged → entry_or_rule accounts stamp judged ≡ due → drawn_or_rule accounts r ≡ due
 of-entry accounts stamp judged r due is told = ap (drawn_or_rule accounts) is ∙ by judged ∙ told
   where
@@ -58,15 +64,19 @@ pub call-told : (t : Tables) (call : Call) (maker : ℕ) (r : Result Drawn Rule)
 call-told t call maker r who h = h ∙ sym (λ i. judge_by_role t (record call { caller = who i }))
 
 -- its entries fit, where the papers that have ties are there; a registration's are the same for all callers
-pub effect-fits : (t : Tables) → AreWithin (paper_count t.papers) t.ties → (call : Call) → HasCaller call → (r : Result Effect Rule)
+pub effect-fits : (t : Tables) → AreWithin (paper_count t.papers) t.ties → (call : Call) → HasCaller call
+    → (r : Result Effect Rule)
     → drawn_or_rule t.accounts r ≡ judge_by_role t call → IfOk r (λ effect. FitInTurn t (group_of effect))
 effect-fits t within call has (Err rule) is = tt
 effect-fits t within call has (Ok effect) is = by call.caller call.command has (sym is)
   where
     by : (caller : Option ℕ) (command : Command) → HasCaller (record call { caller = caller; command = command })
-        → judge_by_role t (record call { caller = caller; command = command }) ≡ Ok (drawn_by t.accounts effect) → FitInTurn t (group_of effect)
-    by (Some user) command has accepted = judged-fits t within (record (stamp_of call) { maker = user }) command (drawn_by t.accounts effect) accepted
-    by None (Register name digest) has accepted = judged-fits t within (record (stamp_of call) { maker = 0 }) (Register name digest) (drawn_by t.accounts effect) accepted
+        → judge_by_role t (record call { caller = caller; command = command }) ≡ Ok (drawn_by t.accounts effect)
+        → FitInTurn t (group_of effect)
+    by (Some user) command has accepted =
+        judged-fits t within (record (stamp_of call) { maker = user }) command (drawn_by t.accounts effect) accepted
+    by None (Register name digest) has accepted = judged-fits t within (record (stamp_of call) { maker = 0 })
+        (Register name digest) (drawn_by t.accounts effect) accepted
     by None (Tag paper tag true) has accepted = absurd (true≢false (sym has))
     by None (Tag paper tag false) has accepted = absurd (true≢false (sym has))
     by None _ has accepted = absurd (true≢false (sym has))

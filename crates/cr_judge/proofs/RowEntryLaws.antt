@@ -1,5 +1,6 @@
 -- What the row of a bulk draws, by the tables behind the rows before it, and that its entry may come next.
-use Rattle.std.proofs.Common.{ℕ, Bool, true, false, cond, ◌≡◌, ◌+◌, List, [], ◌∷◌, ◌++◌, refl, sym, ap, subst, ◌∙◌, Option, Some, Result, Ok, Err, IfOk}
+use Rattle.std.proofs.Common.{ℕ, Bool, true, false, cond, ◌≡◌, ◌+◌, List, [], ◌∷◌, ◌++◌, refl, sym, ap, subst, ◌∙◌}
+use Rattle.std.proofs.Common.{Option, Some, Result, Ok, Err, IfOk}
 use Rattle.std.specs.Prelude.{map, unwrap_or}
 use Rattle.cr_base.specs.declared.command.Command.{Command}
 use Rattle.cr_base.specs.declared.command.Command.TheVariants.{SetConflict, Assign, Unassign, Tag}
@@ -22,7 +23,8 @@ use Rattle.cr_base.specs.Lists.{at_some, is_number}
 use Rattle.cr_base.specs.Papers.{paper_count}
 use Rattle.cr_base.specs.Reviews.{is_written_in}
 use Rattle.cr_base.specs.Seats.{labels_in, ordinal_in}
-use Rattle.cr_base.specs.Sources.{Facts, facts_of_tables, shown_in_tables, standing_at, user_among, paper_named, target_named}
+use Rattle.cr_base.specs.Sources.{Facts, facts_of_tables, shown_in_tables, standing_at, user_among, paper_named}
+use Rattle.cr_base.specs.Sources.{target_named}
 use Rattle.cr_base.specs.Stage.{is_late_in}
 use Rattle.cr_base.specs.Tables.{Tables, tables_after, tables_from, Fits, FitInTurn}
 use Rattle.cr_base.specs.TagTexts.{is_for_chairs}
@@ -40,7 +42,8 @@ use Rattle.cr_judge.proofs.RowLaws.{user-behind, within-from}
 
 -- what is drawn of one entry, where it is known
 one-drawn : (stamp : Stamp) (checks : List Check) (e : Entry) (receipt : Receipt) (drawn : Drawn) (entry : Entry)
-    → judged checks (record { group = grouped stamp (e ∷ []); receipt = receipt }) ≡ Ok drawn → IsRowEntry e → entries_of drawn.group ≡ entry ∷ []
+    → judged checks (record { group = grouped stamp (e ∷ []); receipt = receipt }) ≡ Ok drawn → IsRowEntry e
+    → entries_of drawn.group ≡ entry ∷ []
     → (drawn.group ≡ grouped stamp (entry ∷ [])) × IsRowEntry entry
 one-drawn stamp checks e receipt drawn entry accepted is told =
     let first : Drawn = record { group = grouped stamp (e ∷ []); receipt = receipt } in
@@ -53,34 +56,41 @@ one-drawn stamp checks e receipt drawn entry accepted is told =
     head-or (x ∷ xs) = x
 
 -- the command of a row draws one of its kinds, which its caller makes
-pub row-drawn : (t : Tables) (stamp : Stamp) (command : Command) → IsRowCommand command → (drawn : Drawn) (entry : Entry)
+pub row-drawn : (t : Tables) (stamp : Stamp) (command : Command) → IsRowCommand command
+    → (drawn : Drawn) (entry : Entry)
     → judge_by_role t (call_by stamp command) ≡ Ok drawn → entries_of drawn.group ≡ entry ∷ []
     → (drawn.group ≡ grouped stamp (entry ∷ [])) × IsRowEntry entry
 row-drawn t stamp (SetConflict paper name on) is drawn entry accepted told =
     let facts : Facts = facts_of_tables t (Some stamp.maker) in
     let target = user_among facts.accounts name in
     one-drawn stamp
-    (conflict_checks (standing_at t (Some stamp.maker) paper) (paper_named facts (shown_in_tables t) paper) (target_named facts (shown_in_tables t) (Some stamp.maker) paper target) on (is_late_in t.stage stamp.at))
-    (entries.Conflict (unwrap_or paper 0) (unwrap_or target 0) on) (receipts.Changed (unwrap_or paper 0)) drawn entry accepted tt told
+    (conflict_checks (standing_at t (Some stamp.maker) paper) (paper_named facts (shown_in_tables t) paper)
+    (target_named facts (shown_in_tables t) (Some stamp.maker) paper target) on (is_late_in t.stage stamp.at))
+    (entries.Conflict (unwrap_or paper 0) (unwrap_or target 0) on) (receipts.Changed (unwrap_or paper 0)) drawn entry
+    accepted tt told
 row-drawn t stamp (Assign paper name kind) is drawn entry accepted told =
     let facts : Facts = facts_of_tables t (Some stamp.maker) in
     let target = user_among facts.accounts name in
     let labels = labels_in t.seats (unwrap_or paper 0) in
     one-drawn stamp
-    (assign_checks (standing_at t (Some stamp.maker) paper) (paper_named facts (shown_in_tables t) paper) (target_named facts (shown_in_tables t) (Some stamp.maker) paper target) labels)
-    (entries.Assigned (unwrap_or paper 0) (unwrap_or target 0) kind (labels + 1)) (receipts.Label (labels + 1)) drawn entry accepted tt told
+    (assign_checks (standing_at t (Some stamp.maker) paper) (paper_named facts (shown_in_tables t) paper)
+    (target_named facts (shown_in_tables t) (Some stamp.maker) paper target) labels)
+    (entries.Assigned (unwrap_or paper 0) (unwrap_or target 0) kind (labels + 1)) (receipts.Label (labels + 1)) drawn
+    entry accepted tt told
 row-drawn t stamp (Unassign paper name) is drawn entry accepted told =
     let facts : Facts = facts_of_tables t (Some stamp.maker) in
     let target = user_among facts.accounts name in
     let p : ℕ = unwrap_or paper 0 in
     let seat = ordinal_in t.seats target p in
     one-drawn stamp
-    (unassign_checks (standing_at t (Some stamp.maker) paper) (paper_named facts (shown_in_tables t) paper) (target_named facts (shown_in_tables t) (Some stamp.maker) paper target)
+    (unassign_checks (standing_at t (Some stamp.maker) paper) (paper_named facts (shown_in_tables t) paper)
+    (target_named facts (shown_in_tables t) (Some stamp.maker) paper target)
     (at_some (is_written_in t.reviews p) seat))
     (entries.Unassigned p (unwrap_or target 0) (unwrap_or seat 0)) (receipts.Changed p) drawn entry accepted tt told
 row-drawn t stamp (Tag paper tag on) is drawn entry accepted told =
     one-drawn stamp
-    (tag_checks (standing_at t (Some stamp.maker) paper) (paper_named (facts_of_tables t (Some stamp.maker)) (shown_in_tables t) paper) (is_for_chairs tag))
+    (tag_checks (standing_at t (Some stamp.maker) paper)
+    (paper_named (facts_of_tables t (Some stamp.maker)) (shown_in_tables t) paper) (is_for_chairs tag))
     (entries.Tagged (unwrap_or paper 0) tag on) (receipts.Changed (unwrap_or paper 0)) drawn entry accepted tt told
 row-drawn t stamp _ is drawn entry accepted told = absurd is
 
@@ -97,11 +107,13 @@ fit-marked t s more fit = record {
   talk = fit.talk;
 }
 
-fits-more : (t : Tables) (earlier : History) (s : Stamped) → FitInTurn t earlier → Fits (tables_from t earlier) s → FitInTurn t (earlier ++ s ∷ [])
+fits-more : (t : Tables) (earlier : History) (s : Stamped) → FitInTurn t earlier → Fits (tables_from t earlier) s
+    → FitInTurn t (earlier ++ s ∷ [])
 fits-more t [] s fits fit = (fit, tt)
 fits-more t (x ∷ earlier) s fits fit = (fits.0, fits-more (tables_after t x) earlier s fits.1 fit)
 
-rows-more : (earlier : History) (s : Stamped) → AreRowEntries earlier → IsRowEntry s.entry → AreRowEntries (earlier ++ s ∷ [])
+rows-more : (earlier : History) (s : Stamped) → AreRowEntries earlier → IsRowEntry s.entry
+    → AreRowEntries (earlier ++ s ∷ [])
 rows-more [] s are is = (is, tt)
 rows-more (x ∷ earlier) s are is = (are.0, rows-more earlier s are.1 is)
 
@@ -112,32 +124,39 @@ abbrev row_conflict_at : Tables → Stamp → Option ℕ → Bool → Option ℕ
 row_conflict_at t stamp paper on user own = cond own (Err rules.BulkSelf) (conflict_at t stamp paper user on)
 
 -- whether it is of the caller's own is asked of the user who was found for the name
-module _ (t : Tables) (earlier : History) (are : AreRowEntries earlier) (stamp : Stamp) (paper : Option ℕ) (name : Option (List ℕ)) (on : Bool)
-    (user : Option ℕ) (found : user ≡ target_at t.accounts name) (own : Bool) (told : own ≡ is_number user stamp.maker) where
+module _ (t : Tables) (earlier : History) (are : AreRowEntries earlier) (stamp : Stamp) (paper : Option ℕ)
+    (name : Option (List ℕ)) (on : Bool)
+    (user : Option ℕ) (found : user ≡ target_at t.accounts name) (own : Bool)
+    (told : own ≡ is_number user stamp.maker) where
   abbrev row_told : Result Drawn Rule
   row_told = row_judged_at (tables_from t earlier) stamp (SetConflict paper name on)
 
   conflict-told : (b : Bool) → own ≡ b → row_conflict_at (tables_from t earlier) stamp paper on user b ≡ row_told
   conflict-told b is =
       ap (row_conflict_at (tables_from t earlier) stamp paper on user) (sym is ∙ told)
-      ∙ ap (λ (v : Option ℕ). row_conflict_at (tables_from t earlier) stamp paper on v (is_number v stamp.maker)) (user-behind t earlier are name user found)
+      ∙ ap (λ (v : Option ℕ). row_conflict_at (tables_from t earlier) stamp paper on v (is_number v stamp.maker))
+      (user-behind t earlier are name user found)
 
   pub conflict-own : own ≡ true → ◌≡◌ {A = Result Drawn Rule} (Err rules.BulkSelf) row_told
   conflict-own is = conflict-told true is
 
-  pub conflict-other : own ≡ false → (r : Result Drawn Rule) → r ≡ conflict_at (tables_from t earlier) stamp paper user on → r ≡ row_told
+  pub conflict-other : own ≡ false → (r : Result Drawn Rule)
+      → r ≡ conflict_at (tables_from t earlier) stamp paper user on → r ≡ row_told
   conflict-other is r judges = judges ∙ conflict-told false is
 
 -- ---- what a row is answered
 
 -- what its command draws, where it is accepted
-accepted-judged : (t : Tables) (stamp : Stamp) (command : Command) (drawn : Drawn) → row_judged_at t stamp command ≡ Ok drawn → judge_by_role t (call_by stamp command) ≡ Ok drawn
-accepted-judged t stamp command drawn is = by (turns_own_conflict (facts_of_tables t (Some stamp.maker)) stamp.maker command) is
+accepted-judged : (t : Tables) (stamp : Stamp) (command : Command) (drawn : Drawn)
+    → row_judged_at t stamp command ≡ Ok drawn → judge_by_role t (call_by stamp command) ≡ Ok drawn
+accepted-judged t stamp command drawn is =
+    by (turns_own_conflict (facts_of_tables t (Some stamp.maker)) stamp.maker command) is
   where
     no : ◌≡◌ {A = Result Drawn Rule} (Err rules.BulkSelf) (Ok drawn) → ⊥
     no e = cc (e)
 
-    by : (own : Bool) → cond own (Err rules.BulkSelf) (judge_by_role t (call_by stamp command)) ≡ Ok drawn → judge_by_role t (call_by stamp command) ≡ Ok drawn
+    by : (own : Bool) → cond own (Err rules.BulkSelf) (judge_by_role t (call_by stamp command)) ≡ Ok drawn
+        → judge_by_role t (call_by stamp command) ≡ Ok drawn
     by true e = absurd (no e)
     by false e = e
 
@@ -177,7 +196,8 @@ module _ (t : Tables) (earlier : History) (before : AreEarlier t earlier) (stamp
             fits = fits-more t earlier s before.fits (fit-marked now (stamped stamp false entry) more fits-now.0);
           }
 
-    pub row-fits : AreWithin (paper_count t.papers) t.ties → IfOk r (λ entry. FitInTurn now (grouped stamp (entry ∷ [])))
+    pub row-fits : AreWithin (paper_count t.papers) t.ties
+        → IfOk r (λ entry. FitInTurn now (grouped stamp (entry ∷ [])))
     row-fits within = by r refl
       where
         by : (x : Result Entry Rule) → r ≡ x → IfOk x (λ entry. FitInTurn now (grouped stamp (entry ∷ [])))
@@ -188,7 +208,8 @@ module _ (t : Tables) (earlier : History) (before : AreEarlier t earlier) (stamp
         → IfOk r (λ entry. (more : Bool) → AreEarlier t (earlier ++ stamped stamp more entry ∷ []))
     row-next within = by r refl
       where
-        by : (x : Result Entry Rule) → r ≡ x → IfOk x (λ entry. (more : Bool) → AreEarlier t (earlier ++ stamped stamp more entry ∷ []))
+        by : (x : Result Entry Rule) → r ≡ x → IfOk x
+            (λ entry. (more : Bool) → AreEarlier t (earlier ++ stamped stamp more entry ∷ []))
         by (Ok entry) is = next-now within entry is
         by (Err rule) is = tt
 

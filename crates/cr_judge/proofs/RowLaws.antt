@@ -1,5 +1,6 @@
 -- What the entries of a bulk's rows leave as it was, and what is read behind them.
-use Rattle.std.proofs.Common.{ℕ, Bool, true, false, ◌≡◌, ◌&&◌, List, [], ◌∷◌, fold, refl, sym, ap, subst, ◌∙◌, Option, Some, None}
+use Rattle.std.proofs.Common.{ℕ, Bool, true, false, ◌≡◌, ◌&&◌, List, [], ◌∷◌, fold, refl, sym, ap, subst, ◌∙◌, Option}
+use Rattle.std.proofs.Common.{Some, None}
 use Rattle.std.specs.Prelude.{is_some, not}
 use Rattle.std.specs.List.{list_any}
 use Rattle.std.specs.Option.{option_and_then}
@@ -42,15 +43,24 @@ tags_from tags entries = fold (λ (t : TagsState) (e : Stamped). tags_after t e.
 
 -- the tables with the ties, the seats and the tags behind these entries, and all else as it was
 abbrev pub marked_by : Tables → History → Tables
-marked_by t entries = record t { ties = ties_from t.ties entries; seats = seats_from t.seats entries; tags = tags_from t.tags entries }
+marked_by t entries =
+    record t { ties = ties_from t.ties entries; seats = seats_from t.seats entries; tags = tags_from t.tags entries }
 
 -- an entry of a row changes these alone
 one-marks : (t : Tables) (s : Stamped) → IsRowEntry s.entry → tables_after t s
-    ≡ record t { ties = ties_after t.ties s.stamp.maker s.entry; seats = seats_after t.seats s.entry; tags = tags_after t.tags s.stamp.maker s.entry }
+    ≡ record t {
+      ties = ties_after t.ties s.stamp.maker s.entry;
+      seats = seats_after t.seats s.entry;
+      tags = tags_after t.tags s.stamp.maker s.entry;
+    }
 one-marks t s is = by s.entry is
   where
     by : (e : Entry) → IsRowEntry e → tables_after t (record s { entry = e })
-        ≡ record t { ties = ties_after t.ties s.stamp.maker e; seats = seats_after t.seats e; tags = tags_after t.tags s.stamp.maker e }
+        ≡ record t {
+          ties = ties_after t.ties s.stamp.maker e;
+          seats = seats_after t.seats e;
+          tags = tags_after t.tags s.stamp.maker e;
+        }
     by (Conflict paper user on) is = refl
     by (Assigned paper user kind ordinal) is = refl
     by (Unassigned paper user ordinal) is = refl
@@ -64,9 +74,11 @@ rows-mark t (s ∷ entries) are =
     ap (λ (x : Tables). marked_by x entries) (sym (one-marks t s are.0)) ∙ rows-mark (tables_after t s) entries are.1
 
 -- nobody becomes an author
-pub rows-authors : (ties : TiesState) (entries : History) → AreRowEntries entries → (ties_from ties entries).authors ≡ ties.authors
+pub rows-authors : (ties : TiesState) (entries : History) → AreRowEntries entries
+    → (ties_from ties entries).authors ≡ ties.authors
 rows-authors ties [] are = refl
-rows-authors ties (s ∷ entries) are = rows-authors (ties_after ties s.stamp.maker s.entry) entries are.1 ∙ by s.entry are.0
+rows-authors ties (s ∷ entries) are =
+    rows-authors (ties_after ties s.stamp.maker s.entry) entries are.1 ∙ by s.entry are.0
   where
     by : (e : Entry) → IsRowEntry e → (ties_after ties s.stamp.maker e).authors ≡ ties.authors
     by (Conflict paper user on) is = refl
@@ -92,12 +104,14 @@ pub within-from : (t : Tables) (entries : History) → FitInTurn t entries → A
     → AreWithin (paper_count (tables_from t entries).papers) (tables_from t entries).ties
 within-from t [] fits within = within
 within-from t (s ∷ entries) fits within =
-    within-from (tables_after t s) entries fits.1 (within-after t.papers t.ties s.stamp.maker s.entry fits.0.papers within)
+    within-from (tables_after t s) entries fits.1
+    (within-after t.papers t.ties s.stamp.maker s.entry fits.0.papers within)
 
 -- ---- what is read behind them
 
 -- nobody has a seat
-pub nobody-ordinal : (seats : SeatsState) (user paper : Option ℕ) → user ≡ None → None ≡ option_and_then (ordinal_in seats user) paper
+pub nobody-ordinal : (seats : SeatsState) (user paper : Option ℕ) → user ≡ None
+    → None ≡ option_and_then (ordinal_in seats user) paper
 nobody-ordinal seats user None is = refl
 nobody-ordinal seats user (Some p) is = nobody-seat seats user p is
 
@@ -105,19 +119,23 @@ nobody-ordinal seats user (Some p) is = nobody-seat seats user p is
 pub nobody-invited : (member : Bool) (invites : InvitesState) (user paper : Option ℕ) → user ≡ None
     → false ≡ at_some (λ p. not member && is_invited_in invites user p) paper
 nobody-invited member invites user None is = refl
-nobody-invited member invites user (Some p) is = sym (ap (λ (u : Option ℕ). not member && is_invited_in invites u p) is ∙ no (not member))
+nobody-invited member invites user (Some p) is =
+    sym (ap (λ (u : Option ℕ). not member && is_invited_in invites u p) is ∙ no (not member))
   where
     no : (b : Bool) → (b && false) ≡ false
     no true = refl
     no false = refl
 
 -- whether a user who is no member, or one who is, is invited to a paper behind them
-pub invited-behind : (t : Tables) (earlier : History) (member : Bool) (user paper : Option ℕ) (seen : InvitesState) → seen ≡ t.invites
-    → (u p : ℕ) (told : Bool) → user ≡ Some u → paper ≡ Some p → told ≡ (not member && is_invited_in (invites_from seen earlier) (Some u) p)
+pub invited-behind : (t : Tables) (earlier : History) (member : Bool) (user paper : Option ℕ) (seen : InvitesState)
+    → seen ≡ t.invites
+    → (u p : ℕ) (told : Bool) → user ≡ Some u → paper ≡ Some p
+    → told ≡ (not member && is_invited_in (invites_from seen earlier) (Some u) p)
     → told ≡ at_some (λ q. not member && is_invited_in (tables_from t earlier).invites user q) paper
 invited-behind t earlier member user paper seen same u p told user-is paper-is is =
     is
-    ∙ ap (λ (x : InvitesState). not member && is_invited_in x (Some u) p) (ap (λ (x : InvitesState). invites_from x earlier) same ∙ invites-behind t earlier)
+    ∙ ap (λ (x : InvitesState). not member && is_invited_in x (Some u) p)
+    (ap (λ (x : InvitesState). invites_from x earlier) same ∙ invites-behind t earlier)
     ∙ sym (λ i. at_some (λ q. not member && is_invited_in (tables_from t earlier).invites (user-is i) q) (paper-is i))
 
 module _ (t : Tables) (earlier : History) (are : AreRowEntries earlier) where
@@ -135,7 +153,8 @@ module _ (t : Tables) (earlier : History) (are : AreRowEntries earlier) where
   reviews-behind = ap (λ (x : Tables). x.reviews) (rows-mark t earlier are)
 
   -- whether it is too late
-  pub late-behind : (stamp : Stamp) (late : Bool) → late ≡ is_late_in t.stage stamp.at → late ≡ is_late_in now.stage stamp.at
+  pub late-behind : (stamp : Stamp) (late : Bool) → late ≡ is_late_in t.stage stamp.at
+      → late ≡ is_late_in now.stage stamp.at
   late-behind stamp late is = is ∙ ap (λ (x : Tables). is_late_in x.stage stamp.at) (rows-mark t earlier are)
 
   -- the ties and the seats
@@ -146,11 +165,14 @@ module _ (t : Tables) (earlier : History) (are : AreRowEntries earlier) where
   seats-behind = ap (λ (x : Tables). x.seats) (rows-mark t earlier are)
 
   -- whom the accounts have for a name, and with which role
-  pub user-behind : (name : Option (List ℕ)) (user : Option ℕ) → user ≡ target_at t.accounts name → user ≡ user_named now name
+  pub user-behind : (name : Option (List ℕ)) (user : Option ℕ) → user ≡ target_at t.accounts name
+      → user ≡ user_named now name
   user-behind name user is =
-      is ∙ ap (λ (accounts : List Account). target_at accounts name) accounts-behind ∙ sym (target-among now.accounts name)
+      is ∙ ap (λ (accounts : List Account). target_at accounts name) accounts-behind
+      ∙ sym (target-among now.accounts name)
 
-  pub target-behind : (user : Option ℕ) (target : Option (ℕ × Role)) → target ≡ target_with t.accounts user → target ≡ target_with now.accounts user
+  pub target-behind : (user : Option ℕ) (target : Option (ℕ × Role)) → target ≡ target_with t.accounts user
+      → target ≡ target_with now.accounts user
   target-behind user target is = is ∙ ap (λ (accounts : List Account). target_with accounts user) accounts-behind
 
   -- the tables of ties and of seats, where these are they
@@ -169,28 +191,35 @@ module _ (t : Tables) (earlier : History) (are : AreRowEntries earlier) where
 
   -- the seats fit
   pub seats-fit : (seen : SeatsState) → seen ≡ t.seats → FitInTurn t earlier → SeatsFitInTurn seen earlier
-  seats-fit seen same fits = subst (λ (x : SeatsState). SeatsFitInTurn x earlier) (sym same) (seats-in-turn t earlier fits)
+  seats-fit seen same fits =
+      subst (λ (x : SeatsState). SeatsFitInTurn x earlier) (sym same) (seats-in-turn t earlier fits)
 
   module _ (user paper : Option ℕ) where
     -- whether a user is in conflict with a paper
-    pub conflicted-behind : (seen : TiesState) → seen ≡ t.ties → (u p : ℕ) (told : Bool) → user ≡ Some u → paper ≡ Some p
-        → told ≡ is_conflicted_in (ties_from seen earlier) (Some u) p → told ≡ at_some (is_conflicted_in now.ties user) paper
+    pub conflicted-behind : (seen : TiesState) → seen ≡ t.ties → (u p : ℕ) (told : Bool) → user ≡ Some u
+        → paper ≡ Some p
+        → told ≡ is_conflicted_in (ties_from seen earlier) (Some u) p
+        → told ≡ at_some (is_conflicted_in now.ties user) paper
     conflicted-behind seen same u p told user-is paper-is is =
         is
         ∙ ap (λ (x : TiesState). is_conflicted_in x (Some u) p) (ties-seen seen same)
         ∙ sym (λ i. at_some (is_conflicted_in now.ties (user-is i)) (paper-is i))
 
     -- under which label she reviews it
-    pub ordinal-behind : (seen : SeatsState) → seen ≡ t.seats → (u p : ℕ) (told : Option ℕ) → user ≡ Some u → paper ≡ Some p
-        → told ≡ ordinal_in (seats_from seen earlier) (Some u) p → told ≡ option_and_then (ordinal_in now.seats user) paper
+    pub ordinal-behind : (seen : SeatsState) → seen ≡ t.seats → (u p : ℕ) (told : Option ℕ) → user ≡ Some u
+        → paper ≡ Some p
+        → told ≡ ordinal_in (seats_from seen earlier) (Some u) p
+        → told ≡ option_and_then (ordinal_in now.seats user) paper
     ordinal-behind seen same u p told user-is paper-is is =
         is
         ∙ ap (λ (x : SeatsState). ordinal_in x (Some u) p) (seats-seen seen same)
         ∙ sym (λ i. option_and_then (ordinal_in now.seats (user-is i)) (paper-is i))
 
     -- whether a form is written under it
-    pub written-behind : (seen : ReviewsState) → seen ≡ t.reviews → (p : ℕ) (ordinal : Option ℕ) (told : Bool) → paper ≡ Some p
-        → ordinal ≡ option_and_then (ordinal_in now.seats user) paper → told ≡ at_some (is_written_in seen p) ordinal → told ≡ written_at now user paper
+    pub written-behind : (seen : ReviewsState) → seen ≡ t.reviews → (p : ℕ) (ordinal : Option ℕ) (told : Bool)
+        → paper ≡ Some p
+        → ordinal ≡ option_and_then (ordinal_in now.seats user) paper → told ≡ at_some (is_written_in seen p) ordinal
+        → told ≡ written_at now user paper
     written-behind seen same p ordinal told paper-is held is =
         is
         ∙ ap (λ (x : ReviewsState). at_some (is_written_in x p) ordinal) (same ∙ reviews-behind)
@@ -199,13 +228,31 @@ module _ (t : Tables) (earlier : History) (are : AreRowEntries earlier) where
 
     -- how she stands to it
     pub standing-behind : (phase : Phase) (mode : Mode) (role : Role) (author conflicted reviewer external : Bool)
-        → phase ≡ t.stage.phase → mode ≡ t.stage.mode → role ≡ role_in t.accounts user → author ≡ at_some (is_author_in t.ties user) paper
-        → conflicted ≡ at_some (is_conflicted_in now.ties user) paper → reviewer ≡ is_some (option_and_then (ordinal_in now.seats user) paper)
+        → phase ≡ t.stage.phase → mode ≡ t.stage.mode → role ≡ role_in t.accounts user
+        → author ≡ at_some (is_author_in t.ties user) paper
+        → conflicted ≡ at_some (is_conflicted_in now.ties user) paper
+        → reviewer ≡ is_some (option_and_then (ordinal_in now.seats user) paper)
         → external ≡ at_some (λ p. not (is_member role) && is_invited_in now.invites user p) paper
-        → record { phase = phase; mode = mode; role = role; author = author; conflicted = conflicted; reviewer = reviewer; external = external }
+        → record {
+          phase = phase;
+          mode = mode;
+          role = role;
+          author = author;
+          conflicted = conflicted;
+          reviewer = reviewer;
+          external = external;
+        }
         ≡ standing_at now user paper
     standing-behind phase mode role author conflicted reviewer external p m r a c v e =
-        λ i. record { phase = phase_is i; mode = mode_is i; role = role_is i; author = author_is i; conflicted = c i; reviewer = reviewer_is i; external = external_is i }
+        λ i. record {
+          phase = phase_is i;
+          mode = mode_is i;
+          role = role_is i;
+          author = author_is i;
+          conflicted = c i;
+          reviewer = reviewer_is i;
+          external = external_is i;
+        }
       where
         phase_is : phase ≡ now.stage.phase
         phase_is = p ∙ ap (λ (x : Tables). x.stage.phase) (rows-mark t earlier are)
@@ -222,7 +269,8 @@ module _ (t : Tables) (earlier : History) (are : AreRowEntries earlier) where
             ∙ ap (λ (ties : BareTies). at_some (λ p. list_any (is_number user) (users_tied_to p ties)) paper)
             (sym (rows-authors t.ties earlier are) ∙ ap (λ (x : TiesState). x.authors) ties-behind)
 
-        seated : (o : Option ℕ) → is_some (option_and_then (ordinal_in now.seats user) o) ≡ at_some (λ p. is_some (ordinal_in now.seats user p)) o
+        seated : (o : Option ℕ) → is_some (option_and_then (ordinal_in now.seats user) o)
+            ≡ at_some (λ p. is_some (ordinal_in now.seats user p)) o
         seated None = refl
         seated (Some n) = refl
 
@@ -230,13 +278,16 @@ module _ (t : Tables) (earlier : History) (are : AreRowEntries earlier) where
         reviewer_is = v ∙ seated paper
 
         external_is : external ≡ at_some (is_external_in now user) paper
-        external_is = e ∙ ap (λ (x : Role). at_some (λ p. not (is_member x) && is_invited_in now.invites user p) paper) role_is
+        external_is =
+            e ∙ ap (λ (x : Role). at_some (λ p. not (is_member x) && is_invited_in now.invites user p) paper) role_is
 
   -- the paper named
   pub named-behind : (maker : ℕ) (paper at : Option ℕ) (by : Standing) (withdrawn : Bool) → at ≡ there_in t.papers paper
       → by ≡ standing_at now (Some maker) at → withdrawn ≡ at_some (is_withdrawn_at t.papers) at
       → record { by = by; paper = at; withdrawn = withdrawn } ≡ named_at now maker (there_in now.papers paper)
   named-behind maker paper at by withdrawn is stands gone =
-      let gone_now : withdrawn ≡ at_some (is_withdrawn_at now.papers) at = gone ∙ ap (λ (x : PapersState). at_some (is_withdrawn_at x) at) papers-behind in
-      let same : record { by = by; paper = at; withdrawn = withdrawn } ≡ named_at now maker at = λ i. record { by = stands i; paper = at; withdrawn = gone_now i } in
+      let gone_now : withdrawn ≡ at_some (is_withdrawn_at now.papers) at =
+      gone ∙ ap (λ (x : PapersState). at_some (is_withdrawn_at x) at) papers-behind in
+      let same : record { by = by; paper = at; withdrawn = withdrawn } ≡ named_at now maker at =
+      λ i. record { by = stands i; paper = at; withdrawn = gone_now i } in
       same ∙ ap (named_at now maker) (is ∙ ap (λ (x : PapersState). there_in x paper) papers-behind)

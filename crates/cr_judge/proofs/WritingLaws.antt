@@ -1,5 +1,6 @@
 -- What is written on a paper, by reads of the tables.
-use Rattle.std.proofs.Common.{ℕ, Bool, true, false, ◌≡◌, ◌+◌, length, refl, sym, ap, ◌∙◌, Option, Some, None, Result, Ok}
+use Rattle.std.proofs.Common.{ℕ, Bool, true, false, ◌≡◌, ◌+◌, length, refl, sym, ap, ◌∙◌, Option, Some, None, Result}
+use Rattle.std.proofs.Common.{Ok}
 use Rattle.std.specs.Prelude.{IsSome, List, is_some, map, not, unwrap_or}
 use Rattle.std.specs.Option.{option_and_then}
 use Rattle.std.proofs.lemmas.Bool.{true≢false}
@@ -29,17 +30,25 @@ use Rattle.cr_judge.specs.Named.{there_in, named_at}
 use Rattle.cr_judge.proofs.NamedLaws.{numbered-drawn, there-judged}
 
 -- a response: that one of the paper was given is asked of its number
-pub response-drawn : (t : Tables) (stamp : Stamp) (paper : Option ℕ) (named : Named) → named ≡ named_at t stamp.maker (there_in t.papers paper)
-    → (text : List ℕ) (late : Bool) → late ≡ is_late_in t.stage stamp.at → (seen : TalkState) → seen ≡ t.talk → (r : Result (Unit {0}) Rule)
+pub response-drawn : (t : Tables) (stamp : Stamp) (paper : Option ℕ) (named : Named)
+    → named ≡ named_at t stamp.maker (there_in t.papers paper)
+    → (text : List ℕ) (late : Bool) → late ≡ is_late_in t.stage stamp.at → (seen : TalkState) → seen ≡ t.talk
+    → (r : Result (Unit {0}) Rule)
     → r ≡ judged (respond_checks named.by (record { there = is_some named.paper; withdrawn = named.withdrawn })
     (is_some (response_in seen (unwrap_or named.paper 0))) late) tt
-    → made_of (λ (done : Unit {0}). response_drawn stamp (unwrap_or named.paper 0) text) r ≡ judge_by_role t (call_by stamp (Respond paper text))
+    → made_of (λ (done : Unit {0}). response_drawn stamp (unwrap_or named.paper 0) text) r
+    ≡ judge_by_role t (call_by stamp (Respond paper text))
 response-drawn t stamp paper named given text late when seen same r judges =
     judged-made (respond_checks named.by told (responded named.paper) past) (λ (done : Unit {0}). made named.paper) tt r
     (judges
-    ∙ ap (λ (b : Bool). judged (respond_checks named.by told (is_some (response_in seen (unwrap_or named.paper 0))) b) tt) when
-    ∙ ap (λ (x : TalkState). judged (respond_checks named.by told (is_some (response_in x (unwrap_or named.paper 0))) past) tt) same)
-    ∙ ap (λ (n : Named). judged (respond_checks n.by (record { there = is_some n.paper; withdrawn = n.withdrawn }) (responded n.paper) past) (made n.paper)) given
+    ∙ ap (λ (b : Bool). judged (respond_checks named.by told (is_some (response_in seen (unwrap_or named.paper 0))) b)
+    tt) when
+    ∙ ap
+    (λ (x : TalkState). judged (respond_checks named.by told (is_some (response_in x (unwrap_or named.paper 0))) past)
+    tt) same)
+    ∙ ap
+    (λ (n : Named). judged (respond_checks n.by (record { there = is_some n.paper; withdrawn = n.withdrawn })
+    (responded n.paper) past) (made n.paper)) given
     ∙ there-judged t.papers asked due refl (λ (at : Option ℕ). refl) (λ (p : ℕ). refl) paper
   where
     told : NamedPaper
@@ -56,13 +65,15 @@ response-drawn t stamp paper named given text late when seen same r judges =
 
     due : Bool → Option ℕ → Result Drawn Rule
     due there at =
-        judged (respond_checks (standing_at t (Some stamp.maker) at) (record { there = there; withdrawn = at_some (is_withdrawn_at t.papers) at }) (responded at) past)
+        judged (respond_checks (standing_at t (Some stamp.maker) at)
+        (record { there = there; withdrawn = at_some (is_withdrawn_at t.papers) at }) (responded at) past)
         (made at)
 
     asked : Option ℕ → Result Drawn Rule
     asked at = due (is_some at) at
 
-module _ (t : Tables) (stamp : Stamp) (paper : Option ℕ) (named : Named) (given : named ≡ named_at t stamp.maker (there_in t.papers paper))
+module _ (t : Tables) (stamp : Stamp) (paper : Option ℕ) (named : Named)
+    (given : named ≡ named_at t stamp.maker (there_in t.papers paper))
     (ordinal : Option ℕ) (held : ordinal ≡ option_and_then (ordinal_in t.seats (Some stamp.maker)) named.paper) where
   abbrev told : NamedPaper
   told = record { there = is_some named.paper; withdrawn = named.withdrawn }
@@ -71,23 +82,34 @@ module _ (t : Tables) (stamp : Stamp) (paper : Option ℕ) (named : Named) (give
   abbrev seat : Option ℕ → Option ℕ
   seat at = option_and_then (ordinal_in t.seats (Some stamp.maker)) at
 
-  pub review-drawn : (form : Form) (late : Bool) → late ≡ is_late_in t.stage stamp.at → (seen : ReviewsState) → seen ≡ t.reviews → (r : Result ℕ Rule)
+  pub review-drawn : (form : Form) (late : Bool) → late ≡ is_late_in t.stage stamp.at → (seen : ReviewsState)
+      → seen ≡ t.reviews → (r : Result ℕ Rule)
       → r ≡ judged (review_checks named.by told late) (length (forms_by seen (unwrap_or named.paper 0) ordinal) + 1)
-      → made_of (λ (version : ℕ). review_drawn stamp (unwrap_or named.paper 0) (unwrap_or ordinal 0) version form) r ≡ judge_by_role t (call_by stamp (Review paper form))
+      → made_of (λ (version : ℕ). review_drawn stamp (unwrap_or named.paper 0) (unwrap_or ordinal 0) version form) r
+      ≡ judge_by_role t (call_by stamp (Review paper form))
   review-drawn form late when seen same r judges =
-      ap (λ (o : Option ℕ). made_of (λ (version : ℕ). review_drawn stamp (unwrap_or named.paper 0) (unwrap_or o 0) version form) r) held
-      ∙ numbered-drawn t stamp.maker paper named given (λ (s : Standing) (p : NamedPaper). review_checks s p (is_late_in t.stage stamp.at)) (λ (s : Standing) (w : Bool) (x : Drawn). refl)
+      ap
+      (λ (o : Option ℕ). made_of (λ (version : ℕ). review_drawn stamp (unwrap_or named.paper 0) (unwrap_or o 0)
+      version form) r) held
+      ∙ numbered-drawn t stamp.maker paper named given
+      (λ (s : Standing) (p : NamedPaper). review_checks s p (is_late_in t.stage stamp.at))
+      (λ (s : Standing) (w : Bool) (x : Drawn). refl)
       (λ (at : Option ℕ) (version : ℕ). review_drawn stamp (unwrap_or at 0) (unwrap_or (seat at) 0) version form)
       (λ (at : Option ℕ). length (forms_by t.reviews (unwrap_or at 0) (seat at)) + 1)
-      (λ (at : Option ℕ). let p : ℕ = unwrap_or at 0 in review_drawn stamp p (unwrap_or (ordinal_in t.seats (Some stamp.maker) p) 0) (length (own_forms_in t (Some stamp.maker) p) + 1) form)
+      (λ (at : Option ℕ). let p : ℕ = unwrap_or at 0 in review_drawn stamp p
+      (unwrap_or (ordinal_in t.seats (Some stamp.maker) p) 0) (length (own_forms_in t (Some stamp.maker) p) + 1) form)
       (λ (p : ℕ). refl) r
       (judges
-      ∙ ap (λ (b : Bool). judged (review_checks named.by told b) (length (forms_by seen (unwrap_or named.paper 0) ordinal) + 1)) when
-      ∙ ap (λ (o : Option ℕ). judged (review_checks named.by told (is_late_in t.stage stamp.at)) (length (forms_by seen (unwrap_or named.paper 0) o) + 1)) held
-      ∙ ap (λ (x : ReviewsState). judged (review_checks named.by told (is_late_in t.stage stamp.at)) (length (forms_by x (unwrap_or named.paper 0) (seat named.paper)) + 1)) same)
+      ∙ ap (λ (b : Bool). judged (review_checks named.by told b)
+      (length (forms_by seen (unwrap_or named.paper 0) ordinal) + 1)) when
+      ∙ ap (λ (o : Option ℕ). judged (review_checks named.by told (is_late_in t.stage stamp.at))
+      (length (forms_by seen (unwrap_or named.paper 0) o) + 1)) held
+      ∙ ap (λ (x : ReviewsState). judged (review_checks named.by told (is_late_in t.stage stamp.at))
+      (length (forms_by x (unwrap_or named.paper 0) (seat named.paper)) + 1)) same)
 
   -- where no rule is broken, she reviews it
-  pub is-seated : (late : Bool) (x given : ℕ) → ◌≡◌ {A = Result ℕ Rule} (Ok given) (judged (review_checks named.by told late) x) → IsSome ordinal
+  pub is-seated : (late : Bool) (x given : ℕ)
+      → ◌≡◌ {A = Result ℕ Rule} (Ok given) (judged (review_checks named.by told late) x) → IsSome ordinal
   is-seated late x given' h = by ordinal (reviews ∙ ap is_some (sym held))
     where
       is-true : (b : Bool) → not b ≡ false → b ≡ true
@@ -110,17 +132,27 @@ module _ (t : Tables) (stamp : Stamp) (paper : Option ℕ) (named : Named) (give
       by (Some o) is = refl
 
   -- a comment is numbered by how many are kept
-  pub comment-drawn : (text : List ℕ) (late : Bool) → late ≡ is_late_in t.stage stamp.at → (seen : TalkState) → seen ≡ t.talk → (r : Result ℕ Rule)
-      → r ≡ judged (comment_checks named.by told (own_comments_in seen (Some stamp.maker)) late) (length (comments_in seen (unwrap_or named.paper 0)) + 1)
-      → made_of (λ (n : ℕ). comment_drawn stamp (unwrap_or named.paper 0) n ordinal text) r ≡ judge_by_role t (call_by stamp (Comment paper text))
+  pub comment-drawn : (text : List ℕ) (late : Bool) → late ≡ is_late_in t.stage stamp.at → (seen : TalkState)
+      → seen ≡ t.talk → (r : Result ℕ Rule)
+      → r ≡ judged (comment_checks named.by told (own_comments_in seen (Some stamp.maker)) late)
+      (length (comments_in seen (unwrap_or named.paper 0)) + 1)
+      → made_of (λ (n : ℕ). comment_drawn stamp (unwrap_or named.paper 0) n ordinal text) r
+      ≡ judge_by_role t (call_by stamp (Comment paper text))
   comment-drawn text late when seen same r judges =
       ap (λ (o : Option ℕ). made_of (λ (n : ℕ). comment_drawn stamp (unwrap_or named.paper 0) n o text) r) held
-      ∙ numbered-drawn t stamp.maker paper named given (λ (s : Standing) (p : NamedPaper). comment_checks s p (own_comments_in t.talk (Some stamp.maker)) (is_late_in t.stage stamp.at))
+      ∙ numbered-drawn t stamp.maker paper named given
+      (λ (s : Standing) (p : NamedPaper). comment_checks s p (own_comments_in t.talk (Some stamp.maker))
+      (is_late_in t.stage stamp.at))
       (λ (s : Standing) (w : Bool) (x : Drawn). refl)
       (λ (at : Option ℕ) (n : ℕ). comment_drawn stamp (unwrap_or at 0) n (seat at) text)
       (λ (at : Option ℕ). length (comments_in t.talk (unwrap_or at 0)) + 1)
-      (λ (at : Option ℕ). let p : ℕ = unwrap_or at 0 in comment_drawn stamp p (length (map comment_as_told (comments_in t.talk p)) + 1) (ordinal_in t.seats (Some stamp.maker) p) text)
-      (λ (p : ℕ). ap (λ (n : ℕ). comment_drawn stamp p (n + 1) (ordinal_in t.seats (Some stamp.maker) p) text) (sym (length-map (comments_in t.talk p) comment_as_told))) r
+      (λ (at : Option ℕ). let p : ℕ = unwrap_or at 0 in comment_drawn stamp p
+      (length (map comment_as_told (comments_in t.talk p)) + 1) (ordinal_in t.seats (Some stamp.maker) p) text)
+      (λ (p : ℕ). ap (λ (n : ℕ). comment_drawn stamp p (n + 1) (ordinal_in t.seats (Some stamp.maker) p) text)
+      (sym (length-map (comments_in t.talk p) comment_as_told))) r
       (judges
-      ∙ ap (λ (b : Bool). judged (comment_checks named.by told (own_comments_in seen (Some stamp.maker)) b) (length (comments_in seen (unwrap_or named.paper 0)) + 1)) when
-      ∙ ap (λ (x : TalkState). judged (comment_checks named.by told (own_comments_in x (Some stamp.maker)) (is_late_in t.stage stamp.at)) (length (comments_in x (unwrap_or named.paper 0)) + 1)) same)
+      ∙ ap (λ (b : Bool). judged (comment_checks named.by told (own_comments_in seen (Some stamp.maker)) b)
+      (length (comments_in seen (unwrap_or named.paper 0)) + 1)) when
+      ∙ ap
+      (λ (x : TalkState). judged (comment_checks named.by told (own_comments_in x (Some stamp.maker))
+      (is_late_in t.stage stamp.at)) (length (comments_in x (unwrap_or named.paper 0)) + 1)) same)

@@ -1,5 +1,6 @@
 -- Room for values of papers beside sums.
-use Rattle.std.proofs.Common.{ℕ, Bool, true, false, cond, ◌≡◌, ◌≤◌, ◌<◌, ◌+◌, List, [], ◌∷◌, Option, Some, get_or, eqb, refl, ap, sym, arith}
+use Rattle.std.proofs.Common.{ℕ, Bool, true, false, cond, ◌≡◌, ◌≤◌, ◌<◌, ◌+◌, List, [], ◌∷◌, Option, Some, get_or, eqb}
+use Rattle.std.proofs.Common.{refl, ap, sym, arith}
 use Rattle.std.specs.Prelude.{nat_le}
 use Rattle.std.proofs.lemmas.Bool.{true≢false}
 use Rattle.std.proofs.lemmas.Bool.Decides.{nat_tests}
@@ -21,7 +22,8 @@ pub beside-all : (sums : ℕ) (rooms : List ℕ) → 10000 ≤ sums → rooms_be
 beside-all sums rooms le = ap (λ b. cond b rooms []) (fits 10000 sums le)
 
 -- and where there is room, they fit
-beside-some : (sums n : ℕ) (rooms : List ℕ) → 0 < get_or (rooms_beside sums rooms) n 0 → (10000 ≤ sums) × (0 < get_or rooms n 0)
+beside-some : (sums n : ℕ) (rooms : List ℕ) → 0 < get_or (rooms_beside sums rooms) n 0
+    → (10000 ≤ sums) × (0 < get_or rooms n 0)
 beside-some sums n rooms = by (nat_le 10000 sums) refl
   where
     by : (b : Bool) → nat_le 10000 sums ≡ b → 0 < get_or (cond b rooms []) n 0 → (10000 ≤ sums) × (0 < get_or rooms n 0)
@@ -29,9 +31,11 @@ beside-some sums n rooms = by (nat_le 10000 sums) refl
     by false is h = absurd (omega (arith, h))
 
 -- so they do where there is room for the first of a group, and of its number there is room for one
-pub beside-first : {A : Type 0} (number : A → Option ℕ) (x : A) (rest : List A) (sums n : ℕ) (rooms : List ℕ) → number x ≡ Some n
+pub beside-first : {A : Type 0} (number : A → Option ℕ) (x : A) (rest : List A) (sums n : ℕ) (rooms : List ℕ)
+    → number x ≡ Some n
     → HasRoomFor number (x ∷ rest) (rooms_beside sums rooms) → (10000 ≤ sums) × (0 < get_or rooms n 0)
-beside-first number x rest sums n rooms is has = beside-some sums n rooms (room-for-first number x rest (rooms_beside sums rooms) n is has)
+beside-first number x rest sums n rooms is has =
+    beside-some sums n rooms (room-for-first number x rest (rooms_beside sums rooms) n is has)
 
 -- what a number has less, where no fewer sums fit, is what it has less of the values
 pub one-less-beside : (number old_sums new_sums : ℕ) (old new : List ℕ) → old_sums ≤ new_sums → IsOneLess number old new
@@ -42,16 +46,19 @@ one-less-beside number old_sums new_sums old new le less n =
     more : ℕ
     more = cond (eqb number n) 1 0
 
-    by : (a b : Bool) → (a ≡ true → b ≡ true) → get_or old n 0 ≤ get_or new n 0 + more → get_or (cond a old []) n 0 ≤ get_or (cond b new []) n 0 + more
+    by : (a b : Bool) → (a ≡ true → b ≡ true) → get_or old n 0 ≤ get_or new n 0 + more
+        → get_or (cond a old []) n 0 ≤ get_or (cond b new []) n 0 + more
     by true true on h = h
     by true false on h = absurd (true≢false (sym (on refl)))
     by false b on h = omega arith
 
-pub no-less-beside : (old_sums new_sums : ℕ) (old new : List ℕ) → old_sums ≤ new_sums → IsNoLess old new → IsNoLess (rooms_beside old_sums old) (rooms_beside new_sums new)
+pub no-less-beside : (old_sums new_sums : ℕ) (old new : List ℕ) → old_sums ≤ new_sums → IsNoLess old new
+    → IsNoLess (rooms_beside old_sums old) (rooms_beside new_sums new)
 no-less-beside old_sums new_sums old new le keeps n =
     by (nat_le 10000 old_sums) (nat_le 10000 new_sums) (still 10000 old_sums new_sums le) (keeps n)
   where
-    by : (a b : Bool) → (a ≡ true → b ≡ true) → get_or old n 0 ≤ get_or new n 0 → get_or (cond a old []) n 0 ≤ get_or (cond b new []) n 0
+    by : (a b : Bool) → (a ≡ true → b ≡ true) → get_or old n 0 ≤ get_or new n 0
+        → get_or (cond a old []) n 0 ≤ get_or (cond b new []) n 0
     by true true on h = h
     by true false on h = absurd (true≢false (sym (on refl)))
     by false b on h = omega arith

@@ -1,5 +1,6 @@
 -- The flat list out of drawers, where one paper has other values than it had.
-use Rattle.std.proofs.Common.{ℕ, Bool, true, false, ◌≡◌, ◌≤◌, ◌<◌, ◌+◌, List, [], ◌∷◌, ◌++◌, length, set, sym, ap, ◌∙◌, arith, zero, suc}
+use Rattle.std.proofs.Common.{ℕ, Bool, true, false, ◌≡◌, ◌≤◌, ◌<◌, ◌+◌, List, [], ◌∷◌, ◌++◌, length, set, sym, ap, ◌∙◌}
+use Rattle.std.proofs.Common.{arith, zero, suc}
 use Rattle.std.specs.Prelude.{nat_lt, map, filter}
 use Rattle.std.proofs.lemmas.Bool.Decides.{nat_tests}
 use Rattle.std.proofs.lemmas.List.{append_assoc}
@@ -36,10 +37,12 @@ module _ {V : Type 0} (p : ℕ) (vs : List V) where
       ap (λ (ys : List V). map (filed n) ys ++ rest) put
       ∙ ap (λ (m : ℕ). map (filed m) vs ++ rest) here
       ∙ sym
-      (ap (λ (ys : List (Filed V)). ys ++ own ++ filter is_high (map (filed n) d.values ++ rest)) (none-from (λ m. nat_lt m p) n (d ∷ ds) (λ m le. no_less m p (omega (arith, here, le))))
+      (ap (λ (ys : List (Filed V)). ys ++ own ++ filter is_high (map (filed n) d.values ++ rest))
+      (none-from (λ m. nat_lt m p) n (d ∷ ds) (λ m le. no_less m p (omega (arith, here, le))))
       ∙ ap (λ (ys : List (Filed V)). own ++ ys)
       (filter-append is_high (map (filed n) d.values) rest
-      ∙ ap (λ (ys : List (Filed V)). ys ++ filter is_high rest) (block-none (λ m. nat_lt p m) n d.values (no_less p n (omega (arith, here))))
+      ∙ ap (λ (ys : List (Filed V)). ys ++ filter is_high rest)
+      (block-none (λ m. nat_lt p m) n d.values (no_less p n (omega (arith, here))))
       ∙ all-from (λ m. nat_lt p m) (n + 1) ds (λ m le. less p m (omega (arith, here, le)))))
   with-drawer n (suc i) (d ∷ ds) e is lt put =
       let block : List (Filed V) = map (filed n) d.values in
@@ -48,8 +51,10 @@ module _ {V : Type 0} (p : ℕ) (vs : List V) where
       ap (λ (ys : List (Filed V)). block ++ ys) (with-drawer (n + 1) i ds e (omega (arith, is)) (omega (arith, lt)) put)
       ∙ sym
       (ap (λ (ys : List (Filed V)). ys ++ own ++ filter is_high (block ++ rest))
-      (filter-append is_low block rest ∙ ap (λ (ys : List (Filed V)). ys ++ filter is_low rest) (block-all (λ m. nat_lt m p) n d.values (less n p below)))
+      (filter-append is_low block rest ∙ ap (λ (ys : List (Filed V)). ys ++ filter is_low rest)
+      (block-all (λ m. nat_lt m p) n d.values (less n p below)))
       ∙ ap (λ (ys : List (Filed V)). block ++ filter is_low rest ++ own ++ ys)
-      (filter-append is_high block rest ∙ ap (λ (ys : List (Filed V)). ys ++ filter is_high rest) (block-none (λ m. nat_lt p m) n d.values (no_less p n (omega (arith, below)))))
+      (filter-append is_high block rest ∙ ap (λ (ys : List (Filed V)). ys ++ filter is_high rest)
+      (block-none (λ m. nat_lt p m) n d.values (no_less p n (omega (arith, below)))))
       ∙ ap (λ (ys : List (Filed V)). ys ++ filter is_high rest) (append_assoc block (filter is_low rest) own)
       ∙ append_assoc block (filter is_low rest ++ own) (filter is_high rest))

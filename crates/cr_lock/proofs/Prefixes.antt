@@ -1,5 +1,6 @@
 -- Beginnings of one list.
-use Rattle.std.proofs.Common.{◌≡◌, ◌≤◌, ◌⊎◌, inl, inr, List, [], ◌∷◌, ◌++◌, length, drop, refl, ap, sym, ◌∙◌, arith, append_assoc, length-append}
+use Rattle.std.proofs.Common.{◌≡◌, ◌≤◌, ◌⊎◌, inl, inr, List, [], ◌∷◌, ◌++◌, length, drop, refl, ap, sym, ◌∙◌, arith}
+use Rattle.std.proofs.Common.{append_assoc, length-append}
 use mathlib.Core.Logic.{dite}
 use native.Mathlib.Decide.{dec_le}
 use mathlib.Core.List.{IsPrefix}
@@ -15,7 +16,8 @@ pub prefix_trans : {A : Type 0} (xs ys zs : List A) → IsPrefix xs ys → IsPre
 prefix_trans xs ys zs p q = (p.0 ++ q.0, sym (append_assoc xs p.0 q.0) ∙ (ap (λ w. w ++ q.0) p.1 ∙ q.1))
 
 -- of two beginnings of one list the shorter begins the longer
-pub prefix_shorter : {A : Type 0} (xs ys zs : List A) → IsPrefix xs zs → IsPrefix ys zs → length xs ≤ length ys → IsPrefix xs ys
+pub prefix_shorter : {A : Type 0} (xs ys zs : List A) → IsPrefix xs zs → IsPrefix ys zs → length xs ≤ length ys
+    → IsPrefix xs ys
 prefix_shorter [] ys zs p q le = (ys, refl)
 prefix_shorter (x ∷ xs) [] zs p q le = absurd (omega arith)
 prefix_shorter (x ∷ xs) (y ∷ ys) [] p q le = absurd (cc (p.1))
@@ -35,12 +37,14 @@ prefix_either xs ys zs p q = dite (dec_le (length xs) (length ys)) (λ le. inl (
 pub prefix_drop : {A : Type 0} (xs ys : List A) → IsPrefix xs ys → xs ++ drop (length xs) ys ≡ ys
 prefix_drop [] ys p = refl
 prefix_drop (x ∷ xs) [] p = absurd (cc (p.1))
-prefix_drop (x ∷ xs) (y ∷ ys) p = let rest : xs ++ drop (length xs) ys ≡ ys = prefix_drop xs ys (p.0, cc (p.1)) in cc (p.1, rest)
+prefix_drop (x ∷ xs) (y ∷ ys) p = let rest : xs ++ drop (length xs) ys ≡ ys =
+    prefix_drop xs ys (p.0, cc (p.1)) in cc (p.1, rest)
 
 pub stands_longer : {E : Type 0} (log more : List E) (t : Turn E) → IsPrefix log more → StandsIn log t → StandsIn more t
 stands_longer log more t p s = (s.0, s.1, prefix_trans (s.0 ++ t.group) log more s.2 p)
 
-pub every_longer : {E : Type 0} (log more : List E) (ts : List (Turn E)) → IsPrefix log more → Every (StandsIn log) ts → Every (StandsIn more) ts
+pub every_longer : {E : Type 0} (log more : List E) (ts : List (Turn E)) → IsPrefix log more → Every (StandsIn log) ts
+    → Every (StandsIn more) ts
 every_longer log more [] p e = tt
 every_longer log more (t ∷ ts) p e = (stands_longer log more t p e.0, every_longer log more ts p e.1)
 

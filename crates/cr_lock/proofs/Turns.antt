@@ -1,6 +1,7 @@
 -- The steps of a turn keep the rule.
-use Rattle.std.proofs.Common.{◌≡◌, ◌≢◌, ◌⊎◌, inl, inr, ⊎_elim, ℕ, ◌+◌, ◌-◌, ◌%◌, ◌^◌, ◌<◌, ◌≤◌, if◌then◌else◌, Option, Some, None, IfSome, List, [], ◌∷◌, ◌++◌}
-use Rattle.std.proofs.Common.{length, get_or, set, drop, refl, ap, sym, ◌∙◌, subst, arith, mod-eq_of_lt, append-nil, length-drop}
+use Rattle.std.proofs.Common.{◌≡◌, ◌≢◌, ◌⊎◌, inl, inr, ⊎_elim, ℕ, ◌+◌, ◌-◌, ◌%◌, ◌^◌, ◌<◌, ◌≤◌, if◌then◌else◌, Option}
+use Rattle.std.proofs.Common.{Some, None, IfSome, List, [], ◌∷◌, ◌++◌, length, get_or, set, drop, refl, ap, sym, ◌∙◌}
+use Rattle.std.proofs.Common.{subst, arith, mod-eq_of_lt, append-nil, length-drop}
 use Rattle.std.proofs.lemmas.Bool.Decides.{nat_tests}
 use mathlib.Core.Logic.{dite}
 use mathlib.Core.List.{IsPrefix}
@@ -21,7 +22,8 @@ use Rattle.cr_lock.specs.Rule.{holds_ticket, has_value, FitsActivity, FitsLock, 
 use Rattle.cr_lock.specs.Steps.{Looked, Noted, noted_at, WentOn}
 use Rattle.cr_lock.proofs.Prefixes.{prefix_self, prefix_length, prefix_drop, every_longer, every_snoc}
 use Rattle.cr_lock.proofs.Order.{snoc_in_order, places_below}
-use Rattle.cr_lock.proofs.Sums.{total_append, total_set, total_at, total_two, total_gap, within_join, within_one, within_in, within_is}
+use Rattle.cr_lock.proofs.Sums.{total_append, total_set, total_at, total_two, total_gap, within_join, within_one}
+use Rattle.cr_lock.proofs.Sums.{within_in, within_is}
 use Rattle.cr_lock.proofs.Changes.{Rule, Rose, has, change, alike_set, risen_same, ticket_small}
 
 -- a turn that left the value y, which stood for the list xs and stands for ys
@@ -34,7 +36,8 @@ after_turn v y xs ys m n = record v {
 }
 
 -- what is at home is one value
-pub same_home : {T : Type 0} (left : Option T) (x : T) (homes : List (mathlib.Core.Option.Option (Option T))) → homes ≡ some (Some x) ∷ []
+pub same_home : {T : Type 0} (left : Option T) (x : T) (homes : List (mathlib.Core.Option.Option (Option T)))
+    → homes ≡ some (Some x) ∷ []
     → IfSome left (λ value. homes ≡ some (Some value) ∷ []) → IfSome left (λ value. x ≡ value)
 same_home None x homes is left = tt
 same_home (Some y) x homes is left =
@@ -42,7 +45,8 @@ same_home (Some y) x homes is left =
     let values : Some x ≡ Some y = some-injective (Some x) (Some y) heads in cc (values)
 
 -- a pass that has the value holds the ticket that is served
-has_at_most : {T E Root : Type 0} (start : ℕ) (log : List E) (serving : ℕ) (risen : ℕ → Root → Type 0) (v : PassState T E Root) (activity : Activity E Root)
+has_at_most : {T E Root : Type 0} (start : ℕ) (log : List E) (serving : ℕ) (risen : ℕ → Root → Type 0)
+    (v : PassState T E Root) (activity : Activity E Root)
     → FitsActivity start log serving risen v activity → has_value activity ≤ holds_ticket serving activity
 has_at_most start log serving risen v Idle f = omega arith
 has_at_most start log serving risen v (Waiting u) f = omega arith
@@ -50,13 +54,18 @@ has_at_most start log serving risen v (Holding u n origin) f = let e : within u 
     (let z = f.0 in within_in u (u + 1) serving (omega arith) (omega arith)) in omega arith
 has_at_most start log serving risen v (Joined a b m o) f = omega arith
 
-served : {T E Root : Type 0} (start : ℕ) (log : List E) (serving : ℕ) (risen : ℕ → Root → Type 0) (v : PassState T E Root) (t n : ℕ) (origin : Root)
-    → v.activity ≡ Holding t n origin → FitsLock start log serving risen v → (t ≡ serving) × (v.seen ≡ log) × risen n origin
-served start log serving risen v t n origin e f = subst (λ activity. FitsActivity start log serving risen v activity) e f.activity
+served : {T E Root : Type 0} (start : ℕ) (log : List E) (serving : ℕ) (risen : ℕ → Root → Type 0)
+    (v : PassState T E Root) (t n : ℕ) (origin : Root)
+    → v.activity ≡ Holding t n origin → FitsLock start log serving risen v → (t ≡ serving) × (v.seen ≡ log)
+    × risen n origin
+served start log serving risen v t n origin e f =
+    subst (λ activity. FitsActivity start log serving risen v activity) e f.activity
 
 -- the count of faults has risen by one more mark, where it has risen
-marked_more : (a n c : ℕ) → n ≤ c → (a ≤ n) ⊎ (last_count ≤ n) → (a + (if has_risen n c then 1 else 0) ≤ c) ⊎ (last_count ≤ c)
-marked_more a n c le h = ⊎_elim (λ (p : a ≤ n). dite (dec_le last_count c) (λ full. inr full) (λ less. inl (grind (arith, nat_tests))))
+marked_more : (a n c : ℕ) → n ≤ c → (a ≤ n) ⊎ (last_count ≤ n) → (a + (if has_risen n c then 1 else 0) ≤ c)
+    ⊎ (last_count ≤ c)
+marked_more a n c le h =
+    ⊎_elim (λ (p : a ≤ n). dite (dec_le last_count c) (λ full. inr full) (λ less. inl (grind (arith, nat_tests))))
     (λ (p : last_count ≤ n). inr (omega arith)) h
 
 module _ {T E Root : Type 0} (list : T → List E) (faults : T → ℕ) (root : T → Root) (first : T) where
@@ -75,23 +84,29 @@ module _ {T E Root : Type 0} (list : T → List E) (faults : T → ℕ) (root : 
   abbrev Up : List V → ℕ → Root → Type 0
   Up = Rose list faults root first
 
-  alive_share : (v : V) → v.activity ≢ Idle → ((0 < v.share) × (start ≤ length v.seen)) ⊎ (v ≡ spent_state) → (0 < v.share) × (start ≤ length v.seen)
-  alive_share v busy a = ⊎_elim (λ (h : (0 < v.share) × (start ≤ length v.seen)). h) (λ (h : v ≡ spent_state). absurd (busy (ap (λ (u : V). u.activity) h))) a
+  alive_share : (v : V) → v.activity ≢ Idle → ((0 < v.share) × (start ≤ length v.seen)) ⊎ (v ≡ spent_state)
+      → (0 < v.share) × (start ≤ length v.seen)
+  alive_share v busy a = ⊎_elim (λ (h : (0 < v.share) × (start ≤ length v.seen)). h)
+      (λ (h : v ≡ spent_state). absurd (busy (ap (λ (u : V). u.activity) h))) a
 
   -- who waits for the ticket that is served finds the value at home
-  at_home : (s : St) (r : R s) (id : ℕ) (v : V) (t : ℕ) → get_elem? s.views id ≡ some v → v.activity ≡ Waiting t → t ≡ r.serving
+  at_home : (s : St) (r : R s) (id : ℕ) (v : V) (t : ℕ) → get_elem? s.views id ≡ some v → v.activity ≡ Waiting t
+      → t ≡ r.serving
       → total (λ (u : V). has_value u.activity) s.views ≡ 0
   at_home s r id v t at waits e =
       let F : V → ℕ = λ u. holds_ticket r.serving u.activity in
       let G : V → ℕ = λ u. has_value u.activity in
       let p : total G s.views + holds_ticket r.serving v.activity ≤ total F s.views + has_value v.activity =
-      total_gap F G s.views id v (λ j u a. has_at_most start r.log r.serving (Up s.views) u u.activity (r.each j u a).activity) at in
-      let a : holds_ticket r.serving v.activity ≡ 1 = ap (holds_ticket r.serving) waits ∙ within_in t (t + 1) r.serving (omega arith) (omega arith) in
+      total_gap F G s.views id v (λ j u a. has_at_most start r.log r.serving (Up s.views) u u.activity
+      (r.each j u a).activity) at in
+      let a : holds_ticket r.serving v.activity ≡ 1 =
+      ap (holds_ticket r.serving) waits ∙ within_in t (t + 1) r.serving (omega arith) (omega arith) in
       let b : has_value v.activity ≡ 0 = ap has_value waits in
       let c = r.tickets r.serving in
       let d : within r.serving r.ticket r.serving ≤ 1 = within_one r.serving r.ticket r.serving in omega arith
 
-  look_takes : (s : St) (r : R s) (id : ℕ) (v : V) (t : ℕ) (x : T) → get_elem? s.views id ≡ some v → v.activity ≡ Waiting t → t ≡ r.serving
+  look_takes : (s : St) (r : R s) (id : ℕ) (v : V) (t : ℕ) (x : T) → get_elem? s.views id ≡ some v
+      → v.activity ≡ Waiting t → t ≡ r.serving
       → s.homes ≡ some (Some x) ∷ [] → list x ≡ r.log → Up s.views (faults x) (root x)
       → R record {
         words = set s.words 1 (get_or s.words 1 0);
@@ -106,12 +121,14 @@ module _ {T E Root : Type 0} (list : T → List E) (faults : T → ℕ) (root : 
       let no : has_value v.activity ≡ 0 = ap has_value waits in
       let same = alike_set list faults root first s.views id v w at refl in
       let one : total (λ (u : V). has_value u.activity) vs' ≡ 1 =
-      (let c : total (λ (u : V). has_value u.activity) vs' + has_value v.activity ≡ total (λ (u : V). has_value u.activity) s.views + 1 =
+      (let c : total (λ (u : V). has_value u.activity) vs' + has_value v.activity
+      ≡ total (λ (u : V). has_value u.activity) s.views + 1 =
       total_set (λ (u : V). has_value u.activity) s.views id v w at in omega arith) in
       let seen : IsPrefix v.seen (list x) = subst (λ z. IsPrefix v.seen z) (sym stands) f.seen in
       let longer : length v.seen ≤ length (list x) = prefix_length v.seen (list x) seen in
       let alive = alive_share v (λ idle. absurd (cc (idle, waits))) f.alive in
-      change list faults root first s r id v w at r.log r.ticket r.serving (set s.words 1 (get_or s.words 1 0)) (set s.homes 0 none)
+      change list faults root first s r id v w at r.log r.ticket r.serving (set s.words 1 (get_or s.words 1 0))
+      (set s.homes 0 none)
       (set-get_or s.words 1 0 ∙ r.words)
       r.order
       (prefix_self r.log)
@@ -128,16 +145,19 @@ module _ {T E Root : Type 0} (list : T → List E) (faults : T → ℕ) (root : 
         alive = inl (alive.0, omega arith);
       })
       (λ j u ne a k n origin is' g. absurd (let h : has_value u.activity ≡ 1 = ap has_value is' in
-      let q : has_value u.activity ≤ total (λ (z : V). has_value z.activity) s.views = total_at (λ (z : V). has_value z.activity) s.views j u a in
+      let q : has_value u.activity ≤ total (λ (z : V). has_value z.activity) s.views =
+      total_at (λ (z : V). has_value z.activity) s.views j u a in
       omega arith))
       alive.0
       (λ whole outside. absurd outside)
       (inr (ap (λ hs. set hs 0 none) home, one))
 
-  look_finds : (s : St) (r : R s) (id : ℕ) (v : V) (t : ℕ) → get_elem? s.views id ≡ some v → v.activity ≡ Waiting t → t ≡ r.serving
+  look_finds : (s : St) (r : R s) (id : ℕ) (v : V) (t : ℕ) → get_elem? s.views id ≡ some v → v.activity ≡ Waiting t
+      → t ≡ r.serving
       → Home list faults root first r.log s ⊎ Away list faults root first s → Home list faults root first r.log s
   look_finds s r id v t at waits e h = ⊎_elim (λ (a : Home list faults root first r.log s). a)
-      (λ (a : Away list faults root first s). absurd (let z : total (λ (u : V). has_value u.activity) s.views ≡ 0 = at_home s r id v t at waits e in
+      (λ (a : Away list faults root first s). absurd
+      (let z : total (λ (u : V). has_value u.activity) s.views ≡ 0 = at_home s r id v t at waits e in
       let o = a.1 in omega arith)) h
 
   yes_is : (t u : ℕ) {activity : Activity E Root} → activity ≡ Waiting t → activity ≡ Waiting u → t ≡ u
@@ -145,15 +165,19 @@ module _ {T E Root : Type 0} (list : T → List E) (faults : T → ℕ) (root : 
 
   unmoved : (s : St) (id : ℕ) (v : V) → get_elem? s.views id ≡ some v
       → s ≡ record { words = set s.words 1 (get_or s.words 1 0); homes = s.homes; views = set s.views id v }
-  unmoved s id v at = sym (ap (λ (ws : List ℕ). record { words = ws; homes = s.homes; views = set s.views id v }) (set-get_or s.words 1 0)
+  unmoved s id v at =
+      sym (ap (λ (ws : List ℕ). record { words = ws; homes = s.homes; views = set s.views id v })
+      (set-get_or s.words 1 0)
       ∙ ap (λ (vs : List V). record { words = s.words; homes = s.homes; views = vs }) (set_again s.views id v at))
 
-  looks_at : (slots id : ℕ) (v : V) (t : ℕ) → v.activity ≡ Waiting t → Allows R slots id (v, []) 1 (λ n. n) (Looked list faults root (step slots 1 0 0 none) (v, []))
+  looks_at : (slots id : ℕ) (v : V) (t : ℕ) → v.activity ≡ Waiting t
+      → Allows R slots id (v, []) 1 (λ n. n) (Looked list faults root (step slots 1 0 0 none) (v, []))
   looks_at slots id v t waits s r _ at _ =
       let m : ℕ = get_or s.words 1 0 in
       let here : m ≡ r.serving = ap (λ (ws : List ℕ). get_or ws 1 0) r.words in
       dite (ℕ_discrete m t)
-      (λ yes. let h = look_finds s r id v t at waits (sym yes ∙ here) r.value in let x : T = h.0 in let f = r.each id v at in (
+      (λ yes. let h = look_finds s r id v t at waits (sym yes ∙ here) r.value in let x : T = h.0 in let f =
+      r.each id v at in (
         record v { seen = list x; activity = Holding t (faults x) (root x) },
         takes 0 (Some x),
         ap (λ hs. get_elem? hs 0) h.1,
@@ -163,7 +187,8 @@ module _ {T E Root : Type 0} (list : T → List E) (faults : T → ℕ) (root : 
             x,
             subst (λ z. IsPrefix v.seen z) (sym h.2) f.seen,
             λ whole. same_home v.left x s.homes h.1 (r.lone id v at whole (subst IsOutside (sym waits) tt)),
-            ap (λ (k : ℕ). (record v { seen = list x; activity = Holding k (faults x) (root x) }, (0, Some x) ∷ [])) (yes_is t u waits e),
+            ap (λ (k : ℕ). (record v { seen = list x; activity = Holding k (faults x) (root x) }, (0, Some x) ∷ []))
+                (yes_is t u waits e),
           ),
           λ no. absurd (no (yes ∙ yes_is t u waits e)),
         ),
@@ -176,21 +201,28 @@ module _ {T E Root : Type 0} (list : T → List E) (faults : T → ℕ) (root : 
         λ u e. (λ is. absurd (no (is ∙ yes_is u t e waits)), λ _. refl),
       ))
 
-  same_turn : (t n t' n' : ℕ) (origin origin' : Root) (x y : T) {activity : Activity E Root} → activity ≡ Holding t n origin → activity ≡ Holding t' n' origin'
+  same_turn : (t n t' n' : ℕ) (origin origin' : Root) (x y : T) {activity : Activity E Root}
+      → activity ≡ Holding t n origin → activity ≡ Holding t' n' origin'
       → ◌≡◌ {A = List (ℕ × Option T)} ((0, Some x) ∷ []) ((0, Some y) ∷ []) → ◌≡◌ {A = ℕ × ℕ × T} (t, n, x) (t', n', y)
   same_turn t n t' n' origin origin' x y a b c = let p : t ≡ t' = cc (a, b) in let q : n ≡ n' = cc (a, b) in
-      let d : ◌≡◌ {A = ℕ × Option T} (0, Some x) (0, Some y) = cc (c) in let e : ◌≡◌ {A = Option T} (Some x) (Some y) = ap (λ (z : ℕ × Option T). z.1) d in
+      let d : ◌≡◌ {A = ℕ × Option T} (0, Some x) (0, Some y) = cc (c) in let e : ◌≡◌ {A = Option T} (Some x) (Some y) =
+      ap (λ (z : ℕ × Option T). z.1) d in
       let o : x ≡ y = cc (e) in λ i. (p i, q i, o i)
 
   -- where the pass has the value, it is away, and no other pass has it
-  away : (s : St) (r : R s) (id : ℕ) (v : V) (t n : ℕ) (origin : Root) → get_elem? s.views id ≡ some v → v.activity ≡ Holding t n origin
+  away : (s : St) (r : R s) (id : ℕ) (v : V) (t n : ℕ) (origin : Root) → get_elem? s.views id ≡ some v
+      → v.activity ≡ Holding t n origin
       → Home list faults root first r.log s ⊎ Away list faults root first s → Away list faults root first s
-  away s r id v t n origin at has h = ⊎_elim (λ (a : Home list faults root first r.log s). absurd (let one : has_value v.activity ≡ 1 = ap has_value has in
-      let q : has_value v.activity ≤ total (λ (z : V). has_value z.activity) s.views = total_at (λ (z : V). has_value z.activity) s.views id v at in
+  away s r id v t n origin at has h =
+      ⊎_elim (λ (a : Home list faults root first r.log s).
+      absurd (let one : has_value v.activity ≡ 1 = ap has_value has in
+      let q : has_value v.activity ≤ total (λ (z : V). has_value z.activity) s.views =
+      total_at (λ (z : V). has_value z.activity) s.views id v at in
       let z = a.4 in omega arith))
       (λ (a : Away list faults root first s). a) h
 
-  no_other : (s : St) (id : ℕ) (v : V) (t n : ℕ) (origin : Root) → get_elem? s.views id ≡ some v → v.activity ≡ Holding t n origin
+  no_other : (s : St) (id : ℕ) (v : V) (t n : ℕ) (origin : Root) → get_elem? s.views id ≡ some v
+      → v.activity ≡ Holding t n origin
       → total (λ (z : V). has_value z.activity) s.views ≡ 1
       → (j : ℕ) (u : V) → j ≢ id → get_elem? s.views j ≡ some u → (k m : ℕ) (o : Root) → u.activity ≡ Holding k m o → ⊥
   no_other s id v t n origin at has one j u ne a k m o is =
@@ -198,10 +230,15 @@ module _ {T E Root : Type 0} (list : T → List E) (faults : T → ℕ) (root : 
       let two : has_value u.activity + has_value v.activity ≤ total (λ (z : V). has_value z.activity) s.views =
       total_two (λ (z : V). has_value z.activity) s.views j id u v ne a at in omega arith
 
-  note_keeps : (s : St) (r : R s) (id : ℕ) (v : V) (t n : ℕ) (origin : Root) (x : T) (k : ℕ) → get_elem? s.views id ≡ some v
+  note_keeps : (s : St) (r : R s) (id : ℕ) (v : V) (t n : ℕ) (origin : Root) (x : T) (k : ℕ)
+      → get_elem? s.views id ≡ some v
       → v.activity ≡ Holding t n origin → IsPrefix v.seen (list x) → n ≤ faults x → origin ≡ root x
       → length v.seen + k ≡ length (list x) → length (list x) < 2 ^ 64
-      → R record { words = set s.words 2 ((get_or s.words 2 0 + k) % 2 ^ 64); homes = s.homes; views = set s.views id (noted_at list faults root t n v x) }
+      → R record {
+        words = set s.words 2 ((get_or s.words 2 0 + k) % 2 ^ 64);
+        homes = s.homes;
+        views = set s.views id (noted_at list faults root t n v x);
+      }
   note_keeps s r id v t n origin x k at has seen le kept len small =
       let w : V = noted_at list faults root t n v x in
       let f = r.each id v at in
@@ -220,38 +257,51 @@ module _ {T E Root : Type 0} (list : T → List E) (faults : T → ℕ) (root : 
       let now : (get_or s.words 2 0 + k) % 2 ^ 64 ≡ length (list x) =
       (let e : get_or s.words 2 0 + k ≡ length (list x) = omega arith in
       let q : (get_or s.words 2 0 + k) % 2 ^ 64 ≡ get_or s.words 2 0 + k = mod-eq_of_lt (omega arith) in q ∙ e) in
-      let more : total (λ (u : V). marks u.mine) vs' + marks v.mine ≡ total (λ (u : V). marks u.mine) s.views + marks w.mine =
+      let more : total (λ (u : V). marks u.mine) vs' + marks v.mine ≡ total (λ (u : V). marks u.mine) s.views
+      + marks w.mine =
       total_set (λ (u : V). marks u.mine) s.views id v w at in
       let mark : marks w.mine ≡ marks v.mine + (if flag then 1 else 0) =
       (let a : marks (v.mine ++ turn ∷ []) ≡ marks v.mine + ((if flag then 1 else 0) + 0) =
       total_append (λ (z : Turn E). if z.marked then 1 else 0) v.mine (turn ∷ []) in omega arith) in
       let up : Up vs' (faults x) (root x) = record {
         stays = sym kept ∙ mine.2.stays;
-        marks = (let h = marked_more (faults first + total (λ (u : V). marks u.mine) s.views) n (faults x) le mine.2.marks in
-            ⊎_elim (λ (a : faults first + total (λ (u : V). marks u.mine) s.views + (if flag then 1 else 0) ≤ faults x). inl (omega arith))
+        marks =
+            (let h =
+            marked_more (faults first + total (λ (u : V). marks u.mine) s.views) n (faults x) le mine.2.marks in
+            ⊎_elim (λ (a : faults first + total (λ (u : V). marks u.mine) s.views + (if flag then 1 else 0) ≤ faults x).
+            inl (omega arith))
             (λ (a : last_count ≤ faults x). inr a) h);
         count = (let h = mine.2.count in
-            let c : total (λ (u : V). rises u.mine) vs' + rises v.mine ≡ total (λ (u : V). rises u.mine) s.views + rises w.mine =
+            let c : total (λ (u : V). rises u.mine) vs' + rises v.mine ≡ total (λ (u : V). rises u.mine) s.views
+            + rises w.mine =
             total_set (λ (u : V). rises u.mine) s.views id v w at in
-            let up : rises w.mine ≡ rises v.mine + (faults x - n + 0) = total_append (λ (z : Turn E). z.rise) v.mine (turn ∷ []) in omega arith);
+            let up : rises w.mine ≡ rises v.mine + (faults x - n + 0) =
+            total_append (λ (z : Turn E). z.rise) v.mine (turn ∷ []) in omega arith);
       } in
-      let one : total (λ (u : V). has_value u.activity) vs' ≡ 1 = (let a : has_value v.activity ≡ 1 = ap has_value has in let b = out.1 in
-      let c : total (λ (u : V). has_value u.activity) vs' + has_value v.activity ≡ total (λ (u : V). has_value u.activity) s.views + 1 =
+      let one : total (λ (u : V). has_value u.activity) vs' ≡ 1 =
+      (let a : has_value v.activity ≡ 1 = ap has_value has in let b = out.1 in
+      let c : total (λ (u : V). has_value u.activity) vs' + has_value v.activity
+      ≡ total (λ (u : V). has_value u.activity) s.views + 1 =
       total_set (λ (u : V). has_value u.activity) s.views id v w at in omega arith) in
       let alive = alive_share v (λ idle. absurd (cc (idle, has))) f.alive in
-      change list faults root first s r id v w at (list x) r.ticket r.serving (set s.words 2 ((get_or s.words 2 0 + k) % 2 ^ 64)) s.homes
-      (ap (λ (ws : List ℕ). set ws 2 ((get_or s.words 2 0 + k) % 2 ^ 64)) r.words ∙ ap (λ (z : ℕ). r.ticket ∷ r.serving ∷ z ∷ []) now)
+      change list faults root first s r id v w at (list x) r.ticket r.serving
+      (set s.words 2 ((get_or s.words 2 0 + k) % 2 ^ 64)) s.homes
+      (ap (λ (ws : List ℕ). set ws 2 ((get_or s.words 2 0 + k) % 2 ^ 64)) r.words
+      ∙ ap (λ (z : ℕ). r.ticket ∷ r.serving ∷ z ∷ []) now)
       r.order
       grows
       (λ j. (let a : holds_ticket j v.activity ≡ within t (t + 1) j = ap (holds_ticket j) has in omega arith))
       refl
       (omega arith)
-      (λ j. (let a : within start (length r.log) j + within (length r.log) (length (list x)) j ≡ within start (length (list x)) j =
+      (λ j. (let a : within start (length r.log) j + within (length r.log) (length (list x)) j
+      ≡ within start (length (list x)) j =
       within_join start (length r.log) (length (list x)) j begun longer in
-      let b : groups_with j (v.mine ++ turn ∷ []) ≡ groups_with j v.mine + (within (length v.seen) (length v.seen + length group) j + 0) =
+      let b : groups_with j (v.mine ++ turn ∷ []) ≡ groups_with j v.mine
+      + (within (length v.seen) (length v.seen + length group) j + 0) =
       total_append (λ (z : Turn E). within z.place (end_of z) j) v.mine (turn ∷ []) in
       let c : within (length v.seen) (length v.seen + length group) j ≡ within (length r.log) (length (list x)) j =
-      ap (λ (z : ℕ × ℕ). within z.0 z.1 j) (λ i. (seen_length i, (let e : length v.seen + length group ≡ length (list x) = omega arith in e) i)) in
+      ap (λ (z : ℕ × ℕ). within z.0 z.1 j)
+      (λ i. (seen_length i, (let e : length v.seen + length group ≡ length (list x) = omega arith in e) i)) in
       omega arith))
       (record {
         seen = prefix_self (list x);
@@ -267,19 +317,23 @@ module _ {T E Root : Type 0} (list : T → List E) (faults : T → ℕ) (root : 
       (λ whole outside. absurd outside)
       (inr (out.0, one))
 
-  notes_at : (slots id : ℕ) (v : V) (t n : ℕ) (origin : Root) (x : T) (k : ℕ) → v.activity ≡ Holding t n origin → IsPrefix v.seen (list x)
+  notes_at : (slots id : ℕ) (v : V) (t n : ℕ) (origin : Root) (x : T) (k : ℕ) → v.activity ≡ Holding t n origin
+      → IsPrefix v.seen (list x)
       → n ≤ faults x → origin ≡ root x
       → length v.seen + k ≡ length (list x) → length (list x) < 2 ^ 64
-      → Allows R slots id (v, (0, Some x) ∷ []) 2 (λ m. (m + k) % 2 ^ 64) (Noted list faults root (step slots 2 k 0 none) (v, (0, Some x) ∷ []))
+      → Allows R slots id (v, (0, Some x) ∷ []) 2 (λ m. (m + k) % 2 ^ 64)
+      (Noted list faults root (step slots 2 k 0 none) (v, (0, Some x) ∷ []))
   notes_at slots id v t n origin x k has seen le kept len small s r _ at _ = (
     noted_at list faults root t n v x,
     keeps,
     tt,
     note_keeps s r id v t n origin x k at has seen le kept len small,
-    λ t' n' origin' y has' is. ap (λ (z : ℕ × ℕ × T). (noted_at list faults root z.0 z.1 v z.2, (0, Some x) ∷ [])) (same_turn t n t' n' origin origin' x y has has' is),
+    λ t' n' origin' y has' is. ap (λ (z : ℕ × ℕ × T). (noted_at list faults root z.0 z.1 v z.2, (0, Some x) ∷ []))
+        (same_turn t n t' n' origin origin' x y has has' is),
   )
 
-  next_keeps : (s : St) (r : R s) (id : ℕ) (v : V) (t : ℕ) (x : T) → get_elem? s.views id ≡ some v → v.activity ≡ Holding t (faults x) (root x)
+  next_keeps : (s : St) (r : R s) (id : ℕ) (v : V) (t : ℕ) (x : T) → get_elem? s.views id ≡ some v
+      → v.activity ≡ Holding t (faults x) (root x)
       → list x ≡ v.seen → v.left ≡ Some x
       → R record {
         words = set s.words 1 ((get_or s.words 1 0 + 1) % 2 ^ 64);
@@ -293,8 +347,10 @@ module _ {T E Root : Type 0} (list : T → List E) (faults : T → ℕ) (root : 
       let vs' = set s.views id w in
       let out = away s r id v t (faults x) (root x) at has r.value in
       let same = alike_set list faults root first s.views id v w at refl in
-      let nobody : total (λ (u : V). has_value u.activity) vs' ≡ 0 = (let a : has_value v.activity ≡ 1 = ap has_value has in let b = out.1 in
-      let c : total (λ (u : V). has_value u.activity) vs' + has_value v.activity ≡ total (λ (u : V). has_value u.activity) s.views + 0 =
+      let nobody : total (λ (u : V). has_value u.activity) vs' ≡ 0 =
+      (let a : has_value v.activity ≡ 1 = ap has_value has in let b = out.1 in
+      let c : total (λ (u : V). has_value u.activity) vs' + has_value v.activity
+      ≡ total (λ (u : V). has_value u.activity) s.views + 0 =
       total_set (λ (u : V). has_value u.activity) s.views id v w at in omega arith) in
       let below : (r.serving ≤ r.serving) × (r.serving < r.ticket) =
       (let a : holds_ticket r.serving v.activity ≡ 1 = ap (holds_ticket r.serving) has
@@ -305,10 +361,13 @@ module _ {T E Root : Type 0} (list : T → List E) (faults : T → ℕ) (root : 
       let few = ticket_small list faults root first s r in
       let here : get_or s.words 1 0 ≡ r.serving = ap (λ (ws : List ℕ). get_or ws 1 0) r.words in
       let now : (get_or s.words 1 0 + 1) % 2 ^ 64 ≡ r.serving + 1 =
-      (let b = below.1 in let q : (get_or s.words 1 0 + 1) % 2 ^ 64 ≡ get_or s.words 1 0 + 1 = mod-eq_of_lt (omega arith) in
+      (let b = below.1 in let q : (get_or s.words 1 0 + 1) % 2 ^ 64 ≡ get_or s.words 1 0 + 1 =
+      mod-eq_of_lt (omega arith) in
       q ∙ ap (λ (z : ℕ). z + 1) here) in
-      change list faults root first s r id v w at r.log r.ticket (r.serving + 1) (set s.words 1 ((get_or s.words 1 0 + 1) % 2 ^ 64)) (set s.homes 0 (some (Some x)))
-      (ap (λ (ws : List ℕ). set ws 1 ((get_or s.words 1 0 + 1) % 2 ^ 64)) r.words ∙ ap (λ (z : ℕ). r.ticket ∷ z ∷ length r.log ∷ []) now)
+      change list faults root first s r id v w at r.log r.ticket (r.serving + 1)
+      (set s.words 1 ((get_or s.words 1 0 + 1) % 2 ^ 64)) (set s.homes 0 (some (Some x)))
+      (ap (λ (ws : List ℕ). set ws 1 ((get_or s.words 1 0 + 1) % 2 ^ 64)) r.words
+      ∙ ap (λ (z : ℕ). r.ticket ∷ z ∷ length r.log ∷ []) now)
       (let b = below.1 in omega arith)
       (prefix_self r.log)
       (λ j. (let a : holds_ticket j v.activity ≡ within t (t + 1) j = ap (holds_ticket j) has in
@@ -328,7 +387,8 @@ module _ {T E Root : Type 0} (list : T → List E) (faults : T → ℕ) (root : 
       })
       (λ j u ne a i m o is g. absurd (no_other s id v t (faults x) (root x) at has out.1 j u ne a i m o is))
       (alive_share v (λ idle. absurd (cc (idle, has))) f.alive).0
-      (λ whole outside. subst (λ (o : Option T). IfSome o (λ value. set s.homes 0 (some (Some x)) ≡ some (Some value) ∷ [])) (sym left)
+      (λ whole outside. subst (λ (o : Option T).
+      IfSome o (λ value. set s.homes 0 (some (Some x)) ≡ some (Some value) ∷ [])) (sym left)
       (ap (λ hs. set hs 0 (some (Some x))) out.0))
       (inl (
         x,
@@ -339,64 +399,108 @@ module _ {T E Root : Type 0} (list : T → List E) (faults : T → ℕ) (root : 
         nobody,
       ))
 
-  goes_on_at : (slots id : ℕ) (v : V) (t : ℕ) (x : T) → v.activity ≡ Holding t (faults x) (root x) → list x ≡ v.seen → v.left ≡ Some x
-      → Allows R slots id (v, (0, Some x) ∷ []) 1 (λ m. (m + 1) % 2 ^ 64) (WentOn (step slots 1 1 0 none) (v, (0, Some x) ∷ []))
-  goes_on_at slots id v t x has stands left s r _ at _ =
-      (record v { activity = Idle }, gives, tt, next_keeps s r id v t x at has stands left, (refl, (r.each id v at).stand))
+  goes_on_at : (slots id : ℕ) (v : V) (t : ℕ) (x : T) → v.activity ≡ Holding t (faults x) (root x) → list x ≡ v.seen
+      → v.left ≡ Some x
+      → Allows R slots id (v, (0, Some x) ∷ []) 1 (λ m. (m + 1) % 2 ^ 64)
+      (WentOn (step slots 1 1 0 none) (v, (0, Some x) ∷ []))
+  goes_on_at slots id v t x has stands left s r _ at _ = (
+    record v { activity = Idle },
+    gives,
+    tt,
+    next_keeps s r id v t x at has stands left,
+    (refl, (r.each id v at).stand),
+  )
 
   pub looks : (slots id : ℕ) (me : Me (Option T) V) (t : ℕ) → me.0.activity ≡ Waiting t → me.1 ≡ []
       → Allows R slots id me 1 (λ n. n) (Looked list faults root (step slots 1 0 0 none) me)
-  looks slots id me t waits held = subst (λ (m : Me (Option T) V). Allows R slots id m 1 (λ n. n) (Looked list faults root (step slots 1 0 0 none) m))
+  looks slots id me t waits held =
+      subst (λ (m : Me (Option T) V). Allows R slots id m 1 (λ n. n)
+      (Looked list faults root (step slots 1 0 0 none) m))
       (λ i. (me.0, sym held i)) (looks_at slots id me.0 t waits)
 
-  pub notes : (slots id : ℕ) (me : Me (Option T) V) (t n : ℕ) (origin : Root) (x : T) (k : ℕ) → me.0.activity ≡ Holding t n origin
-      → me.1 ≡ (0, Some x) ∷ [] → IsPrefix me.0.seen (list x) → n ≤ faults x → origin ≡ root x → length me.0.seen + k ≡ length (list x) → length (list x) < 2 ^ 64
+  pub notes : (slots id : ℕ) (me : Me (Option T) V) (t n : ℕ) (origin : Root) (x : T) (k : ℕ)
+      → me.0.activity ≡ Holding t n origin
+      → me.1 ≡ (0, Some x) ∷ [] → IsPrefix me.0.seen (list x) → n ≤ faults x → origin ≡ root x
+      → length me.0.seen + k ≡ length (list x) → length (list x) < 2 ^ 64
       → Allows R slots id me 2 (λ m. (m + k) % 2 ^ 64) (Noted list faults root (step slots 2 k 0 none) me)
   notes slots id me t n origin x k has held seen le kept len small =
-      subst (λ (m : Me (Option T) V). Allows R slots id m 2 (λ m. (m + k) % 2 ^ 64) (Noted list faults root (step slots 2 k 0 none) m)) (λ i. (me.0, sym held i))
+      subst (λ (m : Me (Option T) V). Allows R slots id m 2 (λ m. (m + k) % 2 ^ 64)
+      (Noted list faults root (step slots 2 k 0 none) m)) (λ i. (me.0, sym held i))
       (notes_at slots id me.0 t n origin x k has seen le kept len small)
 
-  pub goes_on : (slots id : ℕ) (me : Me (Option T) V) (t : ℕ) (x : T) → me.0.activity ≡ Holding t (faults x) (root x) → me.1 ≡ (0, Some x) ∷ []
+  pub goes_on : (slots id : ℕ) (me : Me (Option T) V) (t : ℕ) (x : T) → me.0.activity ≡ Holding t (faults x) (root x)
+      → me.1 ≡ (0, Some x) ∷ []
       → list x ≡ me.0.seen → me.0.left ≡ Some x
       → Allows R slots id me 1 (λ m. (m + 1) % 2 ^ 64) (WentOn (step slots 1 1 0 none) me)
   goes_on slots id me t x has held stands left = subst
-      (λ (m : Me (Option T) V). Allows R slots id m 1 (λ m. (m + 1) % 2 ^ 64) (WentOn (step slots 1 1 0 none) m)) (λ i. (me.0, sym held i))
+      (λ (m : Me (Option T) V). Allows R slots id m 1 (λ m. (m + 1) % 2 ^ 64) (WentOn (step slots 1 1 0 none) m))
+      (λ i. (me.0, sym held i))
       (goes_on_at slots id me.0 t x has stands left)
 
   -- the pass with the value, as it has been given back to the slot
-  pub put_back : (v w : V) (held : List (ℕ × Option T)) (me : Me (Option T) V) (y : T) → w ≡ v → held ≡ (0, None) ∷ [] → me ≡ (w, (0, Some y) ∷ rest held)
+  pub put_back : (v w : V) (held : List (ℕ × Option T)) (me : Me (Option T) V) (y : T) → w ≡ v → held ≡ (0, None) ∷ []
+      → me ≡ (w, (0, Some y) ∷ rest held)
       → me ≡ (v, (0, Some y) ∷ [])
   put_back v w held me y a b e = e ∙ (λ i. (a i, (0, Some y) ∷ rest (b i)))
 
   pub notes_from : (slots id : ℕ) (me : Me (Option T) V) (v : V) (t : ℕ) (x y : T) (before after : ℕ)
-      → me ≡ (record v { turns = v.turns + 1; seen = list x; activity = Holding t (faults x) (root x) }, (0, Some y) ∷ [])
-      → IsPrefix (list x) (list y) → faults x ≤ faults y → root x ≡ root y → before ≡ length (list x) → after ≡ length (list y) → after < 2 ^ 64
-      → Allows R slots id me 2 (λ m. (m + (after - before)) % 2 ^ 64) (Noted list faults root (step slots 2 (after - before) 0 none) me)
-  notes_from slots id me v t x y before after is grows le kept b a small = let longer : length (list x) ≤ length (list y) = prefix_length (list x) (list y) grows in
+      → me ≡ (
+        record v { turns = v.turns + 1; seen = list x; activity = Holding t (faults x) (root x) },
+        (0, Some y) ∷ [],
+      )
+      → IsPrefix (list x) (list y) → faults x ≤ faults y → root x ≡ root y → before ≡ length (list x)
+      → after ≡ length (list y) → after < 2 ^ 64
+      → Allows R slots id me 2 (λ m. (m + (after - before)) % 2 ^ 64)
+      (Noted list faults root (step slots 2 (after - before) 0 none) me)
+  notes_from slots id me v t x y before after is grows le kept b a small =
+      let longer : length (list x) ≤ length (list y) = prefix_length (list x) (list y) grows in
       let seen : length me.0.seen ≡ length (list x) = ap (λ (m : Me (Option T) V). length m.0.seen) is in
-      notes slots id me t (faults x) (root x) y (after - before) (ap (λ (m : Me (Option T) V). m.0.activity) is) (ap (λ (m : Me (Option T) V). m.1) is)
+      notes slots id me t (faults x) (root x) y (after - before) (ap (λ (m : Me (Option T) V). m.0.activity) is)
+      (ap (λ (m : Me (Option T) V). m.1) is)
       (subst (λ (m : Me (Option T) V). IsPrefix m.0.seen (list y)) (sym is) grows) le kept (omega arith) (omega arith)
 
   pub noted_from : (me next : Me (Option T) V) (v : V) (t k slots found : ℕ) (x y : T)
-      → me ≡ (record v { turns = v.turns + 1; seen = list x; activity = Holding t (faults x) (root x) }, (0, Some y) ∷ [])
+      → me ≡ (
+        record v { turns = v.turns + 1; seen = list x; activity = Holding t (faults x) (root x) },
+        (0, Some y) ∷ [],
+      )
       → Noted list faults root (step slots 2 k 0 none) me found next
-      → next ≡ (record (after_turn v y (list x) (list y) (faults x) (faults y)) { activity = Holding t (faults y) (root y) }, (0, Some y) ∷ [])
-  noted_from me next v t k slots found x y is told = told t (faults x) (root x) y (ap (λ (m : Me (Option T) V). m.0.activity) is) (ap (λ (m : Me (Option T) V). m.1) is)
+      → next ≡ (
+        record (after_turn v y (list x) (list y) (faults x) (faults y))
+            { activity = Holding t (faults y) (root y) },
+        (0, Some y) ∷ [],
+      )
+  noted_from me next v t k slots found x y is told =
+      told t (faults x) (root x) y (ap (λ (m : Me (Option T) V). m.0.activity) is)
+      (ap (λ (m : Me (Option T) V). m.1) is)
       ∙ ap (λ (m : Me (Option T) V). (noted_at list faults root t (faults x) m.0 y, m.1)) is
 
   pub goes_on_from : (slots id : ℕ) (me : Me (Option T) V) (v : V) (t : ℕ) (x y : T)
-      → me ≡ (record (after_turn v y (list x) (list y) (faults x) (faults y)) { activity = Holding t (faults y) (root y) }, (0, Some y) ∷ [])
+      → me ≡ (
+        record (after_turn v y (list x) (list y) (faults x) (faults y))
+            { activity = Holding t (faults y) (root y) },
+        (0, Some y) ∷ [],
+      )
       → Allows R slots id me 1 (λ m. (m + 1) % 2 ^ 64) (WentOn (step slots 1 1 0 none) me)
   goes_on_from slots id me v t x y is = goes_on slots id me t y (ap (λ (m : Me (Option T) V). m.0.activity) is)
-      (ap (λ (m : Me (Option T) V). m.1) is) (sym (ap (λ (m : Me (Option T) V). m.0.seen) is)) (ap (λ (m : Me (Option T) V). m.0.left) is)
+      (ap (λ (m : Me (Option T) V). m.1) is) (sym (ap (λ (m : Me (Option T) V). m.0.seen) is))
+      (ap (λ (m : Me (Option T) V). m.0.left) is)
 
   -- after next the pass rests
   pub went_from : (me end : Me (Option T) V) (v : V) (t slots found : ℕ) (x y : T) → v.activity ≡ Idle
-      → me ≡ (record (after_turn v y (list x) (list y) (faults x) (faults y)) { activity = Holding t (faults y) (root y) }, (0, Some y) ∷ [])
+      → me ≡ (
+        record (after_turn v y (list x) (list y) (faults x) (faults y))
+            { activity = Holding t (faults y) (root y) },
+        (0, Some y) ∷ [],
+      )
       → WentOn (step slots 1 1 0 none) me found end
       → (end ≡ (after_turn v y (list x) (list y) (faults x) (faults y), [])) × Every (StandsIn end.0.seen) end.0.mine
   went_from me end v t slots found x y idle is told = (
     told.0 ∙ (ap (λ (m : Me (Option T) V). (record m.0 { activity = Idle }, [])) is
-        ∙ ap (λ (r : Activity E Root). (record (after_turn v y (list x) (list y) (faults x) (faults y)) { activity = r }, [])) (sym idle)),
+        ∙ ap
+        (λ (r : Activity E Root). (
+          record (after_turn v y (list x) (list y) (faults x) (faults y)) { activity = r },
+          [],
+        )) (sym idle)),
     subst (λ (m : Me (Option T) V). Every (StandsIn m.0.seen) m.0.mine) (sym told.0) told.1,
   )

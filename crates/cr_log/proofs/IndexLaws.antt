@@ -1,5 +1,6 @@
 -- What the index of numbers finds, and what it is after the entries of one command more.
-use Rattle.std.proofs.Common.{ℕ, Bool, true, false, cond, ◌≡◌, ◌+◌, ◌<◌, ◌&&◌, [], ◌∷◌, ◌++◌, length, get_or, zero, suc, eqb, refl, sym, ap, subst, ◌∙◌, arith, append-nil, Option, Some, None, IfSome}
+use Rattle.std.proofs.Common.{ℕ, Bool, true, false, cond, ◌≡◌, ◌+◌, ◌<◌, ◌&&◌, [], ◌∷◌, ◌++◌, length, get_or, zero, suc}
+use Rattle.std.proofs.Common.{eqb, refl, sym, ap, subst, ◌∙◌, arith, append-nil, Option, Some, None, IfSome}
 use Rattle.std.specs.List.{AllByRecursion, slice_get, position_from}
 use Rattle.std.specs.Option.{option_map}
 use Rattle.std.specs.Prelude.{filter, is_some, not, IsTrue, ◌↔◌}
@@ -36,12 +37,14 @@ seen_as first count = record { first = first; count = count }
 pub found-none : (H : History) (n : GivenNumber) → place_of H n ≡ None → seen_kept (kept H n) ≡ None
 found-none H n none = by (position_from (is_under n) 0 H) refl none
   where
-    by : (found : Option ℕ) → position_from (is_under n) 0 H ≡ found → option_map (placed (length (kept H n))) found ≡ None → seen_kept (kept H n) ≡ None
+    by : (found : Option ℕ) → position_from (is_under n) 0 H ≡ found
+        → option_map (placed (length (kept H n))) found ≡ None → seen_kept (kept H n) ≡ None
     by None is none = ap seen_kept (none-passes (is_under n) H 0 is)
     by (Some k) is none = cc (none)
 
 -- nothing is found where there are no entries
-pub none-kept : (group : History) (found : Option SeenKept) (none : Bool) → is_some found ≡ not none → found ≡ seen_kept group → IsTrue none ↔ (group ≡ [])
+pub none-kept : (group : History) (found : Option SeenKept) (none : Bool) → is_some found ≡ not none
+    → found ≡ seen_kept group → IsTrue none ↔ (group ≡ [])
 none-kept [] found true told is = (λ h. refl, λ h. refl)
 none-kept [] found false told is = absurd (true≢false (sym told ∙ ap is_some is))
 none-kept (e ∷ es) found true told is = absurd (true≢false (sym (ap is_some is) ∙ told))
@@ -56,7 +59,8 @@ pub record IsFound (H : History) (n : GivenNumber) (place : Place) : Type 0 wher
 pub found-some : (H : History) (n : GivenNumber) (place : Place) → place_of H n ≡ Some place → IsFound H n place
 found-some H n place some = by (position_from (is_under n) 0 H) refl some
   where
-    by : (found : Option ℕ) → position_from (is_under n) 0 H ≡ found → option_map (placed (length (kept H n))) found ≡ Some place → IsFound H n place
+    by : (found : Option ℕ) → position_from (is_under n) 0 H ≡ found
+        → option_map (placed (length (kept H n))) found ≡ Some place → IsFound H n place
     by None is some = cc (some)
     by (Some k) is some =
         let p = first-passes (is_under n) H 0 k is in
@@ -67,12 +71,14 @@ found-some H n place some = by (position_from (is_under n) 0 H) refl some
         record {
           first = p.first;
           here = subst (λ (i : ℕ). slice_get H i ≡ Some p.first) place_is p.here;
-          seen = ap seen_kept p.all ∙ ap (λ (m : ℕ). Some (seen_as p.first m)) (ap length (sym p.all) ∙ ap (λ (x : Place). x.count) at);
+          seen = ap seen_kept p.all ∙ ap (λ (m : ℕ). Some (seen_as p.first m))
+              (ap length (sym p.all) ∙ ap (λ (x : Place). x.count) at);
         }
 
 -- ---- by the index
 
-module _ (H log : History) (index : IndexMap GivenNumber Place (BuildHasherDefault FoldHasher)) (n : GivenNumber) (indexed : IsNumberIndex H index) (same : H ≡ log) where
+module _ (H log : History) (index : IndexMap GivenNumber Place (BuildHasherDefault FoldHasher)) (n : GivenNumber)
+    (indexed : IsNumberIndex H index) (same : H ≡ log) where
   place-told : (found : Option Place) → found ≡ get is_same index n → place_of log n ≡ found
   place-told found is = ap (λ (h : History). place_of h n) (sym same) ∙ sym (is ∙ indexed n)
 
@@ -94,7 +100,9 @@ module _ (H log : History) (index : IndexMap GivenNumber Place (BuildHasherDefau
     -- what stands there
     pub index-some : (x : Stamped) → x ≡ get_or H place.first x → Some (seen_as x place.count) ≡ seen_kept (kept log n)
     index-some x here =
-        let both : Some x ≡ Some found.first = sym (slice_get_read log (length log) place.first x refl index-within (here ∙ ap (λ (h : History). get_or h place.first x) same)) ∙ found.here in
+        let both : Some x ≡ Some found.first =
+        sym (slice_get_read log (length log) place.first x refl index-within
+        (here ∙ ap (λ (h : History). get_or h place.first x) same)) ∙ found.here in
         let e : x ≡ found.first = cc (both) in
         ap (λ (s : Stamped). Some (seen_as s place.count)) e ∙ sym found.seen
 
@@ -104,20 +112,25 @@ module _ (H log : History) (index : IndexMap GivenNumber Place (BuildHasherDefau
 abbrev under_stamp : GivenNumber → Stamp → Bool
 under_stamp n stamp = eqb stamp.maker n.user && has_number n.number stamp.key
 
-all-under : (n : GivenNumber) (stamp : Stamp) (b : Bool) (group : History) → under_stamp n stamp ≡ b → AllByRecursion (λ (s : Stamped). s.stamp ≡ stamp) group
+all-under : (n : GivenNumber) (stamp : Stamp) (b : Bool) (group : History) → under_stamp n stamp ≡ b
+    → AllByRecursion (λ (s : Stamped). s.stamp ≡ stamp) group
     → AllByRecursion (λ (s : Stamped). is_under n s ≡ b) group
 all-under n stamp b [] is all = tt
 all-under n stamp b (s ∷ group) is all = (ap (under_stamp n) all.0 ∙ is, all-under n stamp b group is all.1)
 
 -- so where their number is this one, it stands for them alone, and every other number for what it stood
-behind : (H group : History) (n : GivenNumber) (stamp : Stamp) (e : Stamped) (es : History) → group ≡ e ∷ es → AllByRecursion (λ (s : Stamped). s.stamp ≡ stamp) group
+behind : (H group : History) (n : GivenNumber) (stamp : Stamp) (e : Stamped) (es : History) → group ≡ e ∷ es
+    → AllByRecursion (λ (s : Stamped). s.stamp ≡ stamp) group
     → under_stamp n stamp ≡ true → kept H n ≡ [] → place_of (H ++ group) n ≡ Some (placed (length group) (length H))
 behind H group n stamp e es is all under none =
     let passing = all-under n stamp true group under all in
-    let first : is_under n e ≡ true = (subst (λ (g : History). AllByRecursion (λ (s : Stamped). is_under n s ≡ true) g) is passing).0 in
+    let first : is_under n e ≡ true =
+    (subst (λ (g : History). AllByRecursion (λ (s : Stamped). is_under n s ≡ true) g) is passing).0 in
     let from : 0 + length H ≡ length H = omega arith in
-    let place = ap (λ (g : History). position_from (is_under n) 0 (H ++ g)) is ∙ first-behind (is_under n) H es e 0 none first ∙ ap (λ (k : ℕ). Some k) from in
-    let all_kept : kept (H ++ group) n ≡ group = filter-append (is_under n) H group ∙ ap (λ (h : History). h ++ filter (is_under n) group) none ∙ all-of (is_under n) group passing in
+    let place = ap (λ (g : History). position_from (is_under n) 0 (H ++ g)) is
+    ∙ first-behind (is_under n) H es e 0 none first ∙ ap (λ (k : ℕ). Some k) from in
+    let all_kept : kept (H ++ group) n ≡ group = filter-append (is_under n) H group
+    ∙ ap (λ (h : History). h ++ filter (is_under n) group) none ∙ all-of (is_under n) group passing in
     (λ i. option_map (placed (length (all_kept i))) (place i))
 
 before : (H group : History) (n : GivenNumber) (stamp : Stamp) → AllByRecursion (λ (s : Stamped). s.stamp ≡ stamp) group
@@ -125,11 +138,13 @@ before : (H group : History) (n : GivenNumber) (stamp : Stamp) → AllByRecursio
 before H group n stamp all under =
     let failing = all-under n stamp false group under all in
     let place = first-before (is_under n) H group 0 failing in
-    let same : kept (H ++ group) n ≡ kept H n = filter-append (is_under n) H group ∙ ap (λ (h : History). kept H n ++ h) (none-of (is_under n) group failing) ∙ append-nil (kept H n) in
+    let same : kept (H ++ group) n ≡ kept H n = filter-append (is_under n) H group
+    ∙ ap (λ (h : History). kept H n ++ h) (none-of (is_under n) group failing) ∙ append-nil (kept H n) in
     (λ i. option_map (placed (length (same i))) (place i))
 
 -- the index with the group's place, where the group has a number
-pub indexed-more : (H items group : History) (old new : IndexMap GivenNumber Place (BuildHasherDefault FoldHasher)) (given : GivenNumber) (place : Place)
+pub indexed-more : (H items group : History) (old new : IndexMap GivenNumber Place (BuildHasherDefault FoldHasher))
+    (given : GivenNumber) (place : Place)
     → IsNumberIndex H old → MayFollow H group → number_given group ≡ Some given → items ≡ H ++ group
     → place ≡ placed (length group) (length H)
     → ((n : GivenNumber) → get is_same new n ≡ cond (is_same given n) (Some place) (get is_same old n))
@@ -155,17 +170,21 @@ indexed-more H items (e ∷ es) old new given place was follows number is stands
         mine = number_by e.stamp.maker key
 
         given_is : mine ≡ given
-        given_is = let h : Some mine ≡ Some given = ap (option_map (number_by e.stamp.maker)) (sym some) ∙ number in cc (h)
+        given_is = let h : Some mine ≡ Some given =
+            ap (option_map (number_by e.stamp.maker)) (sym some) ∙ number in cc (h)
 
         tested : is_same given n ≡ under_stamp n e.stamp
-        tested = ap (λ (m : GivenNumber). is_same m n) (sym given_is) ∙ ap (λ (k : Option RetryKey). eqb e.stamp.maker n.user && has_number n.number k) (sym some)
+        tested = ap (λ (m : GivenNumber). is_same m n) (sym given_is)
+            ∙ ap (λ (k : Option RetryKey). eqb e.stamp.maker n.user && has_number n.number k) (sym some)
 
         unused : IsUnused H mine.user mine.number
-        unused = subst (λ (o : Option GivenNumber). IfSome o (λ m. IsUnused H m.user m.number)) (ap (option_map (number_by e.stamp.maker)) some) follows.new
+        unused = subst (λ (o : Option GivenNumber). IfSome o (λ m. IsUnused H m.user m.number))
+            (ap (option_map (number_by e.stamp.maker)) some) follows.new
 
         split : (b : Bool) → under_stamp n e.stamp ≡ b → get is_same new n ≡ place_of (H ++ group) n
         split true under =
-            let parts = and_parts (eqb mine.user n.user) (eqb mine.number n.number) (ap (λ (m : GivenNumber). is_same m n) given_is ∙ tested ∙ under) in
+            let parts = and_parts (eqb mine.user n.user) (eqb mine.number n.number)
+            (ap (λ (m : GivenNumber). is_same m n) given_is ∙ tested ∙ under) in
             let user : n.user ≡ mine.user = sym (eqb-true mine.user n.user parts.0) in
             let number : n.number ≡ mine.number = sym (eqb-true mine.number n.number parts.1) in
             let none : kept H n ≡ [] = (λ i. kept_under (user i) (number i) H) ∙ unused in
@@ -179,10 +198,13 @@ indexed-more H items (e ∷ es) old new given place was follows number is stands
 
 -- and as it was, where it has none
 pub indexed-same : (H items group : History) (index : IndexMap GivenNumber Place (BuildHasherDefault FoldHasher))
-    → IsNumberIndex H index → MayFollow H group → number_given group ≡ None → items ≡ H ++ group → IsNumberIndex items index
-indexed-same H items [] index was follows none is = λ n. was n ∙ ap (λ (h : History). place_of h n) (sym (append-nil H) ∙ sym is)
+    → IsNumberIndex H index → MayFollow H group → number_given group ≡ None → items ≡ H ++ group
+    → IsNumberIndex items index
+indexed-same H items [] index was follows none is =
+    λ n. was n ∙ ap (λ (h : History). place_of h n) (sym (append-nil H) ∙ sym is)
 indexed-same H items (e ∷ es) index was follows none is = λ n.
-    was n ∙ sym (before H (e ∷ es) n e.stamp (refl, follows.one) (under n e.stamp.key none)) ∙ ap (λ (h : History). place_of h n) (sym is)
+    was n ∙ sym (before H (e ∷ es) n e.stamp (refl, follows.one) (under n e.stamp.key none))
+    ∙ ap (λ (h : History). place_of h n) (sym is)
   where
     under : (n : GivenNumber) (key : Option RetryKey) → option_map (number_by e.stamp.maker) key ≡ None
         → (eqb e.stamp.maker n.user && has_number n.number key) ≡ false

@@ -17,7 +17,8 @@ use Rattle.cr_match.proofs.Starts.{are_worth}
 use Rattle.cr_match.proofs.Surface.{kept_plan, weight-is-bound}
 use Rattle.cr_match.proofs.Refuted.{members_below}
 
-pub is_greatest : (problem : Problem) (ts : List Slot) (a b : List ℕ) (pairs : List Pair) (total : ℤ) (prices : Prices) → IsProblem problem → IsChosen problem a b ts →
+pub is_greatest : (problem : Problem) (ts : List Slot) (a b : List ℕ) (pairs : List Pair) (total : ℤ) (prices : Prices)
+    → IsProblem problem → IsChosen problem a b ts →
     pairs ≡ kept (marks ts) problem.pairs.items → total ≡ total_weight pairs →
     prices.papers.items ≡ lowered a → prices.members.items ≡ b → IsGreatest problem pairs total prices
 is_greatest problem ts a b pairs total prices fine chosen is_pairs is_total is_papers is_members =
@@ -25,44 +26,56 @@ is_greatest problem ts a b pairs total prices fine chosen is_pairs is_total is_p
     let lb : length b ≡ problem.members = chosen.members in
     let filled : Filled problem.per_paper problem.load problem.papers 0 ts = chosen.filled in
     let for : AreBy IsFor problem.pairs.items ts = chosen.are in
-    let worth : AllWorth 4294967276 4294967316 problem.papers ts = are_worth problem.papers problem.members problem.pairs.items ts fine.inside for in
+    let worth : AllWorth 4294967276 4294967316 problem.papers ts =
+    are_worth problem.papers problem.members problem.pairs.items ts fine.inside for in
     let strong : chosen_value ts ≡ dual problem.per_paper problem.load a b ts =
-    value-is-dual problem.per_paper problem.load a b ts chosen.suits (λ q l. filled.full q (let m : q < problem.papers = omega (arith, l, la) in m)) chosen.priced in
-    let eq : total_weight (kept (marks ts) problem.pairs.items) ≡ bound problem.per_paper problem.load (lowered a) b problem.pairs.items =
-    weight-is-bound problem.per_paper problem.load 4294967276 4294967316 problem.papers problem.members a b problem.pairs.items ts fine.inside (sym la) for worth filled.full strong in
-    let tw : total ≡ bound problem.per_paper problem.load (lowered a) b problem.pairs.items = is_total ∙ ap total_weight is_pairs ∙ eq in
+    value-is-dual problem.per_paper problem.load a b ts chosen.suits
+    (λ q l. filled.full q (let m : q < problem.papers = omega (arith, l, la) in m)) chosen.priced in
+    let eq : total_weight (kept (marks ts) problem.pairs.items) ≡ bound problem.per_paper problem.load (lowered a) b
+    problem.pairs.items =
+    weight-is-bound problem.per_paper problem.load 4294967276 4294967316 problem.papers problem.members a b
+    problem.pairs.items ts fine.inside (sym la) for worth filled.full strong in
+    let tw : total ≡ bound problem.per_paper problem.load (lowered a) b problem.pairs.items =
+    is_total ∙ ap total_weight is_pairs ∙ eq in
     let ll : problem.papers ≡ length (lowered a) = sym (length-map a (λ x. pos x -ℤ pos 4294967296) ∙ la) in
     record {
       plan = record {
         marks = marks ts;
         some = is_pairs;
-        fits = subst (IsPlan problem.papers problem.per_paper problem.load) (sym is_pairs) (kept_plan problem.per_paper problem.load problem.papers problem.pairs.items ts for filled);
+        fits = subst (IsPlan problem.papers problem.per_paper problem.load) (sym is_pairs)
+            (kept_plan problem.per_paper problem.load problem.papers problem.pairs.items ts for filled);
       };
       sum_is = is_total;
       greatest = λ other plan.
           let p : IsPlan (length (lowered a)) problem.per_paper problem.load (kept plan.marks problem.pairs.items) =
           subst (λ n. IsPlan n problem.per_paper problem.load (kept plan.marks problem.pairs.items)) ll
           (subst (IsPlan problem.papers problem.per_paper problem.load) plan.some plan.fits) in
-          let le : total_weight (kept plan.marks problem.pairs.items) ≤ℤ bound problem.per_paper problem.load (lowered a) b problem.pairs.items =
+          let le : total_weight (kept plan.marks problem.pairs.items) ≤ℤ bound problem.per_paper problem.load
+          (lowered a) b problem.pairs.items =
           weight-le-bound problem.per_paper problem.load (lowered a) b problem.pairs.items plan.marks p in
           subst (λ (x : ℤ). total_weight other ≤ℤ x) (sym tw)
-          (subst (λ (x : ℤ). x ≤ℤ bound problem.per_paper problem.load (lowered a) b problem.pairs.items) (sym (ap total_weight plan.some)) le);
+          (subst (λ (x : ℤ). x ≤ℤ bound problem.per_paper problem.load (lowered a) b problem.pairs.items)
+          (sym (ap total_weight plan.some)) le);
       papers = ap (λ (x : List ℤ). length x) is_papers ∙ sym ll;
       members = ap (λ (x : List ℕ). length x) is_members ∙ lb;
       says = tw
           ∙ ap (λ (x : List ℤ). bound problem.per_paper problem.load x b problem.pairs.items) (sym is_papers)
-          ∙ ap (λ (y : List ℕ). bound problem.per_paper problem.load prices.papers.items y problem.pairs.items) (sym is_members);
+          ∙ ap (λ (y : List ℕ). bound problem.per_paper problem.load prices.papers.items y problem.pairs.items)
+          (sym is_members);
     }
 
 pub has_no_plan : (problem : Problem) (labels papers : List ℕ) → IsProblem problem →
-    IsTooMuch problem.papers problem.members problem.per_paper problem.load (zeros labels 0) problem.pairs.items → papers ≡ zeros labels 0 → HasNoPlan problem papers
+    IsTooMuch problem.papers problem.members problem.per_paper problem.load (zeros labels 0) problem.pairs.items
+    → papers ≡ zeros labels 0 → HasNoPlan problem papers
 has_no_plan problem labels papers fine short is =
     let much : IsTooMuch problem.papers problem.members problem.per_paper problem.load papers problem.pairs.items =
-    subst (λ (s : List ℕ). IsTooMuch problem.papers problem.members problem.per_paper problem.load s problem.pairs.items) (sym is) short in
+    subst (λ (s : List ℕ). IsTooMuch problem.papers problem.members problem.per_paper problem.load s
+    problem.pairs.items) (sym is) short in
     record {
       too_much = much;
       none = λ other plan.
-          too_much-no_plan problem.papers problem.members problem.per_paper problem.load papers problem.pairs.items plan.marks
+          too_much-no_plan problem.papers problem.members problem.per_paper problem.load papers problem.pairs.items
+          plan.marks
           (members_below problem.papers problem.members problem.pairs.items fine.inside) much
           (subst (IsPlan problem.papers problem.per_paper problem.load) plan.some plan.fits);
     }

@@ -1,5 +1,6 @@
 -- What another choice of the same slots costs: where no search can bring a slot in, none that is worth as much has it.
-use Rattle.std.proofs.Common.{◌≡◌, ℕ, zero, suc, ◌+◌, ◌-◌, ◌<◌, ◌≤◌, Bool, true, false, cond, ◌&&◌, ◌==◌, List, [], ◌∷◌, ◌++◌, length, count_by, get_or, replicate, ltb, refl, arith, ap, sym, ◌∙◌}
+use Rattle.std.proofs.Common.{◌≡◌, ℕ, zero, suc, ◌+◌, ◌-◌, ◌<◌, ◌≤◌, Bool, true, false, cond, ◌&&◌, ◌==◌, List, [], ◌∷◌}
+use Rattle.std.proofs.Common.{◌++◌, length, count_by, get_or, replicate, ltb, refl, arith, ap, sym, ◌∙◌}
 use Rattle.std.proofs.lemmas.Bool.Decides.{nat_tests}
 use Rattle.std.proofs.lemmas.List.{get_or-replicate}
 use Rattle.std.proofs.lemmas.List.Sums.{sum_by-cons, sum_by-append}
@@ -31,17 +32,21 @@ left_cost v a b d e false le tight small = omega arith
 
 slot_cost : (v a b d e : ℕ) (s t : Bool) → (s ≡ true → a + b ≤ v) → (s ≡ false → v ≤ a + b) →
     (s ≡ false → v ≡ a + b → d ≤ e) → (s ≡ true → v ≡ a + b → e ≤ d) → d ≤ 1 → e ≤ 1 →
-    cond t v 0 + cond t d 0 + cond s a 0 + cond s b 0 + cond s e 0 ≤ cond s v 0 + cond s d 0 + cond t a 0 + cond t b 0 + cond t e 0
-slot_cost v a b d e true t high low free taken ld le = omega (arith, chosen_cost v a b d e t (high refl) (taken refl) le)
+    cond t v 0 + cond t d 0 + cond s a 0 + cond s b 0 + cond s e 0 ≤ cond s v 0 + cond s d 0 + cond t a 0 + cond t b 0
+    + cond t e 0
+slot_cost v a b d e true t high low free taken ld le =
+    omega (arith, chosen_cost v a b d e t (high refl) (taken refl) le)
 slot_cost v a b d e false t high low free taken ld le = omega (arith, left_cost v a b d e t (low refl) (free refl) ld)
 
-pays_cons : (place : Slot → ℕ) (xs : List ℕ) (s : Slot) (ss : List Slot) → pays place xs (s ∷ ss) ≡ cond s.chosen (get_or xs (place s) 0) 0 + pays place xs ss
+pays_cons : (place : Slot → ℕ) (xs : List ℕ) (s : Slot) (ss : List Slot)
+    → pays place xs (s ∷ ss) ≡ cond s.chosen (get_or xs (place s) 0) 0 + pays place xs ss
 pays_cons place xs s ss = sum_by-cons (λ x. cond x.chosen (get_or xs (place x) 0) 0) s ss
 
 value_cons : (s : Slot) (ss : List Slot) → chosen_value (s ∷ ss) ≡ cond s.chosen s.value 0 + chosen_value ss
 value_cons s ss = sum_by-cons (λ x. cond x.chosen x.value 0) s ss
 
-pays_append : (place : Slot → ℕ) (xs : List ℕ) (ss ts : List Slot) → pays place xs (ss ++ ts) ≡ pays place xs ss + pays place xs ts
+pays_append : (place : Slot → ℕ) (xs : List ℕ) (ss ts : List Slot)
+    → pays place xs (ss ++ ts) ≡ pays place xs ss + pays place xs ts
 pays_append place xs ss ts = sum_by-append (λ x. cond x.chosen (get_or xs (place x) 0) 0) ss ts
 
 value_append : (ss ts : List Slot) → chosen_value (ss ++ ts) ≡ chosen_value ss + chosen_value ts
@@ -55,7 +60,8 @@ pub same_value : (v w : ℕ) (c : Bool) → w ≡ v → cond c w 0 ≡ cond c v 
 same_value v w c e = ap (λ k. cond c k 0) e
 
 -- slots that suit their prices, and are closed under the changes
-rest_cost : (a b d e : List ℕ) (ss ts : List Slot) → Alike ss ts → AllSuit a b ss → Closed a b d e ss → ((q : ℕ) → get_or d q 0 ≤ 1) → ((q : ℕ) → get_or e q 0 ≤ 1) →
+rest_cost : (a b d e : List ℕ) (ss ts : List Slot) → Alike ss ts → AllSuit a b ss → Closed a b d e ss
+    → ((q : ℕ) → get_or d q 0 ≤ 1) → ((q : ℕ) → get_or e q 0 ≤ 1) →
     chosen_value ts + papers_pay d ts + papers_pay a ss + members_pay b ss + members_pay e ss
     ≤ chosen_value ss + papers_pay d ss + papers_pay a ts + members_pay b ts + members_pay e ts
 rest_cost a b d e [] [] h suit closed ld le = omega arith
@@ -64,7 +70,8 @@ rest_cost a b d e (s ∷ ss) [] h suit closed ld le = absurd h
 rest_cost a b d e (s ∷ ss) (t ∷ ts) h suit closed ld le =
     omega (
       arith,
-      slot_cost s.value (get_or a s.paper 0) (get_or b s.member 0) (get_or d s.paper 0) (get_or e s.member 0) s.chosen t.chosen
+      slot_cost s.value (get_or a s.paper 0) (get_or b s.member 0) (get_or d s.paper 0) (get_or e s.member 0) s.chosen
+          t.chosen
           suit.0.0 suit.0.1 closed.0 closed.1 (ld s.paper) (le s.member),
       rest_cost a b d e ss ts h.3 suit.1 closed.2 ld le,
       same_value s.value t.value t.chosen h.2,
@@ -86,19 +93,23 @@ rest_cost a b d e (s ∷ ss) (t ∷ ts) h suit closed ld le =
 
 -- a slot that isn't chosen, whose price goes up by the changes
 turn_cost : (v a b d e : ℕ) (s t : Bool) → s ≡ false → v + d + 1 ≤ a + b + e →
-    cond t v 0 + cond t d 0 + cond s a 0 + cond s b 0 + cond s e 0 + bit t ≤ cond s v 0 + cond s d 0 + cond t a 0 + cond t b 0 + cond t e 0
+    cond t v 0 + cond t d 0 + cond s a 0 + cond s b 0 + cond s e 0 + bit t ≤ cond s v 0 + cond s d 0 + cond t a 0
+    + cond t b 0 + cond t e 0
 turn_cost v a b d e s true c le = rw c (omega (arith, le))
 turn_cost v a b d e s false c le = rw c (omega arith)
 
 from_cost : (a b d e : List ℕ) (s t : Slot) (ss ts : List Slot) → Alike (s ∷ ss) (t ∷ ts) → s.chosen ≡ false →
     s.value + get_or d s.paper 0 + 1 ≤ get_or a s.paper 0 + get_or b s.member 0 + get_or e s.member 0 →
     AllSuit a b ss → Closed a b d e ss → ((q : ℕ) → get_or d q 0 ≤ 1) → ((q : ℕ) → get_or e q 0 ≤ 1) →
-    chosen_value (t ∷ ts) + papers_pay d (t ∷ ts) + papers_pay a (s ∷ ss) + members_pay b (s ∷ ss) + members_pay e (s ∷ ss) + bit t.chosen
-    ≤ chosen_value (s ∷ ss) + papers_pay d (s ∷ ss) + papers_pay a (t ∷ ts) + members_pay b (t ∷ ts) + members_pay e (t ∷ ts)
+    chosen_value (t ∷ ts) + papers_pay d (t ∷ ts) + papers_pay a (s ∷ ss) + members_pay b (s ∷ ss)
+    + members_pay e (s ∷ ss) + bit t.chosen
+    ≤ chosen_value (s ∷ ss) + papers_pay d (s ∷ ss) + papers_pay a (t ∷ ts) + members_pay b (t ∷ ts)
+    + members_pay e (t ∷ ts)
 from_cost a b d e s t ss ts h out up suit closed ld le =
     omega (
       arith,
-      turn_cost s.value (get_or a s.paper 0) (get_or b s.member 0) (get_or d s.paper 0) (get_or e s.member 0) s.chosen t.chosen out up,
+      turn_cost s.value (get_or a s.paper 0) (get_or b s.member 0) (get_or d s.paper 0) (get_or e s.member 0) s.chosen
+          t.chosen out up,
       rest_cost a b d e ss ts h.3 suit closed ld le,
       same_value s.value t.value t.chosen h.2,
       same_pay a s.paper t.paper t.chosen h.0,
@@ -118,7 +129,8 @@ from_cost a b d e s t ss ts h out up suit closed ld le =
     )
 
 -- papers of full choices pay the same
-full_case : (want load papers : ℕ) (ss ts : List Slot) (q : ℕ) (c e : Bool) → (q == papers) ≡ c → (ltb q papers) ≡ e → Filled want load papers 0 ss → Filled want load papers 0 ts →
+full_case : (want load papers : ℕ) (ss ts : List Slot) (q : ℕ) (c e : Bool) → (q == papers) ≡ c → (ltb q papers) ≡ e
+    → Filled want load papers 0 ss → Filled want load papers 0 ts →
     count_by (has_paper q) ss ≡ count_by (has_paper q) ts
 full_case want load papers ss ts q true e hc he f g =
     let eq : q ≡ papers = grind (arith, nat_tests) in
@@ -128,21 +140,25 @@ full_case want load papers ss ts q false true hc he f g =
 full_case want load papers ss ts q false false hc he f g =
     let lt : papers < q = grind (arith, nat_tests) in omega (arith, f.rest q lt, g.rest q lt)
 
-pub papers_same : (want load papers : ℕ) (xs : List ℕ) (ss ts : List Slot) → Filled want load papers 0 ss → Filled want load papers 0 ts → papers_pay xs ss ≡ papers_pay xs ts
+pub papers_same : (want load papers : ℕ) (xs : List ℕ) (ss ts : List Slot) → Filled want load papers 0 ss
+    → Filled want load papers 0 ts → papers_pay xs ss ≡ papers_pay xs ts
 papers_same want load papers xs ss ts f g =
     sym (pays_is_owed (λ s. s.paper) xs ss)
-    ∙ owed_n_same (λ q. count_by (has_paper q) ss) (λ q. count_by (has_paper q) ts) (λ q. full_case want load papers ss ts q (q == papers) (ltb q papers) refl refl f g) xs 0
+    ∙ owed_n_same (λ q. count_by (has_paper q) ss) (λ q. count_by (has_paper q) ts)
+    (λ q. full_case want load papers ss ts q (q == papers) (ltb q papers) refl refl f g) xs 0
     ∙ pays_is_owed (λ s. s.paper) xs ts
 
 -- members that are full where they have a price pay no less than in any other light choice
-pub members_most : (load : ℕ) (xs : List ℕ) (ss ts : List Slot) → ((m : ℕ) → m < length xs → 0 < get_or xs m 0 → count_by (has_member m) ss ≡ load) →
+pub members_most : (load : ℕ) (xs : List ℕ) (ss ts : List Slot)
+    → ((m : ℕ) → m < length xs → 0 < get_or xs m 0 → count_by (has_member m) ss ≡ load) →
     ((m : ℕ) → count_by (has_member m) ts ≤ load) → members_pay xs ts ≤ members_pay xs ss
 members_most load xs ss ts full light =
     omega (
       arith,
       pays_is_owed (λ s. s.member) xs ss,
       pays_is_owed (λ s. s.member) xs ts,
-      owed_n_whole (λ q. count_by (has_member q) ss) load xs 0 (λ i l p. let e : 0 + i ≡ i = omega arith in ap (λ q. count_by (has_member q) ss) e ∙ full i l p),
+      owed_n_whole (λ q. count_by (has_member q) ss) load xs 0
+          (λ i l p. let e : 0 + i ≡ i = omega arith in ap (λ q. count_by (has_member q) ss) e ∙ full i l p),
       owed_n_light (λ q. count_by (has_member q) ts) load xs 0 light,
     )
 
@@ -164,7 +180,8 @@ pays_nothing place (s ∷ ss) =
     omega (arith, z, pays_nothing place ss, pays_cons place [] s ss)
 
 -- a choice that suits its prices is worth as much as any
-pub worth_most : (want load papers members : ℕ) (a b : List ℕ) (ss ts : List Slot) → Kept want load papers members a b ss → Alike ss ts → Filled want load papers 0 ts →
+pub worth_most : (want load papers members : ℕ) (a b : List ℕ) (ss ts : List Slot)
+    → Kept want load papers members a b ss → Alike ss ts → Filled want load papers 0 ts →
     chosen_value ts ≤ chosen_value ss
 worth_most want load papers members a b ss ts k h f =
     omega (
@@ -180,7 +197,8 @@ worth_most want load papers members a b ss ts k h f =
 
 -- two choices that are the same before a slot
 
-pub both_cost : (want load papers members : ℕ) (a b d e : List ℕ) (xs : List Slot) (s t : Slot) (ss ts : List Slot) → Kept want load papers members a b (xs ++ s ∷ ss) →
+pub both_cost : (want load papers members : ℕ) (a b d e : List ℕ) (xs : List Slot) (s t : Slot) (ss ts : List Slot)
+    → Kept want load papers members a b (xs ++ s ∷ ss) →
     Filled want load papers 0 (xs ++ t ∷ ts) → Alike (s ∷ ss) (t ∷ ts) → s.chosen ≡ false →
     s.value + get_or d s.paper 0 + 1 ≤ get_or a s.paper 0 + get_or b s.member 0 + get_or e s.member 0 →
     Closed a b d e ss → ((q : ℕ) → get_or d q 0 ≤ 1) → ((q : ℕ) → get_or e q 0 ≤ 1) →
@@ -214,7 +232,8 @@ no_bit true h = absurd (omega (arith, h))
 no_bit false h = refl
 
 -- a slot below its price is in none that is worth as much
-pub below_price : (want load papers members : ℕ) (a b : List ℕ) (xs : List Slot) (s t : Slot) (ss ts : List Slot) → Kept want load papers members a b (xs ++ s ∷ ss) →
+pub below_price : (want load papers members : ℕ) (a b : List ℕ) (xs : List Slot) (s t : Slot) (ss ts : List Slot)
+    → Kept want load papers members a b (xs ++ s ∷ ss) →
     Filled want load papers 0 (xs ++ t ∷ ts) → Alike (s ∷ ss) (t ∷ ts) → s.chosen ≡ false → s.value < price a b s →
     chosen_value (xs ++ s ∷ ss) ≤ chosen_value (xs ++ t ∷ ts) → t.chosen ≡ false
 below_price want load papers members a b xs s t ss ts k f h out low most =
@@ -222,7 +241,8 @@ below_price want load papers members a b xs s t ss ts k f h out low most =
     no_bit t.chosen (omega (
       arith,
       most,
-      both_cost want load papers members a b [] [] xs s t ss ts k f h out (omega (arith, low, z s.paper, z s.member)) (closed_nothing a b ss) (λ q. omega (arith, z q)) (λ q. omega (arith, z q)),
+      both_cost want load papers members a b [] [] xs s t ss ts k f h out (omega (arith, low, z s.paper, z s.member))
+          (closed_nothing a b ss) (λ q. omega (arith, z q)) (λ q. omega (arith, z q)),
       pays_nothing (λ x. x.member) (xs ++ s ∷ ss),
       pays_nothing (λ x. x.member) (xs ++ t ∷ ts),
       members_most load b (xs ++ s ∷ ss) (xs ++ t ∷ ts) (λ m l p. k.priced m p) f.light,
@@ -235,29 +255,39 @@ joined [] es = []
 joined (b ∷ bs) [] = (b - 1) ∷ joined bs []
 joined (b ∷ bs) (e ∷ es) = (b + e - 1) ∷ joined bs es
 
-joined_at : (bs es : List ℕ) (m : ℕ) → length bs ≡ length es → get_or (joined bs es) m 0 ≡ get_or bs m 0 + get_or es m 0 - 1
+joined_at : (bs es : List ℕ) (m : ℕ) → length bs ≡ length es
+    → get_or (joined bs es) m 0 ≡ get_or bs m 0 + get_or es m 0 - 1
 joined_at [] [] m h = refl
-joined_at [] (e ∷ es) m h = absurd (let z : length {A = ℕ} [] ≡ 0 = refl in let l : length (e ∷ es) ≡ suc (length es) = refl in omega (arith, h, z, l))
-joined_at (b ∷ bs) [] m h = absurd (let z : length {A = ℕ} [] ≡ 0 = refl in let l : length (b ∷ bs) ≡ suc (length bs) = refl in omega (arith, h, z, l))
+joined_at [] (e ∷ es) m h =
+    absurd (let z : length {A = ℕ} [] ≡ 0 = refl in let l : length (e ∷ es) ≡ suc (length es) = refl in omega
+    (arith, h, z, l))
+joined_at (b ∷ bs) [] m h =
+    absurd (let z : length {A = ℕ} [] ≡ 0 = refl in let l : length (b ∷ bs) ≡ suc (length bs) = refl in omega
+    (arith, h, z, l))
 joined_at (b ∷ bs) (e ∷ es) zero h = refl
 joined_at (b ∷ bs) (e ∷ es) (suc m) h =
-    joined_at bs es m (let l : length (b ∷ bs) ≡ suc (length bs) = refl in let k : length (e ∷ es) ≡ suc (length es) = refl in omega (arith, h, l, k))
+    joined_at bs es m (let l : length (b ∷ bs) ≡ suc (length bs) = refl in let k : length (e ∷ es)
+    ≡ suc (length es) = refl in omega (arith, h, l, k))
 
 one_joined : (x y z w : ℕ) (c : Bool) → x + y ≡ z + 1 → w ≡ 1 → cond c x 0 + cond c y 0 ≡ cond c z 0 + cond c w 0
 one_joined x y z w true h o = omega (arith, h, o)
 one_joined x y z w false h o = refl
 
 -- what members pay of both is that, and 1 for each chosen slot
-joined_pay : (papers members : ℕ) (b e : List ℕ) (ss : List Slot) → length b ≡ length e → AllInside papers members ss → ((m : ℕ) → m < members → 0 < get_or b m 0 + get_or e m 0) →
+joined_pay : (papers members : ℕ) (b e : List ℕ) (ss : List Slot) → length b ≡ length e → AllInside papers members ss
+    → ((m : ℕ) → m < members → 0 < get_or b m 0 + get_or e m 0) →
     members_pay b ss + members_pay e ss ≡ members_pay (joined b e) ss + papers_pay (replicate {A = ℕ} papers 1) ss
 joined_pay papers members b e [] l i some = refl
 joined_pay papers members b e (s ∷ ss) l i some =
-    let at : get_or (joined b e) s.member 0 ≡ get_or b s.member 0 + get_or e s.member 0 - 1 = joined_at b e s.member l in
-    let sum : get_or b s.member 0 + get_or e s.member 0 ≡ get_or (joined b e) s.member 0 + 1 = omega (arith, at, some s.member i.1) in
+    let at : get_or (joined b e) s.member 0 ≡ get_or b s.member 0 + get_or e s.member 0 - 1 =
+    joined_at b e s.member l in
+    let sum : get_or b s.member 0 + get_or e s.member 0 ≡ get_or (joined b e) s.member 0 + 1 =
+    omega (arith, at, some s.member i.1) in
     let one : get_or (replicate {A = ℕ} papers 1) s.paper 0 ≡ 1 = get_or-replicate {A = ℕ} papers s.paper 1 0 i.0 in
     omega (
       arith,
-      one_joined (get_or b s.member 0) (get_or e s.member 0) (get_or (joined b e) s.member 0) (get_or (replicate {A = ℕ} papers 1) s.paper 0) s.chosen sum one,
+      one_joined (get_or b s.member 0) (get_or e s.member 0) (get_or (joined b e) s.member 0)
+          (get_or (replicate {A = ℕ} papers 1) s.paper 0) s.chosen sum one,
       joined_pay papers members b e ss l i.2 some,
       pays_cons (λ x. x.member) b s ss,
       pays_cons (λ x. x.member) e s ss,
@@ -272,7 +302,8 @@ Reached load members b e ss z =
     (z ≡ 0 → (m : ℕ) → 0 < get_or e m 0 → count_by (has_member m) ss ≡ load)
     × (z ≡ 1 → (m : ℕ) → m < members → 0 < get_or b m 0 + get_or e m 0)
 
-all_pay : (want load papers members : ℕ) (a b e : List ℕ) (ss ts : List Slot) (z : ℕ) (c : Bool) → (z == 0) ≡ c → z ≤ 1 → Kept want load papers members a b ss → Filled want load papers 0 ts →
+all_pay : (want load papers members : ℕ) (a b e : List ℕ) (ss ts : List Slot) (z : ℕ) (c : Bool) → (z == 0) ≡ c → z ≤ 1
+    → Kept want load papers members a b ss → Filled want load papers 0 ts →
     AllInside papers members ts → length b ≡ length e → ((q : ℕ) → get_or e q 0 ≤ 1) → Reached load members b e ss z →
     members_pay b ts + members_pay e ts ≤ members_pay b ss + members_pay e ss
 all_pay want load papers members a b e ss ts z true hz lz k f i l le reached =
@@ -294,10 +325,13 @@ all_pay want load papers members a b e ss ts z false hz lz k f i l le reached =
     )
 
 -- so that none that is worth as much has it
-pub not_reached : (want load papers members : ℕ) (a b d e : List ℕ) (xs : List Slot) (s t : Slot) (ss ts : List Slot) (z : ℕ) → z ≤ 1 → Kept want load papers members a b (xs ++ s ∷ ss) →
-    Filled want load papers 0 (xs ++ t ∷ ts) → AllInside papers members (xs ++ t ∷ ts) → Alike (s ∷ ss) (t ∷ ts) → s.chosen ≡ false →
+pub not_reached : (want load papers members : ℕ) (a b d e : List ℕ) (xs : List Slot) (s t : Slot) (ss ts : List Slot)
+    (z : ℕ) → z ≤ 1 → Kept want load papers members a b (xs ++ s ∷ ss) →
+    Filled want load papers 0 (xs ++ t ∷ ts) → AllInside papers members (xs ++ t ∷ ts) → Alike (s ∷ ss) (t ∷ ts)
+    → s.chosen ≡ false →
     s.value + get_or d s.paper 0 + 1 ≤ get_or a s.paper 0 + get_or b s.member 0 + get_or e s.member 0 →
-    Closed a b d e ss → ((q : ℕ) → get_or d q 0 ≤ 1) → ((q : ℕ) → get_or e q 0 ≤ 1) → length b ≡ length e → Reached load members b e (xs ++ s ∷ ss) z →
+    Closed a b d e ss → ((q : ℕ) → get_or d q 0 ≤ 1) → ((q : ℕ) → get_or e q 0 ≤ 1) → length b ≡ length e
+    → Reached load members b e (xs ++ s ∷ ss) z →
     chosen_value (xs ++ s ∷ ss) ≤ chosen_value (xs ++ t ∷ ts) → t.chosen ≡ false
 not_reached want load papers members a b d e xs s t ss ts z lz k f i h out up closed ld le l reached most =
     no_bit t.chosen (omega (
@@ -313,7 +347,8 @@ more_bit : (p : ℕ) (t : Bool) → t ≡ true → bit (t && (p == p)) ≡ 1
 more_bit p true e = grind (arith, nat_tests)
 more_bit p false e = absurd (let f : false ≡ true = e in cc)
 
-over_paper : (want load papers : ℕ) (xs : List Slot) (t : Slot) (ts : List Slot) (c : Bool) → t.chosen ≡ c → Filled want load papers 0 (xs ++ t ∷ ts) → t.paper < papers →
+over_paper : (want load papers : ℕ) (xs : List Slot) (t : Slot) (ts : List Slot) (c : Bool) → t.chosen ≡ c
+    → Filled want load papers 0 (xs ++ t ∷ ts) → t.paper < papers →
     want ≤ count_by (has_paper t.paper) xs → c ≡ false
 over_paper want load papers xs t ts true hc f lt full =
     absurd (omega (
@@ -326,7 +361,8 @@ over_paper want load papers xs t ts true hc f lt full =
     ))
 over_paper want load papers xs t ts false hc f lt full = refl
 
-over_member : (want load papers : ℕ) (xs : List Slot) (t : Slot) (ts : List Slot) (c : Bool) → t.chosen ≡ c → Filled want load papers 0 (xs ++ t ∷ ts) →
+over_member : (want load papers : ℕ) (xs : List Slot) (t : Slot) (ts : List Slot) (c : Bool) → t.chosen ≡ c
+    → Filled want load papers 0 (xs ++ t ∷ ts) →
     load ≤ count_by (has_member t.member) xs → c ≡ false
 over_member want load papers xs t ts true hc f full =
     absurd (omega (
@@ -339,10 +375,12 @@ over_member want load papers xs t ts true hc f full =
     ))
 over_member want load papers xs t ts false hc f full = refl
 
-pub paper_full : (want load papers : ℕ) (xs : List Slot) (t : Slot) (ts : List Slot) → Filled want load papers 0 (xs ++ t ∷ ts) → t.paper < papers →
+pub paper_full : (want load papers : ℕ) (xs : List Slot) (t : Slot) (ts : List Slot)
+    → Filled want load papers 0 (xs ++ t ∷ ts) → t.paper < papers →
     want ≤ count_by (has_paper t.paper) xs → t.chosen ≡ false
 paper_full want load papers xs t ts f lt full = over_paper want load papers xs t ts t.chosen refl f lt full
 
-pub member_full : (want load papers : ℕ) (xs : List Slot) (t : Slot) (ts : List Slot) → Filled want load papers 0 (xs ++ t ∷ ts) →
+pub member_full : (want load papers : ℕ) (xs : List Slot) (t : Slot) (ts : List Slot)
+    → Filled want load papers 0 (xs ++ t ∷ ts) →
     load ≤ count_by (has_member t.member) xs → t.chosen ≡ false
 member_full want load papers xs t ts f full = over_member want load papers xs t ts t.chosen refl f full

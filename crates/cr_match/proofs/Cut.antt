@@ -1,5 +1,6 @@
 -- Closed labels, whatever the prices: a member has no more room for the papers without a label than they have of her.
-use Rattle.std.proofs.Common.{◌≡◌, ℕ, zero, suc, ◌+◌, ◌<◌, ◌≤◌, Bool, true, false, cond, ◌&&◌, ◌==◌, List, [], ◌∷◌, length, count_by, min, get_or, refl, arith, ap}
+use Rattle.std.proofs.Common.{◌≡◌, ℕ, zero, suc, ◌+◌, ◌<◌, ◌≤◌, Bool, true, false, cond, ◌&&◌, ◌==◌, List, [], ◌∷◌}
+use Rattle.std.proofs.Common.{length, count_by, min, get_or, refl, arith, ap}
 use Rattle.std.proofs.lemmas.Bool.Decides.{nat_tests}
 use Rattle.std.proofs.lemmas.List.Sums.{sum_by-cons}
 use Rattle.cr_match.specs.declared.search.Slot.{Slot}
@@ -18,10 +19,13 @@ cut_chosen lp m s = s.chosen && cut_slot lp m s
 abbrev pub ClosedSlots : List ℕ → List ℕ → List Slot → Type 0
 ClosedSlots lp lm [] = Unit {0}
 ClosedSlots lp lm (s ∷ ss) =
-    (s.chosen ≡ false → 0 < get_or lm s.member 0 → 0 < get_or lp s.paper 0) × (s.chosen ≡ true → 0 < get_or lp s.paper 0 → 0 < get_or lm s.member 0) × ClosedSlots lp lm ss
+    (s.chosen ≡ false → 0 < get_or lm s.member 0 → 0 < get_or lp s.paper 0)
+    × (s.chosen ≡ true → 0 < get_or lp s.paper 0 → 0 < get_or lm s.member 0) × ClosedSlots lp lm ss
 
-one_bare : (lp lm : List ℕ) (m : ℕ) (s : Slot) (c e r : Bool) → s.chosen ≡ c → (s.member == m) ≡ e → (get_or lp s.paper 0 == 0) ≡ r → get_or lm m 0 ≡ 0 →
-    (s.chosen ≡ true → 0 < get_or lp s.paper 0 → 0 < get_or lm s.member 0) → cond (c && e) 1 0 ≤ cond (c && (r && e)) 1 0
+one_bare : (lp lm : List ℕ) (m : ℕ) (s : Slot) (c e r : Bool) → s.chosen ≡ c → (s.member == m) ≡ e
+    → (get_or lp s.paper 0 == 0) ≡ r → get_or lm m 0 ≡ 0 →
+    (s.chosen ≡ true → 0 < get_or lp s.paper 0 → 0 < get_or lm s.member 0)
+    → cond (c && e) 1 0 ≤ cond (c && (r && e)) 1 0
 one_bare lp lm m s false e r hc he hr z h = omega arith
 one_bare lp lm m s true false true hc he hr z h = omega arith
 one_bare lp lm m s true false false hc he hr z h = omega arith
@@ -32,8 +36,10 @@ one_bare lp lm m s true true false hc he hr z h =
     let l : get_or lm s.member 0 ≡ get_or lm m 0 = ap (λ k. get_or lm k 0) eq in
     absurd (omega (arith, h hc p, l, z))
 
-one_labelled : (lp lm : List ℕ) (m : ℕ) (s : Slot) (c e r : Bool) → s.chosen ≡ c → (s.member == m) ≡ e → (get_or lp s.paper 0 == 0) ≡ r → 0 < get_or lm m 0 →
-    (s.chosen ≡ false → 0 < get_or lm s.member 0 → 0 < get_or lp s.paper 0) → cond (r && e) 1 0 ≤ cond (c && (r && e)) 1 0
+one_labelled : (lp lm : List ℕ) (m : ℕ) (s : Slot) (c e r : Bool) → s.chosen ≡ c → (s.member == m) ≡ e
+    → (get_or lp s.paper 0 == 0) ≡ r → 0 < get_or lm m 0 →
+    (s.chosen ≡ false → 0 < get_or lm s.member 0 → 0 < get_or lp s.paper 0)
+    → cond (r && e) 1 0 ≤ cond (c && (r && e)) 1 0
 one_labelled lp lm m s true e r hc he hr z h = omega arith
 one_labelled lp lm m s false false true hc he hr z h = omega arith
 one_labelled lp lm m s false false false hc he hr z h = omega arith
@@ -45,7 +51,8 @@ one_labelled lp lm m s false true true hc he hr z h =
     let n : get_or lp s.paper 0 ≡ 0 = grind (arith, nat_tests) in
     absurd (omega (arith, p, n))
 
-all_bare : (lp lm : List ℕ) (m : ℕ) (ss : List Slot) → ClosedSlots lp lm ss → get_or lm m 0 ≡ 0 → count_by (has_member m) ss ≤ count_by (cut_chosen lp m) ss
+all_bare : (lp lm : List ℕ) (m : ℕ) (ss : List Slot) → ClosedSlots lp lm ss → get_or lm m 0 ≡ 0
+    → count_by (has_member m) ss ≤ count_by (cut_chosen lp m) ss
 all_bare lp lm m [] h z = omega arith
 all_bare lp lm m (s ∷ ss) h z =
     omega (
@@ -56,7 +63,8 @@ all_bare lp lm m (s ∷ ss) h z =
       all_bare lp lm m ss h.2 z,
     )
 
-all_labelled : (lp lm : List ℕ) (m : ℕ) (ss : List Slot) → ClosedSlots lp lm ss → 0 < get_or lm m 0 → count_by (cut_slot lp m) ss ≤ count_by (cut_chosen lp m) ss
+all_labelled : (lp lm : List ℕ) (m : ℕ) (ss : List Slot) → ClosedSlots lp lm ss → 0 < get_or lm m 0
+    → count_by (cut_slot lp m) ss ≤ count_by (cut_chosen lp m) ss
 all_labelled lp lm m [] h z = omega arith
 all_labelled lp lm m (s ∷ ss) h z =
     omega (
@@ -68,8 +76,10 @@ all_labelled lp lm m (s ∷ ss) h z =
     )
 
 -- what she has room for in those papers, she has of them
-pub cut_room : (load : ℕ) (lp lm : List ℕ) (m : ℕ) (ss : List Slot) (b : Bool) → (get_or lm m 0 == 0) ≡ b → ClosedSlots lp lm ss →
-    (get_or lm m 0 ≡ 0 → count_by (has_member m) ss ≡ load) → min load (count_by (cut_slot lp m) ss) ≤ count_by (cut_chosen lp m) ss
+pub cut_room : (load : ℕ) (lp lm : List ℕ) (m : ℕ) (ss : List Slot) (b : Bool) → (get_or lm m 0 == 0) ≡ b
+    → ClosedSlots lp lm ss →
+    (get_or lm m 0 ≡ 0 → count_by (has_member m) ss ≡ load)
+    → min load (count_by (cut_slot lp m) ss) ≤ count_by (cut_chosen lp m) ss
 cut_room load lp lm m ss true e h full =
     let z : get_or lm m 0 ≡ 0 = grind (arith, nat_tests) in omega (arith, all_bare lp lm m ss h z, full z)
 cut_room load lp lm m ss false e h full =
@@ -81,7 +91,8 @@ below_le f g (suc n) h =
     let here : f n ≤ g n = h n (omega arith) in
     omega (arith, here, below_le f g n (λ m l. h m (omega arith)))
 
-slot_once : (members : ℕ) (lp : List ℕ) (s : Slot) (c r : Bool) → (get_or lp s.paper 0 == 0) ≡ r → s.paper < length lp → s.member < members →
+slot_once : (members : ℕ) (lp : List ℕ) (s : Slot) (c r : Bool) → (get_or lp s.paper 0 == 0) ≡ r → s.paper < length lp
+    → s.member < members →
     total_below (λ m. cond (c && (r && (s.member == m))) 1 0) members ≤ cond c (get_or (bare lp) s.paper 0) 0
 slot_once members lp s false r e lp' lm' = omega (arith, total_below_none members)
 slot_once members lp s true false e lp' lm' = omega (arith, total_below_none members)
@@ -95,8 +106,11 @@ all_once members lp [] shape = omega (arith, total_below_none members)
 all_once members lp (s ∷ ss) shape =
     let l : length (s ∷ ss) ≡ suc (length ss) = refl in
     let z : 0 < length (s ∷ ss) = omega (arith, l) in
-    let split : total_below (λ m. count_by (cut_chosen lp m) (s ∷ ss)) members ≡ total_below (λ m. cond (cut_chosen lp m s) 1 0 + count_by (cut_chosen lp m) ss) members =
-    total_below_same (λ m. count_by (cut_chosen lp m) (s ∷ ss)) (λ m. cond (cut_chosen lp m s) 1 0 + count_by (cut_chosen lp m) ss) members (λ m. sum_by-cons (λ x. cond (cut_chosen lp m x) 1 0) s ss) in
+    let split : total_below (λ m. count_by (cut_chosen lp m) (s ∷ ss)) members
+    ≡ total_below (λ m. cond (cut_chosen lp m s) 1 0 + count_by (cut_chosen lp m) ss) members =
+    total_below_same (λ m. count_by (cut_chosen lp m) (s ∷ ss))
+    (λ m. cond (cut_chosen lp m s) 1 0 + count_by (cut_chosen lp m) ss) members
+    (λ m. sum_by-cons (λ x. cond (cut_chosen lp m x) 1 0) s ss) in
     omega (
       arith,
       split,
@@ -107,8 +121,10 @@ all_once members lp (s ∷ ss) shape =
     )
 
 -- closed labels and a paper that lacks members: the papers without a label are too much
-pub closed-too_much : (members want load : ℕ) (lp lm : List ℕ) (ss : List Slot) (p : ℕ) → InShape (length lp) members ss → ClosedSlots lp lm ss →
-    ((m : ℕ) → m < members → get_or lm m 0 ≡ 0 → count_by (has_member m) ss ≡ load) → ((q : ℕ) → count_by (has_paper q) ss ≤ want) →
+pub closed-too_much : (members want load : ℕ) (lp lm : List ℕ) (ss : List Slot) (p : ℕ) → InShape (length lp) members ss
+    → ClosedSlots lp lm ss →
+    ((m : ℕ) → m < members → get_or lm m 0 ≡ 0 → count_by (has_member m) ss ≡ load)
+    → ((q : ℕ) → count_by (has_paper q) ss ≤ want) →
     p < length lp → get_or lp p 0 ≡ 0 → count_by (has_paper p) ss < want →
     total_below (λ m. min load (count_by (cut_slot lp m) ss)) members < want * sum (bare lp)
 closed-too_much members want load lp lm ss p shape closed full most lt none less =
@@ -118,17 +134,24 @@ closed-too_much members want load lp lm ss p shape closed full most lt none less
     let less' : count_by (has_paper (0 + p)) ss < want = omega (arith, less, ap (λ q. count_by (has_paper q) ss) ez) in
     omega (
       arith,
-      below_le (λ m. min load (count_by (cut_slot lp m) ss)) (λ m. count_by (cut_chosen lp m) ss) members (λ m l. cut_room load lp lm m ss (get_or lm m 0 == 0) refl closed (full m l)),
+      below_le (λ m. min load (count_by (cut_slot lp m) ss)) (λ m. count_by (cut_chosen lp m) ss) members
+          (λ m l. cut_room load lp lm m ss (get_or lm m 0 == 0) refl closed (full m l)),
       all_once members lp ss shape,
       pays_is_owed (λ s. s.paper) (bare lp) ss,
       owed-less (λ q. count_by (has_paper q) ss) want (bare lp) 0 p most some less',
     )
 
 -- where every slot is worth its price, closed labels are closed for each
-pub closed_slots : (a b lp lm : List ℕ) (ss : List Slot) → AllTight a b ss → ((k : ℕ) → k < length ss → ClosedAt a b lp lm ss k) → ClosedSlots lp lm ss
+pub closed_slots : (a b lp lm : List ℕ) (ss : List Slot) → AllTight a b ss
+    → ((k : ℕ) → k < length ss → ClosedAt a b lp lm ss k) → ClosedSlots lp lm ss
 closed_slots a b lp lm [] tight at = tt
 closed_slots a b lp lm (s ∷ ss) tight at =
     let l : length (s ∷ ss) ≡ suc (length ss) = refl in
-    let h : (s.chosen ≡ false → 0 < get_or lm s.member 0 → 0 < get_or lp s.paper 0) × (s.chosen ≡ true → 0 < get_or lp s.paper 0 → 0 < get_or lm s.member 0) =
-    at 0 (let z : 0 < length (s ∷ ss) = omega (arith, l) in z) s tight.0 in
-    (h.0, h.1, closed_slots a b lp lm ss tight.1 (λ k lt d. at (suc k) (let m : suc k < length (s ∷ ss) = omega (arith, l, lt) in m) d))
+    let h : (s.chosen ≡ false → 0 < get_or lm s.member 0 → 0 < get_or lp s.paper 0)
+    × (s.chosen ≡ true → 0 < get_or lp s.paper 0 → 0 < get_or lm s.member 0) =
+    at 0 (let z : 0 < length (s ∷ ss) = omega (arith, l) in z) s tight.0 in (
+      h.0,
+      h.1,
+      closed_slots a b lp lm ss tight.1
+          (λ k lt d. at (suc k) (let m : suc k < length (s ∷ ss) = omega (arith, l, lt) in m) d),
+    )

@@ -1,5 +1,7 @@
 -- No plan is worth more than what prices say.
-use Rattle.std.proofs.Common.{◌≡◌, ℕ, zero, suc, ◌+◌, ◌*◌, ◌<◌, ◌≤◌, Bool, true, false, cond, List, [], ◌∷◌, length, count_by, ◌==◌, ℤ, pos, negsuc, ◌+ℤ◌, ◌-ℤ◌, ◌*ℤ◌, ◌≤ℤ◌, sum, sum_by, get_or, refl, arith, ap}
+use Rattle.std.proofs.Common.{◌≡◌, ℕ, zero, suc, ◌+◌, ◌*◌, ◌<◌, ◌≤◌, Bool, true, false, cond, List, [], ◌∷◌, length}
+use Rattle.std.proofs.Common.{count_by, ◌==◌, ℤ, pos, negsuc, ◌+ℤ◌, ◌-ℤ◌, ◌*ℤ◌, ◌≤ℤ◌, sum, sum_by, get_or, refl, arith}
+use Rattle.std.proofs.Common.{ap}
 use Rattle.std.proofs.Math.Nat.{mul-le-mul_left}
 use Rattle.std.proofs.Math.IntN.{suc_ℤ-*ℤ, zero-*ℤ}
 use Rattle.std.proofs.lemmas.Bool.Decides.{nat_tests}
@@ -82,7 +84,8 @@ owed_one (suc i) (x ∷ xs) k r h =
     let next : r ≡ suc k + i = omega arith in
     omega (arith, ints, p, times_zero x, owed_one i xs (suc k) r next)
 
-owed_full : (f : ℕ → ℕ) (want : ℕ) (xs : List ℤ) (k : ℕ) → ((q : ℕ) → q < k + length xs → f q ≡ want) → owed f xs k ≡ pos want *ℤ sum_z xs
+owed_full : (f : ℕ → ℕ) (want : ℕ) (xs : List ℤ) (k : ℕ) → ((q : ℕ) → q < k + length xs → f q ≡ want)
+    → owed f xs k ≡ pos want *ℤ sum_z xs
 owed_full f want [] k h = omega (arith, ints, times_zero (pos 0))
 owed_full f want (x ∷ xs) k h =
     let here : k < k + length (x ∷ xs) = omega (arith, length_more x xs) in
@@ -103,10 +106,19 @@ count-cons p e es = sum_by-cons (λ x. cond (p x) 1 0) e es
 paper_prices_are : (a : List ℤ) (es : List Pair) → owed (λ q. count_by (of_paper q) es) a 0 ≡ paper_prices a es
 paper_prices_are a [] = owed_none a 0
 paper_prices_are a (e ∷ es) =
-    let split : owed (λ q. count_by (of_paper q) (e ∷ es)) a 0 ≡ owed (λ q. one_at e.paper q + count_by (of_paper q) es) a 0 =
-    owed_same (λ q. count_by (of_paper q) (e ∷ es)) (λ q. one_at e.paper q + count_by (of_paper q) es) (λ q. count-cons (of_paper q) e es) a 0 in
+    let split : owed (λ q. count_by (of_paper q) (e ∷ es)) a 0 ≡ owed (λ q. one_at e.paper q + count_by (of_paper q) es)
+    a 0 =
+    owed_same (λ q. count_by (of_paper q) (e ∷ es)) (λ q. one_at e.paper q + count_by (of_paper q) es)
+    (λ q. count-cons (of_paper q) e es) a 0 in
     let at : e.paper ≡ 0 + e.paper = omega arith in
-    omega (arith, ints, split, owed_add (one_at e.paper) (λ q. count_by (of_paper q) es) a 0, owed_one e.paper a 0 e.paper at, paper_prices_are a es)
+    omega (
+      arith,
+      ints,
+      split,
+      owed_add (one_at e.paper) (λ q. count_by (of_paper q) es) a 0,
+      owed_one e.paper a 0 e.paper at,
+      paper_prices_are a es,
+    )
 
 -- the same for the members, whose prices are natural numbers and who may have less than the load
 
@@ -162,22 +174,40 @@ member_prices b es = sum_by (λ e. get_or b e.member 0) es
 member_prices_are : (b : List ℕ) (es : List Pair) → owed_n (λ q. count_by (of_member q) es) b 0 ≡ member_prices b es
 member_prices_are b [] = owed_n_none b 0
 member_prices_are b (e ∷ es) =
-    let split : owed_n (λ q. count_by (of_member q) (e ∷ es)) b 0 ≡ owed_n (λ q. one_at e.member q + count_by (of_member q) es) b 0 =
-    owed_n_same (λ q. count_by (of_member q) (e ∷ es)) (λ q. one_at e.member q + count_by (of_member q) es) (λ q. count-cons (of_member q) e es) b 0 in
+    let split : owed_n (λ q. count_by (of_member q) (e ∷ es)) b 0
+    ≡ owed_n (λ q. one_at e.member q + count_by (of_member q) es) b 0 =
+    owed_n_same (λ q. count_by (of_member q) (e ∷ es)) (λ q. one_at e.member q + count_by (of_member q) es)
+    (λ q. count-cons (of_member q) e es) b 0 in
     let at : e.member ≡ 0 + e.member = omega arith in
-    omega (arith, split, owed_n_add (one_at e.member) (λ q. count_by (of_member q) es) b 0, owed_n_one e.member b 0 e.member at, member_prices_are b es, sum_by-cons (λ x. get_or b x.member 0) e es)
+    omega (
+      arith,
+      split,
+      owed_n_add (one_at e.member) (λ q. count_by (of_member q) es) b 0,
+      owed_n_one e.member b 0 e.member at,
+      member_prices_are b es,
+      sum_by-cons (λ x. get_or b x.member 0) e es,
+    )
 
 -- each pair is worth at most its prices and its excess
 
-weight_le : (a : List ℤ) (b : List ℕ) (es : List Pair) → total_weight es ≤ℤ (paper_prices a es +ℤ pos (member_prices b es + sum_by (excess a b) es))
+weight_le : (a : List ℤ) (b : List ℕ) (es : List Pair)
+    → total_weight es ≤ℤ (paper_prices a es +ℤ pos (member_prices b es + sum_by (excess a b) es))
 weight_le a b [] = omega (arith, ints)
 weight_le a b (e ∷ es) =
-    omega (arith, ints, le_above (e.weight -ℤ (get_or a e.paper (pos 0) +ℤ pos (get_or b e.member 0))), weight_le a b es, sum_by-cons (λ x. get_or b x.member 0) e es, sum_by-cons (excess a b) e es)
+    omega (
+      arith,
+      ints,
+      le_above (e.weight -ℤ (get_or a e.paper (pos 0) +ℤ pos (get_or b e.member 0))),
+      weight_le a b es,
+      sum_by-cons (λ x. get_or b x.member 0) e es,
+      sum_by-cons (excess a b) e es,
+    )
 
 pub sum_by-kept-le : {X : Type 0} (f : X → ℕ) (marks : List Bool) (xs : List X) → sum_by f (kept marks xs) ≤ sum_by f xs
 sum_by-kept-le f [] xs = omega arith
 sum_by-kept-le f (b ∷ bs) [] = omega arith
-sum_by-kept-le f (true ∷ bs) (x ∷ xs) = omega (arith, sum_by-kept-le f bs xs, sum_by-cons f x xs, sum_by-cons f x (kept bs xs))
+sum_by-kept-le f (true ∷ bs) (x ∷ xs) =
+    omega (arith, sum_by-kept-le f bs xs, sum_by-cons f x xs, sum_by-cons f x (kept bs xs))
 sum_by-kept-le f (false ∷ bs) (x ∷ xs) = omega (arith, sum_by-kept-le f bs xs, sum_by-cons f x xs)
 
 -- weak duality: no plan of the problem is worth more than the bound of any prices
@@ -186,7 +216,8 @@ pub weight-le-bound : (want load : ℕ) (a : List ℤ) (b : List ℕ) (pairs : L
 weight-le-bound want load a b pairs marks plan =
     let es : List Pair = kept marks pairs in
     let full : owed (λ q. count_by (of_paper q) (kept marks pairs)) a 0 ≡ pos want *ℤ sum_z a =
-    owed_full (λ q. count_by (of_paper q) (kept marks pairs)) want a 0 (λ q l. plan.full q (let s : q < length a = omega arith in s)) in
+    owed_full (λ q. count_by (of_paper q) (kept marks pairs)) want a 0
+    (λ q l. plan.full q (let s : q < length a = omega arith in s)) in
     omega (
       arith,
       ints,

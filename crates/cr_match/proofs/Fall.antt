@@ -1,10 +1,12 @@
 -- From what the code says, place by place, to the step of the prices.
-use Rattle.std.proofs.Common.{◌≡◌, ℕ, zero, suc, ◌+◌, ◌-◌, ◌*◌, ◌<◌, ◌≤◌, Bool, true, false, cond, ◌==◌, List, [], ◌∷◌, length, count_by, get_or, refl, arith, ap, sym, ◌∙◌, subst}
+use Rattle.std.proofs.Common.{◌≡◌, ℕ, zero, suc, ◌+◌, ◌-◌, ◌*◌, ◌<◌, ◌≤◌, Bool, true, false, cond, ◌==◌, List, [], ◌∷◌}
+use Rattle.std.proofs.Common.{length, count_by, get_or, refl, arith, ap, sym, ◌∙◌, subst}
 use Rattle.std.proofs.lemmas.Bool.Decides.{nat_tests}
 use Rattle.std.proofs.Math.Nat.{mul-le-mul_left}
 use Rattle.std.proofs.lemmas.List.Sums.{sum_by-cons, count_by-le-length}
 use Rattle.cr_match.specs.declared.search.Slot.{Slot}
-use Rattle.cr_match.specs.Slack.{price, AllSuit, has_paper, has_member, chosen_value, excess_value, dual, IsSumOf, Closed}
+use Rattle.cr_match.specs.Slack.{price, AllSuit, has_paper, has_member, chosen_value, excess_value, dual, IsSumOf}
+use Rattle.cr_match.specs.Slack.{Closed}
 use Rattle.cr_match.specs.Labels.{Leads, LeadsBack, AllFit, InShape, ClosedAt, bare, Lowered, unlabelled}
 use Rattle.cr_match.specs.Search.{Searching}
 use Rattle.cr_match.proofs.Duality.{owed_n_light}
@@ -14,15 +16,21 @@ use Rattle.cr_match.proofs.PriceSteps.{at_sum, reprice-suits, dual-falls, owed-l
 length_more : (x : ℕ) (xs : List ℕ) → length (x ∷ xs) ≡ suc (length xs)
 length_more x xs = refl
 
-pub sum_of_lowered : (xs ys ls : List ℕ) → length xs ≡ length ys → length xs ≡ length ls → Lowered xs ys ls (length xs) → IsSumOf xs ys (bare ls)
+pub sum_of_lowered : (xs ys ls : List ℕ) → length xs ≡ length ys → length xs ≡ length ls → Lowered xs ys ls (length xs)
+    → IsSumOf xs ys (bare ls)
 sum_of_lowered [] [] [] e f h = tt
-sum_of_lowered [] [] (l ∷ ls) e f h = absurd (omega (arith, f, length_more l ls, (let z : length {A = ℕ} [] ≡ 0 = refl in z)))
-sum_of_lowered [] (y ∷ ys) ls e f h = absurd (omega (arith, e, length_more y ys, (let z : length {A = ℕ} [] ≡ 0 = refl in z)))
-sum_of_lowered (x ∷ xs) [] ls e f h = absurd (omega (arith, e, length_more x xs, (let z : length {A = ℕ} [] ≡ 0 = refl in z)))
-sum_of_lowered (x ∷ xs) (y ∷ ys) [] e f h = absurd (omega (arith, f, length_more x xs, (let z : length {A = ℕ} [] ≡ 0 = refl in z)))
+sum_of_lowered [] [] (l ∷ ls) e f h =
+    absurd (omega (arith, f, length_more l ls, (let z : length {A = ℕ} [] ≡ 0 = refl in z)))
+sum_of_lowered [] (y ∷ ys) ls e f h =
+    absurd (omega (arith, e, length_more y ys, (let z : length {A = ℕ} [] ≡ 0 = refl in z)))
+sum_of_lowered (x ∷ xs) [] ls e f h =
+    absurd (omega (arith, e, length_more x xs, (let z : length {A = ℕ} [] ≡ 0 = refl in z)))
+sum_of_lowered (x ∷ xs) (y ∷ ys) [] e f h =
+    absurd (omega (arith, f, length_more x xs, (let z : length {A = ℕ} [] ≡ 0 = refl in z)))
 sum_of_lowered (x ∷ xs) (y ∷ ys) (l ∷ ls) e f h = (
   h 0 (let z : 0 < length (x ∷ xs) = omega (arith, length_more x xs) in z),
-  sum_of_lowered xs ys ls (omega (arith, e, length_more x xs, length_more y ys)) (omega (arith, f, length_more x xs, length_more l ls))
+  sum_of_lowered xs ys ls (omega (arith, e, length_more x xs, length_more y ys))
+      (omega (arith, f, length_more x xs, length_more l ls))
       (λ k lt. h (suc k) (let s : suc k < length (x ∷ xs) = omega (arith, lt, length_more x xs) in s)),
 )
 
@@ -47,11 +55,15 @@ bare_none (l ∷ ls) zero h = grind (arith, nat_tests)
 bare_none (l ∷ ls) (suc q) h = bare_none ls q h
 
 -- a place leads to a bare one only where it is bare itself, if what leads to a labelled one is labelled
-bare_le : (ls ms : List ℕ) (p m : ℕ) (b : Bool) → (get_or ms m 0 == 0) ≡ b → m < length ms → (0 < get_or ms m 0 → 0 < get_or ls p 0) → get_or (bare ls) p 0 ≤ get_or (bare ms) m 0
-bare_le ls ms p m true e lt h = let z : get_or ms m 0 ≡ 0 = grind (arith, nat_tests) in omega (arith, bare_some ms m lt z, bare_one ls p)
-bare_le ls ms p m false e lt h = let s : 0 < get_or ms m 0 = grind (arith, nat_tests) in omega (arith, bare_none ls p (h s))
+bare_le : (ls ms : List ℕ) (p m : ℕ) (b : Bool) → (get_or ms m 0 == 0) ≡ b → m < length ms
+    → (0 < get_or ms m 0 → 0 < get_or ls p 0) → get_or (bare ls) p 0 ≤ get_or (bare ms) m 0
+bare_le ls ms p m true e lt h = let z : get_or ms m 0 ≡ 0 =
+    grind (arith, nat_tests) in omega (arith, bare_some ms m lt z, bare_one ls p)
+bare_le ls ms p m false e lt h = let s : 0 < get_or ms m 0 =
+    grind (arith, nat_tests) in omega (arith, bare_none ls p (h s))
 
-pub closed_of_at : (a b lp lm : List ℕ) (ss : List Slot) → InShape (length lp) (length lm) ss → ((k : ℕ) → k < length ss → ClosedAt a b lp lm ss k) →
+pub closed_of_at : (a b lp lm : List ℕ) (ss : List Slot) → InShape (length lp) (length lm) ss
+    → ((k : ℕ) → k < length ss → ClosedAt a b lp lm ss k) →
     Closed a b (bare lp) (bare lm) ss
 closed_of_at a b lp lm [] shape at = tt
 closed_of_at a b lp lm (s ∷ ss) shape at =
@@ -59,10 +71,13 @@ closed_of_at a b lp lm (s ∷ ss) shape at =
     let z : 0 < length (s ∷ ss) = omega (arith, l) in (
       (λ c t. bare_le lp lm s.paper s.member (get_or lm s.member 0 == 0) refl (shape 0 s z).1 ((at 0 z s t).0 c)),
       (λ c t. bare_le lm lp s.member s.paper (get_or lp s.paper 0 == 0) refl (shape 0 s z).0 ((at 0 z s t).1 c)),
-      closed_of_at a b lp lm ss (λ k d lt. shape (suc k) d (let m : suc k < length (s ∷ ss) = omega (arith, l, lt) in m)) (λ k lt d. at (suc k) (let m : suc k < length (s ∷ ss) = omega (arith, l, lt) in m) d),
+      closed_of_at a b lp lm ss (λ k d lt. shape (suc k) d
+          (let m : suc k < length (s ∷ ss) = omega (arith, l, lt) in m))
+          (λ k lt d. at (suc k) (let m : suc k < length (s ∷ ss) = omega (arith, l, lt) in m) d),
     )
 
-bare_full : (load : ℕ) (lm : List ℕ) (ss : List Slot) → ((m : ℕ) → m < length lm → get_or lm m 0 ≡ 0 → count_by (has_member m) ss ≡ load) →
+bare_full : (load : ℕ) (lm : List ℕ) (ss : List Slot)
+    → ((m : ℕ) → m < length lm → get_or lm m 0 ≡ 0 → count_by (has_member m) ss ≡ load) →
     (m : ℕ) (b : Bool) → (get_or lm m 0 == 0) ≡ b → 0 < get_or (bare lm) m 0 → count_by (has_member m) ss ≡ load
 bare_full load lm ss full m true e u = full m (bare_inside lm m u) (grind (arith, nat_tests))
 bare_full load lm ss full m false e u =
@@ -73,32 +88,38 @@ pub step_of_prices : (want load : ℕ) (a lower b higher lp lm : List ℕ) (ss :
     length a ≡ length lower → length a ≡ length lp → length higher ≡ length b → length higher ≡ length lm →
     Lowered a lower lp (length a) → Lowered higher b lm (length higher) → InShape (length lp) (length lm) ss →
     ((k : ℕ) → k < length ss → ClosedAt a b lp lm ss k) → AllSuit a b ss →
-    ((q : ℕ) → count_by (has_paper q) ss ≤ want) → p < length lp → get_or lp p 0 ≡ 0 → count_by (has_paper p) ss < want →
+    ((q : ℕ) → count_by (has_paper q) ss ≤ want) → p < length lp → get_or lp p 0 ≡ 0 → count_by (has_paper p) ss < want
+    →
     ((m : ℕ) → m < length lm → get_or lm m 0 ≡ 0 → count_by (has_member m) ss ≡ load) →
     AllSuit lower higher ss × (dual want load lower higher ss < dual want load a b ss)
 step_of_prices want load a lower b higher lp lm ss p e0 e1 e2 e3 la lb shape at suit most lt none less full =
     let ha : IsSumOf a lower (bare lp) = sum_of_lowered a lower lp e0 e1 la in
     let hb : IsSumOf higher b (bare lm) = sum_of_lowered higher b lm e2 e3 lb in
-    let suit' : AllSuit lower higher ss = reprice-suits a lower (bare lp) b higher (bare lm) ss ha hb (bare_one lp) (bare_one lm) suit (closed_of_at a b lp lm ss shape at) in
+    let suit' : AllSuit lower higher ss = reprice-suits a lower (bare lp) b higher (bare lm) ss ha hb (bare_one lp)
+    (bare_one lm) suit (closed_of_at a b lp lm ss shape at) in
     let one : get_or (bare lp) p 0 ≡ 1 = bare_some lp p lt none in
     let some : 0 < get_or (bare lp) p 0 = omega (arith, one) in
     let ez : 0 + p ≡ p = omega arith in
-    let less' : count_by (has_paper (0 + p)) ss < want = subst (λ q. count_by (has_paper q) ss < want) (sym ez) less in (
+    let less' : count_by (has_paper (0 + p)) ss < want =
+    subst (λ q. count_by (has_paper q) ss < want) (sym ez) less in (
       suit',
       omega (
         arith,
-        dual-falls want load a lower (bare lp) b higher (bare lm) ss ha hb suit suit' (λ m u. bare_full load lm ss full m (get_or lm m 0 == 0) refl u),
+        dual-falls want load a lower (bare lp) b higher (bare lm) ss ha hb suit suit'
+            (λ m u. bare_full load lm ss full m (get_or lm m 0 == 0) refl u),
         owed-less (λ q. count_by (has_paper q) ss) want (bare lp) 0 p most some less',
       ),
     )
 
 -- any full and light choice of the same pairs is worth at most the bound
 slot_le : (a b : List ℕ) (s : Slot) (c : Bool) → s.chosen ≡ c →
-    cond s.chosen s.value 0 ≤ cond s.chosen (get_or a s.paper 0) 0 + cond s.chosen (get_or b s.member 0) 0 + (s.value - price a b s)
+    cond s.chosen s.value 0 ≤ cond s.chosen (get_or a s.paper 0) 0 + cond s.chosen (get_or b s.member 0) 0
+    + (s.value - price a b s)
 slot_le a b s true e = rw e (omega arith)
 slot_le a b s false e = rw e (omega arith)
 
-value_le : (a b : List ℕ) (ss : List Slot) → chosen_value ss ≤ pays (λ s. s.paper) a ss + pays (λ s. s.member) b ss + excess_value a b ss
+value_le : (a b : List ℕ) (ss : List Slot) → chosen_value ss ≤ pays (λ s. s.paper) a ss + pays (λ s. s.member) b ss
+    + excess_value a b ss
 value_le a b [] = omega arith
 value_le a b (s ∷ ss) =
     omega (
@@ -112,19 +133,22 @@ value_le a b (s ∷ ss) =
     )
 
 pub value-le-dual : (want load : ℕ) (a b : List ℕ) (ss : List Slot) →
-    ((q : ℕ) → q < length a → count_by (has_paper q) ss ≡ want) → ((m : ℕ) → count_by (has_member m) ss ≤ load) → chosen_value ss ≤ dual want load a b ss
+    ((q : ℕ) → q < length a → count_by (has_paper q) ss ≡ want) → ((m : ℕ) → count_by (has_member m) ss ≤ load)
+    → chosen_value ss ≤ dual want load a b ss
 value-le-dual want load a b ss full light =
     omega (
       arith,
       value_le a b ss,
       pays_is_owed (λ s. s.paper) a ss,
       pays_is_owed (λ s. s.member) b ss,
-      owed_n_whole (λ q. count_by (has_paper q) ss) want a 0 (λ i l _. let e : 0 + i ≡ i = omega arith in ap (λ q. count_by (has_paper q) ss) e ∙ full i l),
+      owed_n_whole (λ q. count_by (has_paper q) ss) want a 0
+          (λ i l _. let e : 0 + i ≡ i = omega arith in ap (λ q. count_by (has_paper q) ss) e ∙ full i l),
       owed_n_light (λ q. count_by (has_member q) ss) load b 0 light,
     )
 
 -- labels outlast the step: the prices of labelled places stay
-lowered_same : (xs ys ls : List ℕ) (k : ℕ) → Lowered xs ys ls (length ls) → k < length ls → 0 < get_or ls k 0 → get_or ys k 0 ≡ get_or xs k 0
+lowered_same : (xs ys ls : List ℕ) (k : ℕ) → Lowered xs ys ls (length ls) → k < length ls → 0 < get_or ls k 0
+    → get_or ys k 0 ≡ get_or xs k 0
 lowered_same xs ys ls k h lt some =
     let n : ℕ = cond (get_or ls k 0 == 0) 1 0 in
     let e : n ≡ 0 = grind (arith, nat_tests) in
@@ -142,27 +166,50 @@ labels_stay load a lower b higher lp lm np nm ss la lb fit most = record {
   papers = λ q some low.
       let u : Leads a b lp lm ss q (get_or np q 0) = (fit most).papers q some low in
       let ep : get_or lower q 0 ≡ get_or a q 0 = lowered_same a lower lp q la (labelled_inside lp q some) some in
-      let em : get_or b u.member 0 ≡ get_or higher u.member 0 = lowered_same higher b lm u.member lb (labelled_inside lm u.member u.labelled) u.labelled in
-      record { member = u.member; value = u.value; inside = u.inside; is = u.is; tight = omega (arith, u.tight, ep, em); labelled = u.labelled; lower = u.lower };
+      let em : get_or b u.member 0 ≡ get_or higher u.member 0 =
+      lowered_same higher b lm u.member lb (labelled_inside lm u.member u.labelled) u.labelled in
+      record {
+        member = u.member;
+        value = u.value;
+        inside = u.inside;
+        is = u.is;
+        tight = omega (arith, u.tight, ep, em);
+        labelled = u.labelled;
+        lower = u.lower;
+      };
   members = λ q some low.
       let u : LeadsBack a b lp lm ss q (get_or nm q 0) = (fit most).members q some low in
       let one : 0 < get_or lm q 0 = omega (arith, some) in
-      let ep : get_or lower u.paper 0 ≡ get_or a u.paper 0 = lowered_same a lower lp u.paper la (labelled_inside lp u.paper u.labelled) u.labelled in
+      let ep : get_or lower u.paper 0 ≡ get_or a u.paper 0 =
+      lowered_same a lower lp u.paper la (labelled_inside lp u.paper u.labelled) u.labelled in
       let em : get_or b q 0 ≡ get_or higher q 0 = lowered_same higher b lm q lb (labelled_inside lm q one) one in
-      record { paper = u.paper; value = u.value; inside = u.inside; is = u.is; tight = omega (arith, u.tight, ep, em); labelled = u.labelled; lower = u.lower };
+      record {
+        paper = u.paper;
+        value = u.value;
+        inside = u.inside;
+        is = u.is;
+        tight = omega (arith, u.tight, ep, em);
+        labelled = u.labelled;
+        lower = u.lower;
+      };
   room = (fit most).room;
 }
 
-priced_either : (load : ℕ) (b lm : List ℕ) (ss : List Slot) (m : ℕ) → (c : Bool) → (get_or b m 0 == 0) ≡ c → ((m : ℕ) → 0 < get_or b m 0 → count_by (has_member m) ss ≡ load) →
-    ((m : ℕ) → m < length lm → get_or lm m 0 ≡ 0 → count_by (has_member m) ss ≡ load) → 0 < get_or b m 0 + get_or (bare lm) m 0 → get_or lm m 0 ≡ 0 → count_by (has_member m) ss ≡ load
+priced_either : (load : ℕ) (b lm : List ℕ) (ss : List Slot) (m : ℕ) → (c : Bool) → (get_or b m 0 == 0) ≡ c
+    → ((m : ℕ) → 0 < get_or b m 0 → count_by (has_member m) ss ≡ load) →
+    ((m : ℕ) → m < length lm → get_or lm m 0 ≡ 0 → count_by (has_member m) ss ≡ load)
+    → 0 < get_or b m 0 + get_or (bare lm) m 0 → get_or lm m 0 ≡ 0 → count_by (has_member m) ss ≡ load
 priced_either load b lm ss m true c priced full u none =
     let z : get_or b m 0 ≡ 0 = grind (arith, nat_tests) in full m (bare_inside lm m (omega (arith, z, u))) none
 priced_either load b lm ss m false c priced full u none = priced m (grind (arith, nat_tests))
 
-priced_step : (load : ℕ) (b higher lm : List ℕ) (ss : List Slot) (m : ℕ) → get_or higher m 0 ≡ get_or b m 0 + get_or (bare lm) m 0 →
+priced_step : (load : ℕ) (b higher lm : List ℕ) (ss : List Slot) (m : ℕ)
+    → get_or higher m 0 ≡ get_or b m 0 + get_or (bare lm) m 0 →
     (c : Bool) → (get_or lm m 0 == 0) ≡ c → ((m : ℕ) → 0 < get_or b m 0 → count_by (has_member m) ss ≡ load) →
-    ((m : ℕ) → m < length lm → get_or lm m 0 ≡ 0 → count_by (has_member m) ss ≡ load) → 0 < get_or higher m 0 → count_by (has_member m) ss ≡ load
-priced_step load b higher lm ss m e true c priced full u = priced_either load b lm ss m (get_or b m 0 == 0) refl priced full (omega (arith, e, u)) (grind (arith, nat_tests))
+    ((m : ℕ) → m < length lm → get_or lm m 0 ≡ 0 → count_by (has_member m) ss ≡ load) → 0 < get_or higher m 0
+    → count_by (has_member m) ss ≡ load
+priced_step load b higher lm ss m e true c priced full u =
+    priced_either load b lm ss m (get_or b m 0 == 0) refl priced full (omega (arith, e, u)) (grind (arith, nat_tests))
 priced_step load b higher lm ss m e false c priced full u =
     let s : 0 < get_or lm m 0 = grind (arith, nat_tests) in priced m (omega (arith, e, u, bare_none lm m s))
 
@@ -170,9 +217,11 @@ pub searching_step : (want load lowest : ℕ) (a lower b higher lp lm : List ℕ
     length a ≡ length lower → length a ≡ length lp → length higher ≡ length b → length higher ≡ length lm →
     Lowered a lower lp (length a) → Lowered higher b lm (length higher) → InShape (length lp) (length lm) ss →
     ((k : ℕ) → k < length ss → ClosedAt a b lp lm ss k) →
-    ((q : ℕ) → count_by (has_paper q) ss ≤ want) → p < length lp → get_or lp p 0 ≡ 0 → count_by (has_paper p) ss < want →
+    ((q : ℕ) → count_by (has_paper q) ss ≤ want) → p < length lp → get_or lp p 0 ≡ 0 → count_by (has_paper p) ss < want
+    →
     ((m : ℕ) → m < length lm → get_or lm m 0 ≡ 0 → count_by (has_member m) ss ≡ load) →
-    Searching want load lowest a b ss → Searching want load lowest lower higher ss × (dual want load lower higher ss < dual want load a b ss)
+    Searching want load lowest a b ss → Searching want load lowest lower higher ss
+    × (dual want load lower higher ss < dual want load a b ss)
 searching_step want load lowest a lower b higher lp lm ss p e0 e1 e2 e3 la lb shape at most lt none less full s =
     let step : AllSuit lower higher ss × (dual want load lower higher ss < dual want load a b ss) =
     step_of_prices want load a lower b higher lp lm ss p e0 e1 e2 e3 la lb shape at s.suits most lt none less full in
@@ -180,10 +229,17 @@ searching_step want load lowest a lower b higher lp lm ss p e0 e1 e2 e3 la lb sh
     let hb : IsSumOf higher b (bare lm) = sum_of_lowered higher b lm e2 e3 lb in (
       record {
         suits = step.0;
-        low = λ k l. omega (arith, step.1, s.low k (let m : k < length a = omega (arith, l, e0) in m), at_sum k a lower (bare lp) ha, bare_one lp k);
+        low = λ k l. omega (
+          arith,
+          step.1,
+          s.low k (let m : k < length a = omega (arith, l, e0) in m),
+          at_sum k a lower (bare lp) ha,
+          bare_one lp k,
+        );
         high = λ k. omega (arith, step.1, s.high k, at_sum k higher b (bare lm) hb, bare_one lm k);
         top = λ k. omega (arith, s.top k, at_sum k a lower (bare lp) ha);
-        priced = λ m u. priced_step load b higher lm ss m (at_sum m higher b (bare lm) hb) (get_or lm m 0 == 0) refl s.priced full u;
+        priced = λ m u. priced_step load b higher lm ss m (at_sum m higher b (bare lm) hb) (get_or lm m 0 == 0) refl
+            s.priced full u;
       },
       step.1,
     )
@@ -196,8 +252,10 @@ product_falls d e n u v h l =
     let m : (n + 1) * suc d ≤ (n + 1) * e = mul-le-mul_left (n + 1) (let s : suc d ≤ e = omega (arith, h) in s) in
     omega (arith, m, l)
 
-still_priced : (load : ℕ) (b : List ℕ) (ss new : List Slot) (m q : ℕ) (c : Bool) → (m == q) ≡ c → ((m : ℕ) → 0 < get_or b m 0 → count_by (has_member m) ss ≡ load) →
-    count_by (has_member m) ss < load → count_by (has_member q) new ≡ count_by (has_member q) ss + cond (m == q) 1 0 → 0 < get_or b q 0 → count_by (has_member q) new ≡ load
+still_priced : (load : ℕ) (b : List ℕ) (ss new : List Slot) (m q : ℕ) (c : Bool) → (m == q) ≡ c
+    → ((m : ℕ) → 0 < get_or b m 0 → count_by (has_member m) ss ≡ load) →
+    count_by (has_member m) ss < load → count_by (has_member q) new ≡ count_by (has_member q) ss + cond (m == q) 1 0
+    → 0 < get_or b q 0 → count_by (has_member q) new ≡ load
 still_priced load b ss new m q true e priced less more u =
     let eq : m ≡ q = grind (arith, nat_tests) in
     let f : count_by (has_member m) ss ≡ count_by (has_member q) ss = ap (λ k. count_by (has_member k) ss) eq in
@@ -208,8 +266,10 @@ still_priced load b ss new m q false e priced less more u =
 
 -- and what is kept when the walk is done
 pub searching_walked : (want load lowest : ℕ) (a b : List ℕ) (ss new : List Slot) (m : ℕ) →
-    Searching want load lowest a b ss → AllSuit a b new → ((x y : List ℕ) → excess_value x y new ≡ excess_value x y ss) →
-    count_by (has_member m) ss < load → ((r : ℕ) → count_by (has_member r) new ≡ count_by (has_member r) ss + cond (m == r) 1 0) →
+    Searching want load lowest a b ss → AllSuit a b new → ((x y : List ℕ) → excess_value x y new ≡ excess_value x y ss)
+    →
+    count_by (has_member m) ss < load
+    → ((r : ℕ) → count_by (has_member r) new ≡ count_by (has_member r) ss + cond (m == r) 1 0) →
     Searching want load lowest a b new
 searching_walked want load lowest a b ss new m s suits same less more = record {
   suits = suits;

@@ -1,5 +1,6 @@
 -- Slots one by one: where they are, counts over joined lists, and lists that differ in what is chosen alone.
-use Rattle.std.proofs.Common.{Bool, true, false, ◌&&◌, ◌≡◌, ℕ, zero, suc, ◌+◌, ◌<◌, ◌≤◌, ◌==◌, List, [], ◌∷◌, ◌++◌, length, count_by, take, drop, get_or, refl, arith, ap, sym, ◌∙◌}
+use Rattle.std.proofs.Common.{Bool, true, false, ◌&&◌, ◌≡◌, ℕ, zero, suc, ◌+◌, ◌<◌, ◌≤◌, ◌==◌, List, [], ◌∷◌, ◌++◌}
+use Rattle.std.proofs.Common.{length, count_by, take, drop, get_or, refl, arith, ap, sym, ◌∙◌}
 use Rattle.std.proofs.lemmas.Bool.Decides.{nat_tests}
 use Rattle.std.proofs.lemmas.List.Sums.{sum_by-cons, sum_by-append}
 use Rattle.cr_match.specs.declared.search.Slot.{Slot}
@@ -21,27 +22,34 @@ shape_inside papers members (s ∷ ss) h =
     let f : (s.paper < papers) × (s.member < members) = shape_first papers members s ss h in
     (f.0, f.1, shape_inside papers members ss (shape_rest papers members s ss h))
 
-pub inside_append : (papers members : ℕ) (xs ys : List Slot) → AllInside papers members xs → AllInside papers members ys → AllInside papers members (xs ++ ys)
+pub inside_append : (papers members : ℕ) (xs ys : List Slot) → AllInside papers members xs → AllInside papers members ys
+    → AllInside papers members (xs ++ ys)
 inside_append papers members [] ys h k = k
 inside_append papers members (x ∷ xs) ys h k = (h.0, h.1, inside_append papers members xs ys h.2 k)
 
-pub inside_front : (papers members : ℕ) (xs ys : List Slot) → AllInside papers members (xs ++ ys) → AllInside papers members xs
+pub inside_front : (papers members : ℕ) (xs ys : List Slot) → AllInside papers members (xs ++ ys)
+    → AllInside papers members xs
 inside_front papers members [] ys h = tt
 inside_front papers members (x ∷ xs) ys h = (h.0, h.1, inside_front papers members xs ys h.2)
 
-pub inside_back : (papers members : ℕ) (xs ys : List Slot) → AllInside papers members (xs ++ ys) → AllInside papers members ys
+pub inside_back : (papers members : ℕ) (xs ys : List Slot) → AllInside papers members (xs ++ ys)
+    → AllInside papers members ys
 inside_back papers members [] ys h = h
 inside_back papers members (x ∷ xs) ys h = inside_back papers members xs ys h.2
 
-pub inside_alike : (papers members : ℕ) (ss ts : List Slot) → Alike ss ts → AllInside papers members ss → AllInside papers members ts
+pub inside_alike : (papers members : ℕ) (ss ts : List Slot) → Alike ss ts → AllInside papers members ss
+    → AllInside papers members ts
 inside_alike papers members [] [] h k = tt
 inside_alike papers members [] (t ∷ ts) h k = absurd h
 inside_alike papers members (s ∷ ss) [] h k = absurd h
-inside_alike papers members (s ∷ ss) (t ∷ ts) h k = (omega (arith, h.0, k.0), omega (arith, h.1, k.1), inside_alike papers members ss ts h.3 k.2)
+inside_alike papers members (s ∷ ss) (t ∷ ts) h k =
+    (omega (arith, h.0, k.0), omega (arith, h.1, k.1), inside_alike papers members ss ts h.3 k.2)
 
-pub inside_wider : (papers members p m : ℕ) (ss : List Slot) → papers ≤ p → members ≤ m → AllInside papers members ss → AllInside p m ss
+pub inside_wider : (papers members p m : ℕ) (ss : List Slot) → papers ≤ p → members ≤ m → AllInside papers members ss
+    → AllInside p m ss
 inside_wider papers members p m [] lp lm h = tt
-inside_wider papers members p m (s ∷ ss) lp lm h = (omega (arith, lp, h.0), omega (arith, lm, h.1), inside_wider papers members p m ss lp lm h.2)
+inside_wider papers members p m (s ∷ ss) lp lm h =
+    (omega (arith, lp, h.0), omega (arith, lm, h.1), inside_wider papers members p m ss lp lm h.2)
 
 pub suits_append : (a b : List ℕ) (xs ys : List Slot) → AllSuit a b xs → AllSuit a b ys → AllSuit a b (xs ++ ys)
 suits_append a b [] ys h k = k
@@ -61,17 +69,29 @@ pub off_bit : (p q : ℕ) (c : Bool) → p < q → bit (c && (p == q)) ≡ 0
 off_bit p q true lt = grind (arith, nat_tests)
 off_bit p q false lt = refl
 
-pub no_paper : (papers members q : ℕ) (ss : List Slot) → AllInside papers members ss → papers ≤ q → count_by (has_paper q) ss ≡ 0
+pub no_paper : (papers members q : ℕ) (ss : List Slot) → AllInside papers members ss → papers ≤ q
+    → count_by (has_paper q) ss ≡ 0
 no_paper papers members q [] h le = refl
 no_paper papers members q (s ∷ ss) h le =
     let lt : s.paper < q = omega (arith, h.0, le) in
-    omega (arith, off_bit s.paper q s.chosen lt, no_paper papers members q ss h.2 le, sum_by-cons (λ x. bit (has_paper q x)) s ss)
+    omega (
+      arith,
+      off_bit s.paper q s.chosen lt,
+      no_paper papers members q ss h.2 le,
+      sum_by-cons (λ x. bit (has_paper q x)) s ss,
+    )
 
-pub no_member : (papers members m : ℕ) (ss : List Slot) → AllInside papers members ss → members ≤ m → count_by (has_member m) ss ≡ 0
+pub no_member : (papers members m : ℕ) (ss : List Slot) → AllInside papers members ss → members ≤ m
+    → count_by (has_member m) ss ≡ 0
 no_member papers members m [] h le = refl
 no_member papers members m (s ∷ ss) h le =
     let lt : s.member < m = omega (arith, h.1, le) in
-    omega (arith, off_bit s.member m s.chosen lt, no_member papers members m ss h.2 le, sum_by-cons (λ x. bit (has_member m x)) s ss)
+    omega (
+      arith,
+      off_bit s.member m s.chosen lt,
+      no_member papers members m ss h.2 le,
+      sum_by-cons (λ x. bit (has_member m x)) s ss,
+    )
 
 pub count_cons : (f : Slot → Bool) (s : Slot) (ss : List Slot) → count_by f (s ∷ ss) ≡ bit (f s) + count_by f ss
 count_cons f s ss = sum_by-cons (λ x. bit (f x)) s ss
@@ -101,7 +121,8 @@ pub alike_parts : (xs ys ts : List Slot) → Alike (xs ++ ys) ts →
 alike_parts [] ys ts h = (tt, h, refl)
 alike_parts (x ∷ xs) ys [] h = absurd h
 alike_parts (x ∷ xs) ys (t ∷ ts) h =
-    let r : Alike xs (take (length xs) ts) × Alike ys (drop (length xs) ts) × (ts ≡ take (length xs) ts ++ drop (length xs) ts) = alike_parts xs ys ts h.3 in
+    let r : Alike xs (take (length xs) ts) × Alike ys (drop (length xs) ts)
+    × (ts ≡ take (length xs) ts ++ drop (length xs) ts) = alike_parts xs ys ts h.3 in
     ((h.0, h.1, h.2, r.0), r.1, ap (λ (us : List Slot). t ∷ us) r.2)
 
 pub alike_symm : (ss ts : List Slot) → Alike ss ts → Alike ts ss
@@ -113,7 +134,8 @@ alike_symm (s ∷ ss) (t ∷ ts) h = (sym h.0, sym h.1, sym h.2, alike_symm ss t
 pub slot_eq : (s t : Slot) → t.paper ≡ s.paper → t.member ≡ s.member → t.value ≡ s.value → t.chosen ≡ s.chosen → t ≡ s
 slot_eq s t p m v c =
     let e : slot t.paper t.member t.value t.chosen ≡ slot s.paper s.member s.value s.chosen =
-    ap (λ x. slot x t.member t.value t.chosen) p ∙ ap (λ x. slot s.paper x t.value t.chosen) m ∙ ap (λ x. slot s.paper s.member x t.chosen) v ∙ ap (λ x. slot s.paper s.member s.value x) c in
+    ap (λ x. slot x t.member t.value t.chosen) p ∙ ap (λ x. slot s.paper x t.value t.chosen) m
+    ∙ ap (λ x. slot s.paper s.member x t.chosen) v ∙ ap (λ x. slot s.paper s.member s.value x) c in
     e
 
 first_mark : (b c : Bool) (bs cs : List Bool) → b ∷ bs ≡ c ∷ cs → b ≡ c
@@ -143,7 +165,8 @@ marks_length (s ∷ ss) =
     let k : length (marks (s ∷ ss)) ≡ suc (length (marks ss)) = refl in
     omega (arith, l, k, marks_length ss)
 
-pub mark_after : (xs : List Slot) (s : Slot) (rest : List Slot) (d : Bool) → get_or (marks (xs ++ s ∷ rest)) (length xs) d ≡ s.chosen
+pub mark_after : (xs : List Slot) (s : Slot) (rest : List Slot) (d : Bool)
+    → get_or (marks (xs ++ s ∷ rest)) (length xs) d ≡ s.chosen
 mark_after [] s rest d = refl
 mark_after (x ∷ xs) s rest d = mark_after xs s rest d
 

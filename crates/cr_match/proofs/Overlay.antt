@@ -1,5 +1,6 @@
 -- The flags of some slots on others of the same papers and members, and the least that a plan is worth.
-use Rattle.std.proofs.Common.{◌≡◌, ℕ, ◌+◌, ◌*◌, ◌<◌, ◌≤◌, Bool, true, false, cond, ◌&&◌, ◌==◌, List, [], ◌∷◌, length, count_by, get_or, replicate, refl, arith, ap, sym, ◌∙◌, sum}
+use Rattle.std.proofs.Common.{◌≡◌, ℕ, ◌+◌, ◌*◌, ◌<◌, ◌≤◌, Bool, true, false, cond, ◌&&◌, ◌==◌, List, [], ◌∷◌, length}
+use Rattle.std.proofs.Common.{count_by, get_or, replicate, refl, arith, ap, sym, ◌∙◌, sum}
 use Rattle.std.proofs.lemmas.List.{get_or-replicate, length-replicate}
 use Rattle.std.proofs.lemmas.List.Folds.{sum_by-replicate}
 use Rattle.std.proofs.lemmas.List.Sums.{sum_by-cons}
@@ -22,12 +23,14 @@ overlay_alike [] (t ∷ ts) h = absurd h
 overlay_alike (s ∷ ss) [] h = absurd h
 overlay_alike (s ∷ ss) (t ∷ ts) h = (refl, refl, refl, overlay_alike ss ts h.2)
 
-overlay_papers : (q : ℕ) (ss ts : List Slot) → SamePlaces ss ts → count_by (has_paper q) (overlay ss ts) ≡ count_by (has_paper q) ss
+overlay_papers : (q : ℕ) (ss ts : List Slot) → SamePlaces ss ts
+    → count_by (has_paper q) (overlay ss ts) ≡ count_by (has_paper q) ss
 overlay_papers q [] [] h = refl
 overlay_papers q [] (t ∷ ts) h = absurd h
 overlay_papers q (s ∷ ss) [] h = absurd h
 overlay_papers q (s ∷ ss) (t ∷ ts) h =
-    let e : bit (s.chosen && (t.paper == q)) ≡ bit (s.chosen && (s.paper == q)) = ap (λ k. bit (s.chosen && (k == q))) h.0 in
+    let e : bit (s.chosen && (t.paper == q)) ≡ bit (s.chosen && (s.paper == q)) =
+    ap (λ k. bit (s.chosen && (k == q))) h.0 in
     omega (
       arith,
       e,
@@ -36,12 +39,14 @@ overlay_papers q (s ∷ ss) (t ∷ ts) h =
       sum_by-cons (λ x. bit (has_paper q x)) (slot t.paper t.member t.value s.chosen) (overlay ss ts),
     )
 
-overlay_members : (m : ℕ) (ss ts : List Slot) → SamePlaces ss ts → count_by (has_member m) (overlay ss ts) ≡ count_by (has_member m) ss
+overlay_members : (m : ℕ) (ss ts : List Slot) → SamePlaces ss ts
+    → count_by (has_member m) (overlay ss ts) ≡ count_by (has_member m) ss
 overlay_members m [] [] h = refl
 overlay_members m [] (t ∷ ts) h = absurd h
 overlay_members m (s ∷ ss) [] h = absurd h
 overlay_members m (s ∷ ss) (t ∷ ts) h =
-    let e : bit (s.chosen && (t.member == m)) ≡ bit (s.chosen && (s.member == m)) = ap (λ k. bit (s.chosen && (k == m))) h.1 in
+    let e : bit (s.chosen && (t.member == m)) ≡ bit (s.chosen && (s.member == m)) =
+    ap (λ k. bit (s.chosen && (k == m))) h.1 in
     omega (
       arith,
       e,
@@ -50,7 +55,8 @@ overlay_members m (s ∷ ss) (t ∷ ts) h =
       sum_by-cons (λ x. bit (has_member m x)) (slot t.paper t.member t.value s.chosen) (overlay ss ts),
     )
 
-overlay_worth : (low high papers : ℕ) (ss ts : List Slot) → AllWorth low high papers ts → AllWorth low high papers (overlay ss ts)
+overlay_worth : (low high papers : ℕ) (ss ts : List Slot) → AllWorth low high papers ts
+    → AllWorth low high papers (overlay ss ts)
 overlay_worth low high papers [] ts h = tt
 overlay_worth low high papers (s ∷ ss) [] h = tt
 overlay_worth low high papers (s ∷ ss) (t ∷ ts) h = (h.0, h.1, h.2, overlay_worth low high papers ss ts h.3)
@@ -64,7 +70,8 @@ pays_one low papers s true e le lt =
     rw e (omega (arith, r, le))
 pays_one low papers s false e le lt = rw e (omega arith)
 
-pays_le : (low high papers : ℕ) (ss : List Slot) → AllWorth low high papers ss → pays (λ s. s.paper) (replicate papers low) ss ≤ chosen_value ss
+pays_le : (low high papers : ℕ) (ss : List Slot) → AllWorth low high papers ss
+    → pays (λ s. s.paper) (replicate papers low) ss ≤ chosen_value ss
 pays_le low high papers [] h = omega arith
 pays_le low high papers (s ∷ ss) h =
     omega (
@@ -82,18 +89,24 @@ pays_whole want low papers ss full =
     let total : sum (replicate papers low) ≡ papers * low = sum_by-replicate (λ y. y) papers low in
     sym (pays_is_owed (λ s. s.paper) (replicate papers low) ss)
     ∙ owed_n_whole (λ q. count_by (has_paper q) ss) want (replicate papers low) 0
-    (λ i l _. let e : 0 + i ≡ i = omega arith in ap (λ q. count_by (has_paper q) ss) e ∙ full i (let k : i < papers = omega (arith, l, long) in k))
+    (λ i l _. let e : 0 + i ≡ i =
+    omega arith in ap (λ q. count_by (has_paper q) ss) e ∙ full i (let k : i < papers = omega (arith, l, long) in k))
     ∙ ap (λ n. want * n) total
 
 -- a plan of the same slots is worth at least that, so no bound is below it
-pub floor_holds : (want load low high papers : ℕ) (x y : List ℕ) (ss ts : List Slot) → SamePlaces ss ts → AllWorth low high papers ts →
-    ((q : ℕ) → q < papers → count_by (has_paper q) ss ≡ want) → ((m : ℕ) → count_by (has_member m) ss ≤ load) → length x ≡ papers →
+pub floor_holds : (want load low high papers : ℕ) (x y : List ℕ) (ss ts : List Slot) → SamePlaces ss ts
+    → AllWorth low high papers ts →
+    ((q : ℕ) → q < papers → count_by (has_paper q) ss ≡ want) → ((m : ℕ) → count_by (has_member m) ss ≤ load)
+    → length x ≡ papers →
     want * (papers * low) ≤ dual want load x y ts
 floor_holds want load low high papers x y ss ts places worth full light long =
-    let full' : (q : ℕ) → q < papers → count_by (has_paper q) (overlay ss ts) ≡ want = λ q l. overlay_papers q ss ts places ∙ full q l in
-    let p : pays (λ s. s.paper) (replicate papers low) (overlay ss ts) ≡ want * (papers * low) = pays_whole want low papers (overlay ss ts) full' in
+    let full' : (q : ℕ) → q < papers → count_by (has_paper q) (overlay ss ts) ≡ want =
+    λ q l. overlay_papers q ss ts places ∙ full q l in
+    let p : pays (λ s. s.paper) (replicate papers low) (overlay ss ts) ≡ want * (papers * low) =
+    pays_whole want low papers (overlay ss ts) full' in
     let v : chosen_value (overlay ss ts) ≤ dual want load x y (overlay ss ts) =
-    value-le-dual want load x y (overlay ss ts) (λ q l. full' q (let k : q < papers = omega (arith, l, long) in k)) (λ m. omega (arith, overlay_members m ss ts places, light m)) in
+    value-le-dual want load x y (overlay ss ts) (λ q l. full' q (let k : q < papers = omega (arith, l, long) in k))
+    (λ m. omega (arith, overlay_members m ss ts places, light m)) in
     omega (
       arith,
       p,

@@ -1,5 +1,6 @@
 -- A step of the prices keeps every slot suited, and lowers the bound.
-use Rattle.std.proofs.Common.{◌≡◌, ℕ, zero, suc, ◌+◌, ◌*◌, ◌<◌, ◌≤◌, List, [], ◌∷◌, count_by, sum, get_or, refl, arith, ap, ◌∙◌}
+use Rattle.std.proofs.Common.{◌≡◌, ℕ, zero, suc, ◌+◌, ◌*◌, ◌<◌, ◌≤◌, List, [], ◌∷◌, count_by, sum, get_or, refl, arith}
+use Rattle.std.proofs.Common.{ap, ◌∙◌}
 use Rattle.std.proofs.Math.Nat.{mul-le-mul_left}
 use Rattle.std.proofs.lemmas.List.Sums.{sum_by-cons}
 use Rattle.cr_match.specs.declared.search.Slot.{Slot}
@@ -14,7 +15,14 @@ sum_of_sum [] (p ∷ ps) qs h = absurd h
 sum_of_sum (x ∷ xs) [] qs h = absurd h
 sum_of_sum (x ∷ xs) (p ∷ ps) [] h = absurd h
 sum_of_sum (x ∷ xs) (p ∷ ps) (q ∷ qs) h =
-    omega (arith, h.0, sum_of_sum xs ps qs h.1, sum_by-cons (λ y. y) x xs, sum_by-cons (λ y. y) p ps, sum_by-cons (λ y. y) q qs)
+    omega (
+      arith,
+      h.0,
+      sum_of_sum xs ps qs h.1,
+      sum_by-cons (λ y. y) x xs,
+      sum_by-cons (λ y. y) p ps,
+      sum_by-cons (λ y. y) q qs,
+    )
 
 owed_of_sum : (f : ℕ → ℕ) (k : ℕ) (xs ps qs : List ℕ) → IsSumOf xs ps qs → owed_n f xs k ≡ owed_n f ps k + owed_n f qs k
 owed_of_sum f k [] [] [] h = refl
@@ -35,10 +43,12 @@ at_sum i (x ∷ xs) (p ∷ ps) [] h = absurd h
 at_sum zero (x ∷ xs) (p ∷ ps) (q ∷ qs) h = h.0
 at_sum (suc i) (x ∷ xs) (p ∷ ps) (q ∷ qs) h = at_sum i xs ps qs h.1
 
-stays_below : (l d b u v old new : ℕ) → old ≡ (l + d) + b → new ≡ l + (b + u) → u ≤ 1 → old ≤ v → (v ≡ old → u ≤ d) → new ≤ v
+stays_below : (l d b u v old new : ℕ) → old ≡ (l + d) + b → new ≡ l + (b + u) → u ≤ 1 → old ≤ v → (v ≡ old → u ≤ d)
+    → new ≤ v
 stays_below l d b u v old new eo en h le tight = grind arith
 
-stays_above : (l d b u v old new : ℕ) → old ≡ (l + d) + b → new ≡ l + (b + u) → d ≤ 1 → v ≤ old → (v ≡ old → d ≤ u) → v ≤ new
+stays_above : (l d b u v old new : ℕ) → old ≡ (l + d) + b → new ≡ l + (b + u) → d ≤ 1 → v ≤ old → (v ≡ old → d ≤ u)
+    → v ≤ new
 stays_above l d b u v old new eo en h le tight = grind arith
 
 -- where the prices `a` become `lower`, less by `down`, and `b` become `higher`, more by `up`
@@ -50,18 +60,24 @@ reprice-suits a lower down b higher up (s ∷ ss) ha hb d u suit closed =
     let pa : get_or a s.paper 0 ≡ get_or lower s.paper 0 + get_or down s.paper 0 = at_sum s.paper a lower down ha in
     let pb : get_or higher s.member 0 ≡ get_or b s.member 0 + get_or up s.member 0 = at_sum s.member higher b up hb in (
       (
-        (λ c. stays_below (get_or lower s.paper 0) (get_or down s.paper 0) (get_or b s.member 0) (get_or up s.member 0) s.value (price a b s) (price lower higher s)
-            (ap (λ n. n + get_or b s.member 0) pa) (ap (λ n. get_or lower s.paper 0 + n) pb) (u s.member) (suit.0.0 c) (λ e. closed.1 c e)),
-        (λ c. stays_above (get_or lower s.paper 0) (get_or down s.paper 0) (get_or b s.member 0) (get_or up s.member 0) s.value (price a b s) (price lower higher s)
-            (ap (λ n. n + get_or b s.member 0) pa) (ap (λ n. get_or lower s.paper 0 + n) pb) (d s.paper) (suit.0.1 c) (λ e. closed.0 c e)),
+        (λ c. stays_below (get_or lower s.paper 0) (get_or down s.paper 0) (get_or b s.member 0) (get_or up s.member 0)
+            s.value (price a b s) (price lower higher s)
+            (ap (λ n. n + get_or b s.member 0) pa) (ap (λ n. get_or lower s.paper 0 + n) pb) (u s.member) (suit.0.0 c)
+            (λ e. closed.1 c e)),
+        (λ c. stays_above (get_or lower s.paper 0) (get_or down s.paper 0) (get_or b s.member 0) (get_or up s.member 0)
+            s.value (price a b s) (price lower higher s)
+            (ap (λ n. n + get_or b s.member 0) pa) (ap (λ n. get_or lower s.paper 0 + n) pb) (d s.paper) (suit.0.1 c)
+            (λ e. closed.0 c e)),
       ),
       reprice-suits a lower down b higher up ss ha hb d u suit.1 closed.2,
     )
 
 -- the bound falls by what the marked papers lack
-pub dual-falls : (want load : ℕ) (a lower down b higher up : List ℕ) (ss : List Slot) → IsSumOf a lower down → IsSumOf higher b up →
+pub dual-falls : (want load : ℕ) (a lower down b higher up : List ℕ) (ss : List Slot) → IsSumOf a lower down
+    → IsSumOf higher b up →
     AllSuit a b ss → AllSuit lower higher ss → ((m : ℕ) → 0 < get_or up m 0 → count_by (has_member m) ss ≡ load) →
-    dual want load lower higher ss + want * sum down ≡ dual want load a b ss + owed_n (λ q. count_by (has_paper q) ss) down 0
+    dual want load lower higher ss + want * sum down ≡ dual want load a b ss + owed_n (λ q. count_by (has_paper q) ss)
+    down 0
 dual-falls want load a lower down b higher up ss ha hb suit suit' full =
     let sa : want * sum a ≡ want * (sum lower + sum down) = ap (λ n. want * n) (sum_of_sum a lower down ha) in
     let sb : load * sum higher ≡ load * (sum b + sum up) = ap (λ n. load * n) (sum_of_sum higher b up hb) in
@@ -77,11 +93,13 @@ dual-falls want load a lower down b higher up ss ha hb suit suit' full =
       pays_is_owed (λ s. s.member) higher ss,
       owed_of_sum (λ q. count_by (has_paper q) ss) 0 a lower down ha,
       owed_of_sum (λ q. count_by (has_member q) ss) 0 higher b up hb,
-      owed_n_whole (λ q. count_by (has_member q) ss) load up 0 (λ i _ p. let e : 0 + i ≡ i = omega arith in ap (λ q. count_by (has_member q) ss) e ∙ full i p),
+      owed_n_whole (λ q. count_by (has_member q) ss) load up 0
+          (λ i _ p. let e : 0 + i ≡ i = omega arith in ap (λ q. count_by (has_member q) ss) e ∙ full i p),
     )
 
 -- and so by at least 1 where a marked paper lacks a member
-pub owed-less : (f : ℕ → ℕ) (want : ℕ) (xs : List ℕ) (k i : ℕ) → ((q : ℕ) → f q ≤ want) → 0 < get_or xs i 0 → f (k + i) < want →
+pub owed-less : (f : ℕ → ℕ) (want : ℕ) (xs : List ℕ) (k i : ℕ) → ((q : ℕ) → f q ≤ want) → 0 < get_or xs i 0
+    → f (k + i) < want →
     owed_n f xs k < want * sum xs
 owed-less f want [] k i le some less = absurd (let z : get_or {A = ℕ} [] i 0 ≡ 0 = refl in omega (arith, z, some))
 owed-less f want (x ∷ xs) k zero le some less =

@@ -1,9 +1,11 @@
 -- Papers for which the members have too little room refute every plan.
-use Rattle.std.proofs.Common.{◌≡◌, ℕ, zero, suc, ◌+◌, ◌*◌, ◌<◌, ◌≤◌, Bool, true, false, cond, ◌&&◌, ◌||◌, List, [], ◌∷◌, length, count_by, ◌==◌, min, refl, arith, ap}
+use Rattle.std.proofs.Common.{◌≡◌, ℕ, zero, suc, ◌+◌, ◌*◌, ◌<◌, ◌≤◌, Bool, true, false, cond, ◌&&◌, ◌||◌, List, [], ◌∷◌}
+use Rattle.std.proofs.Common.{length, count_by, ◌==◌, min, refl, arith, ap}
 use Rattle.std.proofs.lemmas.Bool.Decides.{nat_tests}
 use Rattle.std.proofs.lemmas.List.Sums.{sum_by-le-sum_by}
 use Rattle.cr_match.specs.declared.problem.Pair.{Pair}
-use Rattle.cr_match.specs.Plan.{kept, of_paper, of_member, IsPlan, MembersBelow, among, joins, total_below, DistinctBelow, IsTooMuch}
+use Rattle.cr_match.specs.Plan.{kept, of_paper, of_member, IsPlan, MembersBelow, among, joins, total_below}
+use Rattle.cr_match.specs.Plan.{DistinctBelow, IsTooMuch}
 use Rattle.cr_match.proofs.Duality.{count-cons, one_at, sum_by-kept-le}
 
 pub total_below_same : (f g : ℕ → ℕ) (n : ℕ) → ((q : ℕ) → f q ≡ g q) → total_below f n ≡ total_below g n
@@ -29,7 +31,8 @@ total_below_past r (suc n) h =
     let less : n ≤ r = omega arith in
     omega (arith, e, total_below_past r n less)
 
-last_one : (r n : ℕ) (b : Bool) → (r == n) ≡ b → r < suc n → (r < n → total_below (one_at r) n ≡ 1) → total_below (one_at r) (suc n) ≡ 1
+last_one : (r n : ℕ) (b : Bool) → (r == n) ≡ b → r < suc n → (r < n → total_below (one_at r) n ≡ 1)
+    → total_below (one_at r) (suc n) ≡ 1
 last_one r n true e h before =
     let eq : r ≡ n = grind (arith, nat_tests) in
     let le : n ≤ r = omega arith in
@@ -46,7 +49,8 @@ total_below_one r (suc n) h = last_one r n (r == n) refl h (λ l. total_below_on
 
 -- a paper that is not among the others adds its own pairs
 
-pick_cases : (x : ℕ) (s : List ℕ) (q : ℕ) (b c : Bool) → (q == x) ≡ b → among s q ≡ c → among s x ≡ false → cond ((q == x) || among s q) 1 0 ≡ cond (q == x) 1 0 + cond (among s q) 1 0
+pick_cases : (x : ℕ) (s : List ℕ) (q : ℕ) (b c : Bool) → (q == x) ≡ b → among s q ≡ c → among s x ≡ false
+    → cond ((q == x) || among s q) 1 0 ≡ cond (q == x) 1 0 + cond (among s q) 1 0
 pick_cases x s q true true e f h =
     let eq : q ≡ x = grind (arith, nat_tests) in
     let g : among s q ≡ among s x = ap (among s) eq in
@@ -54,7 +58,8 @@ pick_cases x s q true true e f h =
 pick_cases x s q true false e f h = grind (arith, nat_tests)
 pick_cases x s q false c e f h = grind (arith, nat_tests)
 
-pick_one : (x : ℕ) (s : List ℕ) (q : ℕ) → among s x ≡ false → cond (among (x ∷ s) q) 1 0 ≡ cond (q == x) 1 0 + cond (among s q) 1 0
+pick_one : (x : ℕ) (s : List ℕ) (q : ℕ) → among s x ≡ false
+    → cond (among (x ∷ s) q) 1 0 ≡ cond (q == x) 1 0 + cond (among s q) 1 0
 pick_one x s q h = pick_cases x s q (q == x) (among s q) refl refl h
 
 count_among-cons : (x : ℕ) (s : List ℕ) (es : List Pair) → among s x ≡ false →
@@ -92,8 +97,10 @@ by_member : (members : ℕ) (s : List ℕ) (es : List Pair) → MembersBelow mem
     total_below (λ m. count_by (joins s m) es) members ≡ count_by (λ e. among s e.paper) es
 by_member members s [] h = total_below_none members
 by_member members s (e ∷ es) h =
-    let split : total_below (λ m. count_by (joins s m) (e ∷ es)) members ≡ total_below (λ m. cond (joins s m e) 1 0 + count_by (joins s m) es) members =
-    total_below_same (λ m. count_by (joins s m) (e ∷ es)) (λ m. cond (joins s m e) 1 0 + count_by (joins s m) es) members (λ m. count-cons (joins s m) e es) in
+    let split : total_below (λ m. count_by (joins s m) (e ∷ es)) members
+    ≡ total_below (λ m. cond (joins s m e) 1 0 + count_by (joins s m) es) members =
+    total_below_same (λ m. count_by (joins s m) (e ∷ es)) (λ m. cond (joins s m e) 1 0 + count_by (joins s m) es)
+    members (λ m. count-cons (joins s m) e es) in
     omega (
       arith,
       split,
@@ -103,7 +110,8 @@ by_member members s (e ∷ es) h =
       count-cons (λ e. among s e.paper) e es,
     )
 
-kept_below : (members : ℕ) (marks : List Bool) (es : List Pair) → MembersBelow members es → MembersBelow members (kept marks es)
+kept_below : (members : ℕ) (marks : List Bool) (es : List Pair) → MembersBelow members es
+    → MembersBelow members (kept marks es)
 kept_below members [] es h = tt
 kept_below members (b ∷ bs) [] h = h
 kept_below members (true ∷ bs) (e ∷ es) h = (h.0, kept_below members bs es h.1)
@@ -113,7 +121,8 @@ joins_le : (s : List ℕ) (m : ℕ) (e : Pair) → cond (joins s m e) 1 0 ≤ co
 joins_le s m e = grind (arith, nat_tests)
 
 pub too_much-no_plan : (papers members want load : ℕ) (s : List ℕ) (pairs : List Pair) (marks : List Bool) →
-    MembersBelow members pairs → IsTooMuch papers members want load s pairs → IsPlan papers want load (kept marks pairs) → ⊥
+    MembersBelow members pairs → IsTooMuch papers members want load s pairs → IsPlan papers want load (kept marks pairs)
+    → ⊥
 too_much-no_plan papers members want load s pairs marks below much plan =
     let each : (m : ℕ) → count_by (joins s m) (kept marks pairs) ≤ min load (count_by (joins s m) pairs) =
     λ m. omega (
@@ -127,5 +136,6 @@ too_much-no_plan papers members want load s pairs marks below much plan =
       much.short,
       full_papers papers want s (kept marks pairs) much.distinct plan.full,
       by_member members s (kept marks pairs) (kept_below members marks pairs below),
-      total_below_le (λ m. count_by (joins s m) (kept marks pairs)) (λ m. min load (count_by (joins s m) pairs)) members each,
+      total_below_le (λ m. count_by (joins s m) (kept marks pairs)) (λ m. min load (count_by (joins s m) pairs)) members
+          each,
     ))

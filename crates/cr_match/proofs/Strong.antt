@@ -1,8 +1,10 @@
 -- A choice that suits its prices is worth what they say; and what a step of the prices does.
-use Rattle.std.proofs.Common.{◌≡◌, ℕ, zero, suc, ◌+◌, ◌-◌, ◌*◌, ◌<◌, ◌≤◌, Bool, true, false, cond, ◌&&◌, List, [], ◌∷◌, length, count_by, ◌==◌, sum, sum_by, get_or, refl, arith, ap, ◌∙◌}
+use Rattle.std.proofs.Common.{◌≡◌, ℕ, zero, suc, ◌+◌, ◌-◌, ◌*◌, ◌<◌, ◌≤◌, Bool, true, false, cond, ◌&&◌, List, [], ◌∷◌}
+use Rattle.std.proofs.Common.{length, count_by, ◌==◌, sum, sum_by, get_or, refl, arith, ap, ◌∙◌}
 use Rattle.std.proofs.lemmas.List.Sums.{sum_by-cons}
 use Rattle.cr_match.specs.declared.search.Slot.{Slot}
-use Rattle.cr_match.specs.Slack.{price, Suits, AllSuit, has_paper, has_member, chosen_value, excess_value, dual, PricedAreFull}
+use Rattle.cr_match.specs.Slack.{price, Suits, AllSuit, has_paper, has_member, chosen_value, excess_value, dual}
+use Rattle.cr_match.specs.Slack.{PricedAreFull}
 use Rattle.cr_match.proofs.Duality.{owed_n, owed_n_same, owed_n_add, owed_n_none, owed_n_one}
 
 -- what the chosen slots pay in the prices of one side
@@ -17,10 +19,12 @@ one_pays : (c : Bool) (r : ℕ) (xs : List ℕ) → owed_n (λ q. cond (c && (r 
 one_pays true r xs = let at : r ≡ 0 + r = omega arith in owed_n_one r xs 0 r at
 one_pays false r xs = owed_n_none xs 0
 
-pub pays_is_owed : (place : Slot → ℕ) (xs : List ℕ) (ss : List Slot) → owed_n (λ q. count_by (has place q) ss) xs 0 ≡ pays place xs ss
+pub pays_is_owed : (place : Slot → ℕ) (xs : List ℕ) (ss : List Slot)
+    → owed_n (λ q. count_by (has place q) ss) xs 0 ≡ pays place xs ss
 pays_is_owed place xs [] = owed_n_none xs 0
 pays_is_owed place xs (s ∷ ss) =
-    let split : owed_n (λ q. count_by (has place q) (s ∷ ss)) xs 0 ≡ owed_n (λ q. cond (has place q s) 1 0 + count_by (has place q) ss) xs 0 =
+    let split : owed_n (λ q. count_by (has place q) (s ∷ ss)) xs 0
+    ≡ owed_n (λ q. cond (has place q s) 1 0 + count_by (has place q) ss) xs 0 =
     owed_n_same (λ q. count_by (has place q) (s ∷ ss)) (λ q. cond (has place q s) 1 0 + count_by (has place q) ss)
     (λ q. sum_by-cons (λ x. cond (has place q x) 1 0) s ss) xs 0 in
     omega (
@@ -46,14 +50,22 @@ owed_n_whole f whole [] k h = omega arith
 owed_n_whole f whole (x ∷ xs) k h =
     let l : length (x ∷ xs) ≡ suc (length xs) = refl in
     let rest : (i : ℕ) → i < length xs → 0 < get_or xs i 0 → f (suc k + i) ≡ whole =
-    λ i lt some. let e : suc k + i ≡ k + suc i = omega arith in ap f e ∙ h (suc i) (let s : suc i < length (x ∷ xs) = omega (arith, l) in s) some in
+    λ i lt some. let e : suc k + i ≡ k + suc i =
+    omega arith in ap f e ∙ h (suc i) (let s : suc i < length (x ∷ xs) = omega (arith, l) in s) some in
     let s : whole * sum (x ∷ xs) ≡ whole * (x + sum xs) = ap (λ n. whole * n) (sum_by-cons (λ y. y) x xs) in
-    omega (arith, s, owed_first f whole x k (λ some. let e : k ≡ k + 0 = omega arith in ap f e ∙ h 0 (let z : 0 < length (x ∷ xs) = omega (arith, l) in z) some), owed_n_whole f whole xs (suc k) rest)
+    omega (
+      arith,
+      s,
+      owed_first f whole x k (λ some. let e : k ≡ k + 0 = omega arith in ap f e
+          ∙ h 0 (let z : 0 < length (x ∷ xs) = omega (arith, l) in z) some),
+      owed_n_whole f whole xs (suc k) rest,
+    )
 
 -- each slot
 
 slot_pays : (a b : List ℕ) (s : Slot) (c : Bool) → s.chosen ≡ c → Suits a b s →
-    cond s.chosen s.value 0 ≡ cond s.chosen (get_or a s.paper 0) 0 + cond s.chosen (get_or b s.member 0) 0 + (s.value - price a b s)
+    cond s.chosen s.value 0 ≡ cond s.chosen (get_or a s.paper 0) 0 + cond s.chosen (get_or b s.member 0) 0
+    + (s.value - price a b s)
 slot_pays a b s true e h =
     let p : price a b s ≤ s.value = h.0 e in
     rw e (omega arith)
@@ -78,13 +90,16 @@ value-paid a b (s ∷ ss) h =
 
 -- strong duality: full papers, and members who are full or have no price
 pub value-is-dual : (want load : ℕ) (a b : List ℕ) (ss : List Slot) → AllSuit a b ss →
-    ((q : ℕ) → q < length a → count_by (has_paper q) ss ≡ want) → PricedAreFull load b ss → chosen_value ss ≡ dual want load a b ss
+    ((q : ℕ) → q < length a → count_by (has_paper q) ss ≡ want) → PricedAreFull load b ss
+    → chosen_value ss ≡ dual want load a b ss
 value-is-dual want load a b ss suit full priced =
     omega (
       arith,
       value-paid a b ss suit,
       pays_is_owed (λ s. s.paper) a ss,
       pays_is_owed (λ s. s.member) b ss,
-      owed_n_whole (λ q. count_by (has_paper q) ss) want a 0 (λ i l _. let e : 0 + i ≡ i = omega arith in ap (λ q. count_by (has_paper q) ss) e ∙ full i l),
-      owed_n_whole (λ q. count_by (has_member q) ss) load b 0 (λ i _ p. let e : 0 + i ≡ i = omega arith in ap (λ q. count_by (has_member q) ss) e ∙ priced i p),
+      owed_n_whole (λ q. count_by (has_paper q) ss) want a 0
+          (λ i l _. let e : 0 + i ≡ i = omega arith in ap (λ q. count_by (has_paper q) ss) e ∙ full i l),
+      owed_n_whole (λ q. count_by (has_member q) ss) load b 0
+          (λ i _ p. let e : 0 + i ≡ i = omega arith in ap (λ q. count_by (has_member q) ss) e ∙ priced i p),
     )

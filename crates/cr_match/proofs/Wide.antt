@@ -1,5 +1,6 @@
 -- Prices with two more papers and one more member, all free.
-use Rattle.std.proofs.Common.{◌≡◌, ℕ, zero, suc, ◌+◌, ◌<◌, ◌≤◌, ◌^◌, List, [], ◌∷◌, ◌++◌, length, get_or, replicate, refl, arith, ap, sym, ◌∙◌, subst}
+use Rattle.std.proofs.Common.{◌≡◌, ℕ, zero, suc, ◌+◌, ◌<◌, ◌≤◌, ◌^◌, List, [], ◌∷◌, ◌++◌, length, get_or, replicate}
+use Rattle.std.proofs.Common.{refl, arith, ap, sym, ◌∙◌, subst}
 use Rattle.std.proofs.lemmas.List.{length-append, length-replicate}
 use Rattle.cr_match.specs.declared.problem.Problem.{Problem}
 use Rattle.cr_match.specs.declared.search.Slot.{Slot}
@@ -52,20 +53,29 @@ twice_first xs k e = free_within (xs ++ 0 ∷ []) k (omega (arith, e, free_lengt
 pub twice_past : (xs : List ℕ) (k : ℕ) → k ≡ suc (length xs) → get_or (twice xs) k 0 ≡ 0
 twice_past xs k e = free_past (xs ++ 0 ∷ []) k (omega (arith, e, free_length xs))
 
-same_price : (a b : List ℕ) (s : Slot) → s.paper < length a → s.member < length b → price (twice a) (b ++ 0 ∷ []) s ≡ price a b s
+same_price : (a b : List ℕ) (s : Slot) → s.paper < length a → s.member < length b
+    → price (twice a) (b ++ 0 ∷ []) s ≡ price a b s
 same_price a b s lp lm = omega (arith, twice_within a s.paper lp, free_within b s.member lm)
 
-pub wide_suits : (papers members : ℕ) (a b : List ℕ) (ss : List Slot) → length a ≡ papers → length b ≡ members → AllInside papers members ss → AllSuit a b ss → AllSuit (twice a) (b ++ 0 ∷ []) ss
+pub wide_suits : (papers members : ℕ) (a b : List ℕ) (ss : List Slot) → length a ≡ papers → length b ≡ members
+    → AllInside papers members ss → AllSuit a b ss → AllSuit (twice a) (b ++ 0 ∷ []) ss
 wide_suits papers members a b [] la lb i h = tt
 wide_suits papers members a b (s ∷ ss) la lb i h =
-    let e : price (twice a) (b ++ 0 ∷ []) s ≡ price a b s = same_price a b s (omega (arith, la, i.0)) (omega (arith, lb, i.1)) in
-    (((λ c. omega (arith, e, h.0.0 c)), (λ c. omega (arith, e, h.0.1 c))), wide_suits papers members a b ss la lb i.2 h.1)
+    let e : price (twice a) (b ++ 0 ∷ []) s ≡ price a b s =
+    same_price a b s (omega (arith, la, i.0)) (omega (arith, lb, i.1)) in (
+      ((λ c. omega (arith, e, h.0.0 c)), (λ c. omega (arith, e, h.0.1 c))),
+      wide_suits papers members a b ss la lb i.2 h.1,
+    )
 
-pub narrow_suits : (papers members : ℕ) (a b : List ℕ) (ss : List Slot) → length a ≡ papers → length b ≡ members → AllInside papers members ss → AllSuit (twice a) (b ++ 0 ∷ []) ss → AllSuit a b ss
+pub narrow_suits : (papers members : ℕ) (a b : List ℕ) (ss : List Slot) → length a ≡ papers → length b ≡ members
+    → AllInside papers members ss → AllSuit (twice a) (b ++ 0 ∷ []) ss → AllSuit a b ss
 narrow_suits papers members a b [] la lb i h = tt
 narrow_suits papers members a b (s ∷ ss) la lb i h =
-    let e : price (twice a) (b ++ 0 ∷ []) s ≡ price a b s = same_price a b s (omega (arith, la, i.0)) (omega (arith, lb, i.1)) in
-    (((λ c. omega (arith, e, h.0.0 c)), (λ c. omega (arith, e, h.0.1 c))), narrow_suits papers members a b ss la lb i.2 h.1)
+    let e : price (twice a) (b ++ 0 ∷ []) s ≡ price a b s =
+    same_price a b s (omega (arith, la, i.0)) (omega (arith, lb, i.1)) in (
+      ((λ c. omega (arith, e, h.0.0 c)), (λ c. omega (arith, e, h.0.1 c))),
+      narrow_suits papers members a b ss la lb i.2 h.1,
+    )
 
 priced_within : (xs : List ℕ) (k : ℕ) → 0 < get_or (xs ++ 0 ∷ []) k 0 → get_or (xs ++ 0 ∷ []) k 0 ≡ get_or xs k 0
 priced_within [] zero h = absurd (let z : 0 < 0 = h in omega (arith, z))
@@ -78,11 +88,14 @@ some_within [] k h = absurd (let e : get_or {A = ℕ} [] k 0 ≡ 0 = refl in ome
 some_within (x ∷ xs) zero h = omega (arith, more_length x xs)
 some_within (x ∷ xs) (suc k) h = omega (arith, some_within xs k h, more_length x xs)
 
-pub wide_kept : (problem : Problem) (a b wa wb : List ℕ) (ss : List Slot) → IsProblem problem → IsChosen problem a b ss → wa ≡ twice a → wb ≡ b ++ 0 ∷ [] →
+pub wide_kept : (problem : Problem) (a b wa wb : List ℕ) (ss : List Slot) → IsProblem problem → IsChosen problem a b ss
+    → wa ≡ twice a → wb ≡ b ++ 0 ∷ [] →
     Kept problem.per_paper problem.load problem.papers problem.members wa wb ss
 wide_kept problem a b wa wb ss fine chosen ia ib =
     let inside : AllInside problem.papers problem.members ss =
-    shape_inside problem.papers problem.members ss (are_shape IsFor (λ e s p. (p.0, p.1)) problem.papers problem.members problem.pairs.items ss fine.inside chosen.are) in
+    shape_inside problem.papers problem.members ss
+    (are_shape IsFor (λ e s p. (p.0, p.1)) problem.papers problem.members problem.pairs.items ss fine.inside
+    chosen.are) in
     let kept : Kept problem.per_paper problem.load problem.papers problem.members (twice a) (b ++ 0 ∷ []) ss = record {
       filled = chosen.filled;
       suits = wide_suits problem.papers problem.members a b ss chosen.papers chosen.members inside chosen.suits;
@@ -92,15 +105,19 @@ wide_kept problem a b wa wb ss fine chosen ia ib =
     subst (λ x. Kept problem.per_paper problem.load problem.papers problem.members x wb ss) (sym ia)
     (subst (λ y. Kept problem.per_paper problem.load problem.papers problem.members (twice a) y ss) (sym ib) kept)
 
-pub narrow_chosen : (problem : Problem) (a b wa wb : List ℕ) (ss ns : List Slot) → IsChosen problem a b ss → wa ≡ twice a → wb ≡ b ++ 0 ∷ [] →
+pub narrow_chosen : (problem : Problem) (a b wa wb : List ℕ) (ss ns : List Slot) → IsChosen problem a b ss
+    → wa ≡ twice a → wb ≡ b ++ 0 ∷ [] →
     Kept problem.per_paper problem.load problem.papers problem.members wa wb ns → Alike ss ns → IsChosen problem a b ns
 narrow_chosen problem a b wa wb ss ns chosen ia ib kept alike =
-    let suits : AllSuit (twice a) (b ++ 0 ∷ []) ns = subst (λ x. AllSuit x (b ++ 0 ∷ []) ns) ia (subst (λ y. AllSuit wa y ns) ib kept.suits) in
+    let suits : AllSuit (twice a) (b ++ 0 ∷ []) ns =
+    subst (λ x. AllSuit x (b ++ 0 ∷ []) ns) ia (subst (λ y. AllSuit wa y ns) ib kept.suits) in
     record {
       are = for_alike problem.pairs.items ss ns chosen.are alike;
       filled = kept.filled;
       suits = narrow_suits problem.papers problem.members a b ns chosen.papers chosen.members kept.inside suits;
-      priced = λ m some. kept.priced m (omega (arith, some, free_within b m (some_within b m some), ap (λ xs. get_or xs m 0) ib));
+      priced =
+          λ m some. kept.priced m
+          (omega (arith, some, free_within b m (some_within b m some), ap (λ xs. get_or xs m 0) ib));
       papers = chosen.papers;
       members = chosen.members;
       small = chosen.small;
@@ -110,12 +127,16 @@ narrow_chosen problem a b wa wb ss ns chosen ia ib kept alike =
 long_of : (xs : List ℕ) (n x : ℕ) → xs ≡ replicate n x → length xs ≡ n
 long_of xs n x is = ap (λ (ys : List ℕ). length ys) is ∙ length-replicate n x
 
-pub wide_lists : (problem : Problem) (a b wa wb lp lm np nm : List ℕ) (ss : List Slot) → IsProblem problem → IsChosen problem a b ss → wa ≡ twice a → wb ≡ b ++ 0 ∷ [] →
-    length lp ≡ problem.papers + 2 → length lm ≡ problem.members + 1 → length np ≡ problem.papers + 2 → length nm ≡ problem.members + 1 →
+pub wide_lists : (problem : Problem) (a b wa wb lp lm np nm : List ℕ) (ss : List Slot) → IsProblem problem
+    → IsChosen problem a b ss → wa ≡ twice a → wb ≡ b ++ 0 ∷ [] →
+    length lp ≡ problem.papers + 2 → length lm ≡ problem.members + 1 → length np ≡ problem.papers + 2
+    → length nm ≡ problem.members + 1 →
     AreWide problem.papers problem.members wa wb lp lm np nm
 wide_lists problem a b wa wb lp lm np nm ss fine chosen ia ib l0 l1 l2 l3 =
-    let ea : length wa ≡ suc (suc problem.papers) = omega (arith, ap (λ (xs : List ℕ). length xs) ia, free_length (a ++ 0 ∷ []), free_length a, chosen.papers) in
-    let eb : length wb ≡ suc problem.members = omega (arith, ap (λ (xs : List ℕ). length xs) ib, free_length b, chosen.members) in
+    let ea : length wa ≡ suc (suc problem.papers) =
+    omega (arith, ap (λ (xs : List ℕ). length xs) ia, free_length (a ++ 0 ∷ []), free_length a, chosen.papers) in
+    let eb : length wb ≡ suc problem.members =
+    omega (arith, ap (λ (xs : List ℕ). length xs) ib, free_length b, chosen.members) in
     record {
       few = (fine.sides.0, fine.sides.1);
       prices = (ea, eb);

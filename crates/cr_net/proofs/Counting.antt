@@ -19,4 +19,5 @@ pub gains-more : (a b c : ℕ) (doors : List DoorSeen) (i : ℕ) (d : DoorSeen) 
     → Gains a (sum_by (λ (door : DoorSeen). door.faults) (take (i + 1) doors)) c
 gains-more a b c doors i d less first second =
     subst (λ sum. Gains a sum c) (sym (sum_by_more (λ (door : DoorSeen). door.faults) doors i d less))
-    (gains_below (2 ^ 64 - 1) a (sum_by (λ (door : DoorSeen). door.faults) (take i doors)) b (get_or doors i d).faults c first second)
+    (gains_below (2 ^ 64 - 1) a (sum_by (λ (door : DoorSeen). door.faults) (take i doors)) b (get_or doors i d).faults c
+    first second)

@@ -1,5 +1,6 @@
 -- A search that leaves half at each look: how many looks it takes at most.
-use Rattle.std.proofs.Common.{ℕ, ◌≡◌, ◌≤◌, ◌<◌, ◌+◌, ◌-◌, ◌*◌, ◌/◌, ◌^◌, ◌∙◌, ap, sym, subst, arith, suc, Option, Some, None}
+use Rattle.std.proofs.Common.{ℕ, ◌≡◌, ◌≤◌, ◌<◌, ◌+◌, ◌-◌, ◌*◌, ◌/◌, ◌^◌, ◌∙◌, ap, sym, subst, arith, suc, Option, Some}
+use Rattle.std.proofs.Common.{None}
 use Rattle.std.proofs.Math.Nat.{pow-succ', mul_assoc, mul_comm, mul-le-mul_left, le-mul_of_pos_right}
 use Rattle.cr_base.specs.Steps.{Takes, Halves}
 
@@ -32,10 +33,12 @@ pub leaves-all : (length : ℕ) (s : Option ℕ) → Leaves length length s s
 leaves-all length None = tt
 leaves-all length (Some n) =
     let none : n - n ≡ 0 = omega arith in
-    subst (λ (k : ℕ). (n ≤ n) × (2 ^ k * length ≤ length) × (2 ^ k ≤ 2 * length + 1)) (sym none) (omega arith, omega arith, omega arith)
+    subst (λ (k : ℕ). (n ≤ n) × (2 ^ k * length ≤ length) × (2 ^ k ≤ 2 * length + 1)) (sym none)
+    (omega arith, omega arith, omega arith)
 
 -- one look more
-pub leaves-half : (length left half : ℕ) (s t u : Option ℕ) → 0 < left → 2 * half ≤ left → Leaves length left s t → Takes 1 t u → Leaves length half s u
+pub leaves-half : (length left half : ℕ) (s t u : Option ℕ) → 0 < left → 2 * half ≤ left → Leaves length left s t
+    → Takes 1 t u → Leaves length half s u
 leaves-half length left half None None None some less h k = tt
 leaves-half length left half None None (Some u) some less h k = elim k [ ]
 leaves-half length left half None (Some t) u some less h k = elim h [ ]
@@ -58,5 +61,6 @@ leaves-halves length left (Some s) (Some t) h = (h.0, h.2)
 
 -- where a search looks next
 pub midway : (low high : ℕ) → low < high
-    → (low + (high - low) / 2 < high) × (2 * (high - (low + (high - low) / 2 + 1)) ≤ high - low) × (2 * (low + (high - low) / 2 - low) ≤ high - low)
+    → (low + (high - low) / 2 < high) × (2 * (high - (low + (high - low) / 2 + 1)) ≤ high - low)
+    × (2 * (low + (high - low) / 2 - low) ≤ high - low)
 midway low high lt = (omega (arith, lt), omega (arith, lt), omega (arith, lt))

@@ -7,7 +7,8 @@ use Rattle.cr_base.specs.Lists.{numbers_from}
 use Rattle.cr_base.proofs.ListLaws.{list_any-numbers_from}
 
 -- a paper is there where its number is at most the count
-pub has-numbered : {A : Type 0} (papers : List A) (p number count : ℕ) → 1 ≤ number → number ≡ p → count ≡ length papers → nat_le number count ≡ list_any (λ q. eqb q p) (numbers_from 1 papers)
+pub has-numbered : {A : Type 0} (papers : List A) (p number count : ℕ) → 1 ≤ number → number ≡ p → count ≡ length papers
+    → nat_le number count ≡ list_any (λ q. eqb q p) (numbers_from 1 papers)
 has-numbered papers p number count low n c =
     ap (λ k. nat_le k count) n
     ∙ ap (nat_le p) c

@@ -13,7 +13,8 @@ use Rattle.cr_papers.specs.Room.{rooms_of, paper_uploaded, PapersHaveRoom}
 use Rattle.cr_papers.specs.Seen.{PapersRooms}
 
 -- room for a group is room for the rest of it
-pub room-behind : (s : Stamped) (rest : History) (rooms : PapersRooms) → PapersHaveRoom (s ∷ rest) rooms → PapersHaveRoom rest rooms
+pub room-behind : (s : Stamped) (rest : History) (rooms : PapersRooms) → PapersHaveRoom (s ∷ rest) rooms
+    → PapersHaveRoom rest rooms
 room-behind s rest rooms has =
     let papers = has.papers in
     record { papers = omega (arith, papers); uploads = room-for-behind paper_uploaded s rest rooms.uploads has.uploads }
@@ -21,7 +22,8 @@ room-behind s rest rooms has =
 -- a count that is one less where it is counted at all
 counted : (old_sums new_sums old new more : ℕ) → old_sums ≤ new_sums → old ≤ new + more
     → cond (nat_le 10000 old_sums) old 0 ≤ cond (nat_le 10000 new_sums) new 0 + more
-counted old_sums new_sums old new more le few = by (nat_le 10000 old_sums) (nat_le 10000 new_sums) (still 10000 old_sums new_sums le)
+counted old_sums new_sums old new more le few =
+    by (nat_le 10000 old_sums) (nat_le 10000 new_sums) (still 10000 old_sums new_sums le)
   where
     still : (most old new : ℕ) → old ≤ new → nat_le most old ≡ true → nat_le most new ≡ true
     still most old new le is = grind (arith, nat_tests, le, is)
@@ -40,13 +42,15 @@ module _ (submitted papers uploaded : ℕ) (uploads : List ℕ) (submitted' pape
   new = rooms_of submitted' papers' uploaded' uploads'
 
   -- where nothing has less room, there still is room
-  pub room-kept : (group : History) → papers ≤ papers' → IsNoLess uploads uploads' → PapersHaveRoom group old → PapersHaveRoom group new
+  pub room-kept : (group : History) → papers ≤ papers' → IsNoLess uploads uploads' → PapersHaveRoom group old
+      → PapersHaveRoom group new
   room-kept group le keeps has =
       let few = counted submitted submitted' papers papers' 0 more_submitted (omega (arith, le)) in
       let enough = has.papers in
       record {
         papers = omega (arith, few, enough);
-        uploads = room-for-kept paper_uploaded group (rooms_beside uploaded uploads) (rooms_beside uploaded' uploads') (no-less-beside uploaded uploaded' uploads uploads' more_uploaded keeps) has.uploads;
+        uploads = room-for-kept paper_uploaded group (rooms_beside uploaded uploads) (rooms_beside uploaded' uploads')
+            (no-less-beside uploaded uploaded' uploads uploads' more_uploaded keeps) has.uploads;
       }
 
   module _ (s : Stamped) (rest : History) (le : papers ≤ papers' + 1) where
@@ -57,9 +61,12 @@ module _ (submitted papers uploaded : ℕ) (uploads : List ℕ) (submitted' pape
         omega (arith, few, enough)
 
     -- where an upload has come in, there is room for the rest
-    pub room-uploaded : (paper : ℕ) → paper_uploaded s ≡ Some paper → IsOneLess paper uploads uploads' → PapersHaveRoom (s ∷ rest) old → PapersHaveRoom rest new
+    pub room-uploaded : (paper : ℕ) → paper_uploaded s ≡ Some paper → IsOneLess paper uploads uploads'
+        → PapersHaveRoom (s ∷ rest) old → PapersHaveRoom rest new
     room-uploaded paper is less has =
         record {
           papers = fewer has;
-          uploads = room-for-rest paper_uploaded s rest (rooms_beside uploaded uploads) (rooms_beside uploaded' uploads') paper is (one-less-beside paper uploaded uploaded' uploads uploads' more_uploaded less) has.uploads;
+          uploads = room-for-rest paper_uploaded s rest (rooms_beside uploaded uploads)
+              (rooms_beside uploaded' uploads') paper is
+              (one-less-beside paper uploaded uploaded' uploads uploads' more_uploaded less) has.uploads;
         }

@@ -1,5 +1,6 @@
 -- The versions of papers' contents, which are numbered from 1.
-use Rattle.std.proofs.Common.{ℕ, Bool, true, false, cond, ◌≡◌, ◌<◌, ◌+◌, List, [], ◌∷◌, ◌++◌, length, append-nil, eqb, refl, sym, ap, subst, ◌∙◌, arith, zero, suc, Option, Some, None}
+use Rattle.std.proofs.Common.{ℕ, Bool, true, false, cond, ◌≡◌, ◌<◌, ◌+◌, List, [], ◌∷◌, ◌++◌, length, append-nil, eqb}
+use Rattle.std.proofs.Common.{refl, sym, ap, subst, ◌∙◌, arith, zero, suc, Option, Some, None}
 use Rattle.std.specs.Prelude.{find, map}
 use Rattle.std.specs.List.{slice_get}
 use Rattle.std.proofs.lemmas.Bool.{eqb-true}
@@ -34,7 +35,8 @@ rest_of x y xs ys h = cc
 -- ---- what is read
 
 -- a version stands at the index of its number
-numbered-at : (n m i : ℕ) (us : List Upload) → numbers_of us ≡ numbers_from n us → m ≡ n + i → find_number m us ≡ slice_get us i
+numbered-at : (n m i : ℕ) (us : List Upload) → numbers_of us ≡ numbers_from n us → m ≡ n + i
+    → find_number m us ≡ slice_get us i
 numbered-at n m i [] h at = refl
 numbered-at n m zero (u ∷ us) h at =
     let is = first_of u.version n (numbers_of us) (numbers_from (n + 1) us) h in
@@ -44,7 +46,8 @@ numbered-at n m (suc i) (u ∷ us) h at =
     ap (λ b. cond b (Some u) (find_number m us)) (apart u.version m (omega (arith, is, at)))
     ∙ numbered-at (n + 1) m i us (rest_of u.version n (numbers_of us) (numbers_from (n + 1) us) h) (omega (arith, at))
 
-pub found-at : (us : List Upload) (version i : ℕ) → numbers_of us ≡ numbers_from 1 us → version ≡ 1 + i → find_number version us ≡ slice_get us i
+pub found-at : (us : List Upload) (version i : ℕ) → numbers_of us ≡ numbers_from 1 us → version ≡ 1 + i
+    → find_number version us ≡ slice_get us i
 found-at us version i h at = numbered-at 1 version i us h at
 
 -- none has a lower number than the first
@@ -59,23 +62,27 @@ below n m (u ∷ us) h low =
     above n m is = grind (arith, nat_tests)
 
 -- so there is no version 0
-pub none-at : (us : List Upload) (version : ℕ) → numbers_of us ≡ numbers_from 1 us → version ≡ 0 → find_number version us ≡ None
+pub none-at : (us : List Upload) (version : ℕ) → numbers_of us ≡ numbers_from 1 us → version ≡ 0
+    → find_number version us ≡ None
 none-at us version h is = below 1 version us h (omega (arith, is))
 
 -- ---- one more upload
 
 -- the versions stay numbered where the next one comes in
-pub numbered-more : (uploads : List (Filed Upload)) (paper : ℕ) (u : Upload) → AreNumbered uploads → u.version ≡ length (filed_of paper uploads) + 1
+pub numbered-more : (uploads : List (Filed Upload)) (paper : ℕ) (u : Upload) → AreNumbered uploads
+    → u.version ≡ length (filed_of paper uploads) + 1
     → AreNumbered (with_filed (filed paper u) uploads)
 numbered-more uploads paper u numbered next p =
-    subst (λ (us : List Upload). numbers_of us ≡ numbers_from 1 us) (sym (filed_of-with_filed p (filed paper u) uploads)) (by (eqb p paper) refl)
+    subst (λ (us : List Upload). numbers_of us ≡ numbers_from 1 us)
+    (sym (filed_of-with_filed p (filed paper u) uploads)) (by (eqb p paper) refl)
   where
     us : List Upload
     us = filed_of p uploads
 
     by : (b : Bool) → eqb p paper ≡ b → numbers_of (us ++ given b u) ≡ numbers_from 1 (us ++ given b u)
     by true is =
-        let here : length (filed_of paper uploads) ≡ length us = ap (λ (q : ℕ). length (filed_of q uploads)) (sym (eqb-true p paper is)) in
+        let here : length (filed_of paper uploads) ≡ length us =
+        ap (λ (q : ℕ). length (filed_of q uploads)) (sym (eqb-true p paper is)) in
         map-append (λ (v : Upload). v.version) us (u ∷ [])
         ∙ ap (λ (ns : List ℕ). ns ++ u.version ∷ []) (numbered p)
         ∙ sym (numbers_from-push 1 u.version us u (omega (arith, next, here)))

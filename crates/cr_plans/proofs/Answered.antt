@@ -1,4 +1,5 @@
--- A query of a plan is answered as is due: a rule that is broken, a plan, or that there is none, which alone takes memory.
+-- A query of a plan is answered as is due: a rule that is broken, a plan, or that there is none, which alone takes
+-- memory.
 use Rattle.std.proofs.Common.{ℕ, ◌≡◌, List, Option, Some, None, Result, Ok, Err, sym, ap, subst, ◌∙◌}
 use Rattle.std.specs.Prelude.{IsErrAnd}
 use Rattle.std.specs.Option.{option_map}
@@ -29,18 +30,23 @@ module _ (t : Tables) (caller : Option ℕ) (per_paper load : ℕ) where
   due = answer_by_role t caller (queries.Plan per_paper load)
 
   -- the rule that is broken
-  pub due-refused : (rule : Rule) → ◌≡◌ {A = Result (Unit {0}) Rule} (Err rule) (judged checks tt) → due ≡ replies.Refused rule
-  due-refused rule h = ap (λ (r : Result Reply Rule). reply_or_rule r) (sym (refused checks tt (plan_reply best) rule h))
+  pub due-refused : (rule : Rule) → ◌≡◌ {A = Result (Unit {0}) Rule} (Err rule) (judged checks tt)
+      → due ≡ replies.Refused rule
+  due-refused rule h =
+      ap (λ (r : Result Reply Rule). reply_or_rule r) (sym (refused checks tt (plan_reply best) rule h))
 
   -- else what is found
   due-found : MayPlan t caller per_paper → plan_reply best ≡ due
-  due-found may = ap (λ (r : Result Reply Rule). reply_or_rule r) (passed checks (λ (u : Unit {0}). plan_reply best) tt tt may)
+  due-found may =
+      ap (λ (r : Result Reply Rule). reply_or_rule r) (passed checks (λ (u : Unit {0}). plan_reply best) tt tt may)
 
   -- the plan
-  pub due-told : MayPlan t caller per_paper → (text : List ℕ) → Some text ≡ plan_due t caller per_paper load → AnswersOrPlans (Ok (replies.Report text)) due
+  pub due-told : MayPlan t caller per_paper → (text : List ℕ) → Some text ≡ plan_due t caller per_paper load
+      → AnswersOrPlans (Ok (replies.Report text)) due
   due-told may text is = by best (due-found may) is
     where
-      by : (o : Option (List PlanPair)) → plan_reply o ≡ due → Some text ≡ option_map plan_text o → AnswersOrPlans (Ok (replies.Report text)) due
+      by : (o : Option (List PlanPair)) → plan_reply o ≡ due → Some text ≡ option_map plan_text o
+          → AnswersOrPlans (Ok (replies.Report text)) due
       by None found told = absurd (cc (told))
       by (Some plan) found told =
           let same : text ≡ plan_text plan = cc in
@@ -48,18 +54,22 @@ module _ (t : Tables) (caller : Option ℕ) (per_paper load : ℕ) where
           (whole, λ rule broken. let e : replies.Report text ≡ replies.Refused rule = whole ∙ broken in cc)
 
   -- that there is none
-  pub due-none : MayPlan t caller per_paper → None ≡ plan_due t caller per_paper load → due ≡ replies.Refused rules.NoPlan
+  pub due-none : MayPlan t caller per_paper → None ≡ plan_due t caller per_paper load
+      → due ≡ replies.Refused rules.NoPlan
   due-none may is = by best (due-found may) is
     where
-      by : (o : Option (List PlanPair)) → plan_reply o ≡ due → None ≡ option_map plan_text o → due ≡ replies.Refused rules.NoPlan
+      by : (o : Option (List PlanPair)) → plan_reply o ≡ due → None ≡ option_map plan_text o
+          → due ≡ replies.Refused rules.NoPlan
       by None found told = sym found
       by (Some plan) found told = absurd (cc (told))
 
   -- and where memory runs out, no other rule
-  pub due-unserved : MayPlan t caller per_paper → (r : Result Reply AnswerError) → IsErrAnd r (λ (e : AnswerError). e ≡ errors.OutOfMemory)
+  pub due-unserved : MayPlan t caller per_paper → (r : Result Reply AnswerError)
+      → IsErrAnd r (λ (e : AnswerError). e ≡ errors.OutOfMemory)
       → AnswersOrPlans r due
   due-unserved may (Ok reply) out = absurd out
-  due-unserved may (Err error) out = subst (λ (e : AnswerError). AnswersOrPlans (Err e) due) (sym out) (by best (due-found may))
+  due-unserved may (Err error) out =
+      subst (λ (e : AnswerError). AnswersOrPlans (Err e) due) (sym out) (by best (due-found may))
     where
       by : (o : Option (List PlanPair)) → plan_reply o ≡ due → MayTakeMemory due
       by None found rule other broken =

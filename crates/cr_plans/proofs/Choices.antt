@@ -1,6 +1,7 @@
--- All choices among pairs stand in dictionary order, and of those that pass a test the first of the greatest sum is the one
--- that no other beats, whatever the choices are made into.
-use Rattle.std.proofs.Common.{◌≡◌, ◌⊎◌, inl, inr, ℕ, suc, ◌≤◌, ◌<◌, Bool, true, false, cond, List, [], ◌∷◌, ◌++◌, length, map, refl, arith, ap, sym, ◌∙◌, subst, Option, Some, None}
+-- All choices among pairs stand in dictionary order, and of those that pass a test the first of the greatest sum is
+-- the one that no other beats, whatever the choices are made into.
+use Rattle.std.proofs.Common.{◌≡◌, ◌⊎◌, inl, inr, ℕ, suc, ◌≤◌, ◌<◌, Bool, true, false, cond, List, [], ◌∷◌, ◌++◌}
+use Rattle.std.proofs.Common.{length, map, refl, arith, ap, sym, ◌∙◌, subst, Option, Some, None}
 use Rattle.std.specs.Prelude.{filter, nat_lt, unwrap_or}
 use Rattle.std.specs.Option.{option_map}
 use Rattle.std.proofs.lemmas.Bool.Decides.{nat_tests}
@@ -36,7 +37,8 @@ one-map f x (y ∷ xs) (inl same) = inl (ap f same)
 one-map f x (y ∷ xs) (inr more) = inr (one-map f x xs more)
 
 -- the element that a mapped one is made of
-pub one-mapped : {A B : Type 0} (f : A → B) (y : B) (xs : List A) → IsOne y (map f xs) → (x : A) × (y ≡ f x) × IsOne x xs
+pub one-mapped : {A B : Type 0} (f : A → B) (y : B) (xs : List A) → IsOne y (map f xs)
+    → (x : A) × (y ≡ f x) × IsOne x xs
 one-mapped f y [] h = absurd h
 one-mapped f y (x ∷ xs) (inl same) = (x, same, inl refl)
 one-mapped f y (x ∷ xs) (inr more) = let rest = one-mapped f y xs more in (rest.0, rest.1, inr rest.2)
@@ -59,7 +61,8 @@ module _ {A : Type 0} (test : A → Bool) where
   one-filtered x [] h = absurd h
   one-filtered x (y ∷ xs) h = by (test y) refl h (λ more. one-filtered x xs more)
     where
-      by : (b : Bool) → test y ≡ b → IsOne x (cond b (y ∷ filter test xs) (filter test xs)) → (IsOne x (filter test xs) → (test x ≡ true) × IsOne x xs)
+      by : (b : Bool) → test y ≡ b → IsOne x (cond b (y ∷ filter test xs) (filter test xs))
+          → (IsOne x (filter test xs) → (test x ≡ true) × IsOne x xs)
           → (test x ≡ true) × IsOne x (y ∷ xs)
       by true is (inl same) rest = (ap test same ∙ is, inl same)
       by true is (inr more) rest = let r = rest more in (r.0, inr r.1)
@@ -91,7 +94,8 @@ module _ {A : Type 0} (R : A → A → Type 0) where
   behind-append x [] ys h k = k
   behind-append x (y ∷ xs) ys h k = (h.0, behind-append x xs ys h.1 k)
 
-  pub order-append : (xs ys : List A) → InOrder R xs → InOrder R ys → ((x : A) → IsOne x xs → Behind R x ys) → InOrder R (xs ++ ys)
+  pub order-append : (xs ys : List A) → InOrder R xs → InOrder R ys → ((x : A) → IsOne x xs → Behind R x ys)
+      → InOrder R (xs ++ ys)
   order-append [] ys h k each = k
   order-append (x ∷ xs) ys h k each =
       (behind-append x xs ys h.0 (each x (inl refl)), order-append xs ys h.1 k (λ y one. each y (inr one)))
@@ -101,7 +105,8 @@ module _ {A : Type 0} (R : A → A → Type 0) where
   order-filter test (x ∷ xs) h = by (test x) (order-filter test xs h.1)
     where
       by : (b : Bool) → InOrder R (filter test xs) → InOrder R (cond b (x ∷ filter test xs) (filter test xs))
-      by true rest = (behind-all x (filter test xs) (λ y one. behind-one x xs h.0 y (one-filtered test y xs one).1), rest)
+      by true rest =
+          (behind-all x (filter test xs) (λ y one. behind-one x xs h.0 y (one-filtered test y xs one).1), rest)
       by false rest = rest
 
 -- ---- choices of pairs
@@ -110,7 +115,8 @@ module _ {A : Type 0} (R : A → A → Type 0) where
 abbrev pub Before : List Pair → List Pair → Type 0
 Before p q = length p ≡ length q → IsBefore p q
 
-before-both : (e : Pair) (p : List Pair) (qs : List (List Pair)) → Behind Before p qs → Behind Before (e ∷ p) (map (λ (q : List Pair). e ∷ q) qs)
+before-both : (e : Pair) (p : List Pair) (qs : List (List Pair)) → Behind Before p qs
+    → Behind Before (e ∷ p) (map (λ (q : List Pair). e ∷ q) qs)
 before-both e p [] h = tt
 before-both e p (q ∷ qs) h = ((λ long. inr (refl, refl, h.0 (shorter long))), before-both e p qs h.1)
   where
@@ -136,13 +142,16 @@ choice-marks (e ∷ es) p h = elim (one-of p (map (λ (q : List Pair). e ∷ q) 
 pub marks-choice : (es : List Pair) (bs : List Bool) → IsOne (kept bs es) (choices es)
 marks-choice [] bs = inl (kept_nothing bs)
 marks-choice (e ∷ es) [] =
-    one-back [] (map (λ (q : List Pair). e ∷ q) (choices es)) (choices es) (subst (λ (p : List Pair). IsOne p (choices es)) nothing (marks-choice es []))
+    one-back [] (map (λ (q : List Pair). e ∷ q) (choices es)) (choices es)
+    (subst (λ (p : List Pair). IsOne p (choices es)) nothing (marks-choice es []))
   where
     nothing : kept [] es ≡ []
     nothing = refl
 marks-choice (e ∷ es) (true ∷ bs) =
-    one-front (e ∷ kept bs es) (map (λ (q : List Pair). e ∷ q) (choices es)) (choices es) (one-map (λ (q : List Pair). e ∷ q) (kept bs es) (choices es) (marks-choice es bs))
-marks-choice (e ∷ es) (false ∷ bs) = one-back (kept bs es) (map (λ (q : List Pair). e ∷ q) (choices es)) (choices es) (marks-choice es bs)
+    one-front (e ∷ kept bs es) (map (λ (q : List Pair). e ∷ q) (choices es)) (choices es)
+    (one-map (λ (q : List Pair). e ∷ q) (kept bs es) (choices es) (marks-choice es bs))
+marks-choice (e ∷ es) (false ∷ bs) =
+    one-back (kept bs es) (map (λ (q : List Pair). e ∷ q) (choices es)) (choices es) (marks-choice es bs)
 
 -- a choice with the first pair comes before one without it
 first-before : (e : Pair) (es p q : List Pair) → Ascends e es → IsOne q (choices es) → Before (e ∷ p) q
@@ -189,7 +198,8 @@ module _ {A : Type 0} (sum : A → ℕ) where
     nothing-there (x ∷ xs) is y one = cc
 
     -- of all but the first the best is w, or there are none
-    with-first : (z : A) (zs : List A) → Behind R z zs → (o : Option A) → first_most zs ≡ o → ((w : A) → first_most zs ≡ Some w → IsBestOf w zs)
+    with-first : (z : A) (zs : List A) → Behind R z zs → (o : Option A) → first_most zs ≡ o
+        → ((w : A) → first_most zs ≡ Some w → IsBestOf w zs)
         → IsBestOf (or_more z o) (z ∷ zs)
     with-first z zs behind None is rest = record { one = inl refl; all = λ y one. alone y one }
       where
@@ -247,12 +257,14 @@ module _ {A : Type 0} (sum : A → ℕ) where
 
 -- ---- of what the choices are made into
 
-pub filter-map : {A B : Type 0} (test : B → Bool) (f : A → B) (xs : List A) → filter test (map f xs) ≡ map f (filter (λ x. test (f x)) xs)
+pub filter-map : {A B : Type 0} (test : B → Bool) (f : A → B) (xs : List A)
+    → filter test (map f xs) ≡ map f (filter (λ x. test (f x)) xs)
 filter-map test f [] = refl
 filter-map {A} {B} test f (x ∷ xs) = by (test (f x)) (filter-map test f xs)
   where
     by : (b : Bool) → filter test (map f xs) ≡ map f (filter (λ y. test (f y)) xs)
-        → cond b (f x ∷ filter test (map f xs)) (filter test (map f xs)) ≡ map f (cond b (x ∷ filter (λ y. test (f y)) xs) (filter (λ y. test (f y)) xs))
+        → cond b (f x ∷ filter test (map f xs)) (filter test (map f xs))
+        ≡ map f (cond b (x ∷ filter (λ y. test (f y)) xs) (filter (λ y. test (f y)) xs))
     by true rest = ap (λ (ys : List B). f x ∷ ys) rest
     by false rest = rest
 
@@ -283,7 +295,8 @@ greatest-map f (p ∷ ps) =
     sum : List Pair → ℕ
     sum q = bid_sum (map f q)
 
-    by : (o : Option (List Pair)) → Some (or_greater (map f p) (option_map (map f) o)) ≡ option_map (map f) (Some (or_more sum p o))
+    by : (o : Option (List Pair)) → Some (or_greater (map f p) (option_map (map f) o))
+        ≡ option_map (map f) (Some (or_more sum p o))
     by None = refl
     by (Some q) = test (nat_lt (sum p) (sum q))
       where

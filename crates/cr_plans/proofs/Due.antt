@@ -1,13 +1,14 @@
 -- What the program makes of what is planned, and of what answers its problem, is what is due.
-use Rattle.std.proofs.Common.{ℕ, false, ◌≡◌, ◌≤◌, ◌+◌, ◌*◌, ◌||◌, zero, suc, List, [], ◌∷◌, ◌++◌, length, map, refl, sym, ap, subst, ◌∙◌, arith, Option, Some, None, ℤ}
+use Rattle.std.proofs.Common.{ℕ, false, ◌≡◌, ◌≤◌, ◌+◌, ◌*◌, ◌||◌, zero, suc, List, [], ◌∷◌, ◌++◌, length, map, refl}
+use Rattle.std.proofs.Common.{sym, ap, subst, ◌∙◌, arith, Option, Some, None, ℤ}
 use Rattle.std.specs.Prelude.{filter, nat_lt}
 use Rattle.std.specs.List.{flat_map}
 use Rattle.std.specs.Option.{option_map}
 use Rattle.std.proofs.lemmas.Bool.Decides.{nat_tests}
 use Rattle.cr_base.specs.declared.reply.AccountLine.{AccountLine}
 use Rattle.cr_base.specs.Lists.{IsRising}
-use Rattle.cr_base.specs.Plans.{PlanPair, best_plan, choices, first_greatest, is_plan, pair_row, pairs_of_paper, plan_header, plan_text}
-use Rattle.cr_base.specs.Plans.{planned_members, planned_pairs, planned_papers}
+use Rattle.cr_base.specs.Plans.{PlanPair, best_plan, choices, first_greatest, is_plan, pair_row, pairs_of_paper}
+use Rattle.cr_base.specs.Plans.{plan_header, plan_text, planned_members, planned_pairs, planned_papers}
 use Rattle.cr_base.specs.Sources.{Facts, Shown, facts_of_tables, shown_in_tables}
 use Rattle.cr_base.specs.Tables.{Tables}
 use Rattle.cr_base.specs.Words.{is_member}
@@ -30,8 +31,10 @@ pub may-fit : (t : Tables) (user : Option ℕ) (per_paper : ℕ) → MayPlan t u
 may-fit t user per_paper may =
     let papers : ℕ = length (planned_papers (facts_of_tables t user) (shown_in_tables t) per_paper) in
     let members : ℕ = length (planned_members (facts_of_tables t user)) in
-    let none = judged-Ok (plan_asked (facts_of_tables t user) (shown_in_tables t) per_paper) tt tt (sym may) in
-    (first (per_paper * papers) (papers * members) none.0.1.1.0, second (per_paper * papers) (papers * members) none.0.1.1.0)
+    let none = judged-Ok (plan_asked (facts_of_tables t user) (shown_in_tables t) per_paper) tt tt (sym may) in (
+      first (per_paper * papers) (papers * members) none.0.1.1.0,
+      second (per_paper * papers) (papers * members) none.0.1.1.0,
+    )
   where
     first : (x y : ℕ) → (nat_lt 512 x || nat_lt 4096 y) ≡ false → x ≤ 512
     first x y h = grind (arith, nat_tests)
@@ -53,7 +56,8 @@ rows-told : (papers : List ℕ) (members : List AccountLine) (pairs : List Pair)
 rows-told papers members [] = refl
 rows-told papers members (e ∷ es) = ap (λ (l : List ℕ). row_at papers members e ++ l) (rows-told papers members es)
 
-module _ (t : Tables) (user : Option ℕ) (per_paper load : ℕ) (papers : List ℕ) (members : List AccountLine) (problem : Problem)
+module _ (t : Tables) (user : Option ℕ) (per_paper load : ℕ) (papers : List ℕ) (members : List AccountLine)
+    (problem : Problem)
     (papers_are : papers ≡ planned_papers (facts_of_tables t user) (shown_in_tables t) per_paper)
     (members_are : members ≡ planned_members (facts_of_tables t user))
     (of : IsProblemOf t papers members per_paper load problem) where
@@ -70,7 +74,8 @@ module _ (t : Tables) (user : Option ℕ) (per_paper load : ℕ) (papers : List 
   rising = subst (λ (ps : List ℕ). IsRising ps) (sym papers_are) (papers-rise t user per_paper)
 
   rising_users : IsRising (users members)
-  rising_users = subst (λ (ms : List AccountLine). IsRising (users ms)) (sym members_are) (users-rise (λ (a : AccountLine). is_member a.role) 1 t.accounts)
+  rising_users = subst (λ (ms : List AccountLine). IsRising (users ms)) (sym members_are)
+      (users-rise (λ (a : AccountLine). is_member a.role) 1 t.accounts)
 
   -- the pairs of places stand for the pairs that are planned
   pairs-told : map (told papers members) problem.pairs.items ≡ planned_pairs facts shown per_paper
@@ -80,22 +85,28 @@ module _ (t : Tables) (user : Option ℕ) (per_paper load : ℕ) (papers : List 
       ∙ told-all t user papers
       ∙ ap (λ (ps : List ℕ). flat_map (pairs_of_paper facts shown) ps) papers_are
 
-  same : least papers members problem.per_paper problem.load (map (told papers members) problem.pairs.items) ≡ best_plan facts shown per_paper load
+  same : least papers members problem.per_paper problem.load (map (told papers members) problem.pairs.items)
+      ≡ best_plan facts shown per_paper load
   same = λ i. least (papers_are i) (members_are i) (of.places i) (of.load_is i) (pairs-told i)
 
-  pub due-best : (pairs : List Pair) (sum : ℤ) (prices : Prices) → IsGreatest problem pairs sum prices → IsFirst problem pairs
+  pub due-best : (pairs : List Pair) (sum : ℤ) (prices : Prices) → IsGreatest problem pairs sum prices
+      → IsFirst problem pairs
       → Some (plan_header ++ flat_map (row_at papers members) pairs) ≡ plan_due t user per_paper load
   due-best pairs sum prices greatest first =
-      let best = sym same ∙ best-is problem papers members of.asked of.papers_are of.members_are rising rising_users pairs sum prices greatest first in
+      let best = sym same ∙ best-is problem papers members of.asked of.papers_are of.members_are rising rising_users
+      pairs sum prices greatest first in
       ap (λ (rows : List ℕ). Some (plan_header ++ rows)) (sym (rows-told papers members pairs))
       ∙ sym (ap (option_map plan_text) best)
 
   pub due-none : (s : List ℕ) → HasNoPlan problem s → None ≡ plan_due t user per_paper load
   due-none s lacks =
-      sym (ap (option_map plan_text) (sym same ∙ none-is problem papers members of.asked of.papers_are of.members_are rising rising_users s lacks))
+      sym
+      (ap (option_map plan_text) (sym same ∙ none-is problem papers members of.asked of.papers_are of.members_are
+      rising rising_users s lacks))
 
   -- the pairs that are told stand for papers and members that are there
-  pub due-inside : (pairs : List Pair) (sum : ℤ) (prices : Prices) → IsGreatest problem pairs sum prices → AreInside (length papers) (length members) pairs
+  pub due-inside : (pairs : List Pair) (sum : ℤ) (prices : Prices) → IsGreatest problem pairs sum prices
+      → AreInside (length papers) (length members) pairs
   due-inside pairs sum prices greatest =
       subst (λ (n : ℕ). AreInside n (length members) pairs) of.papers_are
       (subst (λ (n : ℕ). AreInside problem.papers n pairs) of.members_are

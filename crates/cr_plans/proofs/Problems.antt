@@ -1,5 +1,7 @@
 -- The pairs of places: they are inside, they ascend, and they stand for the pairs that are planned.
-use Rattle.std.proofs.Common.{◌≡◌, ◌⊎◌, inl, inr, ℕ, zero, suc, ◌+◌, ◌≤◌, ◌<◌, ◌-◌, ◌*◌, Bool, true, false, cond, List, [], ◌∷◌, ◌++◌, length, length-append, get_or, map, Option, refl, arith, ap, sym, ◌∙◌, subst, ℤ, pos, negsuc}
+use Rattle.std.proofs.Common.{◌≡◌, ◌⊎◌, inl, inr, ℕ, zero, suc, ◌+◌, ◌≤◌, ◌<◌, ◌-◌, ◌*◌, Bool, true, false, cond, List}
+use Rattle.std.proofs.Common.{[], ◌∷◌, ◌++◌, length, length-append, get_or, map, Option, refl, arith, ap, sym, ◌∙◌}
+use Rattle.std.proofs.Common.{subst, ℤ, pos, negsuc}
 use Rattle.std.specs.Prelude.{filter, slice_index, slice_index_or}
 use Rattle.std.specs.List.{flat_map}
 use Rattle.std.proofs.lemmas.Int.{ints}
@@ -29,7 +31,8 @@ weigh-back (x ∷ xs) ys h = weigh-back xs ys h.2
 -- ---- places
 
 module _ (t : Tables) (papers_count members_count : ℕ) where
-  inside-append : (xs ys : List Pair) → AreInside papers_count members_count xs → AreInside papers_count members_count ys
+  inside-append : (xs ys : List Pair) → AreInside papers_count members_count xs
+      → AreInside papers_count members_count ys
       → AreInside papers_count members_count (xs ++ ys)
   inside-append [] ys h k = k
   inside-append (x ∷ xs) ys h k = (h.0, h.1, h.2, h.3, inside-append xs ys h.4 k)
@@ -46,36 +49,44 @@ module _ (t : Tables) (papers_count members_count : ℕ) where
       by false h = tt
 
   inside-place : (i p j : ℕ) (members : List AccountLine) → i < papers_count → j + length members ≤ members_count
-      → AllWeigh (pairs_of_place t i p j members) → AreInside papers_count members_count (pairs_of_place t i p j members)
+      → AllWeigh (pairs_of_place t i p j members)
+      → AreInside papers_count members_count (pairs_of_place t i p j members)
   inside-place i p j [] low high h = tt
   inside-place i p j (a ∷ members) low high h =
       inside-append (pair_at t i p j a.user) (pairs_of_place t i p (j + 1) members)
-      (inside-pair i p j a.user low (omega (arith, high, longer)) (weigh-front (pair_at t i p j a.user) (pairs_of_place t i p (j + 1) members) h))
-      (inside-place i p (j + 1) members low (omega (arith, high, longer)) (weigh-back (pair_at t i p j a.user) (pairs_of_place t i p (j + 1) members) h))
+      (inside-pair i p j a.user low (omega (arith, high, longer))
+      (weigh-front (pair_at t i p j a.user) (pairs_of_place t i p (j + 1) members) h))
+      (inside-place i p (j + 1) members low (omega (arith, high, longer))
+      (weigh-back (pair_at t i p j a.user) (pairs_of_place t i p (j + 1) members) h))
     where
       longer : length (a ∷ members) ≡ suc (length members)
       longer = refl
 
-  pub pairs-inside : (i : ℕ) (papers : List ℕ) (members : List AccountLine) → i + length papers ≤ papers_count → length members ≤ members_count
+  pub pairs-inside : (i : ℕ) (papers : List ℕ) (members : List AccountLine) → i + length papers ≤ papers_count
+      → length members ≤ members_count
       → AllWeigh (pairs_at t i papers members) → AreInside papers_count members_count (pairs_at t i papers members)
   pairs-inside i [] members high wide h = tt
   pairs-inside i (p ∷ papers) members high wide h =
       inside-append (pairs_of_place t i p 0 members) (pairs_at t (i + 1) papers members)
-      (inside-place i p 0 members (omega (arith, high, longer)) (omega (arith, wide)) (weigh-front (pairs_of_place t i p 0 members) (pairs_at t (i + 1) papers members) h))
-      (pairs-inside (i + 1) papers members (omega (arith, high, longer)) wide (weigh-back (pairs_of_place t i p 0 members) (pairs_at t (i + 1) papers members) h))
+      (inside-place i p 0 members (omega (arith, high, longer)) (omega (arith, wide))
+      (weigh-front (pairs_of_place t i p 0 members) (pairs_at t (i + 1) papers members) h))
+      (pairs-inside (i + 1) papers members (omega (arith, high, longer)) wide
+      (weigh-back (pairs_of_place t i p 0 members) (pairs_at t (i + 1) papers members) h))
     where
       longer : length (p ∷ papers) ≡ suc (length papers)
       longer = refl
 
 -- those that stand in such a list
-pub inside-at : (papers_count members_count : ℕ) (es : List Pair) (i : ℕ) (d : Pair) → AreInside papers_count members_count es → i < length es
+pub inside-at : (papers_count members_count : ℕ) (es : List Pair) (i : ℕ) (d : Pair)
+    → AreInside papers_count members_count es → i < length es
     → ((get_or es i d).paper < papers_count) × ((get_or es i d).member < members_count)
 inside-at papers_count members_count [] i d h low = absurd (omega (arith, low, none))
   where
     none : length {A = Pair} [] ≡ 0
     none = refl
 inside-at papers_count members_count (e ∷ es) zero d h low = (h.0, h.1)
-inside-at papers_count members_count (e ∷ es) (suc i) d h low = inside-at papers_count members_count es i d h.4 (omega (arith, low, longer))
+inside-at papers_count members_count (e ∷ es) (suc i) d h low =
+    inside-at papers_count members_count es i d h.4 (omega (arith, low, longer))
   where
     longer : length (e ∷ es) ≡ suc (length es)
     longer = refl
@@ -99,7 +110,8 @@ module _ (t : Tables) where
   no_later e i j (inl less) = omega (arith, less)
   no_later e i j (inr same) = omega (arith, same.0)
 
-  ascends-place : (i p j : ℕ) (members : List AccountLine) (rest : List Pair) → IsBehind i rest → (e : Pair) → StandsBefore e i j
+  ascends-place : (i p j : ℕ) (members : List AccountLine) (rest : List Pair) → IsBehind i rest → (e : Pair)
+      → StandsBefore e i j
       → Ascends e (pairs_of_place t i p j members ++ rest)
   ascends-place i p j [] rest behind e before = behind e (no_later e i j before)
   ascends-place i p j (a ∷ members) rest behind e before =
@@ -112,14 +124,17 @@ module _ (t : Tables) where
       more : List Pair
       more = pairs_of_place t i p (j + 1) members
 
-      by : (b : Bool) → ((g : Pair) → StandsBefore g i (j + 1) → Ascends g (more ++ rest)) → Ascends e ((cond b (pair ∷ []) [] ++ more) ++ rest)
+      by : (b : Bool) → ((g : Pair) → StandsBefore g i (j + 1) → Ascends g (more ++ rest))
+          → Ascends e ((cond b (pair ∷ []) [] ++ more) ++ rest)
       by true next = (before, next pair (inr (refl, omega arith)))
       by false next = next e (on e i j before)
 
-  ascends-papers : (i : ℕ) (papers : List ℕ) (members : List AccountLine) (e : Pair) → e.paper < i → Ascends e (pairs_at t i papers members)
+  ascends-papers : (i : ℕ) (papers : List ℕ) (members : List AccountLine) (e : Pair) → e.paper < i
+      → Ascends e (pairs_at t i papers members)
   ascends-papers i [] members e less = tt
   ascends-papers i (p ∷ papers) members e less =
-      ascends-place i p 0 members (pairs_at t (i + 1) papers members) (λ g low. ascends-papers (i + 1) papers members g (omega (arith, low))) e (inl less)
+      ascends-place i p 0 members (pairs_at t (i + 1) papers members)
+      (λ g low. ascends-papers (i + 1) papers members g (omega (arith, low))) e (inl less)
 
   order-place : (i p j : ℕ) (members : List AccountLine) (rest : List Pair) → IsBehind i rest → IsAscending rest
       → IsAscending (pairs_of_place t i p j members ++ rest)
@@ -140,7 +155,8 @@ module _ (t : Tables) where
   pub pairs-order : (i : ℕ) (papers : List ℕ) (members : List AccountLine) → IsAscending (pairs_at t i papers members)
   pairs-order i [] members = tt
   pairs-order i (p ∷ papers) members =
-      order-place i p 0 members (pairs_at t (i + 1) papers members) (λ g low. ascends-papers (i + 1) papers members g (omega (arith, low)))
+      order-place i p 0 members (pairs_at t (i + 1) papers members)
+      (λ g low. ascends-papers (i + 1) papers members g (omega (arith, low)))
       (pairs-order (i + 1) papers members)
 
 -- ---- what they stand for
@@ -181,11 +197,13 @@ module _ (t : Tables) (user : Option ℕ) (papers : List ℕ) where
   abbrev free : ℕ → AccountLine → Bool
   free p a = is_free_for shown p a.user
 
-  told-place : (i p j : ℕ) (rest : List AccountLine) → get_or papers i 0 ≡ p → ((k : ℕ) → get_or members (j + k) no_line ≡ get_or rest k no_line)
+  told-place : (i p j : ℕ) (rest : List AccountLine) → get_or papers i 0 ≡ p
+      → ((k : ℕ) → get_or members (j + k) no_line ≡ get_or rest k no_line)
       → map (told papers members) (pairs_of_place t i p j rest) ≡ map (made p) (filter (free p) rest)
   told-place i p j [] here at = refl
   told-place i p j (a ∷ rest) here at =
-      by (is_free_for shown p a.user) (told-place i p (j + 1) rest here (λ k. ap (λ (n : ℕ). get_or members n no_line) (behind k) ∙ at (suc k)))
+      by (is_free_for shown p a.user) (told-place i p (j + 1) rest here
+      (λ k. ap (λ (n : ℕ). get_or members n no_line) (behind k) ∙ at (suc k)))
     where
       pair : Pair
       pair = record { paper = i; member = j; weight = weight_of (bid_by shown p a.user) }
@@ -202,8 +220,10 @@ module _ (t : Tables) (user : Option ℕ) (papers : List ℕ) where
       same : told papers members pair ≡ made p a
       same = λ k. record { paper = here k; member = member k; bid = bid-back (bid_by shown p a.user) k }
 
-      by : (b : Bool) → map (told papers members) (pairs_of_place t i p (j + 1) rest) ≡ map (made p) (filter (free p) rest)
-          → map (told papers members) (cond b (pair ∷ []) [] ++ pairs_of_place t i p (j + 1) rest) ≡ map (made p) (cond b (a ∷ filter (free p) rest) (filter (free p) rest))
+      by : (b : Bool) → map (told papers members) (pairs_of_place t i p (j + 1) rest)
+          ≡ map (made p) (filter (free p) rest)
+          → map (told papers members) (cond b (pair ∷ []) [] ++ pairs_of_place t i p (j + 1) rest)
+          ≡ map (made p) (cond b (a ∷ filter (free p) rest) (filter (free p) rest))
       by true next = λ k. same k ∷ next k
       by false next = next
 
@@ -216,8 +236,10 @@ module _ (t : Tables) (user : Option ℕ) (papers : List ℕ) where
   told-papers i [] at = refl
   told-papers i (p ∷ rest) at =
       let first : map (told papers members) (pairs_of_place t i p 0 members) ≡ pairs_of_paper facts shown p =
-      told-place i p 0 members (ap (λ (n : ℕ). get_or papers n 0) (sym (none i)) ∙ at 0) (λ k. ap (λ (n : ℕ). get_or members n no_line) (from_none k)) in
-      let others : map (told papers members) (pairs_at t (i + 1) rest members) ≡ flat_map (pairs_of_paper facts shown) rest =
+      told-place i p 0 members (ap (λ (n : ℕ). get_or papers n 0) (sym (none i)) ∙ at 0)
+      (λ k. ap (λ (n : ℕ). get_or members n no_line) (from_none k)) in
+      let others : map (told papers members) (pairs_at t (i + 1) rest members) ≡ flat_map (pairs_of_paper facts shown)
+      rest =
       told-papers (i + 1) rest (λ k. ap (λ (n : ℕ). get_or papers n 0) (behind i k) ∙ at (suc k)) in
       map-append (told papers members) (pairs_of_place t i p 0 members) (pairs_at t (i + 1) rest members)
       ∙ (λ k. first k ++ others k)
@@ -257,12 +279,15 @@ module _ (t : Tables) where
       by true h = let l : length (pair ∷ more) ≡ suc (length more) = refl in omega (arith, h, l, one_more)
       by false h = omega (arith, h, one_more)
 
-  pub pairs-few : (i : ℕ) (papers : List ℕ) (members : List AccountLine) → length (pairs_at t i papers members) ≤ length papers * length members
+  pub pairs-few : (i : ℕ) (papers : List ℕ) (members : List AccountLine)
+      → length (pairs_at t i papers members) ≤ length papers * length members
   pairs-few i [] members = omega arith
   pairs-few i (p ∷ papers) members =
       let l : length (pairs_of_place t i p 0 members ++ pairs_at t (i + 1) papers members)
-      ≡ length (pairs_of_place t i p 0 members) + length (pairs_at t (i + 1) papers members) = length-append (pairs_of_place t i p 0 members) (pairs_at t (i + 1) papers members) in
-      let m : length (p ∷ papers) * length members ≡ length papers * length members + length members = one_more (length papers) (length members) in
+      ≡ length (pairs_of_place t i p 0 members) + length (pairs_at t (i + 1) papers members) =
+      length-append (pairs_of_place t i p 0 members) (pairs_at t (i + 1) papers members) in
+      let m : length (p ∷ papers) * length members ≡ length papers * length members + length members =
+      one_more (length papers) (length members) in
       omega (arith, l, m, few-place i p 0 members, pairs-few (i + 1) papers members)
     where
       one_more : (n m : ℕ) → suc n * m ≡ n * m + m
@@ -270,8 +295,10 @@ module _ (t : Tables) where
 
 -- ---- it may be asked
 
-pub asked-of : (t : Tables) (papers : List ℕ) (members : List AccountLine) (per_paper : ℕ) → length papers ≤ 9999 → length members ≤ 9999
-    → per_paper ≤ 26 → per_paper * length papers ≤ 512 → length papers * length members ≤ 4096 → AllWeigh (pairs_at t 0 papers members)
+pub asked-of : (t : Tables) (papers : List ℕ) (members : List AccountLine) (per_paper : ℕ) → length papers ≤ 9999
+    → length members ≤ 9999
+    → per_paper ≤ 26 → per_paper * length papers ≤ 512 → length papers * length members ≤ 4096
+    → AllWeigh (pairs_at t 0 papers members)
     → IsAsked (length papers) (length members) per_paper (pairs_at t 0 papers members)
 asked-of t papers members per_paper few_papers few_members low places grid weigh = record {
   places = places;
@@ -284,9 +311,12 @@ asked-of t papers members per_paper few_papers few_members low places grid weigh
 
 -- ---- the problem that is made of these parts
 
-module _ (t : Tables) (papers : List ℕ) (members : List AccountLine) (per_paper load : ℕ) (ps ms k l : ℕ) (pairs : List Pair)
-    (ps-is : ps ≡ length papers) (ms-is : ms ≡ length members) (k-is : k ≡ per_paper) (l-is : l ≡ load) (pairs-are : pairs ≡ pairs_at t 0 papers members) where
-  pub parts-asked : IsAsked (length papers) (length members) per_paper (pairs_at t 0 papers members) → IsAsked ps ms k pairs
+module _ (t : Tables) (papers : List ℕ) (members : List AccountLine) (per_paper load : ℕ) (ps ms k l : ℕ)
+    (pairs : List Pair)
+    (ps-is : ps ≡ length papers) (ms-is : ms ≡ length members) (k-is : k ≡ per_paper) (l-is : l ≡ load)
+    (pairs-are : pairs ≡ pairs_at t 0 papers members) where
+  pub parts-asked : IsAsked (length papers) (length members) per_paper (pairs_at t 0 papers members)
+      → IsAsked ps ms k pairs
   parts-asked h =
       subst (λ (n : ℕ). IsAsked n ms k pairs) (sym ps-is)
       (subst (λ (n : ℕ). IsAsked (length papers) n k pairs) (sym ms-is)
@@ -294,7 +324,8 @@ module _ (t : Tables) (papers : List ℕ) (members : List AccountLine) (per_pape
       (subst (λ (es : List Pair). IsAsked (length papers) (length members) per_paper es) (sym pairs-are) h)))
 
   pub problem-is : (problem : Problem)
-      → IsProblem problem × (problem.papers ≡ ps) × (problem.members ≡ ms) × (problem.per_paper ≡ k) × (problem.load ≡ l) × (problem.pairs.items ≡ pairs)
+      → IsProblem problem × (problem.papers ≡ ps) × (problem.members ≡ ms) × (problem.per_paper ≡ k)
+      × (problem.load ≡ l) × (problem.pairs.items ≡ pairs)
       → IsProblemOf t papers members per_paper load problem
   problem-is problem h = record {
     asked = h.0;

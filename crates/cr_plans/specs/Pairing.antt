@@ -66,7 +66,8 @@ row_at papers members e = plan_row (slice_index papers e.paper) (slice_index_or 
 -- the caller may ask for a plan
 abbrev pub MayPlan : Tables → Option ℕ → ℕ → Type 0
 MayPlan t user per_paper =
-    ◌≡◌ {A = Result (Unit {0}) Rule} (Ok tt) (judged (plan_asked (facts_of_tables t user) (shown_in_tables t) per_paper) tt)
+    ◌≡◌ {A = Result (Unit {0}) Rule} (Ok tt)
+    (judged (plan_asked (facts_of_tables t user) (shown_in_tables t) per_paper) tt)
 
 -- the text of the best plan, where there is one
 abbrev pub plan_due : Tables → Option ℕ → ℕ → ℕ → Option (List ℕ)

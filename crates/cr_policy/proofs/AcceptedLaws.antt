@@ -1,5 +1,6 @@
 -- What an accepted command adds: by the rules and the bounds, and as the tables take it.
-use Rattle.std.proofs.Common.{ℕ, Bool, true, false, ◌≡◌, List, [], ◌∷◌, ◌++◌, ◌||◌, ◌&&◌, eqb, refl, sym, ap, ◌∙◌, arith, Option, Some, None, Ok}
+use Rattle.std.proofs.Common.{ℕ, Bool, true, false, ◌≡◌, List, [], ◌∷◌, ◌++◌, ◌||◌, ◌&&◌, eqb, refl, sym, ap, ◌∙◌}
+use Rattle.std.proofs.Common.{arith, Option, Some, None, Ok}
 use Rattle.std.specs.Prelude.{map}
 use Rattle.std.specs.List.{list_any}
 use Rattle.std.proofs.lemmas.Bool.{and_parts, eqb-true}
@@ -28,24 +29,29 @@ use Rattle.cr_history.specs.Groups.{IsBoundedStamp, Adds}
 use Rattle.cr_history.specs.Laws.{AreTold, AreFormsTold}
 use Rattle.cr_history.specs.Invariants.{IsRegistered, Invariants, InTurn, IsInOrder, ComesFirst}
 use Rattle.cr_history.proofs.GrowthLaws.{tables_tell}
-use Rattle.cr_history.proofs.RuleLaws.{facts_of, is_told_all, TellsSeats, registration-adds, command-adds}
+use Rattle.cr_history.proofs.RuleFacts.{facts_of, is_told_all, TellsSeats}
+use Rattle.cr_history.proofs.RuleLaws.{registration-adds, command-adds}
 use Rattle.cr_history.proofs.SizeAgreement.{sized-tables}
 use Rattle.cr_policy.specs.Judge.{judge}
 use Rattle.cr_policy.specs.Legal.{IsKeyOf, IsGiven, IsCaller, IsUser}
 use Rattle.cr_policy.specs.View.{View, view}
-use Rattle.cr_policy.specs.ViewFacts.{accounts_in_view, is_conflict_on_in_view, users_where, facts_in_view, shown_in_view}
+use Rattle.cr_policy.specs.ViewFacts.{accounts_in_view, is_conflict_on_in_view, users_where, facts_in_view}
+use Rattle.cr_policy.specs.ViewFacts.{shown_in_view}
 use Rattle.cr_policy.proofs.BidAgreement.{users-registered}
 use Rattle.cr_policy.proofs.DecisionTells.{accepted-seen}
 use Rattle.cr_policy.proofs.JudgeAgreement.{judge-tables}
 use Rattle.cr_policy.proofs.PageTells.{authors-seen, conflicts-seen}
 use Rattle.cr_policy.proofs.ReviewerTells.{invited-seen_by_chair, seat-seen_by_chair, labels-seen}
 use Rattle.cr_policy.proofs.ReviewTells.{own_forms-seen, written-seen}
-use Rattle.cr_policy.proofs.StandingLaws.{standing_from_view, deadline-seen, had_response-seen, accounts-seen, papers-seen, own_papers-seen, own_bytes-seen, own_bid-seen, seat-seen, own_comments-seen}
+use Rattle.cr_policy.proofs.StandingLaws.{standing_from_view, deadline-seen, had_response-seen, accounts-seen}
+use Rattle.cr_policy.proofs.StandingLaws.{papers-seen, own_papers-seen, own_bytes-seen, own_bid-seen, seat-seen}
+use Rattle.cr_policy.proofs.StandingLaws.{own_comments-seen}
 
 -- ---- what a history that keeps the invariants tells
 
 -- a paper's co-authors come before any conflict with it, where each entry is in order
-comes-first : (before H : History) → InTurn IsInOrder before H → InTurn (λ (before : History) (e : Stamped). ComesFirst before e.entry) before H
+comes-first : (before H : History) → InTurn IsInOrder before H
+    → InTurn (λ (before : History) (e : Stamped). ComesFirst before e.entry) before H
 comes-first before [] kept = tt
 comes-first before (e ∷ after) kept = (kept.0.first, comes-first (before ++ e ∷ []) after kept.1)
 
@@ -72,14 +78,15 @@ facts-seen u H = λ i. record {
   had_response = had_response-seen u H i;
 }
 
--- and to a clear chair, from the bidding on, who is in conflict with a paper, who reviews it, how many labels were given, and under which
--- there is a form
+-- and to a clear chair, from the bidding on, who is in conflict with a paper, who reviews it, how many labels were
+-- given, and under which there is a form
 module _ (user : ℕ) (H : History) where
   abbrev V : View
   V = view (Some user) H
 
   -- of the users who have registered, those of whom something holds
-  users_where-seen : (v : ℕ) (test : ℕ → Bool) → IsRegistered H v → list_any (is_number (Some v)) (users_where test V) ≡ test v
+  users_where-seen : (v : ℕ) (test : ℕ → Bool) → IsRegistered H v
+      → list_any (is_number (Some v)) (users_where test V) ≡ test v
   users_where-seen v test registered =
       let users : List ℕ = map (λ (a : AccountLine). a.user) (accounts_in_view V) in
       any-filter_same (eqb v) test (test v) (λ k is. ap test (sym (eqb-true v k is))) users
@@ -88,8 +95,10 @@ module _ (user : ℕ) (H : History) where
     where
       there : list_any (eqb v) (map (λ (a : AccountLine). a.user) (accounts_in_view V)) ≡ true
       there =
-          ap (λ (lines : List AccountLine). list_any (eqb v) (map (λ (a : AccountLine). a.user) lines)) (accounts-seen (Some user) H)
-          ∙ ap (λ (test : ℕ → Bool). list_any test (map (λ (a : AccountLine). a.user) (accounts_of H))) (λ i n. turned v n i)
+          ap (λ (lines : List AccountLine). list_any (eqb v) (map (λ (a : AccountLine). a.user) lines))
+          (accounts-seen (Some user) H)
+          ∙ ap (λ (test : ℕ → Bool). list_any test (map (λ (a : AccountLine). a.user) (accounts_of H)))
+          (λ i n. turned v n i)
           ∙ users-registered H v
           ∙ registered
 
@@ -100,14 +109,18 @@ module _ (user : ℕ) (H : History) where
   seats-told : TellsSeats H user (shown_in_view (Some user) V)
   seats-told = record {
     conflicted = λ p v registered told.
-        let declared : Bool = list_any (is_number (Some v)) (users_where (λ w. is_conflict_on_in_view (Some w) p V) V) in
+        let declared : Bool =
+        list_any (is_number (Some v)) (users_where (λ w. is_conflict_on_in_view (Some w) p V) V) in
         ap (λ (authors : List ℕ). list_any (is_number (Some v)) authors || declared)
-        (authors-seen (Some user) p H (shown (is_author (Some user) p H) (is_told_all H user p) _ (is_accepted p H) told))
+        (authors-seen (Some user) p H (shown (is_author (Some user) p H) (is_told_all H user p) _ (is_accepted p H)
+        told))
         ∙ ap (λ b. is_author (Some v) p H || b)
-        (users_where-seen v (λ w. is_conflict_on_in_view (Some w) p V) registered ∙ conflicts-seen (Some user) p H told (Some v));
+        (users_where-seen v (λ w. is_conflict_on_in_view (Some w) p V) registered
+        ∙ conflicts-seen (Some user) p H told (Some v));
     ordinal = λ p v told. seat-seen_by_chair (Some user) (Some v) p H told;
     labels = λ p told. labels-seen (Some user) p H told;
-    written = λ p o told. written-seen (Some user) p o H (and_parts (is_clear_chair (standing_of (Some user) (Some p) H)) _ told).0;
+    written = λ p o told. written-seen (Some user) p o H
+        (and_parts (is_clear_chair (standing_of (Some user) (Some p) H)) _ told).0;
     invited = λ p v told. invited-seen_by_chair (Some user) (Some v) p H told;
   }
     where
@@ -115,7 +128,8 @@ module _ (user : ℕ) (H : History) where
       shown author chair member accepted h = grind arith
 
 -- a registered user's command
-user-adds : (H : History) (stamp : Stamp) (command : Command) (drawn : Drawn) → IsBoundedCommand command → IsBoundedStamp stamp → IsRegistered H stamp.maker
+user-adds : (H : History) (stamp : Stamp) (command : Command) (drawn : Drawn) → IsBoundedCommand command
+    → IsBoundedStamp stamp → IsRegistered H stamp.maker
     → judge (view (Some stamp.maker) H) (call_by stamp command) ≡ Ok drawn → Adds H drawn.group
 user-adds H stamp command drawn bounded bounds registered accepted =
     let user : ℕ = stamp.maker in
@@ -124,7 +138,8 @@ user-adds H stamp command drawn bounded bounds registered accepted =
     (sym (ap (λ (facts : Facts). judge_by facts shown stamp command) (facts-seen (Some user) H)) ∙ accepted)
 
 -- a tag is turned on, and off, by a registered user
-tags-user : (H : History) (caller paper : Option ℕ) (tag : List ℕ) (on : Bool) → IsCaller H caller (Tag paper tag on) → IsUser H caller
+tags-user : (H : History) (caller paper : Option ℕ) (tag : List ℕ) (on : Bool) → IsCaller H caller (Tag paper tag on)
+    → IsUser H caller
 tags-user H caller paper tag true is = is
 tags-user H caller paper tag false is = is
 
@@ -140,7 +155,8 @@ key-given user None is = tt
 key-given user (Some key) is = is
 
 -- the group of an accepted command is one that the rules allow
-pub accepted-adds : (H : History) (call : Call) (drawn : Drawn) → IsGiven H call → judge (view call.caller H) call ≡ Ok drawn → Adds H drawn.group
+pub accepted-adds : (H : History) (call : Call) (drawn : Drawn) → IsGiven H call
+    → judge (view call.caller H) call ≡ Ok drawn → Adds H drawn.group
 accepted-adds H call drawn given = by call.caller call.command given.bounded given.caller
   where
     bounds : (maker : ℕ) → IsBoundedStamp (stamp_by maker call.at call.key)
@@ -149,24 +165,33 @@ accepted-adds H call drawn given = by call.caller call.command given.bounded giv
     by : (caller : Option ℕ) (command : Command) → IsBoundedCommand command → IsCaller H caller command
         → judge (view caller H) (call_of caller call.at call.key command) ≡ Ok drawn → Adds H drawn.group
     by caller (Register name digest) bounded is accepted =
-        registration-adds H (stamp_of (call_of caller call.at call.key (Register name digest))) (facts_in_view caller (view caller H))
+        registration-adds H (stamp_of (call_of caller call.at call.key (Register name digest)))
+        (facts_in_view caller (view caller H))
         (shown_in_view caller (view caller H)) name digest drawn (bounds (maker_of caller)) bounded accepted
     by None (Tag paper tag on) bounded is accepted = absurd (tags-user H None paper tag on is)
     by None command bounded is accepted = absurd is
     by (Some user) (Tag paper tag on) bounded is accepted =
-        user-adds H (stamp_by user call.at call.key) (Tag paper tag on) drawn bounded (bounds user) (tags-user H (Some user) paper tag on is) accepted
-    by (Some user) command bounded is accepted = user-adds H (stamp_by user call.at call.key) command drawn bounded (bounds user) is accepted
+        user-adds H (stamp_by user call.at call.key) (Tag paper tag on) drawn bounded (bounds user)
+        (tags-user H (Some user) paper tag on is) accepted
+    by (Some user) command bounded is accepted =
+        user-adds H (stamp_by user call.at call.key) command drawn bounded (bounds user) is accepted
 
 -- and the tables take it. Nobody's is a registration, which doesn't ask who gives it
 pub accepted-fits : (H : History) (call : Call) (drawn : Drawn) → Invariants H → AreTold H → AreFormsTold H
-    → IsCaller H call.caller call.command → judge (view call.caller H) call ≡ Ok drawn → FitInTurn (tables_of H) drawn.group
-accepted-fits H call drawn kept told forms is accepted = by call.caller call.command is (sym (judge-tables H call kept told forms) ∙ accepted)
+    → IsCaller H call.caller call.command → judge (view call.caller H) call ≡ Ok drawn
+    → FitInTurn (tables_of H) drawn.group
+accepted-fits H call drawn kept told forms is accepted =
+    by call.caller call.command is (sym (judge-tables H call kept told forms) ∙ accepted)
   where
     t : Tables
     t = tables_of H
 
-    by : (caller : Option ℕ) (command : Command) → IsCaller H caller command → judge_by_role t (call_of caller call.at call.key command) ≡ Ok drawn → FitInTurn t drawn.group
-    by (Some user) command is accepted = judged-fits t (sized-tables H kept.fits).ties (stamp_by user call.at call.key) command drawn accepted
-    by None (Register name digest) is accepted = judged-fits t (sized-tables H kept.fits).ties (stamp_by 0 call.at call.key) (Register name digest) drawn accepted
+    by : (caller : Option ℕ) (command : Command) → IsCaller H caller command
+        → judge_by_role t (call_of caller call.at call.key command) ≡ Ok drawn → FitInTurn t drawn.group
+    by (Some user) command is accepted =
+        judged-fits t (sized-tables H kept.fits).ties (stamp_by user call.at call.key) command drawn accepted
+    by None (Register name digest) is accepted =
+        judged-fits t (sized-tables H kept.fits).ties (stamp_by 0 call.at call.key) (Register name digest) drawn
+        accepted
     by None (Tag paper tag on) is accepted = absurd (tags-user H None paper tag on is)
     by None command is accepted = absurd is

@@ -12,8 +12,9 @@ use Rattle.cr_base.specs.HistoryFacts.{phase_of, mode_of, is_author}
 use Rattle.cr_policy.specs.Sighting.{Sighting}
 use Rattle.cr_policy.specs.View.{view}
 use Rattle.cr_policy.specs.ViewFacts.{is_user, is_kind}
-use Rattle.cr_policy.specs.ShownTo.{is_past_reviewing, is_past_discussion, hides_reviewers, names_reviewers, is_eligible, oversees, administers, discusses, is_answered}
-use Rattle.cr_policy.specs.ShownTo.{is_party, is_told, reviewer_for}
+use Rattle.cr_policy.specs.ShownTo.{is_past_reviewing, is_past_discussion, hides_reviewers, names_reviewers}
+use Rattle.cr_policy.specs.ShownTo.{is_eligible, oversees, administers, discusses, is_answered, is_party, is_told}
+use Rattle.cr_policy.specs.ShownTo.{reviewer_for}
 use Rattle.cr_policy.specs.ViewBounds.{is_of_other, BidsAreOwn, ReviewersFromAuthors, ReviewersEarly, ReviewersUnnamed}
 use Rattle.cr_policy.proofs.BoundsWords.{phase-words, mode-words}
 use Rattle.cr_policy.proofs.BoundsWalk.{shown_to, each-view}
@@ -29,15 +30,17 @@ own-bids u p H apart =
     own o over h told = grind (arith, h, told)
 
     each : (before later : History) (stamp : Stamp) (e : Entry) → is_told u H before later stamp.maker e ≡ true
-        → (is_kind kinds.Bid (shown_to u H before later stamp e) && is_number (shown_to u H before later stamp e).paper p) ≡ true → is_number u stamp.maker ≡ true
+        → (is_kind kinds.Bid (shown_to u H before later stamp e) && is_number (shown_to u H before later stamp e).paper
+        p) ≡ true → is_number u stamp.maker ≡ true
     each before later stamp (Bid paper value) told on_it =
-        own (is_number u stamp.maker) (oversees u paper H) (ap (λ n. oversees u n H) (eqb-true paper p on_it) ∙ apart) told
+        own (is_number u stamp.maker) (oversees u paper H) (ap (λ n. oversees u n H) (eqb-true paper p on_it) ∙ apart)
+        told
     each before later stamp e told on_it = absurd (false≢true on_it)
 
 -- ---- who reviews
 
--- an assignment on the paper: `n` is that it names the reader, `o` that it is her own, `l` that she administers the paper, `d` that she
--- discusses it, `v` that reviewers aren't hidden, `r` that she is named the paper's reviewers
+-- an assignment on the paper: `n` is that it names the reader, `o` that it is her own, `l` that she administers the
+-- paper, `d` that she discusses it, `v` that reviewers aren't hidden, `r` that she is named the paper's reviewers
 none-other : (n o l d v r : Bool) → l ≡ false → d ≡ false → r ≡ false → ((n || o || l) || d || r) ≡ true
     → not (o || (((n || o || l) || (d && v) || r) && n)) ≡ false
 none-other n o l d v r hl hd hr told = grind (arith, hl, hd, hr, told)
@@ -53,29 +56,38 @@ module _ (u : Option ℕ) (p : ℕ) (H : History) where
 
   -- the reader may know whom an assignment names
   abbrev is_known : ℕ → ℕ → ℕ → Bool
-  is_known maker paper user = is_party u H maker paper user || (discusses u paper H && not (hides_reviewers (mode_of H))) || is_answered u paper H
+  is_known maker paper user =
+      is_party u H maker paper user || (discusses u paper H && not (hides_reviewers (mode_of H)))
+      || is_answered u paper H
 
-  other-known : (maker paper user : ℕ) → is_other maker paper user ≡ not (is_number u maker || (is_known maker paper user && is_number u user))
+  other-known : (maker paper user : ℕ) → is_other maker paper user
+      ≡ not (is_number u maker || (is_known maker paper user && is_number u user))
   other-known maker paper user = ap (λ b. not (is_number u maker || b)) (user-known u _ user)
 
   -- who neither administers the paper nor discusses it nor is named its reviewers sees none of another
-  unseen : administers u p H ≡ false → discusses u p H ≡ false → is_answered u p H ≡ false → All (λ (s : Sighting). is_of_other u p s ≡ false) (view u H)
+  unseen : administers u p H ≡ false → discusses u p H ≡ false → is_answered u p H ≡ false
+      → All (λ (s : Sighting). is_of_other u p s ≡ false) (view u H)
   unseen apart silent unanswered =
       each-view u H (λ (s : Sighting). is_of_other u p s ≡ false) each
     where
-      one : (maker paper user : ℕ) → (is_party u H maker paper user || discusses u paper H || is_answered u paper H) ≡ true
+      one : (maker paper user : ℕ) → (is_party u H maker paper user || discusses u paper H || is_answered u paper H)
+          ≡ true
           → (same : Bool) → (same ≡ true → paper ≡ p) → (same && is_other maker paper user) ≡ false
       one maker paper user told false on_it = refl
       one maker paper user told true on_it =
           other-known maker paper user
-          ∙ none-other (is_number u user) (is_number u maker) (administers u paper H) (discusses u paper H) (not (hides_reviewers (mode_of H)))
-          (is_answered u paper H) (ap (λ n. administers u n H) (on_it refl) ∙ apart) (ap (λ n. discusses u n H) (on_it refl) ∙ silent)
+          ∙ none-other (is_number u user) (is_number u maker) (administers u paper H) (discusses u paper H)
+          (not (hides_reviewers (mode_of H)))
+          (is_answered u paper H) (ap (λ n. administers u n H) (on_it refl) ∙ apart)
+          (ap (λ n. discusses u n H) (on_it refl) ∙ silent)
           (ap (λ n. is_answered u n H) (on_it refl) ∙ unanswered) told
 
       each : (before later : History) (stamp : Stamp) (e : Entry) → is_told u H before later stamp.maker e ≡ true
           → is_of_other u p (shown_to u H before later stamp e) ≡ false
-      each before later stamp (Assigned paper user review_kind ordinal) told = one stamp.maker paper user told (eqb paper p) (eqb-true paper p)
-      each before later stamp (Unassigned paper user ordinal) told = one stamp.maker paper user told (eqb paper p) (eqb-true paper p)
+      each before later stamp (Assigned paper user review_kind ordinal) told =
+          one stamp.maker paper user told (eqb paper p) (eqb-true paper p)
+      each before later stamp (Unassigned paper user ordinal) told =
+          one stamp.maker paper user told (eqb paper p) (eqb-true paper p)
       each before later stamp e told = refl
 
   -- an author is in conflict, so she neither administers nor discusses her paper
@@ -97,13 +109,16 @@ module _ (u : Option ℕ) (p : ℕ) (H : History) where
   unnamed apart hides unanswered =
       each-view u H (λ (s : Sighting). is_of_other u p s ≡ true → s.user ≡ None) each
     where
-      one : (maker paper user : ℕ) → (eqb paper p && is_other maker paper user) ≡ true → reviewer_for u H maker paper user ≡ None
+      one : (maker paper user : ℕ) → (eqb paper p && is_other maker paper user) ≡ true
+          → reviewer_for u H maker paper user ≡ None
       one maker paper user other =
           let parts = and_parts (eqb paper p) (is_other maker paper user) other in
           let same : paper ≡ p = eqb-true paper p parts.0 in
           known-not _ user
-          (none-named (is_number u user) (is_number u maker) (administers u paper H) (discusses u paper H) (not (hides_reviewers (mode_of H))) (is_answered u paper H)
-          (ap (λ n. administers u n H) same ∙ apart) (ap not hides) (ap (λ n. is_answered u n H) same ∙ unanswered) (sym (other-known maker paper user) ∙ parts.1))
+          (none-named (is_number u user) (is_number u maker) (administers u paper H) (discusses u paper H)
+          (not (hides_reviewers (mode_of H))) (is_answered u paper H)
+          (ap (λ n. administers u n H) same ∙ apart) (ap not hides) (ap (λ n. is_answered u n H) same ∙ unanswered)
+          (sym (other-known maker paper user) ∙ parts.1))
 
       each : (before later : History) (stamp : Stamp) (e : Entry) → is_told u H before later stamp.maker e ≡ true
           → is_of_other u p (shown_to u H before later stamp e) ≡ true → (shown_to u H before later stamp e).user ≡ None

@@ -18,7 +18,8 @@ use Rattle.cr_policy.specs.ShownTo.{is_in_programme, is_told, where_known, paper
 use Rattle.cr_policy.specs.ViewBounds.{ExternalsShown, IsVisitors, visit}
 use Rattle.cr_policy.proofs.BoundsWalk.{shown_to, each-view}
 use Rattle.cr_policy.proofs.BoundsLeft.{known-alone, maker_known}
-use Rattle.cr_policy.proofs.BoundsPublic.{IsUnwritten, IsUntold, unhandled, untold-one, decided-one, unserving, unnamed-one}
+use Rattle.cr_policy.proofs.BoundsPublic.{IsUnwritten, IsUntold, unhandled, untold-one, decided-one, unserving}
+use Rattle.cr_policy.proofs.BoundsPublic.{unnamed-one}
 
 -- whoever reads a paper as an external isn't on the committee and didn't write it. `c` is that she is on it, `i` that
 -- she is invited to the paper, `a` and `k` that she wrote it or is declared in conflict with it

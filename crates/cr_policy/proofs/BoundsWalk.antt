@@ -1,5 +1,6 @@
 -- A view is what the bounds give of the entries, one after another.
-use Rattle.std.proofs.Common.{◌≡◌, ℕ, Bool, true, false, [], ◌∷◌, ◌++◌, eqb, refl, sym, ap, ◌∙◌, ◌||◌, append_assoc, List, Option}
+use Rattle.std.proofs.Common.{◌≡◌, ℕ, Bool, true, false, [], ◌∷◌, ◌++◌, eqb, refl, sym, ap, ◌∙◌, ◌||◌, append_assoc}
+use Rattle.std.proofs.Common.{List, Option}
 use Rattle.std.specs.Prelude.{map, All}
 use Rattle.std.specs.List.{list_any, AllByRecursion}
 use Rattle.std.proofs.lemmas.Bool.{eq-eqb}
@@ -18,16 +19,22 @@ use Rattle.cr_base.specs.HistoryFacts.{authors_of, is_author}
 use Rattle.cr_policy.specs.Sighting.{Sighting}
 use Rattle.cr_policy.specs.Triggers.{reader, Around}
 use Rattle.cr_policy.specs.View.{sight, sights, view, is_seen, joined}
-use Rattle.cr_policy.specs.ShownTo.{PartFor, is_told, each_told, kind_for, mark_for, moment_for, key_for, paper_for, user_for, name_for, digest_for, role_for, phase_for, until_for, mode_for}
-use Rattle.cr_policy.specs.ShownTo.{maker_for, title_for, abstract_for, version_for, content_for, switch_for, value_for, review_kind_for, ordinal_for}
-use Rattle.cr_policy.specs.ShownTo.{score_for, confidence_for, to_authors_for, to_pc_for, done_for, n_for, text_for, tag_for, decision_for, outcome_for, accepted_for}
-use Rattle.cr_policy.specs.ViewBounds.{EntriesShown, MarksShown, MomentsShown, KeysShown, PapersShown, UsersShown, NamesShown, DigestsShown, RolesShown, PhasesShown, DeadlinesShown, ModesShown}
-use Rattle.cr_policy.specs.ViewBounds.{MakersShown, TitlesShown, AbstractsShown, VersionsShown, ContentsShown, SwitchesShown, ValuesShown}
-use Rattle.cr_policy.specs.ViewBounds.{SeatsShown, OrdinalsShown, ScoresShown, ConfidencesShown, TextsToAuthorsShown, TextsToPcShown, DoneShown}
-use Rattle.cr_policy.specs.ViewBounds.{NumbersShown, CommentsShown, TagsShown, DecisionsShown, OutcomesShown, AcceptedShown}
-use Rattle.cr_policy.proofs.BoundsParts.{IsWriters, IsWithin, seen-told, shown-one, mark-one, moment-one, key-one, user-one, digest-one, maker-one, title-one, abstract-one, version-one}
-use Rattle.cr_policy.proofs.BoundsParts.{content-one, switch-one, value-one, seat-one, ordinal-one, score-one, confidence-one, to_authors-one}
-use Rattle.cr_policy.proofs.BoundsParts.{to_pc-one, done-one, n-one, comment-one, tag-one, decision-one, outcome-one, accepted-one}
+use Rattle.cr_policy.specs.ShownTo.{PartFor, is_told, each_told, kind_for, mark_for, moment_for, key_for, paper_for}
+use Rattle.cr_policy.specs.ShownTo.{user_for, name_for, digest_for, role_for, phase_for, until_for, mode_for, maker_for}
+use Rattle.cr_policy.specs.ShownTo.{title_for, abstract_for, version_for, content_for, switch_for, value_for}
+use Rattle.cr_policy.specs.ShownTo.{review_kind_for, ordinal_for, score_for, confidence_for, to_authors_for, to_pc_for}
+use Rattle.cr_policy.specs.ShownTo.{done_for, n_for, text_for, tag_for, decision_for, outcome_for, accepted_for}
+use Rattle.cr_policy.specs.ViewBounds.{EntriesShown, MarksShown, MomentsShown, KeysShown, PapersShown, UsersShown}
+use Rattle.cr_policy.specs.ViewBounds.{NamesShown, DigestsShown, RolesShown, PhasesShown, DeadlinesShown, ModesShown}
+use Rattle.cr_policy.specs.ViewBounds.{MakersShown, TitlesShown, AbstractsShown, VersionsShown, ContentsShown}
+use Rattle.cr_policy.specs.ViewBounds.{SwitchesShown, ValuesShown, SeatsShown, OrdinalsShown, ScoresShown}
+use Rattle.cr_policy.specs.ViewBounds.{ConfidencesShown, TextsToAuthorsShown, TextsToPcShown, DoneShown, NumbersShown}
+use Rattle.cr_policy.specs.ViewBounds.{CommentsShown, TagsShown, DecisionsShown, OutcomesShown, AcceptedShown}
+use Rattle.cr_policy.proofs.BoundsParts.{IsWriters, IsWithin, seen-told, shown-one, mark-one, moment-one, key-one}
+use Rattle.cr_policy.proofs.BoundsParts.{user-one, digest-one, maker-one, title-one, abstract-one, version-one}
+use Rattle.cr_policy.proofs.BoundsParts.{content-one, switch-one, value-one, seat-one, ordinal-one, score-one}
+use Rattle.cr_policy.proofs.BoundsParts.{confidence-one, to_authors-one, to_pc-one, done-one, n-one, comment-one}
+use Rattle.cr_policy.proofs.BoundsParts.{tag-one, decision-one, outcome-one, accepted-one}
 
 -- ---- one entry
 
@@ -76,7 +83,8 @@ module _ (u : Option ℕ) (H : History) where
       by true h = ap (λ (x : A). x ∷ []) (h refl)
       by false h = refl
 
-  joined-one : (at : Around) (stamp : Stamp) (more : Bool) (e : Entry) → IsWriters u H stamp.maker e → is_told u H at.before at.after stamp.maker e ≡ true
+  joined-one : (at : Around) (stamp : Stamp) (more : Bool) (e : Entry) → IsWriters u H stamp.maker e
+      → is_told u H at.before at.after stamp.maker e ≡ true
       → IsWithin H at e → joined (reader u H) at (stamped stamp more e) ≡ shown_to u H at.before at.after stamp e
   joined-one at stamp more e writes told within = λ i. record {
     kind = (shown-one u H at stamp more e).kind i;
@@ -113,7 +121,8 @@ module _ (u : Option ℕ) (H : History) where
     until = (shown-one u H at stamp more e).until i;
   }
 
-  sight-one : (at : Around) (stamp : Stamp) (more : Bool) (e : Entry) → IsWriters u H stamp.maker e → IsWithin H at e → sight (reader u H) at (stamped stamp more e)
+  sight-one : (at : Around) (stamp : Stamp) (more : Bool) (e : Entry) → IsWriters u H stamp.maker e → IsWithin H at e
+      → sight (reader u H) at (stamped stamp more e)
       ≡ given (is_told u H at.before at.after stamp.maker e) (shown_to u H at.before at.after stamp e)
   sight-one at stamp more e writes within =
       given-same (is_seen (reader u H) at (stamped stamp more e)) (is_told u H at.before at.after stamp.maker e)
@@ -123,14 +132,19 @@ module _ (u : Option ℕ) (H : History) where
   -- ---- the entries of a history
 
   -- each of them makes a paper of which its stamp.maker is an author
-  writes-one : (before : History) (stamp : Stamp) (more : Bool) (e : Entry) (after : History) → before ++ (stamped stamp more e ∷ after) ≡ H → IsWriters u H stamp.maker e
+  writes-one : (before : History) (stamp : Stamp) (more : Bool) (e : Entry) (after : History)
+      → before ++ (stamped stamp more e ∷ after) ≡ H → IsWriters u H stamp.maker e
   writes-one before stamp more (Submitted paper title abstract) after whole = λ own.
       ap (is_author u paper) (sym whole)
       ∙ ap (list_any (is_number u))
-      (flat_map-append (λ (e : Stamped). author_told paper e.stamp.maker e.entry) before (stamped stamp more (Submitted paper title abstract) ∷ after))
-      ∙ list_any-append (is_number u) (authors_of paper before) (given (eqb paper paper) stamp.maker ++ authors_of paper after)
-      ∙ ap (λ b. list_any (is_number u) (authors_of paper before) || list_any (is_number u) (given b stamp.maker ++ authors_of paper after)) (eq-eqb paper paper refl)
-      ∙ ap (λ b. list_any (is_number u) (authors_of paper before) || (b || list_any (is_number u) (authors_of paper after))) own
+      (flat_map-append (λ (e : Stamped). author_told paper e.stamp.maker e.entry) before
+      (stamped stamp more (Submitted paper title abstract) ∷ after))
+      ∙ list_any-append (is_number u) (authors_of paper before)
+      (given (eqb paper paper) stamp.maker ++ authors_of paper after)
+      ∙ ap (λ b. list_any (is_number u) (authors_of paper before) || list_any (is_number u)
+      (given b stamp.maker ++ authors_of paper after)) (eq-eqb paper paper refl)
+      ∙ ap (λ b. list_any (is_number u) (authors_of paper before)
+      || (b || list_any (is_number u) (authors_of paper after))) own
       ∙ or-true (list_any (is_number u) (authors_of paper before))
     where
       or-true : (b : Bool) → (b || true) ≡ true
@@ -139,10 +153,12 @@ module _ (u : Option ℕ) (H : History) where
   writes-one before stamp more e after whole = tt
 
   -- and all of the history but the entry stands around it
-  pub within-one : (before : History) (stamp : Stamp) (more : Bool) (e : Entry) (after : History) → before ++ (stamped stamp more e ∷ after) ≡ H
+  pub within-one : (before : History) (stamp : Stamp) (more : Bool) (e : Entry) (after : History)
+      → before ++ (stamped stamp more e ∷ after) ≡ H
       → IsWithin H (record { before = before; after = after }) e
   within-one before stamp more (Reviewed paper ordinal version form) after whole =
-      ap (list_any opens_response) (sym whole) ∙ list_any-append opens_response before (stamped stamp more (Reviewed paper ordinal version form) ∷ after)
+      ap (list_any opens_response) (sym whole)
+      ∙ list_any-append opens_response before (stamped stamp more (Reviewed paper ordinal version form) ∷ after)
   within-one before stamp more e after whole = tt
 
   abbrev pub Writes : Stamped → Type 0
@@ -150,19 +166,24 @@ module _ (u : Option ℕ) (H : History) where
 
   writes-all : (before after : History) → before ++ after ≡ H → AllByRecursion Writes after
   writes-all before [] whole = tt
-  writes-all before (e ∷ after) whole =
-      (writes-one before e.stamp e.more e.entry after whole, writes-all (before ++ e ∷ []) after (append_assoc before (e ∷ []) after ∙ whole))
+  writes-all before (e ∷ after) whole = (
+    writes-one before e.stamp e.more e.entry after whole,
+    writes-all (before ++ e ∷ []) after (append_assoc before (e ∷ []) after ∙ whole),
+  )
 
   pub writers-all : AllByRecursion Writes H
   writers-all = writes-all [] H refl
 
-  pub sights-told : (before after : History) → before ++ after ≡ H → sights (reader u H) before after ≡ each_told u H (shown_to u H) before after
+  pub sights-told : (before after : History) → before ++ after ≡ H
+      → sights (reader u H) before after ≡ each_told u H (shown_to u H) before after
   sights-told before [] whole = refl
   sights-told before (e ∷ after) whole =
       ap (λ xs. xs ++ sights (reader u H) (before ++ e ∷ []) after)
-      (sight-one (record { before = before; after = after }) e.stamp e.more e.entry (writes-one before e.stamp e.more e.entry after whole)
+      (sight-one (record { before = before; after = after }) e.stamp e.more e.entry
+      (writes-one before e.stamp e.more e.entry after whole)
       (within-one before e.stamp e.more e.entry after whole))
-      ∙ ap (λ ys. given (is_told u H before after e.stamp.maker e.entry) (shown_to u H before after e.stamp e.entry) ++ ys)
+      ∙ ap (λ ys. given (is_told u H before after e.stamp.maker e.entry) (shown_to u H before after e.stamp e.entry)
+      ++ ys)
       (sights-told (before ++ e ∷ []) after (append_assoc before (e ∷ []) after ∙ whole))
 
   pub view-told : view u H ≡ each_told u H (shown_to u H) [] H
@@ -184,7 +205,8 @@ module _ (u : Option ℕ) (H : History) where
       ∙ ap (λ xs. xs ++ map f rest) (map-given f (is_told u H before G e.stamp.maker e.entry) s)
       ∙ ap (λ ys. given (is_told u H before G e.stamp.maker e.entry) (f s) ++ ys) (map-told f (before ++ e ∷ []) G)
 
-  map-view : {A : Type 0} (f : Sighting → A) → map f (view u H) ≡ each_told u H (λ before later stamp e. f (shown_to u H before later stamp e)) [] H
+  map-view : {A : Type 0} (f : Sighting → A)
+      → map f (view u H) ≡ each_told u H (λ before later stamp e. f (shown_to u H before later stamp e)) [] H
   map-view f = ap (map f) view-told ∙ map-told f [] H
 
 -- ---- each sighting
@@ -192,17 +214,20 @@ module _ (u : Option ℕ) (H : History) where
 -- what is so of each entry that the user is told of, as she is shown it, is so of each sighting
 module _
     (u : Option ℕ) (H : History) (P : Sighting → Type 0) (Q : Stamped → Type 0)
-    (each : (before later : History) (stamp : Stamp) (more : Bool) (e : Entry) → Q (stamped stamp more e) → is_told u H before later stamp.maker e ≡ true
+    (each : (before later : History) (stamp : Stamp) (more : Bool) (e : Entry) → Q (stamped stamp more e)
+    → is_told u H before later stamp.maker e ≡ true
     → P (shown_to u H before later stamp e))
   where
     all-told : (before G : History) → AllByRecursion Q G → All P (each_told u H (shown_to u H) before G)
     all-told before [] h = All-nil P
     all-told before (e ∷ G) h =
-        All-append P (given (is_told u H before G e.stamp.maker e.entry) (shown_to u H before G e.stamp e.entry)) (each_told u H (shown_to u H) (before ++ e ∷ []) G)
+        All-append P (given (is_told u H before G e.stamp.maker e.entry) (shown_to u H before G e.stamp e.entry))
+        (each_told u H (shown_to u H) (before ++ e ∷ []) G)
         (by (is_told u H before G e.stamp.maker e.entry) (each before G e.stamp e.more e.entry h.0))
         (all-told (before ++ e ∷ []) G h.1)
       where
-        by : (told : Bool) → (told ≡ true → P (shown_to u H before G e.stamp e.entry)) → All P (given told (shown_to u H before G e.stamp e.entry))
+        by : (told : Bool) → (told ≡ true → P (shown_to u H before G e.stamp e.entry))
+            → All P (given told (shown_to u H before G e.stamp e.entry))
         by true one = All-cons P (shown_to u H before G e.stamp e.entry) [] (one refl) (All-nil P)
         by false one = All-nil P
 
@@ -212,17 +237,20 @@ module _
 -- the same, by where the entry stands in the history
 module _
     (u : Option ℕ) (H : History) (P : Sighting → Type 0)
-    (each : (before later : History) (stamp : Stamp) (more : Bool) (e : Entry) → before ++ (stamped stamp more e ∷ later) ≡ H
+    (each : (before later : History) (stamp : Stamp) (more : Bool) (e : Entry)
+    → before ++ (stamped stamp more e ∷ later) ≡ H
     → is_told u H before later stamp.maker e ≡ true → P (shown_to u H before later stamp e))
   where
     all-placed : (before G : History) → before ++ G ≡ H → All P (each_told u H (shown_to u H) before G)
     all-placed before [] whole = All-nil P
     all-placed before (e ∷ G) whole =
-        All-append P (given (is_told u H before G e.stamp.maker e.entry) (shown_to u H before G e.stamp e.entry)) (each_told u H (shown_to u H) (before ++ e ∷ []) G)
+        All-append P (given (is_told u H before G e.stamp.maker e.entry) (shown_to u H before G e.stamp e.entry))
+        (each_told u H (shown_to u H) (before ++ e ∷ []) G)
         (by (is_told u H before G e.stamp.maker e.entry) (each before G e.stamp e.more e.entry whole))
         (all-placed (before ++ e ∷ []) G (append_assoc before (e ∷ []) G ∙ whole))
       where
-        by : (told : Bool) → (told ≡ true → P (shown_to u H before G e.stamp e.entry)) → All P (given told (shown_to u H before G e.stamp e.entry))
+        by : (told : Bool) → (told ≡ true → P (shown_to u H before G e.stamp e.entry))
+            → All P (given told (shown_to u H before G e.stamp e.entry))
         by true one = All-cons P (shown_to u H before G e.stamp e.entry) [] (one refl) (All-nil P)
         by false one = All-nil P
 
@@ -232,11 +260,13 @@ module _
 -- the same, whatever is so of the entries
 module _
     (u : Option ℕ) (H : History) (P : Sighting → Type 0)
-    (each : (before later : History) (stamp : Stamp) (e : Entry) → is_told u H before later stamp.maker e ≡ true → P (shown_to u H before later stamp e))
+    (each : (before later : History) (stamp : Stamp) (e : Entry) → is_told u H before later stamp.maker e ≡ true
+    → P (shown_to u H before later stamp e))
   where
     pub each-view : All P (view u H)
     each-view =
-        all-view u H P (λ (e : Stamped). IsWriters u H e.stamp.maker e.entry) (λ before later stamp more e writes told. each before later stamp e told)
+        all-view u H P (λ (e : Stamped). IsWriters u H e.stamp.maker e.entry)
+        (λ before later stamp more e writes told. each before later stamp e told)
         (writers-all u H)
 
 -- ---- the laws

@@ -1,5 +1,6 @@
 -- The words of the table and those of the bounds tell the same: one lemma a word.
-use Rattle.std.proofs.Common.{◌≡◌, ℕ, Bool, true, false, List, [], ◌∷◌, ◌++◌, eqb, refl, ap, ◌∙◌, arith, ◌||◌, ◌&&◌, Option, Some, None}
+use Rattle.std.proofs.Common.{◌≡◌, ℕ, Bool, true, false, List, [], ◌∷◌, ◌++◌, eqb, refl, ap, ◌∙◌, arith, ◌||◌, ◌&&◌}
+use Rattle.std.proofs.Common.{Option, Some, None}
 use Rattle.std.specs.Prelude.{not}
 use Rattle.std.specs.List.{list_any}
 use Rattle.std.proofs.lemmas.Bool.{true≢false, false≢true, and_right}
@@ -10,24 +11,25 @@ use Rattle.cr_base.specs.declared.entry.Stamped.{Stamped}
 use Rattle.cr_base.specs.declared.words.Decision.{Decision}
 use Rattle.cr_base.specs.declared.words.Decision.TheVariants.{Accept, Reject}
 use Rattle.cr_base.specs.declared.words.Phase.{Phase}
-use Rattle.cr_base.specs.declared.words.Phase.TheVariants.{Setup, Submission, Bidding, Reviewing, Response, Discussion, Notification, Closed}
+use Rattle.cr_base.specs.declared.words.Phase.TheVariants.{Setup, Submission, Bidding, Reviewing, Response, Discussion}
+use Rattle.cr_base.specs.declared.words.Phase.TheVariants.{Notification, Closed}
 use Rattle.cr_base.specs.declared.words.Mode.{Mode}
 use Rattle.cr_base.specs.declared.words.Mode.TheVariants.{Overt, Blind, Anonymous}
 use Rattle.cr_base.specs.declared.words.Role.{Role}
 use Rattle.cr_base.specs.declared.words.Role.TheVariants.{Account, Member, Chair}
 use Rattle.cr_base.specs.Lists.{given, is_nothing, until}
-use Rattle.cr_base.specs.History.{History, all_told, opens, opens_discussion, opens_response, title_told, upload_told, form_told, decision_told, whole_form}
+use Rattle.cr_base.specs.History.{History, all_told, opens, opens_discussion, opens_response, title_told, upload_told}
+use Rattle.cr_base.specs.History.{form_told, decision_told, whole_form}
 use Rattle.cr_base.specs.Phases.{is_from, is_phase}
 use Rattle.cr_base.specs.TagTexts.{is_for_all, is_for_chairs}
 use Rattle.cr_base.specs.Words.{is_anonymous, is_overt, is_member, is_chair, is_accept}
 use Rattle.cr_policy.specs.Triggers.{none_in}
-use Rattle.cr_policy.specs.ShownTo.{is_on_committee, chairs_committee, is_past_submission, is_response_or_later, is_past_reviewing, is_past_discussion, is_over}
-use Rattle.cr_policy.specs.ShownTo.{takes, decides, is_decided_again}
-use Rattle.cr_policy.specs.ShownTo.{hides_authors, hides_reviewers, names_reviewers}
-use Rattle.cr_policy.specs.ShownTo.{is_response, begins_response, is_responded_to}
-use Rattle.cr_policy.specs.ShownTo.{is_discussion, begins_discussion, gives_form, is_reviewed, is_discussed}
-use Rattle.cr_policy.specs.ShownTo.{is_committees, is_chairs}
-use Rattle.cr_policy.specs.ShownTo.{gives_texts, is_replaced, gives_content, is_superseded}
+use Rattle.cr_policy.specs.ShownTo.{is_on_committee, chairs_committee, is_past_submission, is_response_or_later}
+use Rattle.cr_policy.specs.ShownTo.{is_past_reviewing, is_past_discussion, is_over, takes, decides, is_decided_again}
+use Rattle.cr_policy.specs.ShownTo.{hides_authors, hides_reviewers, names_reviewers, is_response, begins_response}
+use Rattle.cr_policy.specs.ShownTo.{is_responded_to, is_discussion, begins_discussion, gives_form, is_reviewed}
+use Rattle.cr_policy.specs.ShownTo.{is_discussed, is_committees, is_chairs, gives_texts, is_replaced, gives_content}
+use Rattle.cr_policy.specs.ShownTo.{is_superseded}
 
 pub member-committee : (role : Role) → is_member role ≡ is_on_committee role
 member-committee Account = refl
@@ -45,8 +47,8 @@ chair-committee Account = refl
 chair-committee Member = refl
 chair-committee Chair = refl
 
--- phases: what the bidding, the response, the discussion, the notification and the end begin, and that the discussion comes behind the
--- bidding, and the notification behind the discussion
+-- phases: what the bidding, the response, the discussion, the notification and the end begin, and that the discussion
+-- comes behind the bidding, and the notification behind the discussion
 pub record PhaseWords (phase : Phase) : Type 0 where
   pub bidding : is_from Bidding phase ≡ is_past_submission phase
   pub response : is_from Response phase ≡ is_response_or_later phase
@@ -57,14 +59,81 @@ pub record PhaseWords (phase : Phase) : Type 0 where
   pub notification_later : (is_past_reviewing phase && is_past_discussion phase) ≡ is_past_discussion phase
 
 pub phase-words : (phase : Phase) → PhaseWords phase
-phase-words Setup = record { bidding = refl; response = refl; discussion = refl; notification = refl; closed = refl; discussion_later = refl; notification_later = refl }
-phase-words Submission = record { bidding = refl; response = refl; discussion = refl; notification = refl; closed = refl; discussion_later = refl; notification_later = refl }
-phase-words Bidding = record { bidding = refl; response = refl; discussion = refl; notification = refl; closed = refl; discussion_later = refl; notification_later = refl }
-phase-words Reviewing = record { bidding = refl; response = refl; discussion = refl; notification = refl; closed = refl; discussion_later = refl; notification_later = refl }
-phase-words Response = record { bidding = refl; response = refl; discussion = refl; notification = refl; closed = refl; discussion_later = refl; notification_later = refl }
-phase-words Discussion = record { bidding = refl; response = refl; discussion = refl; notification = refl; closed = refl; discussion_later = refl; notification_later = refl }
-phase-words Notification = record { bidding = refl; response = refl; discussion = refl; notification = refl; closed = refl; discussion_later = refl; notification_later = refl }
-phase-words Closed = record { bidding = refl; response = refl; discussion = refl; notification = refl; closed = refl; discussion_later = refl; notification_later = refl }
+phase-words Setup = record {
+  bidding = refl;
+  response = refl;
+  discussion = refl;
+  notification = refl;
+  closed = refl;
+  discussion_later = refl;
+  notification_later = refl;
+}
+phase-words Submission =
+    record {
+      bidding = refl;
+      response = refl;
+      discussion = refl;
+      notification = refl;
+      closed = refl;
+      discussion_later = refl;
+      notification_later = refl;
+    }
+phase-words Bidding = record {
+  bidding = refl;
+  response = refl;
+  discussion = refl;
+  notification = refl;
+  closed = refl;
+  discussion_later = refl;
+  notification_later = refl;
+}
+phase-words Reviewing = record {
+  bidding = refl;
+  response = refl;
+  discussion = refl;
+  notification = refl;
+  closed = refl;
+  discussion_later = refl;
+  notification_later = refl;
+}
+phase-words Response = record {
+  bidding = refl;
+  response = refl;
+  discussion = refl;
+  notification = refl;
+  closed = refl;
+  discussion_later = refl;
+  notification_later = refl;
+}
+phase-words Discussion =
+    record {
+      bidding = refl;
+      response = refl;
+      discussion = refl;
+      notification = refl;
+      closed = refl;
+      discussion_later = refl;
+      notification_later = refl;
+    }
+phase-words Notification =
+    record {
+      bidding = refl;
+      response = refl;
+      discussion = refl;
+      notification = refl;
+      closed = refl;
+      discussion_later = refl;
+      notification_later = refl;
+    }
+phase-words Closed = record {
+  bidding = refl;
+  response = refl;
+  discussion = refl;
+  notification = refl;
+  closed = refl;
+  discussion_later = refl;
+  notification_later = refl;
+}
 
 -- decisions: what is taken
 pub accept-takes : (decision : Option Decision) → is_accept decision ≡ takes decision
@@ -95,18 +164,21 @@ for-chairs (a ∷ []) = and_right (eqb a 126) false refl
 for-chairs (a ∷ b ∷ tag) = refl
 
 -- entries that tell nothing of a series are those of which none gives a paper anything of it
-append-nothing : {A : Type 0} (xs ys : List A) (gives later : Bool) → is_nothing xs ≡ not gives → is_nothing ys ≡ not later → is_nothing (xs ++ ys)
+append-nothing : {A : Type 0} (xs ys : List A) (gives later : Bool) → is_nothing xs ≡ not gives
+    → is_nothing ys ≡ not later → is_nothing (xs ++ ys)
     ≡ not (gives || later)
 append-nothing [] ys true later h rest = absurd (true≢false h)
 append-nothing [] ys false later h rest = rest
 append-nothing (x ∷ xs) ys true later h rest = refl
 append-nothing (x ∷ xs) ys false later h rest = absurd (false≢true h)
 
-none-told : {A : Type 0} (told : Entry → List A) (gives : Entry → Bool) → ((e : Entry) → is_nothing (told e) ≡ not (gives e)) → (H : History)
+none-told : {A : Type 0} (told : Entry → List A) (gives : Entry → Bool)
+    → ((e : Entry) → is_nothing (told e) ≡ not (gives e)) → (H : History)
     → none_in told H ≡ not (list_any (λ (e : Stamped). gives e.entry) H)
 none-told told gives one [] = refl
 none-told told gives one (e ∷ H) =
-    append-nothing (told e.entry) (all_told told H) (gives e.entry) (list_any (λ (e : Stamped). gives e.entry) H) (one e.entry) (none-told told gives one H)
+    append-nothing (told e.entry) (all_told told H) (gives e.entry) (list_any (λ (e : Stamped). gives e.entry) H)
+    (one e.entry) (none-told told gives one H)
 
 given-nothing : {A : Type 0} (b : Bool) (x : A) → is_nothing (given b x) ≡ not b
 given-nothing true x = refl
@@ -163,17 +235,19 @@ discussion-tests : opens_discussion ≡ begins
 discussion-tests = λ i e. opens-begins e.entry i
 
 pub discussed-same : (p o : ℕ) (before later : History)
-    → ((not (list_any opens_discussion before) && none_in (form_told p o) (until opens_discussion later)) || list_any opens_discussion before)
+    → ((not (list_any opens_discussion before) && none_in (form_told p o) (until opens_discussion later))
+    || list_any opens_discussion before)
     ≡ is_discussed p o before later
 discussed-same p o before later =
-    ap (λ (test : Stamped → Bool). (not (list_any test before) && none_in (form_told p o) (until test later)) || list_any test before) discussion-tests
+    ap (λ (test : Stamped → Bool). (not (list_any test before) && none_in (form_told p o) (until test later))
+    || list_any test before) discussion-tests
     ∙ by (list_any begins before) _ _ (none_in-reviewed p o (until begins later))
   where
     by : (begun none reviewed : Bool) → none ≡ not reviewed → ((not begun && none) || begun) ≡ (begun || not reviewed)
     by begun none reviewed h = grind (arith, h)
 
--- what opens the response begins it, and so of a form it is said alike that authors respond to it, where the response is opened in the
--- whole history exactly where it is before the form or behind it
+-- what opens the response begins it, and so of a form it is said alike that authors respond to it, where the response
+-- is opened in the whole history exactly where it is before the form or behind it
 phase-response : (phase : Phase) → is_phase phase Response ≡ is_response phase
 phase-response Setup = refl
 phase-response Submission = refl
@@ -194,11 +268,15 @@ heard_from e = begins_response e.entry
 pub response-tests : opens_response ≡ (λ (e : Stamped). begins_response e.entry)
 response-tests = λ i e. response-begins e.entry i
 
-pub responded-same : (p o : ℕ) (before later : History) (had : Bool) → had ≡ (list_any opens_response before || list_any opens_response later)
-    → ((not (list_any opens_response before) && none_in (form_told p o) (until opens_response later)) && had) ≡ is_responded_to p o before later
+pub responded-same : (p o : ℕ) (before later : History) (had : Bool)
+    → had ≡ (list_any opens_response before || list_any opens_response later)
+    → ((not (list_any opens_response before) && none_in (form_told p o) (until opens_response later)) && had)
+    ≡ is_responded_to p o before later
 responded-same p o before later had whole =
-    ap (λ (test : Stamped → Bool). (not (list_any test before) && none_in (form_told p o) (until test later)) && had) response-tests
-    ∙ by (list_any heard_from before) (list_any heard_from later) _ _ had (none_in-reviewed p o (until heard_from later))
+    ap (λ (test : Stamped → Bool). (not (list_any test before) && none_in (form_told p o) (until test later)) && had)
+    response-tests
+    ∙ by (list_any heard_from before) (list_any heard_from later) _ _ had
+    (none_in-reviewed p o (until heard_from later))
     (whole ∙ ap (λ (test : Stamped → Bool). list_any test before || list_any test later) response-tests)
   where
     by : (begun begins none reviewed had : Bool) → none ≡ not reviewed → had ≡ (begun || begins)

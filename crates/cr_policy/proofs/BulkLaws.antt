@@ -1,5 +1,7 @@
--- Bulks: a row's judgement by the view behind the rows before it is that by the tables, and what all of them add keeps the invariants.
-use Rattle.std.proofs.Common.{ℕ, Bool, true, false, cond, ◌≡◌, ◌+◌, List, [], ◌∷◌, ◌++◌, length, eqb, refl, sym, ap, subst, ◌∙◌, append_assoc, append-nil, Option, Some, None, Result, Ok, Err}
+-- Bulks: a row's judgement by the view behind the rows before it is that by the tables, and what all of them add
+-- keeps the invariants.
+use Rattle.std.proofs.Common.{ℕ, Bool, true, false, cond, ◌≡◌, ◌+◌, List, [], ◌∷◌, ◌++◌, length, eqb, refl, sym, ap}
+use Rattle.std.proofs.Common.{subst, ◌∙◌, append_assoc, append-nil, Option, Some, None, Result, Ok, Err}
 use Rattle.std.specs.Prelude.{is_none, unwrap_or}
 use Rattle.std.proofs.lemmas.Bool.{true≢false}
 use Rattle.cr_base.specs.declared.bulk.Broken.{Broken}
@@ -12,21 +14,25 @@ use Rattle.cr_base.specs.declared.entry.Stamp.{Stamp}
 use Rattle.cr_base.specs.declared.reply.Rule.{Rule}
 use Rattle.cr_base.specs.declared.reply.Rule.TheVariants as rules
 use Rattle.cr_base.specs.Bounds.{IsBoundedCommand}
-use Rattle.cr_base.specs.Bulk.{IsRowCommand, Action, action_of, assigns, unassigns, turns_conflict, turns_tag, command_told_by, row_command, turns_own_conflict}
-use Rattle.cr_base.specs.Bulk.{row_told_judged, row_judged, entries_of, and_rows, and_behind, rows_judged, bulk_checks, bulk_drawn, bulk_of_rows, bulk_behind}
-use Rattle.cr_base.specs.Bulk.{tables_basis, bulk_by_role}
+use Rattle.cr_base.specs.Bulk.{IsRowCommand, Action, action_of, assigns, unassigns, turns_conflict, turns_tag}
+use Rattle.cr_base.specs.Bulk.{command_told_by, row_command, turns_own_conflict, row_told_judged, row_judged}
+use Rattle.cr_base.specs.Bulk.{entries_of, and_rows, and_behind, rows_judged, bulk_checks, bulk_drawn, bulk_of_rows}
+use Rattle.cr_base.specs.Bulk.{bulk_behind, tables_basis, bulk_by_role}
 use Rattle.cr_base.specs.Calls.{BulkCall, call_by}
 use Rattle.cr_base.specs.Checks.{judged, conflict_checks, assign_checks, unassign_checks, tag_checks}
-use Rattle.cr_base.specs.Drawn.{stamped, Drawn, grouped, conflict_drawn, assignment_drawn, unassignment_drawn, tag_drawn}
+use Rattle.cr_base.specs.Drawn.{stamped, Drawn, grouped, conflict_drawn, assignment_drawn, unassignment_drawn}
+use Rattle.cr_base.specs.Drawn.{tag_drawn}
 use Rattle.cr_base.specs.History.{History}
 use Rattle.cr_base.specs.Judging.{judge_by}
 use Rattle.cr_base.specs.Lists.{at_some, is_number}
 use Rattle.cr_base.specs.Parse.{parse_paper}
-use Rattle.cr_base.specs.Sources.{Facts, Shown, user_among, paper_named, target_named, is_late, facts_of_tables, shown_in_tables}
+use Rattle.cr_base.specs.Sources.{Facts, Shown, user_among, paper_named, target_named, is_late, facts_of_tables}
+use Rattle.cr_base.specs.Sources.{shown_in_tables}
 use Rattle.cr_base.specs.Tables.{Tables, tables_of, tables_from, Fits, FitInTurn}
 use Rattle.cr_base.specs.TagTexts.{is_tag, is_for_chairs}
 use Rattle.cr_base.proofs.CheckLaws.{judged-Ok}
-use Rattle.cr_history.specs.Groups.{IsRuled, IsBoundedStamp, StandsAlone, Adds, single, submitted, first_user, Grows, adds, goes_on}
+use Rattle.cr_history.specs.Groups.{IsRuled, IsBoundedStamp, StandsAlone, Adds, single, submitted, first_user, Grows}
+use Rattle.cr_history.specs.Groups.{adds, goes_on}
 use Rattle.cr_history.specs.Invariants.{IsRegistered, IsMadeByUser, Invariants}
 use Rattle.cr_history.specs.Laws.{AreTold, AreFormsTold}
 use Rattle.cr_history.proofs.FormAgreement.{forms_tell}
@@ -48,10 +54,12 @@ pub record IsTold (command : Command) : Type 0 where
   pub of_row : IsRowCommand command
   pub bounded : IsBoundedCommand command
 
-told_as : (given command : Command) → IsTold given → ◌≡◌ {A = Result Command Rule} (Ok given) (Ok command) → IsTold command
+told_as : (given command : Command) → IsTold given → ◌≡◌ {A = Result Command Rule} (Ok given) (Ok command)
+    → IsTold command
 told_as given command told is = let e : given ≡ command = cc in subst IsTold e told
 
-command-told : (action : Option Action) (row : BulkRow) (command : Command) → command_told_by action row ≡ Ok command → IsTold command
+command-told : (action : Option Action) (row : BulkRow) (command : Command) → command_told_by action row ≡ Ok command
+    → IsTold command
 command-told None row command is = cc
 command-told (Some (assigns kind)) row command is = told_as _ command (record { of_row = tt; bounded = tt }) is
 command-told (Some unassigns) row command is = told_as _ command (record { of_row = tt; bounded = tt }) is
@@ -61,7 +69,8 @@ command-told (Some (turns_tag on)) row command is = by (is_tag row.tag) refl is
     tagged : Command
     tagged = Tag (parse_paper row.paper) row.tag on
 
-    by : (b : Bool) → is_tag row.tag ≡ b → ◌≡◌ {A = Result Command Rule} (cond b (Ok tagged) (Err rules.BadTag)) (Ok command) → IsTold command
+    by : (b : Bool) → is_tag row.tag ≡ b → ◌≡◌ {A = Result Command Rule} (cond b (Ok tagged) (Err rules.BadTag))
+        (Ok command) → IsTold command
     by true is_one is = told_as tagged command (record { of_row = tt; bounded = is_one }) is
     by false none is = cc
 
@@ -70,7 +79,8 @@ unfolding row_command
 row-told row command is = command-told (action_of row.action) row command is
 
 -- who has registered may give it
-row-caller : (H : History) (user : ℕ) (command : Command) → IsRowCommand command → IsRegistered H user → IsCaller H (Some user) command
+row-caller : (H : History) (user : ℕ) (command : Command) → IsRowCommand command → IsRegistered H user
+    → IsCaller H (Some user) command
 row-caller H user (SetConflict paper name true) told registered = registered
 row-caller H user (SetConflict paper name false) told registered = registered
 row-caller H user (Assign paper name kind) told registered = registered
@@ -87,29 +97,37 @@ pub record RowDraws (stamp : Stamp) (drawn : Drawn) : Type 0 where
   pub of_row : LeavesStanding stamp.maker entry
 
 module _ (facts : Facts) (shown : Shown) (stamp : Stamp) where
-  drawn-alone : (e : Entry) (draws drawn : Drawn) → draws.group ≡ grouped stamp (e ∷ []) → LeavesStanding stamp.maker e → draws ≡ drawn → RowDraws stamp drawn
-  drawn-alone e draws drawn group of_row is = record { entry = e; group = ap (λ (d : Drawn). d.group) (sym is) ∙ group; of_row = of_row }
+  drawn-alone : (e : Entry) (draws drawn : Drawn) → draws.group ≡ grouped stamp (e ∷ []) → LeavesStanding stamp.maker e
+      → draws ≡ drawn → RowDraws stamp drawn
+  drawn-alone e draws drawn group of_row is =
+      record { entry = e; group = ap (λ (d : Drawn). d.group) (sym is) ∙ group; of_row = of_row }
 
   -- a stamp.maker is named, and she isn't the caller
-  other-named : (paper target : Option ℕ) → is_none (target_named facts shown (Some stamp.maker) paper target) ≡ false → is_number target stamp.maker ≡ false
+  other-named : (paper target : Option ℕ) → is_none (target_named facts shown (Some stamp.maker) paper target) ≡ false
+      → is_number target stamp.maker ≡ false
       → eqb (unwrap_or target 0) stamp.maker ≡ false
   other-named paper None there other = absurd (true≢false there)
   other-named paper (Some v) there other = other
 
-  pub row-draws : (command : Command) (drawn : Drawn) → IsRowCommand command → turns_own_conflict facts stamp.maker command ≡ false
+  pub row-draws : (command : Command) (drawn : Drawn) → IsRowCommand command
+      → turns_own_conflict facts stamp.maker command ≡ false
       → judge_by facts shown stamp command ≡ Ok drawn → RowDraws stamp drawn
   row-draws (SetConflict paper name on) drawn told other accepted =
       let target : Option ℕ = user_among facts.accounts name in
       let draws : Drawn = conflict_drawn stamp (unwrap_or paper 0) (unwrap_or target 0) on in
       let k = judged-Ok
-      (conflict_checks (facts.standing paper) (paper_named facts shown paper) (target_named facts shown (Some stamp.maker) paper target) on (is_late facts stamp.at))
+      (conflict_checks (facts.standing paper) (paper_named facts shown paper)
+      (target_named facts shown (Some stamp.maker) paper target) on (is_late facts stamp.at))
       draws drawn accepted in
-      drawn-alone (entries.Conflict (unwrap_or paper 0) (unwrap_or target 0) on) draws drawn refl (other-named paper target k.0.1.0 other) k.1
+      drawn-alone (entries.Conflict (unwrap_or paper 0) (unwrap_or target 0) on) draws drawn refl
+      (other-named paper target k.0.1.0 other) k.1
   row-draws (Assign paper name kind) drawn told other accepted =
       let target : Option ℕ = user_among facts.accounts name in
       let labels : ℕ = shown.labels (unwrap_or paper 0) in
       let draws : Drawn = assignment_drawn stamp (unwrap_or paper 0) (unwrap_or target 0) kind (labels + 1) in
-      let k = judged-Ok (assign_checks (facts.standing paper) (paper_named facts shown paper) (target_named facts shown (Some stamp.maker) paper target) labels)
+      let k =
+      judged-Ok (assign_checks (facts.standing paper) (paper_named facts shown paper)
+      (target_named facts shown (Some stamp.maker) paper target) labels)
       draws drawn accepted in
       drawn-alone (entries.Assigned (unwrap_or paper 0) (unwrap_or target 0) kind (labels + 1)) draws drawn refl tt k.1
   row-draws (Unassign paper name) drawn told other accepted =
@@ -117,12 +135,15 @@ module _ (facts : Facts) (shown : Shown) (stamp : Stamp) where
       let p : ℕ = unwrap_or paper 0 in
       let seat : Option ℕ = shown.ordinal target p in
       let draws : Drawn = unassignment_drawn stamp p (unwrap_or target 0) (unwrap_or seat 0) in
-      let k = judged-Ok (unassign_checks (facts.standing paper) (paper_named facts shown paper) (target_named facts shown (Some stamp.maker) paper target)
+      let k =
+      judged-Ok (unassign_checks (facts.standing paper) (paper_named facts shown paper)
+      (target_named facts shown (Some stamp.maker) paper target)
       (at_some (shown.written p) seat)) draws drawn accepted in
       drawn-alone (entries.Unassigned p (unwrap_or target 0) (unwrap_or seat 0)) draws drawn refl tt k.1
   row-draws (Tag paper tag on) drawn told other accepted =
       let draws : Drawn = tag_drawn stamp (unwrap_or paper 0) tag on in
-      let k = judged-Ok (tag_checks (facts.standing paper) (paper_named facts shown paper) (is_for_chairs tag)) draws drawn accepted in
+      let k = judged-Ok (tag_checks (facts.standing paper) (paper_named facts shown paper) (is_for_chairs tag)) draws
+      drawn accepted in
       drawn-alone (entries.Tagged (unwrap_or paper 0) tag on) draws drawn refl tt k.1
   row-draws command drawn told other accepted = absurd told
 
@@ -151,7 +172,8 @@ row-alone user (entries.Tagged paper tag on) row = tt
 row-alone user e row = absurd row
 
 -- the tables take it with either mark
-fits-marked : (t : Tables) (stamp : Stamp) (more : Bool) (e : Entry) → Fits t (stamped stamp false e) → Fits t (stamped stamp more e)
+fits-marked : (t : Tables) (stamp : Stamp) (more : Bool) (e : Entry) → Fits t (stamped stamp false e)
+    → Fits t (stamped stamp more e)
 fits-marked t stamp more e fit = record {
   accounts = fit.accounts;
   papers = fit.papers;
@@ -193,7 +215,8 @@ module _ (stamp : Stamp) where
     pub other : turns_own_conflict (facts_in_view (Some user) (view (Some user) H)) user command ≡ false
     pub accepted : judge (view (Some user) H) (call_by stamp command) ≡ Ok drawn
 
-  pub row-calls : (H : History) (row : BulkRow) (drawn : Drawn) → IsReady H → row_seen H row ≡ Ok drawn → RowCalls H row drawn
+  pub row-calls : (H : History) (row : BulkRow) (drawn : Drawn) → IsReady H → row_seen H row ≡ Ok drawn
+      → RowCalls H row drawn
   row-calls H row drawn ready accepted = by (row_command row) refl accepted
     where
       facts : Facts
@@ -202,12 +225,14 @@ module _ (stamp : Stamp) where
       shown : Shown
       shown = shown_in_view (Some user) (view (Some user) H)
 
-      by : (told : Result Command Rule) → row_command row ≡ told → row_told_judged facts shown stamp told ≡ Ok drawn → RowCalls H row drawn
+      by : (told : Result Command Rule) → row_command row ≡ told → row_told_judged facts shown stamp told ≡ Ok drawn
+          → RowCalls H row drawn
       by (Err rule) is accepted = cc
       by (Ok command) is accepted = own (turns_own_conflict facts user command) refl accepted
         where
           own : (b : Bool) → turns_own_conflict facts user command ≡ b
-              → ◌≡◌ {A = Result Drawn Rule} (cond b (Err rules.BulkSelf) (judge_by facts shown stamp command)) (Ok drawn) → RowCalls H row drawn
+              → ◌≡◌ {A = Result Drawn Rule} (cond b (Err rules.BulkSelf) (judge_by facts shown stamp command))
+              (Ok drawn) → RowCalls H row drawn
           own true herself accepted = cc
           own false other accepted =
               let told : IsTold command = row-told row command is in
@@ -221,9 +246,15 @@ module _ (stamp : Stamp) where
               }
 
   -- so it may be given
-  pub row-given : (H : History) (row : BulkRow) (drawn : Drawn) → IsReady H → (calls : RowCalls H row drawn) → IsGiven H (call_by stamp calls.command)
+  pub row-given : (H : History) (row : BulkRow) (drawn : Drawn) → IsReady H → (calls : RowCalls H row drawn)
+      → IsGiven H (call_by stamp calls.command)
   row-given H row drawn ready calls =
-      record { caller = calls.caller; bounded = calls.told.bounded; moment = ready.bounds.moment; key = key-given user stamp.key ready.bounds.key }
+      record {
+        caller = calls.caller;
+        bounded = calls.told.bounded;
+        moment = ready.bounds.moment;
+        key = key-given user stamp.key ready.bounds.key;
+      }
 
   -- and adds one entry, which the history may have behind it with either mark
   pub record RowAdds (H : History) (drawn : Drawn) : Type 0 where
@@ -237,12 +268,15 @@ module _ (stamp : Stamp) where
   row-adds H row drawn ready seen =
       let V : View = view (Some user) H in
       let calls : RowCalls H row drawn = row-calls H row drawn ready seen in
-      let draws : RowDraws stamp drawn = row-draws (facts_in_view (Some user) V) (shown_in_view (Some user) V) stamp calls.command drawn calls.told.of_row
+      let draws : RowDraws stamp drawn = row-draws (facts_in_view (Some user) V) (shown_in_view (Some user) V) stamp
+      calls.command drawn calls.told.of_row
       calls.other calls.accepted in
-      let added : Adds H drawn.group = accepted-adds H (call_by stamp calls.command) drawn (row-given H row drawn ready calls) calls.accepted in
+      let added : Adds H drawn.group =
+      accepted-adds H (call_by stamp calls.command) drawn (row-given H row drawn ready calls) calls.accepted in
       let ruled = subst (IsRuledFirst H) draws.group (added-ruled H drawn.group added) in
       let fits = subst (FitInTurn (tables_of H)) draws.group
-      (accepted-fits H (call_by stamp calls.command) drawn ready.kept (Kept-told H ready.kept) (forms_tell H ready.kept) calls.caller calls.accepted) in
+      (accepted-fits H (call_by stamp calls.command) drawn ready.kept (Kept-told H ready.kept) (forms_tell H ready.kept)
+      calls.caller calls.accepted) in
       record {
         entry = draws.entry;
         group = draws.group;
@@ -251,7 +285,8 @@ module _ (stamp : Stamp) where
         fit = fits.0;
       }
     where
-      grown : (e : Entry) → LeavesStanding user e → IsMadeByUser H user e → IsRuled H user e → (more : Bool) → Grows H (stamped stamp more e ∷ [])
+      grown : (e : Entry) → LeavesStanding user e → IsMadeByUser H user e → IsRuled H user e → (more : Bool)
+          → Grows H (stamped stamp more e ∷ [])
       grown e row made ruled true = goes_on stamp e ready.bounds made (row-goes user e row) ruled
       grown e row made ruled false = adds _ (single stamp e ready.bounds made (row-alone user e row) ruled)
 
@@ -263,17 +298,20 @@ module _ (stamp : Stamp) where
 
     pub next-ready : IsReady next
     next-ready = record {
-      kept = growth_keeps.more H (stamped stamp more row.entry ∷ []) ready.kept (row.grows more) (fits-marked (tables_of H) stamp more row.entry row.fit, tt);
+      kept = growth_keeps.more H (stamped stamp more row.entry ∷ []) ready.kept (row.grows more)
+          (fits-marked (tables_of H) stamp more row.entry row.fit, tt);
       registered = registered-behind stamp more row.entry row.of_row H user ready.registered;
       bounds = ready.bounds;
     }
 
     pub next-seen : view (Some user) H ++ own_sightings drawn.group ≡ view (Some user) next
     next-seen =
-        ap (λ (g : History). view (Some user) H ++ own_sightings g) row.group ∙ sym (view-behind stamp more row.entry row.of_row H)
+        ap (λ (g : History). view (Some user) H ++ own_sightings g) row.group
+        ∙ sym (view-behind stamp more row.entry row.of_row H)
 
     next-tables : tables_of next ≡ tables_from (tables_of H) drawn.group
-    next-tables = tables_of-append H (stamped stamp more row.entry ∷ []) ∙ ap (tables_from (tables_of H)) (sym row.group)
+    next-tables =
+        tables_of-append H (stamped stamp more row.entry ∷ []) ∙ ap (tables_from (tables_of H)) (sym row.group)
 
   -- ---- the same by the view as by the tables
 
@@ -286,19 +324,24 @@ module _ (stamp : Stamp) where
       forms : AreFormsTold H
       forms = forms_tell H kept
 
-      by : (command : Result Command Rule) → row_told_judged (facts_in_view (Some user) (view (Some user) H)) (shown_in_view (Some user) (view (Some user) H)) stamp command
+      by : (command : Result Command Rule) → row_told_judged (facts_in_view (Some user) (view (Some user) H))
+          (shown_in_view (Some user) (view (Some user) H)) stamp command
           ≡ row_told_judged (facts_of_tables (tables_of H) (Some user)) (shown_in_tables (tables_of H)) stamp command
       by (Err rule) = refl
       by (Ok command) =
-          ap (λ (facts : Facts). cond (turns_own_conflict facts user command) (Err rules.BulkSelf) (judge (view (Some user) H) (call_by stamp command)))
+          ap (λ (facts : Facts). cond (turns_own_conflict facts user command) (Err rules.BulkSelf)
+          (judge (view (Some user) H) (call_by stamp command)))
           (facts_in_view-tables (Some user) H told forms)
-          ∙ ap (λ (r : Result Drawn Rule). cond (turns_own_conflict (facts_of_tables (tables_of H) (Some user)) user command) (Err rules.BulkSelf) r)
+          ∙ ap
+          (λ (r : Result Drawn Rule). cond (turns_own_conflict (facts_of_tables (tables_of H) (Some user)) user
+          command) (Err rules.BulkSelf) r)
           (judge-tables H (call_by stamp command) kept told forms)
 
   pub rows-same : (rows : List BulkRow) (n : ℕ) (H : History) → IsReady H → seen H n rows ≡ tabled H n rows
   rows-same [] n H ready = refl
   rows-same (row ∷ rows) n H ready =
-      by (row_seen H row) refl (rows-same rows (n + 1)) ∙ ap (λ (r : Result Drawn Rule). and_behind n r tables_go) (row-same H row ready.kept)
+      by (row_seen H row) refl (rows-same rows (n + 1))
+      ∙ ap (λ (r : Result Drawn Rule). and_behind n r tables_go) (row-same H row ready.kept)
     where
       view_goes : History → Result (List Entry) Broken
       view_goes group = rows_judged (view_basis user) stamp (view (Some user) H ++ own_sightings group) (n + 1) rows
@@ -306,7 +349,8 @@ module _ (stamp : Stamp) where
       tables_go : History → Result (List Entry) Broken
       tables_go group = rows_judged (tables_basis user) stamp (tables_from (tables_of H) group) (n + 1) rows
 
-      by : (r : Result Drawn Rule) → row_seen H row ≡ r → ((G : History) → IsReady G → seen G (n + 1) rows ≡ tabled G (n + 1) rows)
+      by : (r : Result Drawn Rule) → row_seen H row ≡ r
+          → ((G : History) → IsReady G → seen G (n + 1) rows ≡ tabled G (n + 1) rows)
           → and_behind n r view_goes ≡ and_behind n r tables_go
       by (Err rule) is rest = refl
       by (Ok drawn) is rest =
@@ -314,7 +358,8 @@ module _ (stamp : Stamp) where
           ap (and_rows (entries_of drawn.group))
           (ap (λ (V : View). rows_judged (view_basis user) stamp V (n + 1) rows) (next-seen H drawn ready first true)
           ∙ rest (next H drawn ready first true) (next-ready H drawn ready first true)
-          ∙ ap (λ (t : Tables). rows_judged (tables_basis user) stamp t (n + 1) rows) (next-tables H drawn ready first true))
+          ∙ ap (λ (t : Tables). rows_judged (tables_basis user) stamp t (n + 1) rows)
+          (next-tables H drawn ready first true))
 
   -- ---- what all of them add
 
@@ -327,7 +372,8 @@ module _ (stamp : Stamp) where
     pub rest : (mark : Bool) → seen (H ++ stamped stamp mark first.entry ∷ []) (n + 1) rows ≡ Ok more
     pub all : es ≡ first.entry ∷ more
 
-  pub rows-accepted : (H : History) (n : ℕ) (row : BulkRow) (rows : List BulkRow) (es : List Entry) → IsReady H → seen H n (row ∷ rows) ≡ Ok es
+  pub rows-accepted : (H : History) (n : ℕ) (row : BulkRow) (rows : List BulkRow) (es : List Entry) → IsReady H
+      → seen H n (row ∷ rows) ≡ Ok es
       → AreAccepted H n row rows es
   rows-accepted H n row rows es ready accepted = by (row_seen H row) refl accepted
     where
@@ -341,7 +387,8 @@ module _ (stamp : Stamp) where
           row_adds : RowAdds H drawn
           row_adds = row-adds H row drawn ready is
 
-          behind : (r : Result (List Entry) Broken) → view_goes drawn.group ≡ r → and_rows (entries_of drawn.group) r ≡ Ok es → AreAccepted H n row rows es
+          behind : (r : Result (List Entry) Broken) → view_goes drawn.group ≡ r
+              → and_rows (entries_of drawn.group) r ≡ Ok es → AreAccepted H n row rows es
           behind (Err refusal) goes accepted = cc
           behind (Ok more) goes accepted = record {
             drawn = drawn;
@@ -349,8 +396,10 @@ module _ (stamp : Stamp) where
             first = row_adds;
             more = more;
             rest = λ mark.
-                ap (λ (V : View). rows_judged (view_basis user) stamp V (n + 1) rows) (sym (next-seen H drawn ready row_adds mark)) ∙ goes;
-            all = same (entries_of drawn.group ++ more) accepted ∙ ap (λ (g : History). entries_of g ++ more) row_adds.group;
+                ap (λ (V : View). rows_judged (view_basis user) stamp V (n + 1) rows)
+                (sym (next-seen H drawn ready row_adds mark)) ∙ goes;
+            all = same (entries_of drawn.group ++ more) accepted
+                ∙ ap (λ (g : History). entries_of g ++ more) row_adds.group;
           }
             where
               same : (xs : List Entry) → ◌≡◌ {A = Result (List Entry) Broken} (Ok xs) (Ok es) → es ≡ xs
@@ -359,16 +408,20 @@ module _ (stamp : Stamp) where
   pub no_rows : (es : List Entry) → ◌≡◌ {A = Result (List Entry) Broken} (Ok []) (Ok es) → [] ≡ es
   no_rows es h = cc
 
-  pub rows-keep : (rows : List BulkRow) (n : ℕ) (H : History) (es : List Entry) → IsReady H → seen H n rows ≡ Ok es → Invariants (H ++ grouped stamp es)
+  pub rows-keep : (rows : List BulkRow) (n : ℕ) (H : History) (es : List Entry) → IsReady H → seen H n rows ≡ Ok es
+      → Invariants (H ++ grouped stamp es)
   rows-keep [] n H es ready accepted =
-      subst (λ (es : List Entry). Invariants (H ++ grouped stamp es)) (no_rows es accepted) (subst Invariants (sym (append-nil H)) ready.kept)
+      subst (λ (es : List Entry). Invariants (H ++ grouped stamp es)) (no_rows es accepted)
+      (subst Invariants (sym (append-nil H)) ready.kept)
   rows-keep (row ∷ rows) n H es ready accepted =
       let all = rows-accepted H n row rows es ready accepted in
       subst (λ (es : List Entry). Invariants (H ++ grouped stamp es)) (sym all.all)
       (by all.drawn all.first all.more (all.rest true) (rows-keep rows (n + 1)))
     where
-      by : (drawn : Drawn) (first : RowAdds H drawn) (more : List Entry) → seen (H ++ stamped stamp true first.entry ∷ []) (n + 1) rows ≡ Ok more
-          → ((G : History) (es : List Entry) → IsReady G → seen G (n + 1) rows ≡ Ok es → Invariants (G ++ grouped stamp es))
+      by : (drawn : Drawn) (first : RowAdds H drawn) (more : List Entry)
+          → seen (H ++ stamped stamp true first.entry ∷ []) (n + 1) rows ≡ Ok more
+          → ((G : History) (es : List Entry) → IsReady G → seen G (n + 1) rows ≡ Ok es
+          → Invariants (G ++ grouped stamp es))
           → Invariants (H ++ grouped stamp (first.entry ∷ more))
       by drawn first [] goes rest = (next-ready H drawn ready first false).kept
       by drawn first (e ∷ more) goes rest =
@@ -380,13 +433,16 @@ module _ (stamp : Stamp) where
   abbrev bulk : List BulkRow → BulkCall
   bulk rows = record { stamp = stamp; rows = rows }
 
-  pub bulk-same : (H : History) (rows : List BulkRow) → IsReady H → judge_bulk (view (Some user) H) (bulk rows) ≡ bulk_by_role (tables_of H) (bulk rows)
+  pub bulk-same : (H : History) (rows : List BulkRow) → IsReady H
+      → judge_bulk (view (Some user) H) (bulk rows) ≡ bulk_by_role (tables_of H) (bulk rows)
   bulk-same H rows ready =
       by (judged (bulk_checks ((facts_in_view (Some user) (view (Some user) H)).standing None)) tt)
-      ∙ ap (λ (facts : Facts). bulk_behind (tables_basis user) (tables_of H) (bulk rows) (judged (bulk_checks (facts.standing None)) tt))
+      ∙ ap (λ (facts : Facts). bulk_behind (tables_basis user) (tables_of H) (bulk rows)
+      (judged (bulk_checks (facts.standing None)) tt))
       (facts_in_view-tables (Some user) H (Kept-told H ready.kept) (forms_tell H ready.kept))
     where
-      by : (r : Result (Unit {0}) Rule) → bulk_behind (view_basis user) (view (Some user) H) (bulk rows) r ≡ bulk_behind (tables_basis user) (tables_of H) (bulk rows) r
+      by : (r : Result (Unit {0}) Rule) → bulk_behind (view_basis user) (view (Some user) H) (bulk rows) r
+          ≡ bulk_behind (tables_basis user) (tables_of H) (bulk rows) r
       by (Err rule) = refl
       by (Ok done) = ap (bulk_of_rows stamp (length rows)) (rows-same rows 1 H ready)
 
@@ -396,13 +452,17 @@ module _ (stamp : Stamp) where
     pub accepted : seen H 1 rows ≡ Ok entries
     pub drawn_is : bulk_drawn stamp (length rows) entries ≡ drawn
 
-  pub bulk-draws : (H : History) (rows : List BulkRow) (drawn : Drawn) → judge_bulk (view (Some user) H) (bulk rows) ≡ Ok drawn → BulkDraws H rows drawn
-  bulk-draws H rows drawn accepted = by (judged (bulk_checks ((facts_in_view (Some user) (view (Some user) H)).standing None)) tt) accepted
+  pub bulk-draws : (H : History) (rows : List BulkRow) (drawn : Drawn)
+      → judge_bulk (view (Some user) H) (bulk rows) ≡ Ok drawn → BulkDraws H rows drawn
+  bulk-draws H rows drawn accepted =
+      by (judged (bulk_checks ((facts_in_view (Some user) (view (Some user) H)).standing None)) tt) accepted
     where
-      all : (r : Result (List Entry) Broken) → seen H 1 rows ≡ r → bulk_of_rows stamp (length rows) r ≡ Ok drawn → BulkDraws H rows drawn
+      all : (r : Result (List Entry) Broken) → seen H 1 rows ≡ r → bulk_of_rows stamp (length rows) r ≡ Ok drawn
+          → BulkDraws H rows drawn
       all (Err refusal) is accepted = cc
       all (Ok es) is accepted = record { entries = es; accepted = is; drawn_is = cc }
 
-      by : (r : Result (Unit {0}) Rule) → bulk_behind (view_basis user) (view (Some user) H) (bulk rows) r ≡ Ok drawn → BulkDraws H rows drawn
+      by : (r : Result (Unit {0}) Rule) → bulk_behind (view_basis user) (view (Some user) H) (bulk rows) r ≡ Ok drawn
+          → BulkDraws H rows drawn
       by (Err rule) accepted = cc
       by (Ok done) accepted = all (seen H 1 rows) refl accepted

@@ -1,5 +1,6 @@
 -- The small conference is legal, whatever its chairs decide.
-use Rattle.std.proofs.Common.{ℕ, Bool, true, false, List, [], ◌∷◌, ◌++◌, map, refl, sym, ◌≡◌, length, ◌&&◌, Option, Some, None, if◌then◌else◌, arith}
+use Rattle.std.proofs.Common.{ℕ, Bool, true, false, List, [], ◌∷◌, ◌++◌, map, refl, sym, ◌≡◌, length, ◌&&◌, Option}
+use Rattle.std.proofs.Common.{Some, None, if◌then◌else◌, arith}
 use Rattle.std.specs.Prelude.{codes, nat_le, ◌≤◌, ◌==◌, IsTrue}
 use Rattle.std.specs.List.{list_all, list_any}
 use Rattle.std.specs.Str.{is_utf8}
@@ -7,16 +8,18 @@ use Rattle.std.proofs.lemmas.Bool.{and_parts, leb-true, true≢false}
 use Rattle.std.proofs.lemmas.Option.{none-some, same_Some}
 use Rattle.cr_base.specs.declared.command.Call.{Call}
 use Rattle.cr_base.specs.declared.command.Command.{Command}
-use Rattle.cr_base.specs.declared.command.Command.TheVariants.{SetPhase, Submit, Revise, Upload, Withdraw, Name, SetMode, SetConflict}
-use Rattle.cr_base.specs.declared.command.Command.TheVariants.{Bid, Assign, Unassign, Review, Comment, Tag, Decide, SetDeadline}
-use Rattle.cr_base.specs.declared.command.Command.TheVariants.{Dismiss, Invite, Uninvite, Respond}
+use Rattle.cr_base.specs.declared.command.Command.TheVariants.{SetPhase, Submit, Revise, Upload, Withdraw, Name}
+use Rattle.cr_base.specs.declared.command.Command.TheVariants.{SetMode, SetConflict, Bid, Assign, Unassign, Review}
+use Rattle.cr_base.specs.declared.command.Command.TheVariants.{Comment, Tag, Decide, SetDeadline, Dismiss, Invite}
+use Rattle.cr_base.specs.declared.command.Command.TheVariants.{Uninvite, Respond}
 use Rattle.cr_base.specs.declared.form.Form.{Form}
 use Rattle.cr_base.specs.declared.retry.RetryKey.{RetryKey}
 use Rattle.cr_base.specs.declared.words.Decision.{Decision}
 use Rattle.cr_base.specs.declared.words.Kind.TheVariants.{Primary, Secondary, Pc}
 use Rattle.cr_base.specs.declared.words.Mode.{Mode}
 use Rattle.cr_base.specs.declared.words.Mode.TheVariants.{Anonymous, Overt}
-use Rattle.cr_base.specs.declared.words.Phase.TheVariants.{Submission, Bidding, Reviewing, Response, Discussion, Notification, Closed}
+use Rattle.cr_base.specs.declared.words.Phase.TheVariants.{Submission, Bidding, Reviewing, Response, Discussion}
+use Rattle.cr_base.specs.declared.words.Phase.TheVariants.{Notification, Closed}
 use Rattle.cr_base.specs.declared.words.Role.TheVariants.{Member, Chair}
 use Rattle.cr_base.specs.Bounds.{IsGrade, IsForm, IsBoundedCommand}
 use Rattle.cr_base.specs.Calls.{call_of}
@@ -24,16 +27,19 @@ use Rattle.cr_base.specs.History.{History, Registration, all_told, registration_
 use Rattle.cr_base.specs.Keys.{kept_under}
 use Rattle.cr_base.specs.Lists.{is_nothing}
 use Rattle.cr_base.specs.Logins.{command_wants_login}
-use Rattle.cr_base.specs.Texts.{IsName, IsTitle, IsAbstract, IsReviewText, IsCommentText, is_name_byte, is_name, is_title_byte}
+use Rattle.cr_base.specs.Texts.{IsName, IsTitle, IsAbstract, IsReviewText, IsCommentText, is_name_byte, is_name}
+use Rattle.cr_base.specs.Texts.{is_title_byte}
 use Rattle.cr_base.specs.Moments.{IsMoment}
-use Rattle.cr_policy.specs.Conference.{alice, bob, carol, dave, fay, gus, hal, ivy, next_morning, Digests, AreDigests, Asides, AreAsides, other_than}
-use Rattle.cr_policy.specs.Conference.{proofs, we_prove, types, we_type, drafts, we_draft, fewer_proofs, we_prove_less, more_proofs, we_prove_more}
-use Rattle.cr_policy.specs.Conference.{first_version, second_version, only_version, hot, own_tag, chairs_tag}
-use Rattle.cr_policy.specs.Conference.{first_form, second_form, last_form, alices_form, ivys_form, agreed}
-use Rattle.cr_policy.specs.Conference.{registered, opened, submitted, before_bidding, having_tags, in_bidding, in_reviewing, having_comments}
-use Rattle.cr_policy.specs.Conference.{Verdicts, verdicts, in_discussion, at_notification, at_close}
+use Rattle.cr_policy.specs.Conference.{alice, bob, carol, dave, fay, gus, hal, ivy, next_morning, Digests, AreDigests}
+use Rattle.cr_policy.specs.Conference.{Asides, AreAsides, other_than, proofs, we_prove, types, we_type, drafts}
+use Rattle.cr_policy.specs.Conference.{we_draft, fewer_proofs, we_prove_less, more_proofs, we_prove_more, first_version}
+use Rattle.cr_policy.specs.Conference.{second_version, only_version, hot, own_tag, chairs_tag, first_form, second_form}
+use Rattle.cr_policy.specs.Conference.{last_form, alices_form, ivys_form, agreed, registered, opened, submitted}
+use Rattle.cr_policy.specs.Conference.{before_bidding, having_tags, in_bidding, in_reviewing, having_comments, Verdicts}
+use Rattle.cr_policy.specs.Conference.{verdicts, in_discussion, at_notification, at_close}
 use Rattle.cr_policy.specs.ConferenceLaws.{IsReviewed, IsDecided, IsResponded, ConferenceLegal}
-use Rattle.cr_policy.specs.ConferenceResponse.{you_are_right, late_form, in_response, behind_response, told_behind_response}
+use Rattle.cr_policy.specs.ConferenceResponse.{you_are_right, late_form, in_response, behind_response}
+use Rattle.cr_policy.specs.ConferenceResponse.{told_behind_response}
 use Rattle.cr_policy.specs.Legal.{CallsAs, IsKeyOf, IsNewKey, step, Move, calls, LeadsTo, Legal}
 use Rattle.cr_policy.specs.Witness.{morning, some_key}
 use Rattle.cr_policy.proofs.LegalLaws.{LeadsTo-append}
@@ -70,7 +76,8 @@ is_new H caller None = true
 is_new H None (Some key) = false
 is_new H (Some user) (Some key) = is_nothing (kept_under user key.number H)
 
-is_new-so : (H : History) (caller : Option ℕ) (key : Option RetryKey) → is_new H caller key ≡ true → IsNewKey H caller key
+is_new-so : (H : History) (caller : Option ℕ) (key : Option RetryKey) → is_new H caller key ≡ true
+    → IsNewKey H caller key
 is_new-so H caller None h = tt
 is_new-so H None (Some key) h = absurd (true≢false (sym h))
 is_new-so H (Some user) (Some key) h = nothing (kept_under user key.number H) h
@@ -87,20 +94,27 @@ abbrev pub reached : History → List Turn → Option History
 reached H [] = Some H
 reached H (turn ∷ turns) = if may_turn H turn.call then reached (step H turn.call) turns else None
 
-reached-leads : (from to : History) (turns : List Turn) → reached from turns ≡ Some to → LeadsTo from (calls_of turns) to
+reached-leads : (from to : History) (turns : List Turn) → reached from turns ≡ Some to
+    → LeadsTo from (calls_of turns) to
 reached-leads from to [] h = same_Some from to h
 reached-leads from to (turn ∷ turns) h =
     called (may_turn from turn.call) refl (λ i. reached-leads (step from turn.call) to turns i) h
   where
     called : (may : Bool) → may_turn from turn.call ≡ may
         → (reached (step from turn.call) turns ≡ Some to → LeadsTo (step from turn.call) (calls_of turns) to)
-        → (if may then reached (step from turn.call) turns else None) ≡ Some to → LeadsTo from (calls turn.call ∷ calls_of turns) to
+        → (if may then reached (step from turn.call) turns else None) ≡ Some to
+        → LeadsTo from (calls turn.call ∷ calls_of turns) to
     called false is rest h = absurd (none-some to h)
     called true is rest h =
         let login : Bool = command_wants_login turn.call.command in
         let may = and_parts (calls_as from login turn.call.caller) (is_new from turn.call.caller turn.call.key) is in (
           record {
-            given = record { caller = calls_as-so from login turn.call.caller may.0; bounded = turn.bounded; moment = turn.moment; key = turn.key };
+            given = record {
+              caller = calls_as-so from login turn.call.caller may.0;
+              bounded = turn.bounded;
+              moment = turn.moment;
+              key = turn.key;
+            };
             unused = is_new-so from turn.call.caller turn.call.key may.1;
           },
           rest h,
@@ -108,12 +122,16 @@ reached-leads from to (turn ∷ turns) h =
 
 -- a legal history goes on by turns
 pub goes_on : (from to : History) (turns : List Turn) → reached from turns ≡ Some to → Legal from → Legal to
-goes_on from to turns leads legal =
-    (legal.0 ++ calls_of turns, LeadsTo-append [] from to legal.0 (calls_of turns) legal.1 (reached-leads from to turns leads))
+goes_on from to turns leads legal = (
+  legal.0 ++ calls_of turns,
+  LeadsTo-append [] from to legal.0 (calls_of turns) legal.1
+      (reached-leads from to turns leads),
+)
 
 -- a user's command, at that moment, and at the one of all examples
 abbrev pub by_then : (user : ℕ) (at : ℕ) (command : Command) → IsBoundedCommand command → IsMoment at → Turn
-by_then user at command bounded moment = record { call = call_of (Some user) at None command; bounded = bounded; moment = moment; key = tt }
+by_then user at command bounded moment =
+    record { call = call_of (Some user) at None command; bounded = bounded; moment = moment; key = tt }
 
 abbrev pub by : (user : ℕ) (command : Command) → IsBoundedCommand command → Turn
 by user command bounded = by_then user morning command bounded (omega arith)
@@ -137,21 +155,29 @@ is_name-bounded name h =
 
 -- of texts whose bytes are below 128
 abbrev pub is_plain_title : List ℕ → Bool
-is_plain_title text = nat_le 1 (length text) && nat_le (length text) 200 && list_all is_title_byte text && list_all (λ b. nat_le b 127) text
+is_plain_title text = nat_le 1 (length text) && nat_le (length text) 200 && list_all is_title_byte text
+    && list_all (λ b. nat_le b 127) text
 
 abbrev pub is_plain : ℕ → List ℕ → Bool
 is_plain limit text = nat_le (length text) limit && list_all (λ b. nat_le b 127) text
 
 pub ascii-title : (text : List ℕ) → is_plain_title text ≡ true → IsTitle text
 ascii-title text h =
-    let p = and_parts (nat_le 1 (length text) && nat_le (length text) 200 && list_all is_title_byte text) (list_all (λ b. nat_le b 127) text) h in
+    let p = and_parts (nat_le 1 (length text) && nat_le (length text) 200 && list_all is_title_byte text)
+    (list_all (λ b. nat_le b 127) text) h in
     let q = and_parts (nat_le 1 (length text) && nat_le (length text) 200) (list_all is_title_byte text) p.0 in
     let sized = and_parts (nat_le 1 (length text)) (nat_le (length text) 200) q.0 in
-    record { some = leb-true 1 (length text) sized.0; few = leb-true (length text) 200 sized.1; bytes = q.1; utf8 = ascii-utf8 text p.1 }
+    record {
+      some = leb-true 1 (length text) sized.0;
+      few = leb-true (length text) 200 sized.1;
+      bytes = q.1;
+      utf8 = ascii-utf8 text p.1;
+    }
 
 pub few-ascii : (limit : ℕ) (text : List ℕ) → is_plain limit text ≡ true → (length text ≤ limit) × IsTrue (is_utf8 text)
 few-ascii limit text h =
-    let p = and_parts (nat_le (length text) limit) (list_all (λ b. nat_le b 127) text) h in (leb-true (length text) limit p.0, ascii-utf8 text p.1)
+    let p = and_parts (nat_le (length text) limit) (list_all (λ b. nat_le b 127) text)
+    h in (leb-true (length text) limit p.0, ascii-utf8 text p.1)
 
 pub ascii-abstract : (text : List ℕ) → is_plain 5000 text ≡ true → IsAbstract text
 ascii-abstract text h = let p = few-ascii 5000 text h in record { few = p.0; utf8 = p.1 }
@@ -163,10 +189,12 @@ pub agreed-bounded : IsCommentText agreed
 agreed-bounded = let p = few-ascii 10000 agreed refl in record { some = omega arith; few = p.0; utf8 = p.1 }
 
 you_are_right-bounded : IsCommentText you_are_right
-you_are_right-bounded = let p = few-ascii 10000 you_are_right refl in record { some = omega arith; few = p.0; utf8 = p.1 }
+you_are_right-bounded = let p =
+    few-ascii 10000 you_are_right refl in record { some = omega arith; few = p.0; utf8 = p.1 }
 
 -- of forms whose text to the committee is
-pub bounded-form : (form : Form) → (nat_le 1 form.score && nat_le form.score 5) ≡ true → (nat_le 1 form.confidence && nat_le form.confidence 5) ≡ true
+pub bounded-form : (form : Form) → (nat_le 1 form.score && nat_le form.score 5) ≡ true
+    → (nat_le 1 form.confidence && nat_le form.confidence 5) ≡ true
     → is_plain 20000 form.to_authors ≡ true → IsReviewText form.to_pc → IsForm form
 bounded-form form score confidence to_authors to_pc = record {
   score = grade form.score score;
@@ -182,7 +210,13 @@ bounded-form form score confidence to_authors to_pc = record {
 
 -- anybody may register
 abbrev pub joins : (name digest : List ℕ) → is_name name ≡ true → length digest ≡ 32 → Turn
-joins name digest named digested = record { call = register name digest; bounded = (is_name-bounded name named, digested); moment = omega arith; key = tt }
+joins name digest named digested =
+    record {
+      call = register name digest;
+      bounded = (is_name-bounded name named, digested);
+      moment = omega arith;
+      key = tt;
+    }
 
 pub registered-legal : (d : Digests) → AreDigests d → Legal (registered d)
 registered-legal d are =
@@ -222,7 +256,8 @@ pub submitted-legal : (d : Digests) (mode : Mode) → Legal (opened d mode) → 
 submitted-legal d mode =
     goes_on (opened d mode) (submitted d mode)
     (
-    by_number bob (Submit proofs we_prove (Some (codes "gus") ∷ [])) (ascii-title proofs refl, ascii-abstract we_prove refl, omega arith)
+    by_number bob (Submit proofs we_prove (Some (codes "gus") ∷ []))
+    (ascii-title proofs refl, ascii-abstract we_prove refl, omega arith)
     ∷ by gus (Submit types we_type []) (ascii-title types refl, ascii-abstract we_type refl, omega arith)
     ∷ by gus (Submit drafts we_draft []) (ascii-title drafts refl, ascii-abstract we_draft refl, omega arith)
     ∷ []
@@ -236,8 +271,10 @@ before-legal d mode =
     by bob (Upload (Some 1) first_version) (omega arith)
     ∷ by gus (Upload (Some 2) only_version) (omega arith)
     ∷ by bob (Upload (Some 1) second_version) (omega arith)
-    ∷ by bob (Revise (Some 1) fewer_proofs we_prove_less) (ascii-title fewer_proofs refl, ascii-abstract we_prove_less refl)
-    ∷ by gus (Revise (Some 1) more_proofs we_prove_more) (ascii-title more_proofs refl, ascii-abstract we_prove_more refl)
+    ∷ by bob (Revise (Some 1) fewer_proofs we_prove_less)
+    (ascii-title fewer_proofs refl, ascii-abstract we_prove_less refl)
+    ∷ by gus (Revise (Some 1) more_proofs we_prove_more)
+    (ascii-title more_proofs refl, ascii-abstract we_prove_more refl)
     ∷ by gus (Withdraw (Some 3)) tt
     ∷ by bob (SetConflict (Some 1) (Some (codes "carol")) true) tt
     ∷ by gus (SetConflict (Some 1) (Some (codes "fay")) true) tt
@@ -290,9 +327,12 @@ reviewing_turns twin =
     by alice (SetPhase Reviewing) tt
     ∷ by alice (Unassign (Some 1) (Some (assigned_name twin))) tt
     ∷ by alice (Assign (Some 1) (Some (assigned_name twin)) Pc) tt
-    ∷ by (assigned twin) (Review (Some 1) first_form) (bounded-form first_form refl refl refl (ascii-review first_form.to_pc refl))
-    ∷ by alice (Review (Some 1) alices_form) (bounded-form alices_form refl refl refl (ascii-review alices_form.to_pc refl))
-    ∷ by (assigned twin) (Review (Some 1) second_form) (bounded-form second_form refl refl refl (ascii-review second_form.to_pc refl))
+    ∷ by (assigned twin) (Review (Some 1) first_form)
+    (bounded-form first_form refl refl refl (ascii-review first_form.to_pc refl))
+    ∷ by alice (Review (Some 1) alices_form)
+    (bounded-form alices_form refl refl refl (ascii-review alices_form.to_pc refl))
+    ∷ by (assigned twin) (Review (Some 1) second_form)
+    (bounded-form second_form refl refl refl (ascii-review second_form.to_pc refl))
     ∷ by ivy (Review (Some 2) ivys_form) (bounded-form ivys_form refl refl refl (ascii-review ivys_form.to_pc refl))
     ∷ []
 
@@ -317,8 +357,8 @@ notification_turns = by alice (SetPhase Notification) tt ∷ []
 abbrev closing_turns : List Turn
 closing_turns = by alice (SetPhase Closed) tt ∷ []
 
--- that each call is allowed is computed: in each mode where a member calls who may not oversee the paper, and for each of the two whom
--- alice may assign
+-- that each call is allowed is computed: in each mode where a member calls who may not oversee the paper, and for
+-- each of the two whom alice may assign
 bidding-leads : (d : Digests) (mode : Mode) (a : Asides) (are : AreAsides a)
     → reached (before_bidding d mode) (bidding_turns a are) ≡ Some (having_tags d mode a)
 bidding-leads d Anonymous a are = refl
@@ -330,14 +370,16 @@ assigning-leads d mode a false = refl
 assigning-leads d mode a true = refl
 
 reviewing-leads : (d : Digests) (mode : Mode) (a : Asides) (twin : Bool)
-    → reached (in_bidding d mode a (assigned twin)) (reviewing_turns twin) ≡ Some (in_reviewing d mode a (assigned twin))
+    → reached (in_bidding d mode a (assigned twin)) (reviewing_turns twin)
+    ≡ Some (in_reviewing d mode a (assigned twin))
 reviewing-leads d Anonymous a false = refl
 reviewing-leads d Anonymous a true = refl
 reviewing-leads d mode a false = refl
 reviewing-leads d mode a true = refl
 
 comments-lead : (d : Digests) (mode : Mode) (a : Asides) (are : AreAsides a) (twin : Bool)
-    → reached (in_reviewing d mode a (assigned twin)) (comment_turns a are twin) ≡ Some (having_comments d mode a (assigned twin))
+    → reached (in_reviewing d mode a (assigned twin)) (comment_turns a are twin)
+    ≡ Some (having_comments d mode a (assigned twin))
 comments-lead d Anonymous a are false = refl
 comments-lead d Anonymous a are true = refl
 comments-lead d mode a are false = refl
@@ -367,7 +409,8 @@ twin-led d mode a = record { discussion = refl; notification = refl; closed = re
 module _ (d : Digests) (mode : Mode) (a : Asides) (are : AreAsides a) (twin : Bool) where
   bidding-legal : Legal (before_bidding d mode) → Legal (in_bidding d mode a (assigned twin))
   bidding-legal legal =
-      goes_on (having_tags d mode a) (in_bidding d mode a (assigned twin)) (assigning_turns twin) (assigning-leads d mode a twin)
+      goes_on (having_tags d mode a) (in_bidding d mode a (assigned twin)) (assigning_turns twin)
+      (assigning-leads d mode a twin)
       (goes_on (before_bidding d mode) (having_tags d mode a) (bidding_turns a are) (bidding-leads d mode a are) legal)
 
   reviewing-legal : Legal (in_bidding d mode a (assigned twin)) → Legal (in_reviewing d mode a (assigned twin))
@@ -377,7 +420,8 @@ module _ (d : Digests) (mode : Mode) (a : Asides) (are : AreAsides a) (twin : Bo
 
   comments-legal : Legal (in_reviewing d mode a (assigned twin)) → Legal (having_comments d mode a (assigned twin))
   comments-legal =
-      goes_on (in_reviewing d mode a (assigned twin)) (having_comments d mode a (assigned twin)) (comment_turns a are twin)
+      goes_on (in_reviewing d mode a (assigned twin)) (having_comments d mode a (assigned twin))
+      (comment_turns a are twin)
       (comments-lead d mode a are twin)
 
   up_to-comments : Legal (before_bidding d mode) → Legal (having_comments d mode a (assigned twin))
@@ -392,9 +436,12 @@ record AreLegal (d : Digests) (mode : Mode) (a : Asides) (member : ℕ) (v : Ver
 decided-legal : (d : Digests) (mode : Mode) (a : Asides) (member : ℕ) (v : Verdicts) → AreLed d mode a member v
     → Legal (having_comments d mode a member) → AreLegal d mode a member v
 decided-legal d mode a member v led legal =
-    let discussion = goes_on (having_comments d mode a member) (in_discussion d mode a member v) (decision_turns v) led.discussion legal in
-    let notification = goes_on (in_discussion d mode a member v) (at_notification d mode a member v) notification_turns led.notification discussion in
-    let closed = goes_on (at_notification d mode a member v) (at_close d mode a member v) closing_turns led.closed notification in
+    let discussion = goes_on (having_comments d mode a member) (in_discussion d mode a member v) (decision_turns v)
+    led.discussion legal in
+    let notification = goes_on (in_discussion d mode a member v) (at_notification d mode a member v) notification_turns
+    led.notification discussion in
+    let closed =
+    goes_on (at_notification d mode a member v) (at_close d mode a member v) closing_turns led.closed notification in
     record { discussion = discussion; notification = notification; closed = closed }
 
 -- who is what in it is computed for each of the two members
@@ -405,10 +452,12 @@ reviewed d mode a are before twin =
     let reviewing = reviewing-legal d mode a are twin bidding in
     by_member twin bidding reviewing (comments-legal d mode a are twin reviewing)
   where
-    by_member : (twin : Bool) → Legal (in_bidding d mode a (assigned twin)) → Legal (in_reviewing d mode a (assigned twin))
+    by_member : (twin : Bool) → Legal (in_bidding d mode a (assigned twin))
+        → Legal (in_reviewing d mode a (assigned twin))
         → Legal (having_comments d mode a (assigned twin)) → IsReviewed d mode a (assigned twin)
     by_member false bidding reviewing comments =
-        let decided = decided-legal d mode a dave verdicts (led d mode a verdicts.other verdicts.first verdicts.last) comments in
+        let decided =
+        decided-legal d mode a dave verdicts (led d mode a verdicts.other verdicts.first verdicts.last) comments in
         record {
           bidding = record { legal = bidding; cast = refl };
           reviewing = record { legal = reviewing; cast = refl };
@@ -427,7 +476,8 @@ reviewed d mode a are before twin =
         }
 
 -- and the phases are legal whatever is decided
-decided : (d : Digests) (mode : Mode) (a : Asides) → Legal (having_comments d mode a dave) → (v : Verdicts) → IsDecided d mode a v
+decided : (d : Digests) (mode : Mode) (a : Asides) → Legal (having_comments d mode a dave) → (v : Verdicts)
+    → IsDecided d mode a v
 decided d mode a comments v =
     let legal = decided-legal d mode a dave v (led d mode a v.other v.first v.last) comments in
     record { discussion = legal.discussion; notification = legal.notification; closed = legal.closed }
@@ -453,27 +503,34 @@ response-leads d mode a false = refl
 response-leads d mode a true = refl
 
 behind-leads : (d : Digests) (mode : Mode) (a : Asides) (are : AreAsides a) (twin : Bool)
-    → reached (in_response d mode a (assigned twin)) (behind_turns a are twin) ≡ Some (behind_response d mode a (assigned twin))
+    → reached (in_response d mode a (assigned twin)) (behind_turns a are twin)
+    ≡ Some (behind_response d mode a (assigned twin))
 behind-leads d Anonymous a are false = refl
 behind-leads d Anonymous a are true = refl
 behind-leads d mode a are false = refl
 behind-leads d mode a are true = refl
 
 told-leads : (d : Digests) (mode : Mode) (a : Asides) (twin : Bool)
-    → reached (behind_response d mode a (assigned twin)) notification_turns ≡ Some (told_behind_response d mode a (assigned twin))
+    → reached (behind_response d mode a (assigned twin)) notification_turns
+    ≡ Some (told_behind_response d mode a (assigned twin))
 told-leads d mode a false = refl
 told-leads d mode a true = refl
 
-responded : (d : Digests) (mode : Mode) (a : Asides) → AreAsides a → (twin : Bool) → Legal (in_reviewing d mode a (assigned twin))
+responded : (d : Digests) (mode : Mode) (a : Asides) → AreAsides a → (twin : Bool)
+    → Legal (in_reviewing d mode a (assigned twin))
     → IsResponded d mode a (assigned twin)
 responded d mode a are twin reviewing =
     let member : ℕ = assigned twin in
-    let response = goes_on (in_reviewing d mode a member) (in_response d mode a member) response_turns (response-leads d mode a twin) reviewing in
-    let behind = goes_on (in_response d mode a member) (behind_response d mode a member) (behind_turns a are twin) (behind-leads d mode a are twin) response in
-    let told = goes_on (behind_response d mode a member) (told_behind_response d mode a member) notification_turns (told-leads d mode a twin) behind in
+    let response = goes_on (in_reviewing d mode a member) (in_response d mode a member) response_turns
+    (response-leads d mode a twin) reviewing in
+    let behind = goes_on (in_response d mode a member) (behind_response d mode a member) (behind_turns a are twin)
+    (behind-leads d mode a are twin) response in
+    let told = goes_on (behind_response d mode a member) (told_behind_response d mode a member) notification_turns
+    (told-leads d mode a twin) behind in
     by_member twin response behind told
   where
-    by_member : (twin : Bool) → Legal (in_response d mode a (assigned twin)) → Legal (behind_response d mode a (assigned twin))
+    by_member : (twin : Bool) → Legal (in_response d mode a (assigned twin))
+        → Legal (behind_response d mode a (assigned twin))
         → Legal (told_behind_response d mode a (assigned twin)) → IsResponded d mode a (assigned twin)
     by_member false response behind told = record {
       response = record { legal = response; cast = refl };

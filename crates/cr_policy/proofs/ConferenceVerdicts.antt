@@ -1,5 +1,5 @@
--- Two small conferences that differ only in decisions look the same to those who aren't told them: each looks as if nothing but what
--- is told had been decided.
+-- Two small conferences that differ only in decisions look the same to those who aren't told them: each looks as if
+-- nothing but what is told had been decided.
 use Rattle.std.proofs.Common.{ℕ, List, ◌≡◌, refl, sym, ap, ◌∙◌, Option, Some, None, if◌then◌else◌}
 use Rattle.std.specs.Prelude.{◌==◌}
 use Rattle.std.specs.List.{list_any}
@@ -7,8 +7,8 @@ use Rattle.cr_base.specs.declared.words.Decision.{Decision}
 use Rattle.cr_base.specs.declared.words.Decision.TheVariants.{Accept, Reject}
 use Rattle.cr_base.specs.declared.words.Mode.{Mode}
 use Rattle.cr_policy.specs.Conference.{bob, carol, dave, erin, fay, gus, Digests, Asides, Verdicts, in_discussion}
-use Rattle.cr_policy.specs.ConferenceLaws.{outside_of, seen_in_discussion, seen_from_notification, accepted_with, outcome_with}
-use Rattle.cr_policy.specs.ConferenceLaws.{SameEarly, SameLate, VerdictsHidden}
+use Rattle.cr_policy.specs.ConferenceLaws.{outside_of, seen_in_discussion, seen_from_notification, accepted_with}
+use Rattle.cr_policy.specs.ConferenceLaws.{outcome_with, SameEarly, SameLate, VerdictsHidden}
 use Rattle.cr_policy.specs.ConferenceOutcomes.{Outside}
 use Rattle.cr_policy.specs.View.{View}
 
@@ -22,8 +22,8 @@ deciding other first last = record { other = other; first = first; last = last }
 abbrev if_accepted : ℕ → List ℕ → Option Decision
 if_accepted paper accepted = if list_any (λ p. p == paper) accepted then Some Accept else None
 
--- everyone is told once of each accepted paper; who may know the decision on paper 2, or the last one on paper 1, is told that
--- besides, and of the other paper that it is accepted
+-- everyone is told once of each accepted paper; who may know the decision on paper 2, or the last one on paper 1, is
+-- told that besides, and of the other paper that it is accepted
 abbrev to_everyone : List ℕ → Verdicts
 to_everyone accepted = deciding (if_accepted 2 accepted) None (if_accepted 1 accepted)
 
@@ -48,7 +48,8 @@ module _ (d : Digests) (mode : Mode) (a : Asides) where
   early v = outside_of (in_discussion d mode a dave v)
 
   abbrev early_in_conflict : Verdicts → EarlyInConflict
-  early_in_conflict v = record { member = seen_in_discussion (Some carol) d mode a v; chair = seen_in_discussion (Some fay) d mode a v }
+  early_in_conflict v =
+      record { member = seen_in_discussion (Some carol) d mode a v; chair = seen_in_discussion (Some fay) d mode a v }
 
   -- as if nothing were decided, and as if nothing were of paper 1
   record IsEarly (v : Verdicts) : Type 0 where
@@ -84,7 +85,8 @@ module _ (d : Digests) (mode : Mode) (a : Asides) where
       let of_w = is_early w.other w.first w.last in
       let outside = of_v.outside ∙ sym of_w.outside in
       let in_conflict = λ (same : v.other ≡ w.other).
-      of_v.in_conflict ∙ ap (λ (other : Option Decision). early_in_conflict (deciding other None None)) same ∙ sym of_w.in_conflict in
+      of_v.in_conflict ∙ ap (λ (other : Option Decision). early_in_conflict (deciding other None None)) same
+      ∙ sym of_w.in_conflict in
       record {
         nobody = ap (λ (seen : Outside). seen.nobody) outside;
         account = ap (λ (seen : Outside). seen.account) outside;
@@ -96,8 +98,8 @@ module _ (d : Digests) (mode : Mode) (a : Asides) where
 
   -- ---- from the notification on
 
-  -- what is seen by who wrote none of the papers and isn't on the committee, by a member and a chair in conflict with paper 1, and by
-  -- authors
+  -- what is seen by who wrote none of the papers and isn't on the committee, by a member and a chair in conflict with
+  -- paper 1, and by authors
   record Late : Type 0 where
     nobody : List View
     account : List View
@@ -107,7 +109,11 @@ module _ (d : Digests) (mode : Mode) (a : Asides) where
     chair : List View
 
   abbrev late : Verdicts → Late
-  late v = record { nobody = seen_from_notification None d mode a v; account = seen_from_notification (Some erin) d mode a v }
+  late v =
+      record {
+        nobody = seen_from_notification None d mode a v;
+        account = seen_from_notification (Some erin) d mode a v;
+      }
 
   abbrev late_in_conflict : Verdicts → LateInConflict
   late_in_conflict v = record {
@@ -140,23 +146,37 @@ module _ (d : Digests) (mode : Mode) (a : Asides) where
   is_late None (Some Accept) None = record { outside = refl; in_conflict = refl; author = refl; coauthor = refl }
   is_late None (Some Reject) None = record { outside = refl; in_conflict = refl; author = refl; coauthor = refl }
   is_late None None (Some Accept) = record { outside = refl; in_conflict = refl; author = refl; coauthor = refl }
-  is_late None (Some first) (Some Accept) = record { outside = refl; in_conflict = refl; author = refl; coauthor = refl }
+  is_late None (Some first) (Some Accept) =
+      record { outside = refl; in_conflict = refl; author = refl; coauthor = refl }
   is_late None None (Some Reject) = record { outside = refl; in_conflict = refl; author = refl; coauthor = refl }
-  is_late None (Some first) (Some Reject) = record { outside = refl; in_conflict = refl; author = refl; coauthor = refl }
+  is_late None (Some first) (Some Reject) =
+      record { outside = refl; in_conflict = refl; author = refl; coauthor = refl }
   is_late (Some Accept) None None = record { outside = refl; in_conflict = refl; author = refl; coauthor = refl }
-  is_late (Some Accept) (Some Accept) None = record { outside = refl; in_conflict = refl; author = refl; coauthor = refl }
-  is_late (Some Accept) (Some Reject) None = record { outside = refl; in_conflict = refl; author = refl; coauthor = refl }
-  is_late (Some Accept) None (Some Accept) = record { outside = refl; in_conflict = refl; author = refl; coauthor = refl }
-  is_late (Some Accept) (Some first) (Some Accept) = record { outside = refl; in_conflict = refl; author = refl; coauthor = refl }
-  is_late (Some Accept) None (Some Reject) = record { outside = refl; in_conflict = refl; author = refl; coauthor = refl }
-  is_late (Some Accept) (Some first) (Some Reject) = record { outside = refl; in_conflict = refl; author = refl; coauthor = refl }
+  is_late (Some Accept) (Some Accept) None =
+      record { outside = refl; in_conflict = refl; author = refl; coauthor = refl }
+  is_late (Some Accept) (Some Reject) None =
+      record { outside = refl; in_conflict = refl; author = refl; coauthor = refl }
+  is_late (Some Accept) None (Some Accept) =
+      record { outside = refl; in_conflict = refl; author = refl; coauthor = refl }
+  is_late (Some Accept) (Some first) (Some Accept) =
+      record { outside = refl; in_conflict = refl; author = refl; coauthor = refl }
+  is_late (Some Accept) None (Some Reject) =
+      record { outside = refl; in_conflict = refl; author = refl; coauthor = refl }
+  is_late (Some Accept) (Some first) (Some Reject) =
+      record { outside = refl; in_conflict = refl; author = refl; coauthor = refl }
   is_late (Some Reject) None None = record { outside = refl; in_conflict = refl; author = refl; coauthor = refl }
-  is_late (Some Reject) (Some Accept) None = record { outside = refl; in_conflict = refl; author = refl; coauthor = refl }
-  is_late (Some Reject) (Some Reject) None = record { outside = refl; in_conflict = refl; author = refl; coauthor = refl }
-  is_late (Some Reject) None (Some Accept) = record { outside = refl; in_conflict = refl; author = refl; coauthor = refl }
-  is_late (Some Reject) (Some first) (Some Accept) = record { outside = refl; in_conflict = refl; author = refl; coauthor = refl }
-  is_late (Some Reject) None (Some Reject) = record { outside = refl; in_conflict = refl; author = refl; coauthor = refl }
-  is_late (Some Reject) (Some first) (Some Reject) = record { outside = refl; in_conflict = refl; author = refl; coauthor = refl }
+  is_late (Some Reject) (Some Accept) None =
+      record { outside = refl; in_conflict = refl; author = refl; coauthor = refl }
+  is_late (Some Reject) (Some Reject) None =
+      record { outside = refl; in_conflict = refl; author = refl; coauthor = refl }
+  is_late (Some Reject) None (Some Accept) =
+      record { outside = refl; in_conflict = refl; author = refl; coauthor = refl }
+  is_late (Some Reject) (Some first) (Some Accept) =
+      record { outside = refl; in_conflict = refl; author = refl; coauthor = refl }
+  is_late (Some Reject) None (Some Reject) =
+      record { outside = refl; in_conflict = refl; author = refl; coauthor = refl }
+  is_late (Some Reject) (Some first) (Some Reject) =
+      record { outside = refl; in_conflict = refl; author = refl; coauthor = refl }
 
   -- what looks as if two things alone were decided is the same where both are
   as_both : {A B C : Type 0} (f : A → B → C) {x y : A} {z t : B} → x ≡ y → z ≡ t → f x z ≡ f y t
@@ -168,14 +188,17 @@ module _ (d : Digests) (mode : Mode) (a : Asides) where
       let of_w = is_late w.other w.first w.last in
       let outside = of_v.outside ∙ ap (λ papers. late (to_everyone papers)) same ∙ sym of_w.outside in
       let in_conflict = λ (other : v.other ≡ w.other).
-      of_v.in_conflict ∙ as_both (λ other papers. late_in_conflict (with_other other papers)) other same ∙ sym of_w.in_conflict in
+      of_v.in_conflict ∙ as_both (λ other papers. late_in_conflict (with_other other papers)) other same
+      ∙ sym of_w.in_conflict in
       record {
         nobody = ap (λ (seen : Late). seen.nobody) outside;
         account = ap (λ (seen : Late). seen.account) outside;
         author = λ one.
-            of_v.author ∙ as_both (λ outcome papers. late_to_author (with_outcome outcome papers)) one same ∙ sym of_w.author;
+            of_v.author ∙ as_both (λ outcome papers. late_to_author (with_outcome outcome papers)) one same
+            ∙ sym of_w.author;
         coauthor = λ one two.
-            of_v.coauthor ∙ as_both (λ other outcome. late_to_coauthor (with_both other outcome)) two one ∙ sym of_w.coauthor;
+            of_v.coauthor ∙ as_both (λ other outcome. late_to_coauthor (with_both other outcome)) two one
+            ∙ sym of_w.coauthor;
         conflicted_member = λ other. ap (λ (seen : LateInConflict). seen.member) (in_conflict other);
         conflicted_chair = λ other. ap (λ (seen : LateInConflict). seen.chair) (in_conflict other);
       }

@@ -1,6 +1,7 @@
--- What a view says of the decisions on papers: everyone is told which papers are accepted, and the decision is told whoever a
--- paper's page tells it.
-use Rattle.std.proofs.Common.{◌≡◌, ℕ, Bool, true, false, List, [], ◌∷◌, refl, ap, ◌∙◌, ◌||◌, ◌&&◌, Option, Some, None, eqb, arith}
+-- What a view says of the decisions on papers: everyone is told which papers are accepted, and the decision is told
+-- whoever a paper's page tells it.
+use Rattle.std.proofs.Common.{◌≡◌, ℕ, Bool, true, false, List, [], ◌∷◌, refl, ap, ◌∙◌, ◌||◌, ◌&&◌, Option, Some, None}
+use Rattle.std.proofs.Common.{eqb, arith}
 use Rattle.std.specs.Prelude.{map, not, is_some, unwrap_or}
 use Rattle.std.specs.Option.{option_map}
 use Rattle.std.specs.List.{flat_map}
@@ -35,7 +36,8 @@ module _ (r : Reader) (at : Around) (stamp : Stamp) (more : Bool) where
   decision_at : (p : ℕ) (e : Entry) → flat_map (decision_seen p) (sight r at (stamped stamp more e))
       ≡ only (passes part.decision r at (stamped stamp more e)) (decision_told p e)
   decision_at p (Decided paper decision) =
-      told_where r at stamp more (decision_seen p) part.decision (Decided paper decision) (decision_told p (Decided paper decision))
+      told_where r at stamp more (decision_seen p) part.decision (Decided paper decision)
+      (decision_told p (Decided paper decision))
       (paper_value (eqb paper p) _ decision)
   decision_at p e = silent r at stamp more (decision_seen p) e refl
 
@@ -43,32 +45,39 @@ module _ (r : Reader) (at : Around) (stamp : Stamp) (more : Bool) where
   accepted_at : (p : ℕ) (e : Entry) → flat_map (accepted_seen p) (sight r at (stamped stamp more e))
       ≡ only (passes part.accepted r at (stamped stamp more e)) (map mark (decision_told p e))
   accepted_at p (Decided paper decision) =
-      told_where r at stamp more (accepted_seen p) part.accepted (Decided paper decision) (map mark (decision_told p (Decided paper decision)))
-      (paper_value (eqb paper p) _ true ∙ ap (only (passes part.accepted r at (stamped stamp more (Decided paper decision)))) (marked (eqb paper p)))
+      told_where r at stamp more (accepted_seen p) part.accepted (Decided paper decision)
+      (map mark (decision_told p (Decided paper decision)))
+      (paper_value (eqb paper p) _ true
+      ∙ ap (only (passes part.accepted r at (stamped stamp more (Decided paper decision)))) (marked (eqb paper p)))
     where
       marked : (b : Bool) → given b true ≡ map mark (given b decision)
       marked true = refl
       marked false = refl
   accepted_at p e = silent r at stamp more (accepted_seen p) e refl
 
-decision_tells : (r : Reader) (p : ℕ) → Tells r (decision_seen p) (λ (e : Stamped). decision_told p e.entry) (passes part.decision r)
+decision_tells : (r : Reader) (p : ℕ) → Tells r (decision_seen p) (λ (e : Stamped). decision_told p e.entry)
+    (passes part.decision r)
 decision_tells r p at e = decision_at r at e.stamp e.more p e.entry
 
-accepted_tells : (r : Reader) (p : ℕ) → Tells r (accepted_seen p) (λ (e : Stamped). map mark (decision_told p e.entry)) (passes part.accepted r)
+accepted_tells : (r : Reader) (p : ℕ) → Tells r (accepted_seen p) (λ (e : Stamped). map mark (decision_told p e.entry))
+    (passes part.accepted r)
 accepted_tells r p at e = accepted_at r at e.stamp e.more p e.entry
 
 -- a decision on the paper is kept, where each that stands there passes; and isn't, where none does
 module _ (passing : Stamped → Bool) (p : ℕ) where
-  kept_decision : ((stamp : Stamp) (more : Bool) (decision : Decision) → passing (stamped stamp more (Decided p decision)) ≡ true) → (e : Stamped)
+  kept_decision : ((stamp : Stamp) (more : Bool) (decision : Decision)
+      → passing (stamped stamp more (Decided p decision)) ≡ true) → (e : Stamped)
       → only (passing e) (decision_told p e.entry) ≡ decision_told p e.entry
   kept_decision shown e = by e.stamp e.more e.entry
     where
-      by : (stamp : Stamp) (more : Bool) (e : Entry) → only (passing (stamped stamp more e)) (decision_told p e) ≡ decision_told p e
+      by : (stamp : Stamp) (more : Bool) (e : Entry)
+          → only (passing (stamped stamp more e)) (decision_told p e) ≡ decision_told p e
       by stamp more (Decided paper decision) =
           of_paper (λ n. passing (stamped stamp more (Decided n decision))) paper p decision (shown stamp more decision)
       by stamp more e = refl
 
-  no_decision : ((stamp : Stamp) (more : Bool) (decision : Decision) → passing (stamped stamp more (Decided p decision)) ≡ false) → (e : Stamped)
+  no_decision : ((stamp : Stamp) (more : Bool) (decision : Decision) → passing (stamped stamp more (Decided p decision))
+      ≡ false) → (e : Stamped)
       → only (passing e) (decision_told p e.entry) ≡ []
   no_decision hidden e = by e.stamp e.more e.entry
     where
@@ -79,7 +88,8 @@ module _ (passing : Stamped → Bool) (p : ℕ) where
       by : (stamp : Stamp) (more : Bool) (e : Entry) → only (passing (stamped stamp more e)) (decision_told p e) ≡ []
       by stamp more (Decided paper decision) =
           none _ (eqb paper p) decision
-          (λ same. ap (λ n. passing (stamped stamp more (Decided n decision))) (eqb-true paper p same) ∙ hidden stamp more decision)
+          (λ same. ap (λ n. passing (stamped stamp more (Decided n decision))) (eqb-true paper p same)
+          ∙ hidden stamp more decision)
       by stamp more e = refl
 
 -- ---- accepted papers
@@ -87,7 +97,8 @@ module _ (passing : Stamped → Bool) (p : ℕ) where
 -- where the paper is accepted there is a decision on it
 is_decided : (p : ℕ) (H : History) → is_accepted p H ≡ true → is_some (decision_of p H) ≡ true
 is_decided p H accepted =
-    let parts = and_parts (is_accept (decision_of p H) && not (is_withdrawn p H)) (papers_may_be_accepted (phase_of H)) accepted in
+    let parts = and_parts (is_accept (decision_of p H) && not (is_withdrawn p H)) (papers_may_be_accepted (phase_of H))
+    accepted in
     by (decision_of p H) (and_parts (is_accept (decision_of p H)) (not (is_withdrawn p H)) parts.0).0
   where
     by : (o : Option Decision) → is_accept o ≡ true → is_some o ≡ true
@@ -112,7 +123,8 @@ unmarked n accepted h = grind arith
 -- a view tells exactly which papers are accepted
 pub accepted-seen : (u : Option ℕ) (p : ℕ) (H : History) → is_accepted_in_view p (view u H) ≡ is_accepted p H
 accepted-seen u p H =
-    ap (last_or false) (sights-kept r (accepted_seen p) (λ (e : Stamped). map mark (decision_told p e.entry)) passing (accepted_tells r p) [] H
+    ap (last_or false) (sights-kept r (accepted_seen p) (λ (e : Stamped). map mark (decision_told p e.entry)) passing
+    (accepted_tells r p) [] H
     ∙ kept-map mark passing told [] H)
     ∙ marks-kept (kept passing told [] H)
     ∙ by (is_accepted p H) refl
@@ -130,18 +142,22 @@ accepted-seen u p H =
     by true is =
         ap is_some (last_from-kept passing told
         (λ at e last.
-        kept_decision (passing at) p (λ stamp more decision. marked_last (none_in (decision_told p) at.after) (is_accepted p H) last is) e)
+        kept_decision (passing at) p (λ stamp more decision. marked_last (none_in (decision_told p) at.after)
+        (is_accepted p H) last is) e)
         None [] H)
         ∙ is_decided p H is
     by false is =
         ap (λ (xs : List Decision). is_some (last xs))
         (kept-none passing told
-        (λ at e. no_decision (passing at) p (λ stamp more decision. unmarked (none_in (decision_told p) at.after) (is_accepted p H) is) e) [] H)
+        (λ at e. no_decision (passing at) p (λ stamp more decision. unmarked (none_in (decision_told p) at.after)
+        (is_accepted p H) is) e) [] H)
 
 -- ---- decisions
 
--- who discusses the paper sees each decision on it, and its authors the last one from the notification on; `own` is the maker's own row
-decision_shown : (d n a f own : Bool) → n ≡ true → (d || (a && f) || false) ≡ true → (d || ((n && a && f) || (own || false))) ≡ true
+-- who discusses the paper sees each decision on it, and its authors the last one from the notification on; `own` is
+-- the maker's own row
+decision_shown : (d n a f own : Bool) → n ≡ true → (d || (a && f) || false) ≡ true
+    → (d || ((n && a && f) || (own || false))) ≡ true
 decision_shown d n a f own last told = grind arith
 
 -- so a view tells the last decision on a paper that isn't accepted to whoever the page tells it
@@ -149,9 +165,11 @@ pub decision-seen : (u : Option ℕ) (p : ℕ) (H : History) → gets_decision (
     → decision_in_view p (view u H) ≡ decision_of p H
 decision-seen u p H told =
     let r : Reader = reader u H in
-    fold_last r (decision_seen p) (λ (e : Stamped). decision_told p e.entry) (passes part.decision r) (decision_tells r p)
+    fold_last r (decision_seen p) (λ (e : Stamped). decision_told p e.entry) (passes part.decision r)
+    (decision_tells r p)
     (λ at e last.
     kept_decision (passes part.decision r at) p
     (λ stamp more decision.
-    decision_shown (reads_decisions r p) (none_in (decision_told p) at.after) (is_author u p H) (authors_read_decisions (phase_of H)) (user_named r stamp.maker)
+    decision_shown (reads_decisions r p) (none_in (decision_told p) at.after) (is_author u p H)
+    (authors_read_decisions (phase_of H)) (user_named r stamp.maker)
     last told) e) [] H

@@ -17,16 +17,19 @@ use Rattle.cr_policy.specs.Triggers.{Reader, Around}
 use Rattle.cr_policy.specs.View.{sight, sights, is_seen, joined}
 
 -- the digest of a registration is shown to its maker alone
-to_maker : (u : Option ℕ) (maker user : ℕ) (digest : List ℕ) → maker ≡ user → is_some (where_shown (is_number u maker || false) (Some digest)) ≡ true → is_number u user ≡ true
+to_maker : (u : Option ℕ) (maker user : ℕ) (digest : List ℕ) → maker ≡ user
+    → is_some (where_shown (is_number u maker || false) (Some digest)) ≡ true → is_number u user ≡ true
 to_maker u maker user digest own h = by (is_number u maker) refl h
   where
-    by : (b : Bool) → is_number u maker ≡ b → is_some (where_shown (b || false) (Some digest)) ≡ true → is_number u user ≡ true
+    by : (b : Bool) → is_number u maker ≡ b → is_some (where_shown (b || false) (Some digest)) ≡ true
+        → is_number u user ≡ true
     by true same shown = subst (λ n. is_number u n ≡ true) own same
     by false same shown = absurd (false≢true shown)
 
 module _ (r : Reader) (at : Around) (stamp : Stamp) (more : Bool) where
   -- of any one sighting; no other kind of entry has a digest
-  own_digest : (H : History) (e : Entry) → IsMadeByUser H stamp.maker e → IsOwnDigest r.number (joined r at (stamped stamp more e))
+  own_digest : (H : History) (e : Entry) → IsMadeByUser H stamp.maker e
+      → IsOwnDigest r.number (joined r at (stamped stamp more e))
   own_digest H (Registered user name digest) made = λ shown. to_maker r.number stamp.maker user digest made shown
   own_digest H e made = λ shown. absurd (false≢true shown)
 
@@ -35,10 +38,12 @@ given-all P true x h = (h, tt)
 given-all P false x h = tt
 
 -- and of all of a view
-pub own_digests : (r : Reader) (before H : History) → InTurn IsInOrder before H → AllByRecursion (IsOwnDigest r.number) (sights r before H)
+pub own_digests : (r : Reader) (before H : History) → InTurn IsInOrder before H
+    → AllByRecursion (IsOwnDigest r.number) (sights r before H)
 own_digests r before [] kept = tt
 own_digests r before (e ∷ after) kept =
     let at : Around = record { before = before; after = after } in
     AllByRecursion-append (IsOwnDigest r.number) (sight r at e) (sights r (before ++ e ∷ []) after)
-    (given-all (IsOwnDigest r.number) (is_seen r at e) (joined r at e) (own_digest r at e.stamp e.more before e.entry kept.0.maker))
+    (given-all (IsOwnDigest r.number) (is_seen r at e) (joined r at e)
+    (own_digest r at e.stamp e.more before e.entry kept.0.maker))
     (own_digests r (before ++ e ∷ []) after kept.1)

@@ -8,7 +8,8 @@ use Rattle.cr_base.specs.History.{History}
 use Rattle.cr_base.specs.HistoryFacts.{standing_of, is_author, uploads_of, is_accepted}
 use Rattle.cr_base.specs.Decisions.{decision_in}
 use Rattle.cr_base.specs.Invites.{is_invited_in}
-use Rattle.cr_base.specs.Page.{gets_title, gets_abstract, shows_author, gets_conflicts, gets_versions, gets_withdrawn, gets_decision}
+use Rattle.cr_base.specs.Page.{gets_title, gets_abstract, shows_author, gets_conflicts, gets_versions, gets_withdrawn}
+use Rattle.cr_base.specs.Page.{gets_decision}
 use Rattle.cr_base.specs.Papers.{title_at, abstract_at, uploads_at, is_withdrawn_at}
 use Rattle.cr_base.specs.Seats.{ordinal_in, labels_in}
 use Rattle.cr_base.specs.Ties.{authors_in}
@@ -16,16 +17,21 @@ use Rattle.cr_base.specs.Tables.{tables_of}
 use Rattle.cr_base.specs.Sources.{standing_at, is_accepted_in, decision_by, facts_of_tables, shown_in_tables}
 use Rattle.cr_history.specs.Laws.{AreTold, AreFormsTold}
 use Rattle.cr_policy.specs.View.{view}
-use Rattle.cr_policy.specs.ViewFacts.{title_in_view, abstract_in_view, authors_in_view, uploads_in_view, is_withdrawn_in_view, decision_in_view}
-use Rattle.cr_policy.specs.ViewFacts.{is_invited_in_view, ordinal_in_view, seats_in_view, facts_in_view, shown_in_view}
+use Rattle.cr_policy.specs.ViewFacts.{title_in_view, abstract_in_view, authors_in_view, uploads_in_view}
+use Rattle.cr_policy.specs.ViewFacts.{is_withdrawn_in_view, decision_in_view, is_invited_in_view, ordinal_in_view}
+use Rattle.cr_policy.specs.ViewFacts.{seats_in_view, facts_in_view, shown_in_view}
 use Rattle.cr_policy.proofs.DecisionTells.{accepted-seen, decision-seen}
-use Rattle.cr_policy.proofs.StandingLaws.{standing_from_view, deadline-seen, had_response-seen, accounts-seen, papers-seen, own_papers-seen, own_bytes-seen, own_comments-seen, own_bid-seen, seat-seen}
+use Rattle.cr_policy.proofs.StandingLaws.{standing_from_view, deadline-seen, had_response-seen, accounts-seen}
+use Rattle.cr_policy.proofs.StandingLaws.{papers-seen, own_papers-seen, own_bytes-seen, own_comments-seen, own_bid-seen}
+use Rattle.cr_policy.proofs.StandingLaws.{seat-seen}
 use Rattle.cr_policy.proofs.ReviewerTells.{invited-seen_by_chair, seat-seen_by_chair, labels-seen}
 use Rattle.cr_policy.proofs.ReviewTells.{own_forms-seen}
-use Rattle.cr_policy.proofs.PageTells.{title-seen, abstract-seen, authors-seen, uploads-seen_by_author, uploads-seen, withdrawn-seen}
+use Rattle.cr_policy.proofs.PageTells.{title-seen, abstract-seen, authors-seen, uploads-seen_by_author, uploads-seen}
+use Rattle.cr_policy.proofs.PageTells.{withdrawn-seen}
 
 -- the facts of any user's view are those of the tables
-pub facts_in_view-tables : (u : Option ℕ) (H : History) → AreTold H → AreFormsTold H → facts_in_view u (view u H) ≡ facts_of_tables (tables_of H) u
+pub facts_in_view-tables : (u : Option ℕ) (H : History) → AreTold H → AreFormsTold H
+    → facts_in_view u (view u H) ≡ facts_of_tables (tables_of H) u
 facts_in_view-tables u H told forms =
     let accounts = accounts-seen u H ∙ told.accounts in
     let papers = papers-seen u H ∙ told.papers in
@@ -58,15 +64,18 @@ module _ (u : Option ℕ) (H : History) (told : AreTold H) (p : ℕ) where
   accepted = is_accepted_in (tables_of H) p
 
   -- what goes by both goes by what the history tells of both
-  pub by_history : (tells : Standing → Bool → Bool) → tells by accepted ≡ true → tells (standing_of u (Some p) H) (is_accepted p H) ≡ true
+  pub by_history : (tells : Standing → Bool → Bool) → tells by accepted ≡ true
+      → tells (standing_of u (Some p) H) (is_accepted p H) ≡ true
   by_history tells may =
-      ap (λ (s : Standing). tells s (is_accepted p H)) (told.standing u (Some p)) ∙ ap (λ (b : Bool). tells by b) (told.accepted p) ∙ may
+      ap (λ (s : Standing). tells s (is_accepted p H)) (told.standing u (Some p))
+      ∙ ap (λ (b : Bool). tells by b) (told.accepted p) ∙ may
 
   -- the paper's texts, as the view of one who is told shows them
   pub title-tables : gets_title by accepted ≡ true → title_in_view p (view u H) ≡ title_at (tables_of H).papers p
   title-tables may = title-seen u p H (by_history gets_title may) ∙ told.title p
 
-  pub abstract-tables : gets_abstract by accepted ≡ true → abstract_in_view p (view u H) ≡ abstract_at (tables_of H).papers p
+  pub abstract-tables : gets_abstract by accepted ≡ true
+      → abstract_in_view p (view u H) ≡ abstract_at (tables_of H).papers p
   abstract-tables may = abstract-seen u p H (by_history gets_abstract may) ∙ told.abstract_ p
 
   -- who wrote it
@@ -74,26 +83,34 @@ module _ (u : Option ℕ) (H : History) (told : AreTold H) (p : ℕ) where
   authors-tables may = authors-seen u p H (by_history shows_author may) ∙ told.authors p
 
   -- what was decided of it
-  pub decision-tables : gets_decision by false ≡ true → decision_in_view p (view u H) ≡ decision_in (tables_of H).decisions p
-  decision-tables may = decision-seen u p H (ap (λ (s : Standing). gets_decision s false) (told.standing u (Some p)) ∙ may) ∙ told.decision p
+  pub decision-tables : gets_decision by false ≡ true
+      → decision_in_view p (view u H) ≡ decision_in (tables_of H).decisions p
+  decision-tables may =
+      decision-seen u p H (ap (λ (s : Standing). gets_decision s false) (told.standing u (Some p)) ∙ may)
+      ∙ told.decision p
 
   -- that it is accepted everyone is told
   pub decision_by-tables : gets_decision by accepted ≡ true
-      → decision_by (facts_of_tables (tables_of H) u) (shown_in_view u (view u H)) p ≡ decision_by (facts_of_tables (tables_of H) u) (shown_in_tables (tables_of H)) p
+      → decision_by (facts_of_tables (tables_of H) u) (shown_in_view u (view u H)) p
+      ≡ decision_by (facts_of_tables (tables_of H) u) (shown_in_tables (tables_of H)) p
   decision_by-tables may = of accepted may
     where
       of : (b : Bool) → gets_decision by b ≡ true
-          → (if b then Some Accept else decision_in_view p (view u H)) ≡ (if b then Some Accept else decision_in (tables_of H).decisions p)
+          → (if b then Some Accept else decision_in_view p (view u H))
+          ≡ (if b then Some Accept else decision_in (tables_of H).decisions p)
       of true may = refl
       of false may = decision-tables may
 
   -- whether it is withdrawn
-  pub withdrawn-tables : gets_withdrawn by ≡ true → is_withdrawn_in_view p (view u H) ≡ is_withdrawn_at (tables_of H).papers p
+  pub withdrawn-tables : gets_withdrawn by ≡ true
+      → is_withdrawn_in_view p (view u H) ≡ is_withdrawn_at (tables_of H).papers p
   withdrawn-tables may = withdrawn-seen u p H (ap gets_withdrawn (told.standing u (Some p)) ∙ may) ∙ told.withdrawn p
 
   -- what was uploaded to it, as the view of an author shows it
   pub own_uploads-tables : by.author ≡ true → uploads_in_view p (view u H) ≡ uploads_at (tables_of H).papers p
-  own_uploads-tables author = uploads-seen_by_author u p H (ap (λ (s : Standing). s.author) (told.standing u (Some p)) ∙ author) ∙ told.uploads p
+  own_uploads-tables author =
+      uploads-seen_by_author u p H (ap (λ (s : Standing). s.author) (told.standing u (Some p)) ∙ author)
+      ∙ told.uploads p
 
   -- and as far as any reader is told of it
   pub uploads-tables : gets_versions by accepted ≡ true → uploads_told by.author (uploads_in_view p (view u H))
@@ -108,12 +125,15 @@ module _ (u : Option ℕ) (H : History) (told : AreTold H) (p : ℕ) where
   -- ---- what a clear chair is told from the bidding on
 
   -- the seat of any user
-  pub seat-tables : gets_conflicts by ≡ true → (v : Option ℕ) → ordinal_in_view v p (view u H) ≡ ordinal_in (tables_of H).seats v p
+  pub seat-tables : gets_conflicts by ≡ true → (v : Option ℕ)
+      → ordinal_in_view v p (view u H) ≡ ordinal_in (tables_of H).seats v p
   seat-tables may v = seat-seen_by_chair u v p H (ap gets_conflicts (told.standing u (Some p)) ∙ may) ∙ told.ordinal v p
 
   -- whether she is invited
-  pub invited-tables : gets_conflicts by ≡ true → (v : Option ℕ) → is_invited_in_view v p (view u H) ≡ is_invited_in (tables_of H).invites v p
-  invited-tables may v = invited-seen_by_chair u v p H (ap gets_conflicts (told.standing u (Some p)) ∙ may) ∙ told.invited v p
+  pub invited-tables : gets_conflicts by ≡ true → (v : Option ℕ)
+      → is_invited_in_view v p (view u H) ≡ is_invited_in (tables_of H).invites v p
+  invited-tables may v =
+      invited-seen_by_chair u v p H (ap gets_conflicts (told.standing u (Some p)) ∙ may) ∙ told.invited v p
 
   -- and how many labels were given
   pub labels-tables : gets_conflicts by ≡ true → length (seats_in_view p (view u H)) ≡ labels_in (tables_of H).seats p

@@ -1,16 +1,19 @@
 -- Which rule is told in each case of the small conference: by computing.
 use Rattle.std.proofs.Common.{true, [], ◌∷◌, refl, arith, Some}
 use Rattle.std.specs.Prelude.{codes}
-use Rattle.cr_base.specs.declared.command.Command.TheVariants.{Name, Dismiss, SetConflict, SetDeadline, SetPhase, Invite}
+use Rattle.cr_base.specs.declared.command.Command.TheVariants.{Name, Dismiss, SetConflict, SetDeadline, SetPhase}
+use Rattle.cr_base.specs.declared.command.Command.TheVariants.{Invite}
 use Rattle.cr_base.specs.declared.words.Mode.TheVariants.{Blind}
 use Rattle.cr_base.specs.declared.words.Phase.TheVariants.{Submission, Bidding, Response, Discussion}
 use Rattle.cr_base.specs.declared.words.Role.TheVariants.{Chair}
 use Rattle.cr_base.specs.Bulk.{row_command}
 use Rattle.cr_base.specs.Deadlines.{IsDeadline}
 use Rattle.cr_policy.specs.Conference.{alice, dave, Digests, AreDigests, Asides, AreAsides}
-use Rattle.cr_policy.specs.FirstTold.{submission, bidding, reviewing, discussion, gus_a_chair, dave_in_conflict, erin_in_conflict, carol_dismissed}
-use Rattle.cr_policy.specs.FirstTold.{responding, submission_due, bidding_due, response_due, discussion_due, AreStagesLegal, FirstTold}
-use Rattle.cr_policy.specs.FirstTold.{OfTheConference, OfPapers, OfConflicts, OfReviewers, OfExternals, OfTheDiscussion, OfTheResponse, OfQueries, OfBulks}
+use Rattle.cr_policy.specs.FirstTold.{submission, bidding, reviewing, discussion, gus_a_chair, dave_in_conflict}
+use Rattle.cr_policy.specs.FirstTold.{erin_in_conflict, carol_dismissed, responding, submission_due, bidding_due}
+use Rattle.cr_policy.specs.FirstTold.{response_due, discussion_due, AreStagesLegal, FirstTold, OfTheConference}
+use Rattle.cr_policy.specs.FirstTold.{OfPapers, OfConflicts, OfReviewers, OfExternals, OfTheDiscussion, OfTheResponse}
+use Rattle.cr_policy.specs.FirstTold.{OfQueries, OfBulks}
 use Rattle.cr_policy.specs.Witness.{morning}
 use Rattle.cr_policy.proofs.ConferenceProofs.{conference-legal, goes_on, by}
 
@@ -26,27 +29,36 @@ stages-legal d a digests asides =
       reviewing = legal.reviewed.reviewing.legal;
       discussion = legal.reviewed.discussion.legal;
       notification = legal.reviewed.notification.legal;
-      gus_a_chair = goes_on (bidding d a) (gus_a_chair d a) (by alice (Name (Some (codes "gus")) Chair) refl ∷ []) refl legal.reviewed.bidding.legal;
+      gus_a_chair = goes_on (bidding d a) (gus_a_chair d a) (by alice (Name (Some (codes "gus")) Chair) refl ∷ []) refl
+          legal.reviewed.bidding.legal;
       dave_in_conflict =
-          goes_on (bidding d a) (dave_in_conflict d a) (by dave (SetConflict (Some 1) (Some (codes "dave")) true) tt ∷ []) refl legal.reviewed.bidding.legal;
+          goes_on (bidding d a) (dave_in_conflict d a)
+          (by dave (SetConflict (Some 1) (Some (codes "dave")) true) tt ∷ []) refl legal.reviewed.bidding.legal;
       erin_in_conflict =
           goes_on (bidding d a) (erin_in_conflict d a)
-          (by alice (Invite (Some 1) (Some (codes "erin"))) tt ∷ by alice (SetConflict (Some 1) (Some (codes "erin")) true) tt ∷ [])
+          (by alice (Invite (Some 1) (Some (codes "erin"))) tt
+          ∷ by alice (SetConflict (Some 1) (Some (codes "erin")) true) tt ∷ [])
           refl legal.reviewed.bidding.legal;
       carol_dismissed =
-          goes_on (bidding d a) (carol_dismissed d a) (by alice (Dismiss (Some (codes "carol"))) tt ∷ []) refl legal.reviewed.bidding.legal;
+          goes_on (bidding d a) (carol_dismissed d a) (by alice (Dismiss (Some (codes "carol"))) tt ∷ []) refl
+          legal.reviewed.bidding.legal;
       responding =
-          goes_on (reviewing d a) (responding d a) (by alice (SetPhase Response) tt ∷ []) refl legal.reviewed.reviewing.legal;
+          goes_on (reviewing d a) (responding d a) (by alice (SetPhase Response) tt ∷ []) refl
+          legal.reviewed.reviewing.legal;
       submission_due =
-          goes_on (submission d a) (submission_due d a) (by alice (SetDeadline Submission (Some morning)) (refl, in_range) ∷ []) refl legal.before.legal;
+          goes_on (submission d a) (submission_due d a)
+          (by alice (SetDeadline Submission (Some morning)) (refl, in_range) ∷ []) refl legal.before.legal;
       bidding_due =
-          goes_on (bidding d a) (bidding_due d a) (by alice (SetDeadline Bidding (Some morning)) (refl, in_range) ∷ []) refl legal.reviewed.bidding.legal;
+          goes_on (bidding d a) (bidding_due d a) (by alice (SetDeadline Bidding (Some morning)) (refl, in_range) ∷ [])
+          refl legal.reviewed.bidding.legal;
       response_due =
           goes_on (reviewing d a) (response_due d a)
           (by alice (SetPhase Response) tt ∷ by alice (SetDeadline Response (Some morning)) (refl, in_range) ∷ [])
           refl legal.reviewed.reviewing.legal;
       discussion_due =
-          goes_on (discussion d a) (discussion_due d a) (by alice (SetDeadline Discussion (Some morning)) (refl, in_range) ∷ []) refl legal.reviewed.discussion.legal;
+          goes_on (discussion d a) (discussion_due d a)
+          (by alice (SetDeadline Discussion (Some morning)) (refl, in_range) ∷ []) refl
+          legal.reviewed.discussion.legal;
     }
 
 conference-told : (d : Digests) (a : Asides) → OfTheConference d a

@@ -1,5 +1,7 @@
--- When the conditions hold of a pair of histories that differ in some entries between others, and what makes such a pair.
-use Rattle.std.proofs.Common.{◌≡◌, ℕ, Bool, true, false, not, List, [], ◌∷◌, ◌++◌, refl, sym, ap, subst, ◌∙◌, Option, Some, append_assoc, append-nil}
+-- When the conditions hold of a pair of histories that differ in some entries between others, and what makes such a
+-- pair.
+use Rattle.std.proofs.Common.{◌≡◌, ℕ, Bool, true, false, not, List, [], ◌∷◌, ◌++◌, refl, sym, ap, subst, ◌∙◌, Option}
+use Rattle.std.proofs.Common.{Some, append_assoc, append-nil}
 use Rattle.std.specs.List.{list_any}
 use Rattle.std.proofs.lemmas.Bool.{true≢false}
 use Rattle.cr_base.specs.declared.entry.Entry.{Entry}
@@ -9,7 +11,8 @@ use Rattle.cr_base.specs.Lists.{is_number}
 use Rattle.cr_base.specs.History.{History}
 use Rattle.cr_base.specs.HistoryFacts.{authors_of, is_author, is_accepted}
 use Rattle.cr_policy.specs.HiddenPairs.{IsPair}
-use Rattle.cr_policy.specs.HiddenPayload.{all_of, Outline, outline, PlaceByPlace, shown_of, IsHiddenFrom, IsDeclaredAlike, AcceptedAlike, DiffersHidden}
+use Rattle.cr_policy.specs.HiddenPayload.{all_of, Outline, outline, PlaceByPlace, shown_of, IsHiddenFrom}
+use Rattle.cr_policy.specs.HiddenPayload.{IsDeclaredAlike, AcceptedAlike, DiffersHidden}
 use Rattle.cr_policy.specs.Legal.{Legal}
 use Rattle.cr_policy.specs.Sighting.{Sighting}
 use Rattle.cr_policy.specs.Triggers.{reader, Around}
@@ -32,8 +35,10 @@ module _ (Holds : Around → Stamped → Stamped → Type 0) (itself : (at : Aro
   places-behind before [] rest other h = subst (λ (b : History). PlaceByPlace Holds b rest other) (append-nil before) h
   places-behind before (e ∷ front) rest other h =
       let behind : PlaceByPlace Holds ((before ++ e ∷ []) ++ front) rest other =
-      subst (λ (b : History). PlaceByPlace Holds b rest other) (sym (append_assoc before (e ∷ []) front)) h in
-      (itself (record { before = before; after = front ++ rest }) e, places-behind (before ++ e ∷ []) front rest other behind)
+      subst (λ (b : History). PlaceByPlace Holds b rest other) (sym (append_assoc before (e ∷ []) front)) h in (
+        itself (record { before = before; after = front ++ rest }) e,
+        places-behind (before ++ e ∷ []) front rest other behind,
+      )
 
 -- where the user's papers have the same authors, a conflict that the same user declares is made alike
 abbrev pub AuthorsAlike : Option ℕ → History → History → Type 0
@@ -41,8 +46,9 @@ AuthorsAlike u H H' = (p : ℕ) → is_author u p H ≡ true → authors_of p H 
 
 -- ---- some entries between others
 
--- what the conditions ask of an entry where it stands: its outline, what the reader is shown of its parts by the rows for the first's, whether
--- she made it and whether it names her, and, of a conflict, whether one of the paper's authors made it
+-- what the conditions ask of an entry where it stands: its outline, what the reader is shown of its parts by the rows
+-- for the first's, whether she made it and whether it names her, and, of a conflict, whether one of the paper's
+-- authors made it
 pub record Face : Type 0 where
   pub outline : Outline
   pub shown : Sighting
@@ -62,7 +68,8 @@ module _ (u : Option ℕ) (H H' : History) where
     declared : IsDeclaredAlike u H H' e.entry e.stamp.maker other.stamp.maker
 
   alike-itself : AuthorsAlike u H H' → (at : Around) (e : Stamped) → AlikeAt at e e
-  alike-itself authors at e = record { alike = refl; hidden = record { parts = refl; maker = refl; user = refl }; declared = of e.entry }
+  alike-itself authors at e =
+      record { alike = refl; hidden = record { parts = refl; maker = refl; user = refl }; declared = of e.entry }
     where
       of : (entry : Entry) → IsDeclaredAlike u H H' entry e.stamp.maker e.stamp.maker
       of (Conflict paper user on) = λ hers. ap (list_any (is_number (Some e.stamp.maker))) (authors paper hers)
@@ -85,11 +92,16 @@ module _ (u : Option ℕ) (H H' : History) where
   looks-alike : (at : Around) (e other : Stamped) → LooksAlike at e other → AlikeAt at e other
   looks-alike at e other same = record {
     alike = ap (λ (f : Face). f.outline) same;
-    hidden = record { parts = ap (λ (f : Face). f.shown) same; maker = ap (λ (f : Face). f.mine) same; user = ap (λ (f : Face). f.named) same };
+    hidden = record {
+      parts = ap (λ (f : Face). f.shown) same;
+      maker = ap (λ (f : Face). f.mine) same;
+      user = ap (λ (f : Face). f.named) same;
+    };
     declared = of e.entry (ap (λ (f : Face). f.declared) same);
   }
     where
-      of : (entry : Entry) → by_author entry e.stamp.maker H ≡ by_author entry other.stamp.maker H' → IsDeclaredAlike u H H' entry e.stamp.maker other.stamp.maker
+      of : (entry : Entry) → by_author entry e.stamp.maker H ≡ by_author entry other.stamp.maker H'
+          → IsDeclaredAlike u H H' entry e.stamp.maker other.stamp.maker
       of (Conflict paper user on) is = λ hers. is
       of entry is = tt
 
@@ -97,7 +109,8 @@ module _ (u : Option ℕ) (H H' : History) where
   abbrev pub AlikeBetween : (before these those after : History) → Type 0
   AlikeBetween before [] [] after = Unit {0}
   AlikeBetween before (e ∷ these) (other ∷ those) after =
-      LooksAlike (record { before = before; after = these ++ after }) e other × AlikeBetween (before ++ e ∷ []) these those after
+      LooksAlike (record { before = before; after = these ++ after }) e other
+      × AlikeBetween (before ++ e ∷ []) these those after
   AlikeBetween before _ _ after = ⊥
 
   module _ (authors : AuthorsAlike u H H') where
@@ -106,8 +119,10 @@ module _ (u : Option ℕ) (H H' : History) where
     from-between before [] [] after alike = places-same AlikeAt (alike-itself authors) before after
     from-between before [] (other ∷ those) after alike = absurd alike
     from-between before (e ∷ these) [] after alike = absurd alike
-    from-between before (e ∷ these) (other ∷ those) after alike =
-        (looks-alike (record { before = before; after = these ++ after }) e other alike.0, from-between (before ++ e ∷ []) these those after alike.1)
+    from-between before (e ∷ these) (other ∷ those) after alike = (
+      looks-alike (record { before = before; after = these ++ after }) e other alike.0,
+      from-between (before ++ e ∷ []) these those after alike.1,
+    )
 
 -- ---- pairs
 
@@ -132,10 +147,12 @@ differs u before these those after alike accepted authors =
     places-behind (AlikeAt u H H') (alike-itself u H H' authors) [] before (these ++ after) (those ++ after)
     (from-between u H H' authors before these those after alike) in
     record {
-      alike = places-so (AlikeAt u H H') (λ at e other. outline e ≡ outline other) (λ at e other here. here.alike) [] H H' all;
+      alike = places-so (AlikeAt u H H') (λ at e other. outline e ≡ outline other) (λ at e other here. here.alike) [] H
+          H' all;
       hidden = places-so (AlikeAt u H H') (IsHiddenFrom (reader u H)) (λ at e other here. here.hidden) [] H H' all;
       accepted = accepted;
-      declared = places-so (AlikeAt u H H') (λ at e other. IsDeclaredAlike u H H' e.entry e.stamp.maker other.stamp.maker)
+      declared =
+          places-so (AlikeAt u H H') (λ at e other. IsDeclaredAlike u H H' e.entry e.stamp.maker other.stamp.maker)
           (λ at e other here. here.declared) [] H H' all;
     }
 
@@ -167,7 +184,8 @@ pub record Papers : Type 0 where
 abbrev pub papers : History → Papers
 papers H = record { accepted = λ p. is_accepted p H; authors = λ p. authors_of p H }
 
--- where neither hangs on what differs: the turns that lead to each from a legal history, and a test that tells the two views apart
+-- where neither hangs on what differs: the turns that lead to each from a legal history, and a test that tells the
+-- two views apart
 pub several : {to from : ℕ} {before these those after : History}
     → Legal before → (turns turns' : List Turn) (test : View → Bool)
     → reached before turns ≡ Some (before ++ (these ++ after))
@@ -176,7 +194,8 @@ pub several : {to from : ℕ} {before these those after : History}
     → papers (before ++ (these ++ after)) ≡ papers (before ++ (those ++ after))
     → test (view (Some from) (before ++ (these ++ after))) ≡ not (test (view (Some from) (before ++ (those ++ after))))
     → IsPair to from before these those after
-several {from = from} {before = before} {these = these} {those = those} {after = after} legal turns turns' test leads leads' alike same told =
+several {from = from} {before = before} {these = these} {those = those} {after = after} legal turns turns' test leads
+    leads' alike same told =
     pair
     (goes_on before (before ++ (these ++ after)) turns leads legal)
     (goes_on before (before ++ (those ++ after)) turns' leads' legal)
@@ -190,7 +209,8 @@ pub once : {to from : ℕ} {before after : History} {one other : Stamped}
     → Legal before → (turn turn' : Turn) (rest : List Turn) (test : View → Bool)
     → reached before (turn ∷ rest) ≡ Some (before ++ one ∷ after)
     → reached before (turn' ∷ rest) ≡ Some (before ++ other ∷ after)
-    → LooksAlike (Some to) (before ++ one ∷ after) (before ++ other ∷ after) (record { before = before; after = after }) one other
+    → LooksAlike (Some to) (before ++ one ∷ after) (before ++ other ∷ after) (record { before = before; after = after })
+    one other
     → papers (before ++ one ∷ after) ≡ papers (before ++ other ∷ after)
     → test (view (Some from) (before ++ one ∷ after)) ≡ not (test (view (Some from) (before ++ other ∷ after)))
     → IsPair to from before (one ∷ []) (other ∷ []) after

@@ -1,13 +1,15 @@
--- The pairs of histories, each a legal one beside its twin: of each pair the turns that lead to the two, and a test that tells them apart.
--- All else is computed.
-use Rattle.std.proofs.Common.{◌≡◌, ℕ, Bool, true, false, List, [], ◌∷◌, ◌++◌, refl, sym, ap, ◌∙◌, ◌&&◌, ◌+◌, Option, Some, map, arith}
+-- The pairs of histories, each a legal one beside its twin: of each pair the turns that lead to the two, and a test
+-- that tells them apart. All else is computed.
+use Rattle.std.proofs.Common.{◌≡◌, ℕ, Bool, true, false, List, [], ◌∷◌, ◌++◌, refl, sym, ap, ◌∙◌, ◌&&◌, ◌+◌, Option}
+use Rattle.std.proofs.Common.{Some, map, arith}
 use Rattle.std.specs.Prelude.{codes, not, ◌==◌}
 use Rattle.std.specs.List.{flat_map, list_any}
 use Rattle.std.proofs.Math.Bool.{and-false}
 use Rattle.std.proofs.lemmas.Bool.{true≢false}
-use Rattle.cr_base.specs.declared.command.Command.TheVariants.{SetPhase, Submit, Revise, Upload, Withdraw, Name, SetMode, SetConflict}
-use Rattle.cr_base.specs.declared.command.Command.TheVariants.{Bid, Assign, Unassign, Review, Comment, Tag, Decide, SetDeadline}
-use Rattle.cr_base.specs.declared.command.Command.TheVariants.{Dismiss, Invite, Uninvite, Respond}
+use Rattle.cr_base.specs.declared.command.Command.TheVariants.{SetPhase, Submit, Revise, Upload, Withdraw, Name}
+use Rattle.cr_base.specs.declared.command.Command.TheVariants.{SetMode, SetConflict, Bid, Assign, Unassign, Review}
+use Rattle.cr_base.specs.declared.command.Command.TheVariants.{Comment, Tag, Decide, SetDeadline, Dismiss, Invite}
+use Rattle.cr_base.specs.declared.command.Command.TheVariants.{Uninvite, Respond}
 use Rattle.cr_base.specs.declared.entry.Entry.TheVariants as entry
 use Rattle.cr_base.specs.declared.entry.EntryKind.{EntryKind}
 use Rattle.cr_base.specs.declared.entry.EntryKind.TheVariants as kinds
@@ -19,7 +21,8 @@ use Rattle.cr_base.specs.declared.words.Kind.TheVariants.{Primary, Secondary}
 use Rattle.cr_base.specs.declared.words.Mode.{Mode}
 use Rattle.cr_base.specs.declared.words.Mode.TheVariants.{Overt, Blind, Anonymous}
 use Rattle.cr_base.specs.declared.words.Phase.{Phase}
-use Rattle.cr_base.specs.declared.words.Phase.TheVariants.{Submission, Bidding, Reviewing, Response, Discussion, Notification}
+use Rattle.cr_base.specs.declared.words.Phase.TheVariants.{Submission, Bidding, Reviewing, Response, Discussion}
+use Rattle.cr_base.specs.declared.words.Phase.TheVariants.{Notification}
 use Rattle.cr_base.specs.declared.words.Role.TheVariants.{Member, Chair}
 use Rattle.cr_base.specs.Bounds.{IsForm}
 use Rattle.cr_base.specs.Lists.{given, listed, last_or, is_number}
@@ -27,10 +30,10 @@ use Rattle.cr_base.specs.History.{History}
 use Rattle.cr_base.specs.HistoryFacts.{is_withdrawn, decision_of}
 use Rattle.cr_base.specs.Texts.{IsCommentText}
 use Rattle.cr_base.specs.Words.{is_accept}
-use Rattle.cr_policy.specs.Conference.{alice, bob, carol, dave, fay, gus, hal, Digests, AreDigests, ◌adds◌}
-use Rattle.cr_policy.specs.Conference.{proofs, we_prove, types, we_type, fewer_proofs, we_prove_less, more_proofs, we_prove_more}
-use Rattle.cr_policy.specs.Conference.{first_version, second_version, only_version, first_form, second_form, agreed, hot}
-use Rattle.cr_policy.specs.Conference.{registered, submitted}
+use Rattle.cr_policy.specs.Conference.{alice, bob, carol, dave, fay, gus, hal, Digests, AreDigests, ◌adds◌, proofs}
+use Rattle.cr_policy.specs.Conference.{we_prove, types, we_type, fewer_proofs, we_prove_less, more_proofs}
+use Rattle.cr_policy.specs.Conference.{we_prove_more, first_version, second_version, only_version, first_form}
+use Rattle.cr_policy.specs.Conference.{second_form, agreed, hot, registered, submitted}
 use Rattle.cr_policy.specs.HiddenPairs as pairs
 use Rattle.cr_policy.specs.Legal.{Legal}
 use Rattle.cr_policy.specs.Sighting.{Sighting}
@@ -38,8 +41,9 @@ use Rattle.cr_policy.specs.View.{View}
 use Rattle.cr_policy.specs.ViewFacts.{is_kind, is_user, is_text}
 use Rattle.cr_policy.specs.ViewRetries.{shows_number}
 use Rattle.cr_policy.specs.Witness.{morning}
-use Rattle.cr_policy.proofs.ConferenceProofs.{Turn, by, by_then, by_number, goes_on, reached, registered-legal, opened-legal, submitted-legal}
-use Rattle.cr_policy.proofs.ConferenceProofs.{is_plain_title, is_plain, ascii-title, ascii-abstract, ascii-review, few-ascii, agreed-bounded, bounded-form}
+use Rattle.cr_policy.proofs.ConferenceProofs.{Turn, by, by_then, by_number, goes_on, reached, registered-legal}
+use Rattle.cr_policy.proofs.ConferenceProofs.{opened-legal, submitted-legal, is_plain_title, is_plain, ascii-title}
+use Rattle.cr_policy.proofs.ConferenceProofs.{ascii-abstract, ascii-review, few-ascii, agreed-bounded, bounded-form}
 use Rattle.cr_policy.proofs.HiddenPairLaws.{apart, pair, several, once}
 
 -- ---- tests that tell views apart
@@ -74,15 +78,19 @@ abbrev opens : Phase → ℕ → Turn
 opens phase chair = by chair (SetPhase phase) tt
 
 -- an author sends texts, whose bytes are below 128
-abbrev submits : (author : ℕ) (title abstract : List ℕ) → is_plain_title title ≡ true → is_plain 5000 abstract ≡ true → Turn
+abbrev submits : (author : ℕ) (title abstract : List ℕ) → is_plain_title title ≡ true → is_plain 5000 abstract ≡ true
+    → Turn
 submits author title abstract titled summed =
     by author (Submit title abstract []) (ascii-title title titled, ascii-abstract abstract summed, omega arith)
 
 abbrev submits_with : List ℕ → Turn
-submits_with coauthor = by bob (Submit proofs we_prove (Some coauthor ∷ [])) (ascii-title proofs refl, ascii-abstract we_prove refl, omega arith)
+submits_with coauthor = by bob (Submit proofs we_prove (Some coauthor ∷ []))
+    (ascii-title proofs refl, ascii-abstract we_prove refl, omega arith)
 
-abbrev revises : (author : ℕ) (title abstract : List ℕ) → is_plain_title title ≡ true → is_plain 5000 abstract ≡ true → Turn
-revises author title abstract titled summed = by author (Revise (Some 1) title abstract) (ascii-title title titled, ascii-abstract abstract summed)
+abbrev revises : (author : ℕ) (title abstract : List ℕ) → is_plain_title title ≡ true → is_plain 5000 abstract ≡ true
+    → Turn
+revises author title abstract titled summed =
+    by author (Revise (Some 1) title abstract) (ascii-title title titled, ascii-abstract abstract summed)
 
 abbrev declares : ℕ → List ℕ → Bool → Turn
 declares user name on = by user (SetConflict (Some 1) (Some name) on) tt
@@ -136,17 +144,20 @@ module _ (d : Digests) (are : AreDigests d) where
   submission-so mode = opened-legal d mode (registered-legal d are)
 
   chairs-so : Legal (pairs.having_chairs d)
-  chairs-so = goes_on (registered d) (pairs.having_chairs d) (by alice (Name (Some (codes "fay")) Chair) refl ∷ []) refl (registered-legal d are)
+  chairs-so = goes_on (registered d) (pairs.having_chairs d) (by alice (Name (Some (codes "fay")) Chair) refl ∷ []) refl
+      (registered-legal d are)
 
   papers-so : Legal (pairs.in_papers d)
   papers-so = submitted-legal d Blind (submission-so Blind)
 
   declared-so : Legal (pairs.declared d)
-  declared-so = goes_on (pairs.in_papers d) (pairs.declared d) (declares bob (codes "carol") true ∷ opens Bidding alice ∷ []) refl papers-so
+  declared-so = goes_on (pairs.in_papers d) (pairs.declared d)
+      (declares bob (codes "carol") true ∷ opens Bidding alice ∷ []) refl papers-so
 
   bids-so : (mode : Mode) → Legal (pairs.in_bids mode d)
   bids-so mode =
-      goes_on (submitted d mode) (pairs.in_bids mode d) (opens Bidding alice ∷ []) (leads mode) (submitted-legal d mode (submission-so mode))
+      goes_on (submitted d mode) (pairs.in_bids mode d) (opens Bidding alice ∷ []) (leads mode)
+      (submitted-legal d mode (submission-so mode))
     where
       leads : (mode : Mode) → reached (submitted d mode) (opens Bidding alice ∷ []) ≡ Some (pairs.in_bids mode d)
       leads Anonymous = refl
@@ -156,10 +167,13 @@ module _ (d : Digests) (are : AreDigests d) where
   tagged-so = goes_on (pairs.in_bids Blind d) (pairs.tagged d) (tags dave true ∷ []) refl (bids-so Blind)
 
   assigned-so : Legal (pairs.assigned d)
-  assigned-so = goes_on (pairs.in_bids Blind d) (pairs.assigned d) (assigns alice (codes "dave") Primary ∷ []) refl (bids-so Blind)
+  assigned-so =
+      goes_on (pairs.in_bids Blind d) (pairs.assigned d) (assigns alice (codes "dave") Primary ∷ []) refl
+      (bids-so Blind)
 
   invited-so : Legal (pairs.invited d)
-  invited-so = goes_on (pairs.in_bids Blind d) (pairs.invited d) (invites alice (codes "erin") ∷ []) refl (bids-so Blind)
+  invited-so =
+      goes_on (pairs.in_bids Blind d) (pairs.invited d) (invites alice (codes "erin") ∷ []) refl (bids-so Blind)
 
   reviews-so : Legal (pairs.in_reviews d)
   reviews-so = goes_on (pairs.assigned d) (pairs.in_reviews d) (opens Reviewing alice ∷ []) refl assigned-so
@@ -179,16 +193,19 @@ module _ (d : Digests) (are : AreDigests d) where
 
   past_response-so : Legal (pairs.past_response d)
   past_response-so =
-      goes_on (pairs.in_reviews d) (pairs.past_response d) (opens Response alice ∷ opens Discussion alice ∷ []) refl reviews-so
+      goes_on (pairs.in_reviews d) (pairs.past_response d) (opens Response alice ∷ opens Discussion alice ∷ []) refl
+      reviews-so
 
   response-so : Legal (pairs.awaiting_response d)
-  response-so = goes_on (pairs.in_bids Blind d) (pairs.awaiting_response d) (opens Reviewing alice ∷ opens Response alice ∷ []) refl (bids-so Blind)
+  response-so = goes_on (pairs.in_bids Blind d) (pairs.awaiting_response d)
+      (opens Reviewing alice ∷ opens Response alice ∷ []) refl (bids-so Blind)
 
 -- ---- who registers, and what the chairs set
 
 pub digest-hidden : pairs.DigestHidden
 digest-hidden d other are sized differs =
-    pair (registered-legal d are) (registered-legal (record d { ivy = other }) with_other) (refl, tt) (λ p. refl) (λ p hers. refl)
+    pair (registered-legal d are) (registered-legal (record d { ivy = other }) with_other) (refl, tt) (λ p. refl)
+    (λ p hers. refl)
     (λ same. differs (ap (λ V. last_or [] (flat_map (λ (s : Sighting). listed s.digest) V)) same))
   where
     with_other : AreDigests (record d { ivy = other })
@@ -209,27 +226,32 @@ abbrev names_erin : ℕ → Turn
 names_erin chair = by chair (Name (Some (codes "erin")) Member) refl
 
 pub namer-hidden : pairs.NamerHidden
-namer-hidden d are = once (submission-so d are Blind) (names_erin alice) (names_erin fay) [] last_mine refl refl refl refl refl
+namer-hidden d are =
+    once (submission-so d are Blind) (names_erin alice) (names_erin fay) [] last_mine refl refl refl refl refl
 
 abbrev dismisses : ℕ → Turn
 dismisses chair = by chair (Dismiss (Some (codes "dave"))) tt
 
 pub dismisser-hidden : pairs.DismisserHidden
-dismisser-hidden d are = once (submission-so d are Blind) (dismisses alice) (dismisses fay) [] last_mine refl refl refl refl refl
+dismisser-hidden d are =
+    once (submission-so d are Blind) (dismisses alice) (dismisses fay) [] last_mine refl refl refl refl refl
 
 pub mode_setter-hidden : pairs.ModeSetterHidden
 mode_setter-hidden d are =
-    once (chairs-so d are) (by alice (SetMode Anonymous) tt) (by fay (SetMode Anonymous) tt) [] last_mine refl refl refl refl refl
+    once (chairs-so d are) (by alice (SetMode Anonymous) tt) (by fay (SetMode Anonymous) tt) [] last_mine refl refl refl
+    refl refl
 
 pub phase_setter-hidden : pairs.PhaseSetterHidden
-phase_setter-hidden d are = once (papers-so d are) (opens Bidding alice) (opens Bidding fay) [] last_mine refl refl refl refl refl
+phase_setter-hidden d are =
+    once (papers-so d are) (opens Bidding alice) (opens Bidding fay) [] last_mine refl refl refl refl refl
 
 -- a deadline of the submission
 abbrev sets_deadline : ℕ → Turn
 sets_deadline chair = by chair (SetDeadline Submission (Some (morning + 60))) (refl, (omega arith, omega arith))
 
 pub deadline_setter-hidden : pairs.DeadlineSetterHidden
-deadline_setter-hidden d are = once (papers-so d are) (sets_deadline alice) (sets_deadline fay) [] last_mine refl refl refl refl refl
+deadline_setter-hidden d are =
+    once (papers-so d are) (sets_deadline alice) (sets_deadline fay) [] last_mine refl refl refl refl refl
 
 pub moment-hidden : pairs.MomentHidden
 moment-hidden d are =
@@ -257,8 +279,10 @@ abstract-hidden d are =
 pub submitter-hidden : pairs.SubmitterHidden
 submitter-hidden d are =
     pair
-    (goes_on _ _ (submits bob proofs we_prove refl refl ∷ opens Bidding alice ∷ []) refl (submission-so d are Anonymous))
-    (goes_on _ _ (submits gus proofs we_prove refl refl ∷ opens Bidding alice ∷ []) refl (submission-so d are Anonymous))
+    (goes_on _ _ (submits bob proofs we_prove refl refl ∷ opens Bidding alice ∷ []) refl
+    (submission-so d are Anonymous))
+    (goes_on _ _ (submits gus proofs we_prove refl refl ∷ opens Bidding alice ∷ []) refl
+    (submission-so d are Anonymous))
     (refl, tt) (λ p. refl) (λ p hers. absurd (true≢false (sym hers ∙ no_author (1 == p))))
     (apart (by_her kinds.Submitted bob) _ _ refl)
   where
@@ -286,18 +310,21 @@ revision-hidden d are =
 
 pub reviser-hidden : pairs.ReviserHidden
 reviser-hidden d are =
-    once (papers-so d are) (revises bob more_proofs we_prove_more refl refl) (revises gus more_proofs we_prove_more refl refl)
+    once (papers-so d are) (revises bob more_proofs we_prove_more refl refl)
+    (revises gus more_proofs we_prove_more refl refl)
     (opens Bidding alice ∷ []) (own kinds.Revised) refl refl refl refl refl
 
 pub content-hidden : pairs.ContentHidden
 content-hidden d are =
-    once (papers-so d are) (by bob (Upload (Some 1) first_version) (omega arith)) (by bob (Upload (Some 1) only_version) (omega arith))
+    once (papers-so d are) (by bob (Upload (Some 1) first_version) (omega arith))
+    (by bob (Upload (Some 1) only_version) (omega arith))
     (by bob (Upload (Some 1) second_version) (omega arith) ∷ opens Bidding alice ∷ [])
     (list_any (λ (s : Sighting). is_text first_version s.content)) refl refl refl refl refl
 
 pub uploader-hidden : pairs.UploaderHidden
 uploader-hidden d are =
-    once (papers-so d are) (by bob (Upload (Some 1) first_version) (omega arith)) (by gus (Upload (Some 1) first_version) (omega arith))
+    once (papers-so d are) (by bob (Upload (Some 1) first_version) (omega arith))
+    (by gus (Upload (Some 1) first_version) (omega arith))
     (opens Bidding alice ∷ []) (own kinds.Uploaded) refl refl refl refl refl
 
 pub withdrawer-hidden : pairs.WithdrawerHidden
@@ -309,16 +336,19 @@ withdrawer-hidden d are =
 
 pub declared-hidden : pairs.DeclaredHidden
 declared-hidden d are =
-    once (papers-so d are) (declares bob (codes "carol") true) (declares bob (codes "dave") true) (opens Bidding alice ∷ [])
+    once (papers-so d are) (declares bob (codes "carol") true) (declares bob (codes "dave") true)
+    (opens Bidding alice ∷ [])
     (names kinds.Conflict carol) refl refl refl refl refl
 
 pub switch-hidden : pairs.SwitchHidden
 switch-hidden d are =
-    once (declared-so d are) (declares alice (codes "carol") true) (declares alice (codes "carol") false) [] last_on refl refl refl refl refl
+    once (declared-so d are) (declares alice (codes "carol") true) (declares alice (codes "carol") false) [] last_on
+    refl refl refl refl refl
 
 pub declarer-hidden : pairs.DeclarerHidden
 declarer-hidden d are =
-    once (papers-so d are) (declares bob (codes "carol") true) (declares gus (codes "carol") true) [] (own kinds.Conflict) refl refl refl refl refl
+    once (papers-so d are) (declares bob (codes "carol") true) (declares gus (codes "carol") true) []
+    (own kinds.Conflict) refl refl refl refl refl
 
 -- ---- the bidding
 
@@ -336,7 +366,8 @@ pub tag-hidden : pairs.TagHidden
 tag-hidden d are = once (tagged-so d are) (tags dave true) (tags dave false) [] last_on refl refl refl refl refl
 
 pub tagger-hidden : pairs.TaggerHidden
-tagger-hidden d are = once (bids-so d are Blind) (tags dave true) (tags hal true) [] (own kinds.Tagged) refl refl refl refl refl
+tagger-hidden d are =
+    once (bids-so d are Blind) (tags dave true) (tags hal true) [] (own kinds.Tagged) refl refl refl refl refl
 
 pub assigned-hidden : pairs.AssignedHidden
 assigned-hidden d are =
@@ -369,17 +400,20 @@ unassigned-hidden d are =
 
 pub unassigner-hidden : pairs.UnassignerHidden
 unassigner-hidden d are =
-    once (assigned-so d are) (unassigns alice (codes "dave")) (unassigns fay (codes "dave")) [] (own kinds.Unassigned) refl refl refl refl refl
+    once (assigned-so d are) (unassigns alice (codes "dave")) (unassigns fay (codes "dave")) [] (own kinds.Unassigned)
+    refl refl refl refl refl
 
 -- ---- invitations
 
 pub invited-hidden : pairs.InvitedHidden
 invited-hidden d are =
-    once (bids-so d are Blind) (invites alice (codes "erin")) (invites alice (codes "bob")) [] (there kinds.Invited) refl refl refl refl refl
+    once (bids-so d are Blind) (invites alice (codes "erin")) (invites alice (codes "bob")) [] (there kinds.Invited)
+    refl refl refl refl refl
 
 pub inviter-hidden : pairs.InviterHidden
 inviter-hidden d are =
-    once (bids-so d are Blind) (invites alice (codes "erin")) (invites fay (codes "erin")) [] (own kinds.Invited) refl refl refl refl refl
+    once (bids-so d are Blind) (invites alice (codes "erin")) (invites fay (codes "erin")) [] (own kinds.Invited) refl
+    refl refl refl refl
 
 abbrev invited_and_back : List ℕ → List Turn
 invited_and_back name = invites alice name ∷ uninvites alice name ∷ []
@@ -391,12 +425,14 @@ uninvited-hidden d are =
 
 pub uninviter-hidden : pairs.UninviterHidden
 uninviter-hidden d are =
-    once (invited-so d are) (uninvites alice (codes "erin")) (uninvites fay (codes "erin")) [] (own kinds.Uninvited) refl refl refl refl refl
+    once (invited-so d are) (uninvites alice (codes "erin")) (uninvites fay (codes "erin")) [] (own kinds.Uninvited)
+    refl refl refl refl refl
 
 -- and what is hidden from who is invited
 pub seat-hidden_from_external : pairs.SeatHiddenFromExternal
 seat-hidden_from_external d are =
-    once (invited-so d are) (by alice (Assign (Some 2) (Some (codes "dave")) Primary) tt) (by alice (Assign (Some 2) (Some (codes "hal")) Primary) tt) []
+    once (invited-so d are) (by alice (Assign (Some 2) (Some (codes "dave")) Primary) tt)
+    (by alice (Assign (Some 2) (Some (codes "hal")) Primary) tt) []
     (there kinds.Assigned) refl refl refl refl refl
 
 pub bid-hidden_from_external : pairs.BidHiddenFromExternal
@@ -406,11 +442,13 @@ bid-hidden_from_external d are =
 
 pub tag-hidden_from_external : pairs.TagHiddenFromExternal
 tag-hidden_from_external d are =
-    once (invited-so d are) (by dave (Tag (Some 2) hot true) refl) (by dave (Tag (Some 2) hot false) refl) [] last_on refl refl refl refl refl
+    once (invited-so d are) (by dave (Tag (Some 2) hot true) refl) (by dave (Tag (Some 2) hot false) refl) [] last_on
+    refl refl refl refl refl
 
 pub comment-hidden_from_external : pairs.CommentHiddenFromExternal
 comment-hidden_from_external d are =
-    once (invited_to_talk-so d are) (by dave (Comment (Some 2) agreed) agreed-bounded) (by carol (Comment (Some 2) we_prove) prove-commented) []
+    once (invited_to_talk-so d are) (by dave (Comment (Some 2) agreed) agreed-bounded)
+    (by carol (Comment (Some 2) we_prove) prove-commented) []
     (list_any (λ (s : Sighting). is_text agreed s.text)) refl refl refl refl refl
 
 -- ---- reviews
@@ -421,11 +459,13 @@ scores_2 V = list_any (λ (s : Sighting). is_number s.score 2) V
 
 pub form-hidden : pairs.FormHidden
 form-hidden d are =
-    once (reviews-so d are) (reviews dave first_form first-bounded) (reviews dave second_form second-bounded) [] scores_2 refl refl refl refl refl
+    once (reviews-so d are) (reviews dave first_form first-bounded) (reviews dave second_form second-bounded) []
+    scores_2 refl refl refl refl refl
 
 pub form-hidden_from_members : pairs.FormHiddenFromMembers
 form-hidden_from_members d are =
-    once (reviews-so d are) (reviews dave first_form first-bounded) (reviews dave second_form second-bounded) [] scores_2 refl refl refl refl refl
+    once (reviews-so d are) (reviews dave first_form first-bounded) (reviews dave second_form second-bounded) []
+    scores_2 refl refl refl refl refl
 
 pub to_pc-hidden : pairs.ToPcHidden
 to_pc-hidden d are =
@@ -444,37 +484,44 @@ reviewed member mode next d = pairs.in_bids mode d ++ (pairs.reviewed_by member 
 
 pub reviewer-hidden : pairs.ReviewerHidden
 reviewer-hidden d are =
-    pair (so dave (codes "dave") refl) (so hal (codes "hal") refl) (refl, (refl, (refl, tt))) (λ p. refl) (λ p hers. refl)
+    pair (so dave (codes "dave") refl) (so hal (codes "hal") refl) (refl, (refl, (refl, tt))) (λ p. refl)
+    (λ p hers. refl)
     (apart (names kinds.Assigned dave) _ _ refl)
   where
     so : (member : ℕ) (name : List ℕ)
-        → reached (pairs.in_bids Anonymous d) (gives_form member name Discussion) ≡ Some (reviewed member Anonymous Discussion d)
+        → reached (pairs.in_bids Anonymous d) (gives_form member name Discussion)
+        ≡ Some (reviewed member Anonymous Discussion d)
         → Legal (reviewed member Anonymous Discussion d)
     so member name leads =
-        goes_on (pairs.in_bids Anonymous d) (reviewed member Anonymous Discussion d) (gives_form member name Discussion) leads
+        goes_on (pairs.in_bids Anonymous d) (reviewed member Anonymous Discussion d) (gives_form member name Discussion)
+        leads
         (bids-so d are Anonymous)
 
 -- ---- the response
 
 pub early_to_pc-hidden : pairs.EarlyToPcHidden
 early_to_pc-hidden d are =
-    once (reviews-so d are) (reviews dave first_form first-bounded) (reviews dave pairs.other_to_pc other-bounded) (opens Response alice ∷ [])
+    once (reviews-so d are) (reviews dave first_form first-bounded) (reviews dave pairs.other_to_pc other-bounded)
+    (opens Response alice ∷ [])
     (list_any (λ (s : Sighting). is_text first_form.to_pc s.to_pc)) refl refl refl refl refl
 
 pub early_reviewer-hidden : pairs.EarlyReviewerHidden
 early_reviewer-hidden d are =
-    pair (so dave (codes "dave") refl) (so hal (codes "hal") refl) (refl, (refl, (refl, tt))) (λ p. refl) (λ p hers. refl)
+    pair (so dave (codes "dave") refl) (so hal (codes "hal") refl) (refl, (refl, (refl, tt))) (λ p. refl)
+    (λ p hers. refl)
     (apart (names kinds.Assigned dave) _ _ refl)
   where
     so : (member : ℕ) (name : List ℕ)
         → reached (pairs.in_bids Overt d) (gives_form member name Response) ≡ Some (reviewed member Overt Response d)
         → Legal (reviewed member Overt Response d)
     so member name leads =
-        goes_on (pairs.in_bids Overt d) (reviewed member Overt Response d) (gives_form member name Response) leads (bids-so d are Overt)
+        goes_on (pairs.in_bids Overt d) (reviewed member Overt Response d) (gives_form member name Response) leads
+        (bids-so d are Overt)
 
 pub late_form-hidden : pairs.LateFormHidden
 late_form-hidden d are =
-    once (past_response-so d are) (reviews dave first_form first-bounded) (reviews dave second_form second-bounded) [] scores_2
+    once (past_response-so d are) (reviews dave first_form first-bounded) (reviews dave second_form second-bounded) []
+    scores_2
     refl refl refl refl refl
 
 pub response-hidden : pairs.ResponseHidden
@@ -484,12 +531,14 @@ response-hidden d are =
 
 pub response-hidden_from_accounts : pairs.ResponseHiddenFromAccounts
 response-hidden_from_accounts d are =
-    once (response-so d are) (responds bob) (by bob (Respond (Some 1) we_prove) prove-commented) (opens Discussion alice ∷ [])
+    once (response-so d are) (responds bob) (by bob (Respond (Some 1) we_prove) prove-commented)
+    (opens Discussion alice ∷ [])
     (list_any (λ (s : Sighting). is_text agreed s.text)) refl refl refl refl refl
 
 pub responder-hidden : pairs.ResponderHidden
 responder-hidden d are =
-    once (response-so d are) (responds bob) (responds gus) (opens Discussion alice ∷ []) (own kinds.Responded) refl refl refl refl refl
+    once (response-so d are) (responds bob) (responds gus) (opens Discussion alice ∷ []) (own kinds.Responded) refl refl
+    refl refl refl
 
 -- ---- the discussion
 
@@ -499,7 +548,8 @@ comment-hidden d are =
     (list_any (λ (s : Sighting). is_text agreed s.text)) refl refl refl refl refl
 
 pub writer-hidden : pairs.WriterHidden
-writer-hidden d are = once (talk-so d are Anonymous) (agrees carol) (agrees dave) [] (by_her kinds.Commented carol) refl refl refl refl refl
+writer-hidden d are = once (talk-so d are Anonymous) (agrees carol) (agrees dave) [] (by_her kinds.Commented carol) refl
+    refl refl refl refl
 
 -- paper 1 is decided so
 abbrev decided : Decision → Digests → History
@@ -510,19 +560,23 @@ is_chosen p H = is_accept (decision_of p H) && not (is_withdrawn p H)
 
 pub decision-hidden : pairs.DecisionHidden
 decision-hidden d are =
-    pair (so Accept refl) (so Reject refl) (refl, tt) (λ p. early p (decided Accept d) (decided Reject d)) (λ p hers. refl)
+    pair (so Accept refl) (so Reject refl) (refl, tt) (λ p. early p (decided Accept d) (decided Reject d))
+    (λ p hers. refl)
     (apart (list_any (λ (s : Sighting). is_accept s.decision)) _ _ refl)
   where
-    so : (decision : Decision) → reached (pairs.in_talk Blind d) (decides alice decision ∷ []) ≡ Some (decided decision d)
+    so : (decision : Decision) → reached (pairs.in_talk Blind d) (decides alice decision ∷ [])
+        ≡ Some (decided decision d)
         → Legal (decided decision d)
-    so decision leads = goes_on (pairs.in_talk Blind d) (decided decision d) (decides alice decision ∷ []) leads (talk-so d are Blind)
+    so decision leads =
+        goes_on (pairs.in_talk Blind d) (decided decision d) (decides alice decision ∷ []) leads (talk-so d are Blind)
 
     -- no paper is accepted before the notification
     early : (p : ℕ) (H H' : History) → (is_chosen p H && false) ≡ (is_chosen p H' && false)
     early p H H' = and-false (is_chosen p H) ∙ sym (and-false (is_chosen p H'))
 
 pub decider-hidden : pairs.DeciderHidden
-decider-hidden d are = once (talk-so d are Blind) (decides alice Accept) (decides fay Accept) [] (own kinds.Decided) refl refl refl refl refl
+decider-hidden d are = once (talk-so d are Blind) (decides alice Accept) (decides fay Accept) [] (own kinds.Decided)
+    refl refl refl refl refl
 
 -- ---- what may be taken out
 
@@ -541,7 +595,8 @@ comment-removable d are = record {
 
 pub version-removable : pairs.VersionRemovable
 version-removable d are = record {
-  legal = goes_on (pairs.uploaded_once d) _ (by bob (Upload (Some 1) second_version) (omega arith) ∷ opens Bidding alice ∷ []) refl first;
+  legal = goes_on (pairs.uploaded_once d) _
+      (by bob (Upload (Some 1) second_version) (omega arith) ∷ opens Bidding alice ∷ []) refl first;
   other = goes_on (pairs.uploaded_once d) _ (opens Bidding alice ∷ []) refl first;
   unseen = refl;
   accepted = λ p. refl;
@@ -551,4 +606,5 @@ version-removable d are = record {
   where
     first : Legal (pairs.uploaded_once d)
     first = goes_on (pairs.in_papers d) (pairs.uploaded_once d)
-        (declares bob (codes "carol") true ∷ by bob (Upload (Some 1) first_version) (omega arith) ∷ []) refl (papers-so d are)
+        (declares bob (codes "carol") true ∷ by bob (Upload (Some 1) first_version) (omega arith) ∷ []) refl
+        (papers-so d are)

@@ -1,5 +1,6 @@
 -- A bulk is accepted exactly where its caller may send it, and may do each of its rows in its turn.
-use Rattle.std.proofs.Common.{ℕ, Bool, true, false, cond, ◌≡◌, ◌+◌, List, [], ◌∷◌, ◌++◌, eqb, refl, sym, ap, subst, ◌∙◌, ◌||◌, ◌&&◌, arith, Option, Some, None, Result, Ok, Err}
+use Rattle.std.proofs.Common.{ℕ, Bool, true, false, cond, ◌≡◌, ◌+◌, List, [], ◌∷◌, ◌++◌, eqb, refl, sym, ap, subst, ◌∙◌}
+use Rattle.std.proofs.Common.{◌||◌, ◌&&◌, arith, Option, Some, None, Result, Ok, Err}
 use Rattle.std.specs.Prelude.{not, map, is_ok, length}
 use Rattle.std.specs.Str.{bytes_eq}
 use Rattle.cr_base.specs.declared.bulk.Broken.{Broken}
@@ -14,8 +15,8 @@ use Rattle.std.proofs.lemmas.Bool.{true≢false}
 use Rattle.std.specs.Prelude.{codes}
 use Rattle.cr_base.specs.declared.words.Kind.TheVariants.{Primary, Secondary, Pc}
 use Rattle.cr_base.specs.Parse.{parse_paper}
-use Rattle.cr_base.specs.Bulk.{assigns, unassigns, turns_conflict, turns_tag}
-use Rattle.cr_base.specs.Bulk.{Action, command_told_by, row_command, turns_own_conflict, row_told_judged, entries_of, and_rows, and_behind, rows_judged}
+use Rattle.cr_base.specs.Bulk.{assigns, unassigns, turns_conflict, turns_tag, Action, command_told_by, row_command}
+use Rattle.cr_base.specs.Bulk.{turns_own_conflict, row_told_judged, entries_of, and_rows, and_behind, rows_judged}
 use Rattle.cr_base.specs.Bulk.{bulk_checks, bulk_of_rows, bulk_behind}
 use Rattle.cr_base.specs.Checks.{judged}
 use Rattle.cr_base.specs.Calls.{BulkCall, stamp_by, call_by}
@@ -26,31 +27,37 @@ use Rattle.cr_base.specs.Lists.{is_number}
 use Rattle.cr_base.specs.Phases.{committee_works}
 use Rattle.cr_base.specs.Sources.{Facts, Shown}
 use Rattle.cr_base.specs.Words.{is_chair}
-use Rattle.cr_history.proofs.RuleLaws.{facts_of}
+use Rattle.cr_history.proofs.RuleFacts.{facts_of}
 use Rattle.cr_policy.specs.Added.{added}
 use Rattle.cr_policy.specs.Judge.{judge, view_basis, own_sightings, judge_bulk}
 use Rattle.cr_policy.specs.Legal.{unnumbered, Legal}
-use Rattle.cr_policy.specs.MayBulk.{RowsAsSaid, a_row, is_of_herself, may_row, with_row, may_rows, may_bulk, BulksAsSaid}
+use Rattle.cr_policy.specs.MayBulk.{RowsAsSaid, a_row, is_of_herself, may_row, with_row, may_rows, may_bulk}
+use Rattle.cr_policy.specs.MayBulk.{BulksAsSaid}
 use Rattle.cr_policy.specs.Sentences.{committee_at_work, chairs, of_some, user_named}
 use Rattle.cr_policy.specs.View.{View, view}
 use Rattle.cr_policy.specs.ViewFacts.{facts_in_view, shown_in_view}
 use Rattle.cr_policy.proofs.AddedLaws.{adds_as_said, user-same}
-use Rattle.cr_policy.proofs.BulkLaws.{row_seen, seen, IsReady, RowCalls, row-calls, row-given, RowAdds, row-adds, next, next-ready, next-seen}
+use Rattle.cr_policy.proofs.BulkLaws.{row_seen, seen, IsReady, RowCalls, row-calls, row-given, RowAdds, row-adds, next}
+use Rattle.cr_policy.proofs.BulkLaws.{next-ready, next-seen}
 use Rattle.cr_policy.proofs.FactAgreement.{facts_in_view-tables}
 use Rattle.cr_policy.proofs.KeptStamps.{ready-unnumbered, seen-unnumbered}
 use Rattle.cr_policy.proofs.LegalLaws.{Legal-accepted, legal_invariants, given-bounded}
 use Rattle.cr_policy.proofs.MayDoLaws.{permissions_as_said}
-use Rattle.cr_policy.proofs.SentenceLaws.{none_broken, judged-none_broken, chair-same, in_committee-same, facts-same, told, forms}
+use Rattle.cr_policy.proofs.SentenceLaws.{none_broken, judged-none_broken, chair-same, in_committee-same, facts-same}
+use Rattle.cr_policy.proofs.SentenceLaws.{told, forms}
 
 -- ---- what rows ask for
 
 -- a word that is none of the eight is no action
 abbrev picked : Bool → Bool → Bool → Bool → Bool → Bool → Bool → Bool → Option Action
 picked a b c d e f g h =
-    cond a (Some (assigns Primary)) (cond b (Some (assigns Secondary)) (cond c (Some (assigns Pc)) (cond d (Some unassigns)
-    (cond e (Some (turns_conflict true)) (cond f (Some (turns_conflict false)) (cond g (Some (turns_tag true)) (cond h (Some (turns_tag false)) None)))))))
+    cond a (Some (assigns Primary)) (cond b (Some (assigns Secondary))
+    (cond c (Some (assigns Pc)) (cond d (Some unassigns)
+    (cond e (Some (turns_conflict true)) (cond f (Some (turns_conflict false))
+    (cond g (Some (turns_tag true)) (cond h (Some (turns_tag false)) None)))))))
 
-no-action : (a b c d e f g h : Bool) → (a || (b || (c || (d || (e || (f || (g || (h || false)))))))) ≡ false → picked a b c d e f g h ≡ None
+no-action : (a b c d e f g h : Bool) → (a || (b || (c || (d || (e || (f || (g || (h || false)))))))) ≡ false
+    → picked a b c d e f g h ≡ None
 no-action true b c d e f g h any = absurd (true≢false any)
 no-action false true c d e f g h any = absurd (true≢false any)
 no-action false false true d e f g h any = absurd (true≢false any)
@@ -73,11 +80,14 @@ rows_as_said = record {
   tag = λ p u t is. ap (λ (b : Bool). cond b (Ok (commands.Tag (parse_paper p) t true)) (Err rules.BadTag)) is;
   cleartag = λ p u t is. ap (λ (b : Bool). cond b (Ok (commands.Tag (parse_paper p) t false)) (Err rules.BadTag)) is;
   bad_tag = λ p u t is. ap (λ (b : Bool). cond b (Ok (commands.Tag (parse_paper p) t true)) (Err rules.BadTag)) is;
-  bad_cleared_tag = λ p u t is. ap (λ (b : Bool). cond b (Ok (commands.Tag (parse_paper p) t false)) (Err rules.BadTag)) is;
+  bad_cleared_tag =
+      λ p u t is. ap (λ (b : Bool). cond b (Ok (commands.Tag (parse_paper p) t false)) (Err rules.BadTag)) is;
   bad_action = λ p a u t is.
       ap (λ (action : Option Action). command_told_by action (a_row p a u t))
-      (no-action (bytes_eq a (codes "primary")) (bytes_eq a (codes "secondary")) (bytes_eq a (codes "pcreview")) (bytes_eq a (codes "clearreview"))
-      (bytes_eq a (codes "conflict")) (bytes_eq a (codes "clearconflict")) (bytes_eq a (codes "tag")) (bytes_eq a (codes "cleartag")) is);
+      (no-action (bytes_eq a (codes "primary")) (bytes_eq a (codes "secondary")) (bytes_eq a (codes "pcreview"))
+      (bytes_eq a (codes "clearreview"))
+      (bytes_eq a (codes "conflict")) (bytes_eq a (codes "clearconflict")) (bytes_eq a (codes "tag"))
+      (bytes_eq a (codes "cleartag")) is);
 }
 
 -- ---- one row
@@ -100,8 +110,10 @@ module _ (user moment : ℕ) where
   facts-seen : (H : History) → Legal H → seen_facts H ≡ facts_of u H
   facts-seen H legal = facts_in_view-tables u H (told u H legal) (forms u H legal) ∙ sym (facts-same u H legal)
 
-  herself-same : (H : History) → Legal H → (command : Command) → turns_own_conflict (facts_of u H) user command ≡ is_of_herself user H command
-  herself-same H legal (commands.SetConflict paper name on) = ap (λ (o : Option ℕ). is_number o user) (user-same u H legal name) ∙ at (user_named name H)
+  herself-same : (H : History) → Legal H → (command : Command)
+      → turns_own_conflict (facts_of u H) user command ≡ is_of_herself user H command
+  herself-same H legal (commands.SetConflict paper name on) =
+      ap (λ (o : Option ℕ). is_number o user) (user-same u H legal name) ∙ at (user_named name H)
     where
       at : (o : Option ℕ) → is_number o user ≡ of_some o (λ v. eqb v user)
       at None = refl
@@ -112,15 +124,21 @@ module _ (user moment : ℕ) where
   row-ok : (H : History) → Legal H → (row : BulkRow) → is_ok (row_seen stamp H row) ≡ may_row stamp H (row_command row)
   row-ok H legal row = by (row_command row)
     where
-      not-ok : (b : Bool) (r : Result Drawn Rule) → is_ok {T = Drawn} {E = Rule} (cond b (Err rules.BulkSelf) r) ≡ (not b && is_ok r)
+      not-ok : (b : Bool) (r : Result Drawn Rule)
+          → is_ok {T = Drawn} {E = Rule} (cond b (Err rules.BulkSelf) r) ≡ (not b && is_ok r)
       not-ok true r = refl
       not-ok false r = refl
 
-      by : (asked : Result Command Rule) → is_ok (row_told_judged (seen_facts H) (seen_shown H) stamp asked) ≡ may_row stamp H asked
+      by : (asked : Result Command Rule) → is_ok (row_told_judged (seen_facts H) (seen_shown H) stamp asked)
+          ≡ may_row stamp H asked
       by (Err rule) = refl
       by (Ok command) =
           not-ok (turns_own_conflict (seen_facts H) user command) (judge (view u H) (call_by stamp command))
-          ∙ (λ i. not ((ap (λ (facts : Facts). turns_own_conflict facts user command) (facts-seen H legal) ∙ herself-same H legal command) i)
+          ∙
+          (λ i.
+          not
+          ((ap (λ (facts : Facts). turns_own_conflict facts user command) (facts-seen H legal)
+          ∙ herself-same H legal command) i)
           && permissions_as_said H (call_by stamp command) legal i)
 
   -- ---- rows in their turn
@@ -129,7 +147,8 @@ module _ (user moment : ℕ) where
   and_rows-ok es (Ok more) = refl
   and_rows-ok es (Err refusal) = refl
 
-  rows-ok : (rows : List BulkRow) (n : ℕ) (H : History) → Legal H → IsReady stamp H → is_ok (seen stamp H n rows) ≡ may_rows stamp H rows
+  rows-ok : (rows : List BulkRow) (n : ℕ) (H : History) → Legal H → IsReady stamp H
+      → is_ok (seen stamp H n rows) ≡ may_rows stamp H rows
   rows-ok [] n H legal ready = refl
   rows-ok (row ∷ rows) n H legal ready = by (row_seen stamp H row) refl (rows-ok rows (n + 1))
     where
@@ -139,12 +158,15 @@ module _ (user moment : ℕ) where
       behind : Bool
       behind = may_rows stamp (with_row stamp H (row_command row)) rows
 
-      by : (r : Result Drawn Rule) → row_seen stamp H row ≡ r → ((G : History) → Legal G → IsReady stamp G → is_ok (seen stamp G (n + 1) rows) ≡ may_rows stamp G rows)
+      by : (r : Result Drawn Rule) → row_seen stamp H row ≡ r
+          → ((G : History) → Legal G → IsReady stamp G → is_ok (seen stamp G (n + 1) rows) ≡ may_rows stamp G rows)
           → is_ok (and_behind n r view_goes) ≡ (may_row stamp H (row_command row) && behind)
-      by (Err rule) is rest = ap (λ (b : Bool). b && behind) (sym (ap (λ (r : Result Drawn Rule). is_ok r) is) ∙ row-ok H legal row)
+      by (Err rule) is rest =
+          ap (λ (b : Bool). b && behind) (sym (ap (λ (r : Result Drawn Rule). is_ok r) is) ∙ row-ok H legal row)
       by (Ok drawn) is rest =
           and_rows-ok (entries_of drawn.group) (view_goes drawn.group)
-          ∙ ap (λ (V : View). is_ok (rows_judged (view_basis user) stamp V (n + 1) rows)) (next-seen stamp H drawn ready first false)
+          ∙ ap (λ (V : View). is_ok (rows_judged (view_basis user) stamp V (n + 1) rows))
+          (next-seen stamp H drawn ready first false)
           ∙ rest after legal_after (next-ready stamp H drawn ready first false)
           ∙ ap (λ (G : History). may_rows stamp G rows) after-is
           ∙ ap (λ (b : Bool). b && behind) (sym (ap (λ (r : Result Drawn Rule). is_ok r) is) ∙ row-ok H legal row)
@@ -161,7 +183,8 @@ module _ (user moment : ℕ) where
           legal_after : Legal after
           legal_after =
               subst (λ (g : History). Legal (H ++ g)) first.group
-              (Legal-accepted H (call_by stamp calls.command) drawn legal (record { given = row-given stamp H row drawn ready calls; unused = tt }) calls.accepted)
+              (Legal-accepted H (call_by stamp calls.command) drawn legal
+              (record { given = row-given stamp H row drawn ready calls; unused = tt }) calls.accepted)
 
           -- the one entry is what the command adds
           one : added u H calls.command ≡ first.entry ∷ []
@@ -205,7 +228,8 @@ module _ (stamp : Stamp) (H : History) (rows : List BulkRow) (legal : Legal H) (
       of_rows (Ok es) = refl
       of_rows (Err refusal) = refl
 
-      behind : (r : Result (Unit {0}) Rule) → is_ok (bulk_behind (view_basis user') (view (Some user') H) bulk r) ≡ (is_ok r && is_ok (seen stamp H 1 rows))
+      behind : (r : Result (Unit {0}) Rule) → is_ok (bulk_behind (view_basis user') (view (Some user') H) bulk r)
+          ≡ (is_ok r && is_ok (seen stamp H 1 rows))
       behind (Err rule) = refl
       behind (Ok done) = of_rows (seen stamp H 1 rows)
 
@@ -218,4 +242,8 @@ module _ (stamp : Stamp) (H : History) (rows : List BulkRow) (legal : Legal H) (
 pub bulks_as_said : BulksAsSaid
 bulks_as_said H bulk legal allowed =
     bulk-ok bulk.stamp H bulk.rows legal
-    (record { kept = legal_invariants H legal; registered = allowed.given.caller; bounds = given-bounded H bulk allowed.given })
+    (record {
+      kept = legal_invariants H legal;
+      registered = allowed.given.caller;
+      bounds = given-bounded H bulk allowed.given;
+    })

@@ -1,5 +1,7 @@
--- On a legal history the entries that a user made by commands of one number are one command's, since a number is new when it is given.
-use Rattle.std.proofs.Common.{ℕ, Bool, true, false, cond, ◌≡◌, List, [], ◌∷◌, ◌++◌, eqb, refl, sym, ap, subst, ◌∙◌, ◌&&◌, append_assoc, append-nil, Option, Some, None, Result, Ok, Err}
+-- On a legal history the entries that a user made by commands of one number are one command's, since a number is new
+-- when it is given.
+use Rattle.std.proofs.Common.{ℕ, Bool, true, false, cond, ◌≡◌, List, [], ◌∷◌, ◌++◌, eqb, refl, sym, ap, subst, ◌∙◌}
+use Rattle.std.proofs.Common.{◌&&◌, append_assoc, append-nil, Option, Some, None, Result, Ok, Err}
 use Rattle.std.specs.Prelude.{map}
 use Rattle.std.specs.List.{AllByRecursion}
 use Rattle.std.proofs.lemmas.Bool.{and_parts, eqb-true, true≢false}
@@ -23,7 +25,8 @@ use Rattle.cr_history.specs.Groups.{Adds, single, submitted, first_user}
 use Rattle.cr_policy.specs.Added.{made_by, stamp_added}
 use Rattle.cr_policy.specs.Judge.{judge, judge_bulk}
 use Rattle.cr_policy.specs.Laws.{IsOneGroup, NumbersOnce}
-use Rattle.cr_policy.specs.Legal.{IsKeyOf, IsNewKey, IsCaller, IsAllowed, followed_by, Move, calls, bulks, IsMoveAllowed, moved, LeadsTo, Legal}
+use Rattle.cr_policy.specs.Legal.{IsKeyOf, IsNewKey, IsCaller, IsAllowed, followed_by, Move, calls, bulks}
+use Rattle.cr_policy.specs.Legal.{IsMoveAllowed, moved, LeadsTo, Legal}
 use Rattle.cr_policy.specs.View.{view}
 use Rattle.cr_policy.proofs.AcceptedLaws.{accepted-adds}
 use Rattle.cr_policy.proofs.AddedLaws.{adds_as_said}
@@ -37,27 +40,37 @@ abbrev pub is_under : ℕ → ℕ → Stamp → Bool
 is_under user number stamp = eqb stamp.maker user && has_number number stamp.key
 
 -- of a group all entries are, or none is
-group-under : (user number : ℕ) (stamp : Stamp) → is_under user number stamp ≡ true → (es : List Entry) → kept_under user number (grouped stamp es) ≡ grouped stamp es
+group-under : (user number : ℕ) (stamp : Stamp) → is_under user number stamp ≡ true → (es : List Entry)
+    → kept_under user number (grouped stamp es) ≡ grouped stamp es
 group-under user number stamp is [] = refl
 group-under user number stamp is (e ∷ []) =
     ap (λ (b : Bool). cond b (grouped stamp (e ∷ [])) []) is
 group-under user number stamp is (e ∷ next ∷ es) =
-    ap (λ (b : Bool). cond b (record { stamp = stamp; more = true; entry = e } ∷ kept_under user number (grouped stamp (next ∷ es))) (kept_under user number (grouped stamp (next ∷ es)))) is
-    ∙ ap (λ (g : History). record { stamp = stamp; more = true; entry = e } ∷ g) (group-under user number stamp is (next ∷ es))
+    ap
+    (λ (b : Bool). cond b (record { stamp = stamp; more = true; entry = e } ∷ kept_under user number
+    (grouped stamp (next ∷ es))) (kept_under user number (grouped stamp (next ∷ es)))) is
+    ∙ ap (λ (g : History). record { stamp = stamp; more = true; entry = e } ∷ g)
+    (group-under user number stamp is (next ∷ es))
 
-group-other : (user number : ℕ) (stamp : Stamp) → is_under user number stamp ≡ false → (es : List Entry) → kept_under user number (grouped stamp es) ≡ []
+group-other : (user number : ℕ) (stamp : Stamp) → is_under user number stamp ≡ false → (es : List Entry)
+    → kept_under user number (grouped stamp es) ≡ []
 group-other user number stamp is [] = refl
 group-other user number stamp is (e ∷ []) =
     ap (λ (b : Bool). cond b (grouped stamp (e ∷ [])) []) is
 group-other user number stamp is (e ∷ next ∷ es) =
-    ap (λ (b : Bool). cond b (record { stamp = stamp; more = true; entry = e } ∷ kept_under user number (grouped stamp (next ∷ es))) (kept_under user number (grouped stamp (next ∷ es)))) is
+    ap
+    (λ (b : Bool). cond b (record { stamp = stamp; more = true; entry = e } ∷ kept_under user number
+    (grouped stamp (next ∷ es))) (kept_under user number (grouped stamp (next ∷ es)))) is
     ∙ group-other user number stamp is (next ∷ es)
 
-pub under-append : (user number : ℕ) (H g : History) → kept_under user number (H ++ g) ≡ kept_under user number H ++ kept_under user number g
-under-append user number H g = filter-append (λ (e : Stamped). eqb e.stamp.maker user && has_number number e.stamp.key) H g
+pub under-append : (user number : ℕ) (H g : History)
+    → kept_under user number (H ++ g) ≡ kept_under user number H ++ kept_under user number g
+under-append user number H g =
+    filter-append (λ (e : Stamped). eqb e.stamp.maker user && has_number number e.stamp.key) H g
 
 -- a number that is new has no entry yet
-pub new-unused : (H : History) (user number maker : ℕ) (key : Option RetryKey) → IsNewKey H (Some maker) key → (eqb maker user && has_number number key) ≡ true
+pub new-unused : (H : History) (user number maker : ℕ) (key : Option RetryKey) → IsNewKey H (Some maker) key
+    → (eqb maker user && has_number number key) ≡ true
     → kept_under user number H ≡ []
 new-unused H user number maker None new is = absurd (true≢false (sym (and_parts (eqb maker user) false is).1))
 new-unused H user number maker (Some key) new is =
@@ -65,7 +78,8 @@ new-unused H user number maker (Some key) new is =
     (λ i. kept_under (sym (eqb-true maker user parts.0) i) (sym (eqb-true key.number number parts.1) i) H) ∙ new
 
 -- so behind a history a group is all that is kept of its number, and of the others is kept what was
-pub kept-own : (H : History) (user number : ℕ) (stamp : Stamp) (es : List Entry) → IsNewKey H (Some stamp.maker) stamp.key → is_under user number stamp ≡ true
+pub kept-own : (H : History) (user number : ℕ) (stamp : Stamp) (es : List Entry)
+    → IsNewKey H (Some stamp.maker) stamp.key → is_under user number stamp ≡ true
     → kept_under user number (H ++ grouped stamp es) ≡ grouped stamp es
 kept-own H user number stamp es new is =
     under-append user number H (grouped stamp es)
@@ -96,11 +110,14 @@ more-behind H g (e ∷ es) one =
 abbrev AreGroups : History → Type 0
 AreGroups H = (user number : ℕ) → IsOneGroup H (kept_under user number H)
 
-group-behind : (H : History) (stamp : Stamp) (es : List Entry) → IsNewKey H (Some stamp.maker) stamp.key → AreGroups H → AreGroups (H ++ grouped stamp es)
+group-behind : (H : History) (stamp : Stamp) (es : List Entry) → IsNewKey H (Some stamp.maker) stamp.key → AreGroups H
+    → AreGroups (H ++ grouped stamp es)
 group-behind H stamp es new groups user number = by (is_under user number stamp) refl
   where
-    by : (b : Bool) → is_under user number stamp ≡ b → IsOneGroup (H ++ grouped stamp es) (kept_under user number (H ++ grouped stamp es))
-    by true is = subst (IsOneGroup (H ++ grouped stamp es)) (sym (kept-own H user number stamp es new is)) (its-group H stamp es)
+    by : (b : Bool) → is_under user number stamp ≡ b
+        → IsOneGroup (H ++ grouped stamp es) (kept_under user number (H ++ grouped stamp es))
+    by true is =
+        subst (IsOneGroup (H ++ grouped stamp es)) (sym (kept-own H user number stamp es new is)) (its-group H stamp es)
     by false is =
         subst (IsOneGroup (H ++ grouped stamp es)) (sym (kept-other H user number stamp es is))
         (more-behind H (grouped stamp es) (kept_under user number H) (groups user number))
@@ -112,7 +129,8 @@ pub record IsGroup (stamp : Stamp) (g : History) : Type 0 where
   pub entries : List Entry
   pub is : g ≡ grouped stamp entries
 
-first-stamp : (stamp s : Stamp) (e : Entry) (es : List Entry) → AllByRecursion (λ (x : Stamped). x.stamp ≡ s) (grouped stamp (e ∷ es)) → stamp ≡ s
+first-stamp : (stamp s : Stamp) (e : Entry) (es : List Entry)
+    → AllByRecursion (λ (x : Stamped). x.stamp ≡ s) (grouped stamp (e ∷ es)) → stamp ≡ s
 first-stamp stamp s e [] all = all.0
 first-stamp stamp s e (next ∷ es) all = all.0
 
@@ -123,24 +141,28 @@ added-group H g s (submitted stamp paper title abstract users bounds made ruled 
     let es : List Entry = map (λ (user : ℕ). Coauthor paper user) (besides (stamp.maker ∷ []) users) in
     record {
       entries = Submitted paper title abstract ∷ es;
-      is = ap (λ (stamp : Stamp). grouped stamp (Submitted paper title abstract ∷ es)) (first-stamp stamp s (Submitted paper title abstract) es all);
+      is = ap (λ (stamp : Stamp). grouped stamp (Submitted paper title abstract ∷ es))
+          (first-stamp stamp s (Submitted paper title abstract) es all);
     }
 added-group H g s (first_user stamp name digest bounds is texts) all =
     let e : Entry = Registered stamp.maker name digest in
     let es : List Entry = Named stamp.maker Chair ∷ [] in
     record { entries = e ∷ es; is = ap (λ (stamp : Stamp). grouped stamp (e ∷ es)) (first-stamp stamp s e es all) }
 
-pub accepted-group : (H : History) (call : Call) (drawn : Drawn) → Legal H → IsAllowed H call → judge (view call.caller H) call ≡ Ok drawn
+pub accepted-group : (H : History) (call : Call) (drawn : Drawn) → Legal H → IsAllowed H call
+    → judge (view call.caller H) call ≡ Ok drawn
     → IsGroup (stamp_added H call) drawn.group
 accepted-group H call drawn legal allowed accepted =
     added-group H drawn.group (stamp_added H call) (accepted-adds H call drawn allowed.given accepted)
     (adds_as_said H call drawn legal allowed.given.caller accepted).stamps
 
 -- whose number is new: a registration has none, and all else its caller makes
-pub accepted-new : (H : History) (call : Call) → IsAllowed H call → IsNewKey H (Some (made_by call.caller H call.command)) call.key
+pub accepted-new : (H : History) (call : Call) → IsAllowed H call
+    → IsNewKey H (Some (made_by call.caller H call.command)) call.key
 accepted-new H call allowed = by call.caller call.key call.command allowed.given.caller allowed.given.key allowed.unused
   where
-    by : (caller : Option ℕ) (key : Option RetryKey) (command : Command) → IsCaller H caller command → IsKeyOf caller key → IsNewKey H caller key
+    by : (caller : Option ℕ) (key : Option RetryKey) (command : Command) → IsCaller H caller command
+        → IsKeyOf caller key → IsNewKey H caller key
         → IsNewKey H (Some (made_by caller H command)) key
     by caller None command may given new = tt
     by None (Some key) command may given new = absurd given
@@ -165,10 +187,12 @@ moved-groups H (bulks bulk) legal allowed groups = by (judge_bulk (view (Some bu
         subst (λ (d : Drawn). AreGroups (H ++ d.group)) draws.drawn_is
         (group-behind H bulk.stamp draws.entries allowed.unused groups)
 
-led-groups : (from to : History) (moves : List Move) → Legal from → AreGroups from → LeadsTo from moves to → AreGroups to
+led-groups : (from to : History) (moves : List Move) → Legal from → AreGroups from → LeadsTo from moves to
+    → AreGroups to
 led-groups from to [] legal groups leads = subst AreGroups leads groups
 led-groups from to (move ∷ moves) legal groups leads =
-    led-groups (moved from move) to moves (Legal-moved from move legal leads.0) (moved-groups from move legal leads.0 groups) leads.1
+    led-groups (moved from move) to moves (Legal-moved from move legal leads.0)
+    (moved-groups from move legal leads.0 groups) leads.1
 
 -- ---- the law
 

@@ -1,5 +1,7 @@
--- Where the tables tell what a history tells and conflicts are declared in time, answers by a view are those by the tables.
-use Rattle.std.proofs.Common.{ℕ, Bool, true, false, ◌≡◌, List, [], ◌∷◌, ◌||◌, ◌&&◌, refl, ap, ◌∙◌, arith, Option, Some, None, Result, Ok}
+-- Where the tables tell what a history tells and conflicts are declared in time, answers by a view are those by the
+-- tables.
+use Rattle.std.proofs.Common.{ℕ, Bool, true, false, ◌≡◌, List, [], ◌∷◌, ◌||◌, ◌&&◌, refl, ap, ◌∙◌, arith, Option, Some}
+use Rattle.std.proofs.Common.{None, Result, Ok}
 use Rattle.std.specs.Prelude.{◌==◌, unwrap_or, not, is_some, map, length}
 use Rattle.std.specs.List.{flat_map, list_any, filter}
 use Rattle.std.specs.Option.{option_map}
@@ -24,14 +26,17 @@ use Rattle.cr_base.specs.Decisions.{is_published}
 use Rattle.cr_base.specs.History.{History, Upload, BidTold}
 use Rattle.cr_base.specs.HistoryFacts.{standing_of}
 use Rattle.cr_base.specs.Lists.{listed}
-use Rattle.cr_base.specs.Page.{PaperTexts, page_of, where_told, is_admitted, is_clear_external, is_clear_chair, reads_paper}
-use Rattle.cr_base.specs.Page.{gets_title, gets_abstract, shows_author, gets_conflict, gets_conflicts, gets_declared}
-use Rattle.cr_base.specs.Page.{gets_versions, gets_withdrawn, gets_bid, gets_bids, gets_label, gets_reviewers, gets_tags, gets_decision}
-use Rattle.cr_base.specs.Phases.{members_see_papers, committee_sees_authors, members_read_comments, members_read_responses}
+use Rattle.cr_base.specs.Page.{PaperTexts, page_of, where_told, is_admitted, is_clear_external, is_clear_chair}
+use Rattle.cr_base.specs.Page.{reads_paper, gets_title, gets_abstract, shows_author, gets_conflict, gets_conflicts}
+use Rattle.cr_base.specs.Page.{gets_declared, gets_versions, gets_withdrawn, gets_bid, gets_bids, gets_label}
+use Rattle.cr_base.specs.Page.{gets_reviewers, gets_tags, gets_decision}
+use Rattle.cr_base.specs.Phases.{members_see_papers, committee_sees_authors, members_read_comments}
+use Rattle.cr_base.specs.Phases.{members_read_responses}
 use Rattle.cr_base.specs.Tables.{Tables, no_tables, tables_of, FitInTurn}
-use Rattle.cr_base.specs.Answering.{uploads_told, upload_of, content_by, content_asked, query_checks, bidder_told, reviewer_told, page_by}
-use Rattle.cr_base.specs.Answering.{told_of_paper, found_by, search_told, reviews_answered, comments_answered, tells_response}
-use Rattle.cr_base.specs.Answering.{accepted_paper, accepted_by, comments_by, response_by, reply_or_rule, answer_by, answer_by_role}
+use Rattle.cr_base.specs.Answering.{uploads_told, upload_of, content_by, content_asked, query_checks, bidder_told}
+use Rattle.cr_base.specs.Answering.{reviewer_told, page_by, told_of_paper, found_by, search_told, reviews_answered}
+use Rattle.cr_base.specs.Answering.{comments_answered, tells_response, accepted_paper, accepted_by, comments_by}
+use Rattle.cr_base.specs.Answering.{response_by, reply_or_rule, answer_by, answer_by_role}
 use Rattle.cr_base.specs.Searching.{is_found, found_paper}
 use Rattle.cr_base.specs.Sources.{Facts, Shown, decision_by, has_paper, facts_of_tables, shown_in_tables, names_in}
 use Rattle.cr_base.specs.Words.{is_anonymous, is_chair, is_member, no_bid}
@@ -47,8 +52,8 @@ use Rattle.cr_policy.proofs.StandingLaws.{accounts-seen}
 use Rattle.cr_policy.proofs.BidAgreement.{bids-tables}
 use Rattle.cr_policy.proofs.ReviewerTells.{same_key}
 use Rattle.cr_policy.proofs.PageTells.{conflicts-seen}
-use Rattle.cr_policy.proofs.FactAgreement.{facts_in_view-tables, title-tables, abstract-tables, authors-tables, withdrawn-tables, uploads-tables}
-use Rattle.cr_policy.proofs.FactAgreement.{decision_by-tables}
+use Rattle.cr_policy.proofs.FactAgreement.{facts_in_view-tables, title-tables, abstract-tables, authors-tables}
+use Rattle.cr_policy.proofs.FactAgreement.{withdrawn-tables, uploads-tables, decision_by-tables}
 use Rattle.cr_policy.proofs.ReportAgreement.{passed, map-same, report-tables}
 use Rattle.cr_base.specs.Plans.{best_plan, planned_papers}
 use Rattle.cr_policy.proofs.PlanAgreement.{best-same, papers-same, plan-tables}
@@ -60,31 +65,37 @@ use Rattle.cr_policy.proofs.TalkAgreement.{comments-tables, response-tables, tag
 -- of the accounts that a view shows, those of whom something holds are those of the tables
 users-tables : (u : Option ℕ) (H : History) (test : ℕ → Bool) → AreTold H
     → users_where test (view u H) ≡ filter test (map (λ (a : AccountLine). a.user) (lines_of (tables_of H).accounts))
-users-tables u H test told = ap (λ (lines : List AccountLine). filter test (map (λ (a : AccountLine). a.user) lines)) (accounts-seen u H ∙ told.accounts)
+users-tables u H test told = ap (λ (lines : List AccountLine). filter test (map (λ (a : AccountLine). a.user) lines))
+    (accounts-seen u H ∙ told.accounts)
 
 -- who is declared in conflict with a paper, as the view of one who is told shows it
-pub conflicts-tables : (u : Option ℕ) (H : History) (p : ℕ) → FitInTurn no_tables H → AreTold H → gets_conflicts (standing_of u (Some p) H) ≡ true
+pub conflicts-tables : (u : Option ℕ) (H : History) (p : ℕ) → FitInTurn no_tables H → AreTold H
+    → gets_conflicts (standing_of u (Some p) H) ≡ true
     → (shown_in_view u (view u H)).conflicts p ≡ (shown_in_tables (tables_of H)).conflicts p
 conflicts-tables u H p fits told may =
     let t : Tables = tables_of H in
     let test : ℕ → Bool = λ v. is_conflict_on_in_view (Some v) p (view u H) in
     users-tables u H test told
-    ∙ users-tied_to test p t.accounts t.ties.conflicts (has_order-tables H fits).conflicts (λ v. conflicts-seen u p H may (Some v) ∙ told.conflict (Some v) p)
+    ∙ users-tied_to test p t.accounts t.ties.conflicts (has_order-tables H fits).conflicts
+    (λ v. conflicts-seen u p H may (Some v) ∙ told.conflict (Some v) p)
 
 -- whom the paper's authors declared, as the view of one of them shows it
-declared-tables : (u : Option ℕ) (H : History) (p : ℕ) → FitInTurn no_tables H → AreTold H → DeclaresInTime H → gets_declared (standing_of u (Some p) H) ≡ true
+declared-tables : (u : Option ℕ) (H : History) (p : ℕ) → FitInTurn no_tables H → AreTold H → DeclaresInTime H
+    → gets_declared (standing_of u (Some p) H) ≡ true
     → (shown_in_view u (view u H)).declared p ≡ (shown_in_tables (tables_of H)).declared p
 declared-tables u H p fits told in_time may =
     let t : Tables = tables_of H in
     let among : ℕ → List ℕ → Bool = λ v users. list_any (λ w. w == v) users in
     let test : ℕ → Bool = λ v. among v (declared_in_view u p (view u H)) in
     users-tables u H test told
-    ∙ users-tied_to test p t.accounts t.ties.declared (has_order-tables H fits).declared (λ v. ap (among v) (declared-seen_by_author u p H in_time may)
+    ∙ users-tied_to test p t.accounts t.ties.declared (has_order-tables H fits).declared
+    (λ v. ap (among v) (declared-seen_by_author u p H in_time may)
     ∙ told.declared p v)
 
 -- ---- pages
 
--- texts of a paper, which is accepted or isn't, that agree where a standing tells them; a reader's own bid and label agree always
+-- texts of a paper, which is accepted or isn't, that agree where a standing tells them; a reader's own bid and label
+-- agree always
 record AgreeWhereTold (by : Standing) (accepted : Bool) (x y : PaperTexts) : Type 0 where
   bid : x.bid ≡ y.bid
   label : x.label ≡ y.label
@@ -106,19 +117,27 @@ page_of-same : (by : Standing) (accepted : Bool) (p : ℕ) (x y : PaperTexts) �
 page_of-same by accepted p x y agree = λ i. record {
   paper = p;
   abstract_ = same_key (gets_abstract by accepted) x.abstract_ y.abstract_ agree.abstract_ i;
-  authors = same_key (shows_author by accepted) (Some x.authors) (Some y.authors) (λ told. ap Some (agree.authors told)) i;
+  authors =
+      same_key (shows_author by accepted) (Some x.authors) (Some y.authors) (λ told. ap Some (agree.authors told)) i;
   bid = where_told (gets_bid by) (Some (unwrap_or (agree.bid i) no_bid));
   bids = same_key (gets_bids by) (Some x.bids) (Some y.bids) (λ told. ap Some (agree.bids told)) i;
   conflict = where_told (gets_conflict by) (Some by.conflicted);
-  conflicts = same_key (gets_conflicts by) (Some x.conflicts) (Some y.conflicts) (λ told. ap Some (agree.conflicts told)) i;
-  decision = same_key (gets_decision by accepted) (Some x.decision) (Some y.decision) (λ told. ap Some (agree.decision told)) i;
+  conflicts =
+      same_key (gets_conflicts by) (Some x.conflicts) (Some y.conflicts) (λ told. ap Some (agree.conflicts told)) i;
+  decision =
+      same_key (gets_decision by accepted) (Some x.decision) (Some y.decision) (λ told. ap Some (agree.decision told))
+      i;
   declared = same_key (gets_declared by) (Some x.declared) (Some y.declared) (λ told. ap Some (agree.declared told)) i;
   label = where_told (gets_label by) (agree.label i);
-  reviewers = same_key (gets_reviewers by) (Some x.reviewers) (Some y.reviewers) (λ told. ap Some (agree.reviewers told)) i;
+  reviewers =
+      same_key (gets_reviewers by) (Some x.reviewers) (Some y.reviewers) (λ told. ap Some (agree.reviewers told)) i;
   tags = same_key (gets_tags by) (Some x.tags) (Some y.tags) (λ told. ap Some (agree.tags told)) i;
   title = same_key (gets_title by accepted) x.title y.title agree.title i;
-  versions = same_key (gets_versions by accepted) (Some x.versions) (Some y.versions) (λ told. ap Some (agree.versions told)) i;
-  withdrawn = same_key (gets_withdrawn by) (Some x.withdrawn) (Some y.withdrawn) (λ told. ap Some (agree.withdrawn told)) i;
+  versions =
+      same_key (gets_versions by accepted) (Some x.versions) (Some y.versions) (λ told. ap Some (agree.versions told))
+      i;
+  withdrawn =
+      same_key (gets_withdrawn by) (Some x.withdrawn) (Some y.withdrawn) (λ told. ap Some (agree.withdrawn told)) i;
 }
 
 module _ (u : Option ℕ) (H : History) (kept : Invariants H) (told : AreTold H) (forms : AreFormsTold H) where
@@ -137,7 +156,8 @@ module _ (u : Option ℕ) (H : History) (kept : Invariants H) (told : AreTold H)
       let by : Standing = facts.standing (Some p) in
       let names : List ℕ → List (List ℕ) = names_in facts.accounts in
       let numbers : List Upload → List ℕ = map (λ (upload : Upload). upload.version) in
-      let bidders : List BidTold → List Bidder = λ bids. flat_map (λ (bid : BidTold). listed (bidder_told facts.accounts bid)) bids in
+      let bidders : List BidTold → List Bidder =
+      λ bids. flat_map (λ (bid : BidTold). listed (bidder_told facts.accounts bid)) bids in
       let texts : Shown → PaperTexts = λ from. record {
         title = from.title p;
         abstract_ = from.abstract_ p;
@@ -162,7 +182,9 @@ module _ (u : Option ℕ) (H : History) (kept : Invariants H) (told : AreTold H)
         authors = λ may. ap names (authors-tables u H told p may);
         conflicts = λ may. ap names (conflicts-tables u H p kept.fits told (ap gets_conflicts stands ∙ may));
         decision = λ may. decision_by-tables u H told p may;
-        declared = λ may. ap names (declared-tables u H p kept.fits told kept.declared_in_time (ap gets_declared stands ∙ may));
+        declared =
+            λ may. ap names (declared-tables u H p kept.fits told kept.declared_in_time
+            (ap gets_declared stands ∙ may));
         bids = λ may. ap bidders (bids-tables u H told kept.in_order p may);
         reviewers = λ may. reviewers-tables u H told p facts.accounts may;
         tags = λ may. tags-tables u H told p may;
@@ -175,15 +197,20 @@ module _ (u : Option ℕ) (H : History) (kept : Invariants H) (told : AreTold H)
   -- a paper's content by any user's view is the one by the tables: whether there is any is asked only behind the rules
   -- that have let through one who is told of it
   content-tables : (paper version : Option ℕ)
-      → judged (content_asked facts shown paper version) (replies.Content (unwrap_or (content_by facts shown paper version) []))
-      ≡ judged (content_asked facts tabled paper version) (replies.Content (unwrap_or (content_by facts tabled paper version) []))
+      → judged (content_asked facts shown paper version)
+      (replies.Content (unwrap_or (content_by facts shown paper version) []))
+      ≡ judged (content_asked facts tabled paper version)
+      (replies.Content (unwrap_or (content_by facts tabled paper version) []))
   content-tables None version = refl
   content-tables (Some p) version =
-      judged-behind before (behind (content_by facts shown (Some p) version)) (behind (content_by facts tabled (Some p) version))
+      judged-behind before (behind (content_by facts shown (Some p) version))
+      (behind (content_by facts tabled (Some p) version))
       (reply (content_by facts shown (Some p) version)) (reply (content_by facts tabled (Some p) version))
-      (λ none. ap (λ (uploads : List Upload). answered (option_map (λ (upload : Upload). upload.content) (upload_of version uploads)))
+      (λ none. ap (λ (uploads : List Upload). answered
+      (option_map (λ (upload : Upload). upload.content) (upload_of version uploads)))
       (uploads-tables u H told p
-      (reads by.author (is_published by.phase (facts.accepted p)) (is_member by.role) by.external by.conflicted (members_see_papers by.phase)
+      (reads by.author (is_published by.phase (facts.accepted p)) (is_member by.role) by.external by.conflicted
+      (members_see_papers by.phase)
       none.1.0 none.1.1.0 none.1.1.1.0)))
     where
       by : Standing
@@ -218,14 +245,17 @@ module _ (u : Option ℕ) (H : History) (kept : Invariants H) (told : AreTold H)
 
   -- they matter only where she may ask for them
   comments-same : (paper : Option ℕ)
-      → judged (query_checks facts shown (queries.Comments paper)) (replies.Comments (comments_by facts shown (unwrap_or paper 0)))
-      ≡ judged (query_checks facts tabled (queries.Comments paper)) (replies.Comments (comments_by facts tabled (unwrap_or paper 0)))
+      → judged (query_checks facts shown (queries.Comments paper))
+      (replies.Comments (comments_by facts shown (unwrap_or paper 0)))
+      ≡ judged (query_checks facts tabled (queries.Comments paper))
+      (replies.Comments (comments_by facts tabled (unwrap_or paper 0)))
   comments-same None = refl
   comments-same (Some p) =
       judged-behind (query_checks facts shown (queries.Comments (Some p))) [] []
       (replies.Comments (comments_by facts shown p)) (replies.Comments (comments_by facts tabled p))
       (λ none. ap answered
-      (comments-tables u H told p facts.accounts kept.bounded (clear (is_member by.role) by.conflicted none.1.0 none.1.1.0)
+      (comments-tables u H told p facts.accounts kept.bounded
+      (clear (is_member by.role) by.conflicted none.1.0 none.1.1.0)
       (not-false (members_read_comments by.phase) none.1.1.1.0)))
     where
       by : Standing
@@ -245,11 +275,13 @@ module _ (u : Option ℕ) (H : History) (kept : Invariants H) (told : AreTold H)
       ≡ judged (query_checks facts tabled (queries.Response paper)) (replies.Response (response_by tabled paper))
   response-same None = refl
   response-same (Some p) =
-      judged-behind before (behind (shown.response p)) (behind (tabled.response p)) (reply (shown.response p)) (reply (tabled.response p))
+      judged-behind before (behind (shown.response p)) (behind (tabled.response p)) (reply (shown.response p))
+      (reply (tabled.response p))
       (λ none.
       ap (λ (response : Option (List ℕ)). judged (behind response) (reply response))
       (response-tables u H told p
-      (reads by.author (is_member by.role) by.conflicted (members_read_responses by.phase) none.1.0 none.1.1.0 none.1.1.1.0)))
+      (reads by.author (is_member by.role) by.conflicted (members_read_responses by.phase) none.1.0 none.1.1.0
+      none.1.1.1.0)))
     where
       by : Standing
       by = facts.standing (Some p)
@@ -268,7 +300,8 @@ module _ (u : Option ℕ) (H : History) (kept : Invariants H) (told : AreTold H)
       reply : Option (List ℕ) → Reply
       reply response = replies.Response (unwrap_or response [])
 
-      reads : (a k c d : Bool) → not (a || k) ≡ false → (not a && c) ≡ false → not (a || d) ≡ false → (a || ((k && not c) && d)) ≡ true
+      reads : (a k c d : Bool) → not (a || k) ≡ false → (not a && c) ≡ false → not (a || d) ≡ false
+          → (a || ((k && not c) && d)) ≡ true
       reads a k c d h1 h2 h3 = grind (arith, h1, h2, h3)
 
   -- ---- accepted papers
@@ -278,7 +311,8 @@ module _ (u : Option ℕ) (H : History) (kept : Invariants H) (told : AreTold H)
   accepted_paper-same p is =
       let by : Standing = facts.standing (Some p) in
       let authors = authors-tables u H told p
-      (named by.author (is_clear_chair by && committee_sees_authors by.phase) (reads_paper by && not (is_anonymous by.mode) && committee_sees_authors by.phase)
+      (named by.author (is_clear_chair by && committee_sees_authors by.phase)
+      (reads_paper by && not (is_anonymous by.mode) && committee_sees_authors by.phase)
       (facts.accepted p) is) in
       let title = title-tables u H told p (titled by.author (is_member by.role && members_see_papers by.phase)
       (is_clear_external by && members_see_papers by.phase) (facts.accepted p) is) in
@@ -292,7 +326,8 @@ module _ (u : Option ℕ) (H : History) (kept : Invariants H) (told : AreTold H)
 
   accepted-tables : accepted_by facts shown ≡ accepted_by facts tabled
   accepted-tables =
-      map-same (λ p. facts.accepted p ≡ true) (accepted_paper facts shown) (accepted_paper facts tabled) accepted_paper-same (filter facts.accepted facts.papers)
+      map-same (λ p. facts.accepted p ≡ true) (accepted_paper facts shown) (accepted_paper facts tabled)
+      accepted_paper-same (filter facts.accepted facts.papers)
       (passed facts.accepted facts.papers)
 
   -- ---- searches
@@ -308,9 +343,11 @@ module _ (u : Option ℕ) (H : History) (kept : Invariants H) (told : AreTold H)
   }
 
   found-same : (search : List Step) → found_by facts shown u search ≡ found_by facts tabled u search
-  found-same search = λ i. map (λ (p : ℕ). found_paper p (told-same p i)) (filter (λ (p : ℕ). is_found (told-same p i) search) facts.papers)
+  found-same search = λ i. map (λ (p : ℕ). found_paper p (told-same p i))
+      (filter (λ (p : ℕ). is_found (told-same p i) search) facts.papers)
 
-  search-same : (search : List Step) (only_count : Bool) → search_told facts shown u search only_count ≡ search_told facts tabled u search only_count
+  search-same : (search : List Step) (only_count : Bool)
+      → search_told facts shown u search only_count ≡ search_told facts tabled u search only_count
   search-same search true = ap (λ (found : List FoundPaper). replies.Count (length found)) (found-same search)
   search-same search false = ap (λ (found : List FoundPaper). replies.Found found) (found-same search)
 
@@ -321,8 +358,11 @@ module _ (u : Option ℕ) (H : History) (kept : Invariants H) (told : AreTold H)
   answer-shown queries.Accounts = refl
   answer-shown queries.Phase = refl
   answer-shown queries.Deadlines = refl
-  answer-shown queries.AcceptedPapers = ap (λ (papers : List AcceptedPaper). replies.AcceptedPapers papers) accepted-tables
-  answer-shown (queries.Page paper) = ap (λ (page : Page). reply_or_rule (judged (query_checks facts shown (queries.Page paper)) (replies.Page page))) (page-tables (unwrap_or paper 0))
+  answer-shown queries.AcceptedPapers =
+      ap (λ (papers : List AcceptedPaper). replies.AcceptedPapers papers) accepted-tables
+  answer-shown (queries.Page paper) =
+      ap (λ (page : Page). reply_or_rule (judged (query_checks facts shown (queries.Page paper)) (replies.Page page)))
+      (page-tables (unwrap_or paper 0))
   answer-shown (queries.Content paper) = ap reply_or_rule (content-tables paper None)
   answer-shown (queries.Version paper version) = ap reply_or_rule (content-tables paper (Some version))
   answer-shown (queries.Reviews None) = refl
@@ -333,22 +373,28 @@ module _ (u : Option ℕ) (H : History) (kept : Invariants H) (told : AreTold H)
   answer-shown (queries.Report report) = ap reply_or_rule (report-tables u H told forms report)
   answer-shown (queries.Plan per_paper load) =
       ap reply_or_rule
-      (plan-tables u H told forms (λ p may. conflicts-tables u H p kept.fits told (ap gets_conflicts (told.standing u (Some p)) ∙ may))
+      (plan-tables u H told forms (λ p may. conflicts-tables u H p kept.fits told
+      (ap gets_conflicts (told.standing u (Some p)) ∙ may))
       (λ p may. bids-tables u H told kept.in_order p may) per_paper load)
 
   -- and the plan is the same for a chair, from the bidding on
-  pub papers-tables : (per_paper : ℕ) → is_chair (facts.standing None).role ≡ true → members_see_papers (facts.standing None).phase ≡ true
+  pub papers-tables : (per_paper : ℕ) → is_chair (facts.standing None).role ≡ true
+      → members_see_papers (facts.standing None).phase ≡ true
       → planned_papers facts shown per_paper ≡ planned_papers facts tabled per_paper
   papers-tables per_paper serves begun =
-      papers-same u H told forms (λ p may. conflicts-tables u H p kept.fits told (ap gets_conflicts (told.standing u (Some p)) ∙ may))
+      papers-same u H told forms (λ p may. conflicts-tables u H p kept.fits told
+      (ap gets_conflicts (told.standing u (Some p)) ∙ may))
       (λ p may. bids-tables u H told kept.in_order p may) serves begun per_paper
 
-  pub best-tables : (per_paper load : ℕ) → is_chair (facts.standing None).role ≡ true → members_see_papers (facts.standing None).phase ≡ true
+  pub best-tables : (per_paper load : ℕ) → is_chair (facts.standing None).role ≡ true
+      → members_see_papers (facts.standing None).phase ≡ true
       → best_plan facts shown per_paper load ≡ best_plan facts tabled per_paper load
   best-tables per_paper load serves begun =
-      best-same u H told forms (λ p may. conflicts-tables u H p kept.fits told (ap gets_conflicts (told.standing u (Some p)) ∙ may))
+      best-same u H told forms (λ p may. conflicts-tables u H p kept.fits told
+      (ap gets_conflicts (told.standing u (Some p)) ∙ may))
       (λ p may. bids-tables u H told kept.in_order p may) serves begun per_paper load
 
   -- and so is the answer
   pub answer-tables : (query : Query) → answer u (view u H) query ≡ answer_by_role (tables_of H) u query
-  answer-tables query = ap (λ (facts : Facts). answer_by facts shown u query) (facts_in_view-tables u H told forms) ∙ answer-shown query
+  answer-tables query = ap (λ (facts : Facts). answer_by facts shown u query) (facts_in_view-tables u H told forms)
+      ∙ answer-shown query

@@ -3,7 +3,8 @@ use Rattle.std.proofs.Common.{refl, true}
 use Rattle.std.specs.Prelude.{◌≡◌}
 use Rattle.std.specs.List.{list_any}
 use Rattle.cr_base.specs.declared.words.Phase.{Phase}
-use Rattle.cr_base.specs.declared.words.Phase.TheVariants.{Setup, Submission, Bidding, Reviewing, Response, Discussion, Notification, Closed}
+use Rattle.cr_base.specs.declared.words.Phase.TheVariants.{Setup, Submission, Bidding, Reviewing, Response, Discussion}
+use Rattle.cr_base.specs.declared.words.Phase.TheVariants.{Notification, Closed}
 use Rattle.cr_base.specs.Phases.{is_phase}
 use Rattle.cr_policy.specs.PhaseOrder.{PhasesInOrder, in_order}
 

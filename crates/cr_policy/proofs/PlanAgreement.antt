@@ -1,5 +1,7 @@
--- Where the tables tell what a history tells, the plan told to one who may have it is by her view what it is by the tables.
-use Rattle.std.proofs.Common.{ℕ, Bool, true, false, ◌≡◌, ◌+◌, ◌==◌, List, [], ◌∷◌, length, ◌||◌, ◌&&◌, refl, ap, ◌∙◌, arith, Option, Some, None}
+-- Where the tables tell what a history tells, the plan told to one who may have it is by her view what it is by the
+-- tables.
+use Rattle.std.proofs.Common.{ℕ, Bool, true, false, ◌≡◌, ◌+◌, ◌==◌, List, [], ◌∷◌, length, ◌||◌, ◌&&◌, refl, ap, ◌∙◌}
+use Rattle.std.proofs.Common.{arith, Option, Some, None}
 use Rattle.std.specs.Prelude.{map, filter, find, not, nat_le, is_some}
 use Rattle.std.specs.List.{flat_map, list_any}
 use Rattle.std.specs.Option.{option_map_or}
@@ -17,8 +19,8 @@ use Rattle.cr_base.specs.History.{History, BidTold}
 use Rattle.cr_base.specs.Lists.{is_number}
 use Rattle.cr_base.specs.Page.{gets_bids, gets_conflicts, is_clear_chair}
 use Rattle.cr_base.specs.Phases.{is_from, committee_works, members_see_papers}
-use Rattle.cr_base.specs.Plans.{has_labels_for, planned_papers, planned_members, pairs_of_paper, planned_pairs, choices, is_plan}
-use Rattle.cr_base.specs.Plans.{first_greatest, best_plan, is_too_large, plan_reply}
+use Rattle.cr_base.specs.Plans.{has_labels_for, planned_papers, planned_members, pairs_of_paper, planned_pairs, choices}
+use Rattle.cr_base.specs.Plans.{is_plan, first_greatest, best_plan, is_too_large, plan_reply}
 use Rattle.cr_base.specs.Reports.{open_papers}
 use Rattle.cr_base.specs.Sources.{Facts, Shown, facts_of_tables, shown_in_tables}
 use Rattle.cr_base.specs.Tables.{tables_of}
@@ -62,7 +64,8 @@ module _ (u : Option ℕ) (H : History) (told : AreTold H) (forms : AreFormsTold
     module _ (serves : is_chair here.role ≡ true) (begun : members_see_papers here.phase ≡ true) where
       -- what a chair in no conflict with a paper is told of it
       told-clear : (p : ℕ) → Clear p → gets_conflicts (to p) ≡ true
-      told-clear p clear = both (is_clear_chair (to p)) (members_see_papers here.phase) (clear_chair u H told forms serves begun p clear) begun
+      told-clear p clear = both (is_clear_chair (to p)) (members_see_papers here.phase)
+          (clear_chair u H told forms serves begun p clear) begun
         where
           both : (k b : Bool) → k ≡ true → b ≡ true → (k && b) ≡ true
           both k b hk hb = grind arith
@@ -70,7 +73,8 @@ module _ (u : Option ℕ) (H : History) (told : AreTold H) (forms : AreFormsTold
       authors-same : (p : ℕ) → Clear p → shown.authors p ≡ tabled.authors p
       authors-same p clear =
           authors-tables u H told p
-          (named (to p).author (is_clear_chair (to p)) (members_see_papers here.phase) _ (facts.accepted p) (clear_chair u H told forms serves begun p clear) begun)
+          (named (to p).author (is_clear_chair (to p)) (members_see_papers here.phase) _ (facts.accepted p)
+          (clear_chair u H told forms serves begun p clear) begun)
         where
           named : (a k b m accepted : Bool) → k ≡ true → b ≡ true → (a || (k && b) || m || accepted) ≡ true
           named a k b m accepted hk hb = grind arith
@@ -94,20 +98,25 @@ module _ (u : Option ℕ) (H : History) (told : AreTold H) (forms : AreFormsTold
           (λ (a : AccountLine). record {
             paper = p;
             member = a;
-            bid = option_map_or (λ (bid : BidTold). bid.value) (find (λ (bid : BidTold). bid.user == a.user) (told_bids i)) no_bid;
+            bid = option_map_or (λ (bid : BidTold). bid.value)
+                (find (λ (bid : BidTold). bid.user == a.user) (told_bids i)) no_bid;
           })
           (filter
-          (λ (a : AccountLine). not (list_any (is_number (Some a.user)) (wrote i)) && not (list_any (is_number (Some a.user)) (declared i))
+          (λ (a : AccountLine). not (list_any (is_number (Some a.user)) (wrote i))
+          && not (list_any (is_number (Some a.user)) (declared i))
           && not (is_some (reviews (Some a.user) i)))
           (planned_members facts))
 
       pairs-same : (per_paper : ℕ) → planned_pairs facts shown per_paper ≡ planned_pairs facts tabled per_paper
       pairs-same per_paper =
           ap (flat_map (pairs_of_paper facts shown)) (papers-same per_paper)
-          ∙ flat_map-same Clear (pairs_of_paper facts shown) (pairs_of_paper facts tabled) pairs-of (planned_papers facts tabled per_paper)
-          (AllByRecursion-filter Clear (has_labels_for tabled per_paper) (open_papers facts tabled) (open-clear u H told forms))
+          ∙ flat_map-same Clear (pairs_of_paper facts shown) (pairs_of_paper facts tabled) pairs-of
+          (planned_papers facts tabled per_paper)
+          (AllByRecursion-filter Clear (has_labels_for tabled per_paper) (open_papers facts tabled)
+          (open-clear u H told forms))
 
-      pub best-same : (per_paper load : ℕ) → best_plan facts shown per_paper load ≡ best_plan facts tabled per_paper load
+      pub best-same : (per_paper load : ℕ) → best_plan facts shown per_paper load ≡ best_plan facts tabled per_paper
+          load
       best-same per_paper load =
           let papers = papers-same per_paper in
           let pairs = pairs-same per_paper in
@@ -130,7 +139,9 @@ module _ (u : Option ℕ) (H : History) (told : AreTold H) (forms : AreFormsTold
         λ i. judged (behind (length (papers i))) (plan_reply (plan i)))
       where
         before : List Check
-        before = not (is_chair here.role) breaks rules.NotChair ∷ not (committee_works here.phase) breaks rules.WrongPhase ∷ []
+        before =
+            not (is_chair here.role) breaks rules.NotChair ∷ not (committee_works here.phase) breaks rules.WrongPhase
+            ∷ []
 
         behind : ℕ → List Check
         behind papers = is_too_large per_paper papers (length (planned_members facts)) breaks rules.PlanTooLarge ∷ []

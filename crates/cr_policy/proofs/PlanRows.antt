@@ -1,5 +1,6 @@
 -- The rows that assign the pairs of a plan, one after another, by the tables: each is accepted behind those before it.
-use Rattle.std.proofs.Common.{ℕ, Bool, true, false, cond, eqb, ◌≡◌, ◌≤◌, ◌+◌, ◌&&◌, ◌||◌, List, [], ◌∷◌, length, map, count_by, refl, sym, ap, subst, ◌∙◌, arith, Option, Some, None, Result, Ok, Err}
+use Rattle.std.proofs.Common.{ℕ, Bool, true, false, cond, eqb, ◌≡◌, ◌≤◌, ◌+◌, ◌&&◌, ◌||◌, List, [], ◌∷◌, length, map}
+use Rattle.std.proofs.Common.{count_by, refl, sym, ap, subst, ◌∙◌, arith, Option, Some, None, Result, Ok, Err}
 use Rattle.std.specs.Prelude.{decimal, is_some, not, nat_le, IsOk}
 use Rattle.std.specs.List.{AllByRecursion, list_any}
 use Rattle.std.specs.Option.{option_map}
@@ -53,7 +54,8 @@ AreApart (e ∷ es) = AllByRecursion (λ f. Apart e f) es × AreApart es
 abbrev pub bit : Bool → ℕ
 bit b = cond b 1 0
 
-pub counted : (p : ℕ) (e : PlanPair) (es : List PlanPair) → count_by (is_of_paper p) (e ∷ es) ≡ bit (eqb e.paper p) + count_by (is_of_paper p) es
+pub counted : (p : ℕ) (e : PlanPair) (es : List PlanPair)
+    → count_by (is_of_paper p) (e ∷ es) ≡ bit (eqb e.paper p) + count_by (is_of_paper p) es
 counted p e es = sum_by-cons (λ (f : PlanPair). bit (is_of_paper p f)) e es
 
 -- ---- one row
@@ -119,26 +121,52 @@ module _ (user at : ℕ) (key : Option RetryKey) (t : Tables) where
     external = outside e role;
   }
 
-  module _ (chair : is_chair (role_in t.accounts (Some user)) ≡ true) (works : committee_works t.stage.phase ≡ true) where
+  module _ (chair : is_chair (role_in t.accounts (Some user)) ≡ true)
+      (works : committee_works t.stage.phase ≡ true) where
     none-broken : (seats : SeatsState) (e : PlanPair) → Takes seats e
-        → NoneBroken (assign_checks ((facts seats).standing (Some e.paper)) (paper_named (facts seats) (shown seats) (Some e.paper)) (Some (target seats e e.member.role))
+        → NoneBroken (assign_checks ((facts seats).standing (Some e.paper))
+        (paper_named (facts seats) (shown seats) (Some e.paper)) (Some (target seats e e.member.role))
         (labels_in seats e.paper))
     none-broken seats e takes =
-        let s = takes.stays in
-        (ap not s.there, (refl, (ap not chair, (s.clear, (ap not works, (s.open_, ((λ i. not (s.serves i || outside e e.member.role)), ((λ i. s.wrote i || s.declared i), (ap is_some takes.free, (takes.left, tt))))))))))
+        let s = takes.stays in (
+          ap not s.there,
+          (
+            refl,
+            (
+              ap not chair,
+              (
+                s.clear,
+                (
+                  ap not works,
+                  (
+                    s.open_,
+                    (
+                      (λ i. not (s.serves i || outside e e.member.role)),
+                      ((λ i. s.wrote i || s.declared i), (ap is_some takes.free, (takes.left, tt))),
+                    ),
+                  ),
+                ),
+              ),
+            ),
+          ),
+        )
 
     row-taken : (seats : SeatsState) (e : PlanPair) → Takes seats e
-        → row_judged (facts seats) (shown seats) stamp (row_of_pair e) ≡ Ok (assignment_drawn stamp e.paper e.member.user Pc (labels_in seats e.paper + 1))
+        → row_judged (facts seats) (shown seats) stamp (row_of_pair e)
+        ≡ Ok (assignment_drawn stamp e.paper e.member.user Pc (labels_in seats e.paper + 1))
     row-taken seats e takes =
         let s = takes.stays in
-        ap (row_told_judged (facts seats) (shown seats) stamp) (rows_as_said.pcreview (decimal e.paper) e.member.name [])
-        ∙ (λ i. assignment_judged (facts seats) (shown seats) stamp (s.paper i) (user_among (lines_of t.accounts) (s.name i)) Pc)
+        ap (row_told_judged (facts seats) (shown seats) stamp)
+        (rows_as_said.pcreview (decimal e.paper) e.member.name [])
+        ∙ (λ i. assignment_judged (facts seats) (shown seats) stamp (s.paper i)
+        (user_among (lines_of t.accounts) (s.name i)) Pc)
         ∙ ap (λ (v : Option ℕ). assignment_judged (facts seats) (shown seats) stamp (Some e.paper) v Pc) s.found
         ∙ ap (λ (role : Option Role). judged (checks (option_map (target seats e) role)) drawn) s.role
         ∙ judged-none (checks (Some (target seats e e.member.role))) drawn (none-broken seats e takes)
       where
         checks : Option Target → List Check
-        checks named = assign_checks ((facts seats).standing (Some e.paper)) (paper_named (facts seats) (shown seats) (Some e.paper)) named (labels_in seats e.paper)
+        checks named = assign_checks ((facts seats).standing (Some e.paper))
+            (paper_named (facts seats) (shown seats) (Some e.paper)) named (labels_in seats e.paper)
 
         drawn : Drawn
         drawn = assignment_drawn stamp e.paper e.member.user Pc (labels_in seats e.paper + 1)
@@ -164,7 +192,8 @@ module _ (user at : ℕ) (key : Option RetryKey) (t : Tables) where
     rows-taken [] seats n ready = refl
     rows-taken (e ∷ es) seats n ready =
         subst (λ (r : Result Drawn Rule). IsOk (and_behind n r go)) (sym (row-taken seats e ready.0))
-        (joined (entry_of seats e ∷ []) (rows (after seats e) (n + 1) es) (rows-taken es (after seats e) (n + 1) ready.1))
+        (joined (entry_of seats e ∷ []) (rows (after seats e) (n + 1) es)
+        (rows-taken es (after seats e) (n + 1) ready.1))
       where
         go : History → Result (List Entry) Broken
         go group = rows_judged (tables_basis user) stamp (tables_from (seated seats) group) (n + 1) (map row_of_pair es)
@@ -176,15 +205,19 @@ module _ (user at : ℕ) (key : Option RetryKey) (t : Tables) where
     abbrev pub HasLabels : SeatsState → List PlanPair → PlanPair → Type 0
     HasLabels seats es e = labels_in seats e.paper + count_by (is_of_paper e.paper) es ≤ 26
 
-    pub ready : (es : List PlanPair) (seats : SeatsState) → SeatsInOrder seats → AllByRecursion (λ (e : PlanPair). Stays e) es → AreApart es → AllByRecursion (λ (e : PlanPair). IsFree seats e) es
+    pub ready : (es : List PlanPair) (seats : SeatsState) → SeatsInOrder seats
+        → AllByRecursion (λ (e : PlanPair). Stays e) es → AreApart es
+        → AllByRecursion (λ (e : PlanPair). IsFree seats e) es
         → AllByRecursion (λ (e : PlanPair). HasLabels seats es e) es → Ready seats es
     ready [] seats order stays apart free labels = tt
     ready (e ∷ es) seats order stays apart free labels = (
       record { stays = stays.0; free = free.0; left = spent (labels_in seats e.paper) few },
       ready es (after seats e) (seats-in_order-after seats (entry_of seats e) fits order) stays.1 apart.1
-          (AllByRecursion-map (λ f. Apart e f × IsFree seats f) (λ f. IsFree (after seats e) f) (λ f h. still_free f h.0 h.1) es
+          (AllByRecursion-map (λ f. Apart e f × IsFree seats f) (λ f. IsFree (after seats e) f)
+          (λ f h. still_free f h.0 h.1) es
           (AllByRecursion-both (λ f. Apart e f) (λ f. IsFree seats f) es apart.0 free.1))
-          (AllByRecursion-map (λ f. HasLabels seats (e ∷ es) f) (λ f. HasLabels (after seats e) es f) still_labels es labels.1),
+          (AllByRecursion-map (λ f. HasLabels seats (e ∷ es) f) (λ f. HasLabels (after seats e) es f) still_labels es
+          labels.1),
     )
       where
         here : bit (eqb e.paper e.paper) ≡ 1
@@ -202,7 +235,8 @@ module _ (user at : ℕ) (key : Option RetryKey) (t : Tables) where
         still_free : (f : PlanPair) → Apart e f → IsFree seats f → IsFree (after seats e) f
         still_free f other none =
             ordinal_in-after seats (entry_of seats e) order fits (Some f.member.user) f.paper
-            ∙ ap (λ (b : Bool). last_or (ordinal_in seats (Some f.member.user) f.paper) (given b (Some (labels_in seats e.paper + 1)))) other
+            ∙ ap (λ (b : Bool). last_or (ordinal_in seats (Some f.member.user) f.paper)
+            (given b (Some (labels_in seats e.paper + 1)))) other
             ∙ none
 
         seat : SeatTold
@@ -214,4 +248,10 @@ module _ (user at : ℕ) (key : Option RetryKey) (t : Tables) where
 
         still_labels : (f : PlanPair) → HasLabels seats (e ∷ es) f → HasLabels (after seats e) es f
         still_labels f h =
-            omega (arith, h, counted f.paper e es, labels_in-after seats (entry_of seats e) f.paper, as_many (eqb e.paper f.paper))
+            omega (
+              arith,
+              h,
+              counted f.paper e es,
+              labels_in-after seats (entry_of seats e) f.paper,
+              as_many (eqb e.paper f.paper),
+            )

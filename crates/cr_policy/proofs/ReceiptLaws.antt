@@ -1,6 +1,7 @@
--- What an accepted command of a user's is answered is what the first entry that it adds tells, and so it stays, since names stay; and a bulk is answered
--- how many entries it adds.
-use Rattle.std.proofs.Common.{ℕ, Bool, true, false, cond, ◌≡◌, ◌+◌, List, [], ◌∷◌, ◌++◌, suc, length, eqb, refl, sym, ap, subst, ◌∙◌, Option, Some, None, Ok}
+-- What an accepted command of a user's is answered is what the first entry that it adds tells, and so it stays, since
+-- names stay; and a bulk is answered how many entries it adds.
+use Rattle.std.proofs.Common.{ℕ, Bool, true, false, cond, ◌≡◌, ◌+◌, List, [], ◌∷◌, ◌++◌, suc, length, eqb, refl, sym}
+use Rattle.std.proofs.Common.{ap, subst, ◌∙◌, Option, Some, None, Ok}
 use Rattle.std.specs.Prelude.{map, unwrap_or, find}
 use Rattle.std.specs.List.{flat_map}
 use Rattle.std.specs.Option.{option_map, option_or}
@@ -28,7 +29,8 @@ use Rattle.cr_base.specs.Sources.{name_in}
 use Rattle.cr_base.specs.Tables.{tables_of}
 use Rattle.cr_base.proofs.ListLaws.{name_in-lines_of}
 use Rattle.cr_base.proofs.NameLaws.{name-found}
-use Rattle.cr_policy.specs.Added.{added, answered, next_user, next_paper, next_version, next_label, next_form, next_comment}
+use Rattle.cr_policy.specs.Added.{added, answered, next_user, next_paper, next_version, next_label, next_form}
+use Rattle.cr_policy.specs.Added.{next_comment}
 use Rattle.cr_policy.specs.Judge.{judge_bulk}
 use Rattle.cr_policy.specs.Legal.{IsBulkGiven, Legal}
 use Rattle.cr_policy.specs.Sentences.{user_named}
@@ -59,27 +61,33 @@ name-registered role (r ∷ rs) user = by (eqb r.user user) (name-registered rol
     lines : List AccountLine
     lines = map (λ (r : Registration). record { user = r.user; name = r.name; role = role r.user }) rs
 
-    by : (b : Bool) → name_in lines user ≡ option_map (λ (r : Registration). r.name) (find (λ (r : Registration). eqb r.user user) rs)
+    by : (b : Bool) → name_in lines user ≡ option_map (λ (r : Registration). r.name)
+        (find (λ (r : Registration). eqb r.user user) rs)
         → option_map (λ (a : AccountLine). a.name)
-        (cond b (Some (record { user = r.user; name = r.name; role = role r.user })) (find (λ (a : AccountLine). eqb a.user user) lines))
+        (cond b (Some (record { user = r.user; name = r.name; role = role r.user }))
+        (find (λ (a : AccountLine). eqb a.user user) lines))
         ≡ option_map (λ (r : Registration). r.name) (cond b (Some r) (find (λ (r : Registration). eqb r.user user) rs))
     by true rest = refl
     by false rest = rest
 
 -- a name that a user has stays, whatever comes behind
-name-stays : (H group : History) (user : ℕ) (name : List ℕ) → name_in (accounts_of H) user ≡ Some name → name_in (accounts_of (H ++ group)) user ≡ Some name
+name-stays : (H group : History) (user : ℕ) (name : List ℕ) → name_in (accounts_of H) user ≡ Some name
+    → name_in (accounts_of (H ++ group)) user ≡ Some name
 name-stays H group user name is =
     name-registered (λ v. role_of (Some v) (H ++ group)) (all_told registration_told (H ++ group)) user
     ∙ ap (λ (rs : List Registration). option_map (λ (r : Registration). r.name) (find of_user rs))
     (flat_map-append (λ (e : Stamped). registration_told e.entry) H group)
-    ∙ ap (option_map (λ (r : Registration). r.name)) (find-append of_user (all_told registration_told H) (all_told registration_told group))
-    ∙ by (find of_user (all_told registration_told H)) (sym (name-registered (λ v. role_of (Some v) H) (all_told registration_told H) user) ∙ is)
+    ∙ ap (option_map (λ (r : Registration). r.name))
+    (find-append of_user (all_told registration_told H) (all_told registration_told group))
+    ∙ by (find of_user (all_told registration_told H))
+    (sym (name-registered (λ v. role_of (Some v) H) (all_told registration_told H) user) ∙ is)
   where
     of_user : Registration → Bool
     of_user r = eqb r.user user
 
     by : (found : Option Registration) → option_map (λ (r : Registration). r.name) found ≡ Some name
-        → option_map (λ (r : Registration). r.name) (option_or found (find of_user (all_told registration_told group))) ≡ Some name
+        → option_map (λ (r : Registration). r.name) (option_or found (find of_user (all_told registration_told group)))
+        ≡ Some name
     by None is = absurd (cc (is))
     by (Some r) is = is
 
@@ -89,7 +97,8 @@ names-stay H group (entries.Dismissed user) name is = name-stays H group user na
 names-stay H group e name is = is
 
 -- who is found by a name has it, on a legal history
-found-named : (H : History) (legal : Legal H) (name : List ℕ) (user : ℕ) → number_of name H ≡ Some user → name_in (accounts_of H) user ≡ Some name
+found-named : (H : History) (legal : Legal H) (name : List ℕ) (user : ℕ) → number_of name H ≡ Some user
+    → name_in (accounts_of H) user ≡ Some name
 found-named H legal name user is =
     let told = Legal-told H legal in
     ap (λ (lines : List AccountLine). name_in lines user) told.accounts
@@ -110,14 +119,18 @@ FirstOf H [] told = Unit {0}
 FirstOf H (e ∷ es) told = (receipt : Receipt) → receipt ∷ [] ≡ told → FirstTells H e receipt
 
 -- of one that gives nobody a role
-only : (H : History) (e : Entry) → NamesAs H e [] → (receipt : Receipt) → receipt ∷ [] ≡ receipt_of [] e ∷ [] → FirstTells H e receipt
-only H e named receipt same = let is : receipt ≡ receipt_of [] e = cc (same) in record { name = []; named = named; told = is }
+only : (H : History) (e : Entry) → NamesAs H e [] → (receipt : Receipt) → receipt ∷ [] ≡ receipt_of [] e ∷ []
+    → FirstTells H e receipt
+only H e named receipt same = let is : receipt ≡ receipt_of [] e =
+    cc (same) in record { name = []; named = named; told = is }
 
 -- of one on a user who may be there
-of-user : (H : History) (o : Option ℕ) (entry : ℕ → Entry) (told : Receipt) → ((user : ℕ) → NamesAs H (entry user) []) → ((user : ℕ) → told ≡ receipt_of [] (entry user))
+of-user : (H : History) (o : Option ℕ) (entry : ℕ → Entry) (told : Receipt) → ((user : ℕ) → NamesAs H (entry user) [])
+    → ((user : ℕ) → told ≡ receipt_of [] (entry user))
     → FirstOf H (listed (option_map entry o)) (told ∷ [])
 of-user H None entry told named is = tt
-of-user H (Some user) entry told named is = λ receipt same. only H (entry user) (named user) receipt (same ∙ ap (λ (r : Receipt). r ∷ []) (is user))
+of-user H (Some user) entry told named is =
+    λ receipt same. only H (entry user) (named user) receipt (same ∙ ap (λ (r : Receipt). r ∷ []) (is user))
 
 module _ (u : ℕ) (H : History) (legal : Legal H) where
   named-first : (name : List ℕ) (role : Role) (o : Option ℕ) → number_of name H ≡ o
@@ -162,16 +175,19 @@ module _ (u : ℕ) (H : History) (legal : Legal H) where
   first-of (commands.Bid (Some p) value) = only H (entries.Bid p value) refl
   first-of (commands.Bid None value) = tt
   first-of (commands.Assign (Some p) name kind) =
-      of-user H (user_named name H) (λ v. entries.Assigned p v kind (next_label p H)) (receipts.Label (next_label p H)) (λ v. refl) (λ v. refl)
+      of-user H (user_named name H) (λ v. entries.Assigned p v kind (next_label p H)) (receipts.Label (next_label p H))
+      (λ v. refl) (λ v. refl)
   first-of (commands.Assign None name kind) = tt
   first-of (commands.Unassign (Some p) name) = seated (user_named name H)
     where
-      under : (v : ℕ) (o : Option ℕ) → FirstOf H (listed (option_map (λ o. entries.Unassigned p v o) o) ++ []) (receipts.Changed p ∷ [])
+      under : (v : ℕ) (o : Option ℕ) → FirstOf H (listed (option_map (λ o. entries.Unassigned p v o) o) ++ [])
+          (receipts.Changed p ∷ [])
       under v None = tt
       under v (Some o) = only H (entries.Unassigned p v o) refl
 
       seated : (user : Option ℕ)
-          → FirstOf H (flat_map (λ v. listed (option_map (λ o. entries.Unassigned p v o) (ordinal_of (Some v) p H))) (listed user)) (receipts.Changed p ∷ [])
+          → FirstOf H (flat_map (λ v. listed (option_map (λ o. entries.Unassigned p v o) (ordinal_of (Some v) p H)))
+          (listed user)) (receipts.Changed p ∷ [])
       seated None = tt
       seated (Some v) = under v (ordinal_of (Some v) p H)
   first-of (commands.Unassign None name) = tt
@@ -184,7 +200,8 @@ module _ (u : ℕ) (H : History) (legal : Legal H) where
   first-of (commands.Review None form) = tt
   first-of (commands.Respond (Some p) text) = only H (entries.Responded p text) refl
   first-of (commands.Respond None text) = tt
-  first-of (commands.Comment (Some p) text) = only H (entries.Commented p (next_comment p H) (ordinal_of (Some u) p H) text) refl
+  first-of (commands.Comment (Some p) text) =
+      only H (entries.Commented p (next_comment p H) (ordinal_of (Some u) p H) text) refl
   first-of (commands.Comment None text) = tt
   first-of (commands.Tag (Some p) tag on) = only H (entries.Tagged p tag on) refl
   first-of (commands.Tag None tag on) = tt
@@ -192,9 +209,11 @@ module _ (u : ℕ) (H : History) (legal : Legal H) where
   first-of (commands.Decide None decision) = tt
 
   -- what an accepted command is answered, the first of the entries that it adds tells
-  pub first-tells : (command : Command) (e : Entry) (es : List Entry) (receipt : Receipt) → added (Some u) H command ≡ e ∷ es
+  pub first-tells : (command : Command) (e : Entry) (es : List Entry) (receipt : Receipt)
+      → added (Some u) H command ≡ e ∷ es
       → receipt ∷ [] ≡ answered (Some u) H command → FirstTells H e receipt
-  first-tells command e es receipt is told = subst (λ (xs : List Entry). FirstOf H xs (answered (Some u) H command)) is (first-of command) receipt told
+  first-tells command e es receipt is told =
+      subst (λ (xs : List Entry). FirstOf H xs (answered (Some u) H command)) is (first-of command) receipt told
 
 -- ---- bulks
 
@@ -204,20 +223,24 @@ length-grouped stamp (e ∷ []) = refl
 length-grouped stamp (e ∷ next ∷ es) = ap suc (length-grouped stamp (next ∷ es))
 
 -- rows that are accepted draw an entry each
-rows-counted : (stamp : Stamp) (rows : List BulkRow) (n : ℕ) (H : History) (es : List Entry) → IsReady stamp H → seen stamp H n rows ≡ Ok es → length es ≡ length rows
+rows-counted : (stamp : Stamp) (rows : List BulkRow) (n : ℕ) (H : History) (es : List Entry) → IsReady stamp H
+    → seen stamp H n rows ≡ Ok es → length es ≡ length rows
 rows-counted stamp [] n H es ready accepted = ap (λ (xs : List Entry). length xs) (sym (no_rows stamp es accepted))
 rows-counted stamp (row ∷ rows) n H es ready accepted =
     let all : AreAccepted stamp H n row rows es = rows-accepted stamp H n row rows es ready accepted in
     ap (λ (xs : List Entry). length xs) all.all
     ∙ ap suc
-    (rows-counted stamp rows (n + 1) (next stamp H all.drawn ready all.first true) all.more (next-ready stamp H all.drawn ready all.first true) (all.rest true))
+    (rows-counted stamp rows (n + 1) (next stamp H all.drawn ready all.first true) all.more
+    (next-ready stamp H all.drawn ready all.first true) (all.rest true))
 
 -- so a bulk is answered how many entries it adds
 pub bulk-tells : (H : History) (bulk : BulkCall) (drawn : Drawn) → Legal H → IsBulkGiven H bulk
     → judge_bulk (view (Some bulk.stamp.maker) H) bulk ≡ Ok drawn → drawn.receipt ≡ receipts.Rows (length drawn.group)
 bulk-tells H bulk drawn legal given accepted =
     let draws = bulk-draws bulk.stamp H bulk.rows drawn accepted in
-    let ready : IsReady bulk.stamp H = record { kept = legal_invariants H legal; registered = given.caller; bounds = given-bounded H bulk given } in
+    let ready : IsReady bulk.stamp H =
+    record { kept = legal_invariants H legal; registered = given.caller; bounds = given-bounded H bulk given } in
     let count : length (grouped bulk.stamp draws.entries) ≡ length bulk.rows =
-    length-grouped bulk.stamp draws.entries ∙ rows-counted bulk.stamp bulk.rows 1 H draws.entries ready draws.accepted in
+    length-grouped bulk.stamp draws.entries ∙ rows-counted bulk.stamp bulk.rows 1 H draws.entries ready
+    draws.accepted in
     subst (λ (d : Drawn). d.receipt ≡ receipts.Rows (length d.group)) draws.drawn_is (ap receipts.Rows (sym count))

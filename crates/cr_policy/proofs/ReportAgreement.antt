@@ -1,5 +1,7 @@
--- Where the tables tell what a history tells, what a report tells one who may have it is by her view what it is by the tables.
-use Rattle.std.proofs.Common.{ℕ, Bool, true, false, cond, ◌≡◌, List, [], ◌∷◌, ◌++◌, length, ◌||◌, ◌&&◌, refl, sym, ap, ◌∙◌, arith, Option, Some, None, Result, Ok}
+-- Where the tables tell what a history tells, what a report tells one who may have it is by her view what it is by
+-- the tables.
+use Rattle.std.proofs.Common.{ℕ, Bool, true, false, cond, ◌≡◌, List, [], ◌∷◌, ◌++◌, length, ◌||◌, ◌&&◌, refl, sym, ap}
+use Rattle.std.proofs.Common.{◌∙◌, arith, Option, Some, None, Result, Ok}
 use Rattle.std.specs.Prelude.{map, filter, not, nat_le, unwrap_or}
 use Rattle.std.specs.List.{flat_map, AllByRecursion}
 use Rattle.std.specs.Option.{option_map, option_and_then}
@@ -23,10 +25,12 @@ use Rattle.cr_base.specs.Labels.{by_labels, most_labels}
 use Rattle.cr_base.specs.Lists.{listed, last, is_number, total}
 use Rattle.cr_base.specs.Page.{is_clear_member, is_clear_chair, is_clear_external, shows_reviewer, where_told}
 use Rattle.cr_base.specs.Phases.{phase_rank, is_from, members_see_papers, chairs_see_reviewers, letters_are_sent}
-use Rattle.cr_base.specs.Reports.{report_checks, report_told, is_clear_of, clear_papers, open_papers, title_by, space, line_end, in_four, to_left}
-use Rattle.cr_base.specs.Reports.{paper_mark, papers_end, papers_told, last_scores, scores_line, scores_told}
-use Rattle.cr_base.specs.Reports.{held, is_seat_of_kind, load_line, load_told, decision_word, decision_line, decided, decisions_end, decisions_told}
-use Rattle.cr_base.specs.Reports.{is_accepting, is_rejecting, is_undecided, paper_named_line, decision_named_line, letter_form, letter_forms, letter_told}
+use Rattle.cr_base.specs.Reports.{report_checks, report_told, is_clear_of, clear_papers, open_papers, title_by, space}
+use Rattle.cr_base.specs.Reports.{line_end, in_four, to_left, paper_mark, papers_end, papers_told, last_scores}
+use Rattle.cr_base.specs.Reports.{scores_line, scores_told, held, is_seat_of_kind, load_line, load_told, decision_word}
+use Rattle.cr_base.specs.Reports.{decision_line, decided, decisions_end, decisions_told, is_accepting, is_rejecting}
+use Rattle.cr_base.specs.Reports.{is_undecided, paper_named_line, decision_named_line, letter_form, letter_forms}
+use Rattle.cr_base.specs.Reports.{letter_told}
 use Rattle.cr_base.specs.Sources.{Facts, Shown, decision_by, name_in, facts_of_tables, shown_in_tables}
 use Rattle.cr_base.specs.Tables.{tables_of}
 use Rattle.cr_base.specs.Words.{is_member, is_chair}
@@ -37,7 +41,8 @@ use Rattle.cr_history.proofs.ListCuts.{AllByRecursion-filter}
 use Rattle.cr_policy.specs.View.{view}
 use Rattle.cr_policy.specs.ViewFacts.{shown_in_view}
 use Rattle.cr_policy.proofs.FactAgreement.{title-tables, withdrawn-tables, decision_by-tables}
-use Rattle.cr_policy.proofs.ReviewAgreement.{assigned-tables, seats-tables, written-tables, last_form-tables, discussed-tables}
+use Rattle.cr_policy.proofs.ReviewAgreement.{assigned-tables, seats-tables, written-tables, last_form-tables}
+use Rattle.cr_policy.proofs.ReviewAgreement.{discussed-tables}
 use Rattle.cr_policy.proofs.ReviewerTells.{same_key}
 
 -- ---- lists of those that pass a test
@@ -53,38 +58,56 @@ passed {A} test (x ∷ xs) = by (test x) refl (passed test xs)
     by false is rest = rest
 
 -- what is made of each is the same, where it is the same of all of which this holds
-pub map-same : {A B : Type 0} (P : A → Type 0) (f g : A → B) → ((x : A) → P x → f x ≡ g x) → (xs : List A) → AllByRecursion P xs → map f xs ≡ map g xs
+pub map-same : {A B : Type 0} (P : A → Type 0) (f g : A → B) → ((x : A) → P x → f x ≡ g x) → (xs : List A)
+    → AllByRecursion P xs → map f xs ≡ map g xs
 map-same P f g same [] all = refl
 map-same P f g same (x ∷ xs) all = let rest = map-same P f g same xs all.1 in λ i. same x all.0 i ∷ rest i
 
-pub flat_map-same : {A B : Type 0} (P : A → Type 0) (f g : A → List B) → ((x : A) → P x → f x ≡ g x) → (xs : List A) → AllByRecursion P xs
+pub flat_map-same : {A B : Type 0} (P : A → Type 0) (f g : A → List B) → ((x : A) → P x → f x ≡ g x) → (xs : List A)
+    → AllByRecursion P xs
     → flat_map f xs ≡ flat_map g xs
 flat_map-same P f g same [] all = refl
 flat_map-same P f g same (x ∷ xs) all = let rest = flat_map-same P f g same xs all.1 in λ i. same x all.0 i ++ rest i
 
-pub filter-same : {A : Type 0} (P : A → Type 0) (f g : A → Bool) → ((x : A) → P x → f x ≡ g x) → (xs : List A) → AllByRecursion P xs → filter f xs ≡ filter g xs
+pub filter-same : {A : Type 0} (P : A → Type 0) (f g : A → Bool) → ((x : A) → P x → f x ≡ g x) → (xs : List A)
+    → AllByRecursion P xs → filter f xs ≡ filter g xs
 filter-same P f g same [] all = refl
-filter-same P f g same (x ∷ xs) all = let rest = filter-same P f g same xs all.1 in λ i. cond (same x all.0 i) (x ∷ rest i) (rest i)
+filter-same P f g same (x ∷ xs) all = let rest =
+    filter-same P f g same xs all.1 in λ i. cond (same x all.0 i) (x ∷ rest i) (rest i)
 
 -- ---- what is told of forms
 
 -- the score of the last form is that of the last one as it is told
-last-graded : (tell : FormTold → ReviewLine) → ((form : FormTold) → (tell form).score ≡ form.score) → (forms : List FormTold)
-    → map (λ (form : FormTold). form.score) (listed (last forms)) ≡ map (λ (line : ReviewLine). line.score) (listed (last (map tell forms)))
-last-graded tell graded forms = of (last forms) ∙ ap (λ (line : Option ReviewLine). map (λ (line : ReviewLine). line.score) (listed line)) (sym (last_from-map tell None forms))
+last-graded : (tell : FormTold → ReviewLine) → ((form : FormTold) → (tell form).score ≡ form.score)
+    → (forms : List FormTold)
+    → map (λ (form : FormTold). form.score) (listed (last forms)) ≡ map (λ (line : ReviewLine). line.score)
+    (listed (last (map tell forms)))
+last-graded tell graded forms = of (last forms)
+    ∙ ap (λ (line : Option ReviewLine). map (λ (line : ReviewLine). line.score) (listed line))
+    (sym (last_from-map tell None forms))
   where
-    of : (form : Option FormTold) → map (λ (form : FormTold). form.score) (listed form) ≡ map (λ (line : ReviewLine). line.score) (listed (option_map tell form))
+    of : (form : Option FormTold) → map (λ (form : FormTold). form.score) (listed form)
+        ≡ map (λ (line : ReviewLine). line.score) (listed (option_map tell form))
     of None = refl
     of (Some form) = ap (λ n. n ∷ []) (sym (graded form))
 
 -- a form of which is kept what an author is told
 abbrev form_of_line : ReviewLine → FormTold
-form_of_line line = record { version = None; score = line.score; confidence = line.confidence; to_authors = line.to_authors; to_pc = None }
+form_of_line line =
+    record {
+      version = None;
+      score = line.score;
+      confidence = line.confidence;
+      to_authors = line.to_authors;
+      to_pc = None;
+    }
 
 -- the letter needs no more of it
-letter-of_line : (by : Standing) (accounts : List AccountLine) (named : Bool) (user : Option ℕ) (o : ℕ) (writer : Option (List ℕ)) (form : Option FormTold)
+letter-of_line : (by : Standing) (accounts : List AccountLine) (named : Bool) (user : Option ℕ) (o : ℕ)
+    (writer : Option (List ℕ)) (form : Option FormTold)
     → flat_map (letter_form o writer) (listed form)
-    ≡ flat_map (λ (line : ReviewLine). letter_form o writer (form_of_line line)) (map (review_told by accounts named user o) (listed form))
+    ≡ flat_map (λ (line : ReviewLine). letter_form o writer (form_of_line line))
+    (map (review_told by accounts named user o) (listed form))
 unfolding letter_form
 letter-of_line by accounts named user o writer None = refl
 letter-of_line by accounts named user o writer (Some form) = refl
@@ -121,7 +144,9 @@ module _ (u : Option ℕ) (H : History) (told : AreTold H) (forms : AreFormsTold
 
   module _ (serves : is_member here.role ≡ true) (begun : members_see_papers here.phase ≡ true) where
     withdrawn-same : (p : ℕ) → shown.withdrawn p ≡ tabled.withdrawn p
-    withdrawn-same p = withdrawn-tables u H told p (gets (to p).author (is_member here.role) (members_see_papers here.phase) (is_clear_external (to p)) serves begun)
+    withdrawn-same p = withdrawn-tables u H told p
+        (gets (to p).author (is_member here.role) (members_see_papers here.phase) (is_clear_external (to p)) serves
+        begun)
       where
         gets : (a m b e : Bool) → m ≡ true → b ≡ true → (a || (m && b) || (e && b)) ≡ true
         gets a m b e hm hb = grind arith
@@ -129,7 +154,8 @@ module _ (u : Option ℕ) (H : History) (told : AreTold H) (forms : AreFormsTold
     title-same : (p : ℕ) → title_by shown p ≡ title_by tabled p
     title-same p =
         ap (λ (title : Option (List ℕ)). unwrap_or title [])
-        (title-tables u H told p (gets (to p).author (is_member here.role) (members_see_papers here.phase) (is_clear_external (to p)) (facts.accepted p) serves begun))
+        (title-tables u H told p (gets (to p).author (is_member here.role) (members_see_papers here.phase)
+        (is_clear_external (to p)) (facts.accepted p) serves begun))
       where
         gets : (a m b e accepted : Bool) → m ≡ true → b ≡ true → (a || (m && b) || (e && b) || accepted) ≡ true
         gets a m b e accepted hm hb = grind arith
@@ -140,7 +166,8 @@ module _ (u : Option ℕ) (H : History) (told : AreTold H) (forms : AreFormsTold
     papers-same : papers_told facts shown ≡ papers_told facts tabled
     papers-same = λ i.
         flat_map
-        (λ (p : ℕ). in_four p ++ space ++ paper_mark (withdrawn-same p i) (to p).conflicted ++ space ++ title-same p i ++ line_end)
+        (λ (p : ℕ). in_four p ++ space ++ paper_mark (withdrawn-same p i) (to p).conflicted ++ space ++ title-same p i
+        ++ line_end)
         facts.papers
         ++ papers_end (length facts.papers)
 
@@ -162,16 +189,19 @@ module _ (u : Option ℕ) (H : History) (told : AreTold H) (forms : AreFormsTold
           clear_member : (m c : Bool) → m ≡ true → not c ≡ true → (m && not c) ≡ true
           clear_member m c hm hc = grind arith
 
-          of : (o : ℕ) → map score (listed (last (shown.forms_discussed p o))) ≡ map score (listed (last (tabled.forms_discussed p o)))
+          of : (o : ℕ) → map score (listed (last (shown.forms_discussed p o)))
+              ≡ map score (listed (last (tabled.forms_discussed p o)))
           of o =
               last-graded (tell o) (λ form. refl) (shown.forms_discussed p o)
               ∙ ap (λ (lines : List ReviewLine). map graded (listed (last lines)))
-              (discussed-tables u H told p [] false None o forms (clear_member (is_member here.role) (to p).conflicted serves clear) discussed)
+              (discussed-tables u H told p [] false None o forms
+              (clear_member (is_member here.role) (to p).conflicted serves clear) discussed)
               ∙ sym (last-graded (tell o) (λ form. refl) (tabled.forms_discussed p o))
 
       scores-same : scores_told facts shown ≡ scores_told facts tabled
       scores-same =
-          ap (flat_map (line shown)) open-same ∙ flat_map-same IsClear (line shown) (line tabled) same (open_papers facts tabled) open-clear
+          ap (flat_map (line shown)) open-same ∙ flat_map-same IsClear (line shown) (line tabled) same
+          (open_papers facts tabled) open-clear
         where
           line : Shown → ℕ → List ℕ
           line from p = scores_line p (last_scores from p) (title_by from p)
@@ -182,17 +212,20 @@ module _ (u : Option ℕ) (H : History) (told : AreTold H) (forms : AreFormsTold
       decision-same : (p : ℕ) → IsClear p → decision_by facts shown p ≡ decision_by facts tabled p
       decision-same p clear =
           decision_by-tables u H told p
-          (gets (is_member here.role) (to p).conflicted (is_from Discussion here.phase) ((to p).author && is_from Notification here.phase) (facts.accepted p)
+          (gets (is_member here.role) (to p).conflicted (is_from Discussion here.phase)
+          ((to p).author && is_from Notification here.phase) (facts.accepted p)
           serves clear discussed)
         where
-          gets : (m c d a accepted : Bool) → m ≡ true → not c ≡ true → d ≡ true → (((m && not c) && d) || a || accepted) ≡ true
+          gets : (m c d a accepted : Bool) → m ≡ true → not c ≡ true → d ≡ true
+              → (((m && not c) && d) || a || accepted) ≡ true
           gets m c d a accepted hm hc hd = grind arith
 
       decided-same : (test : Option Decision → Bool) → decided facts shown test ≡ decided facts tabled test
       decided-same test =
           ap length
           (ap (filter (passes shown)) open-same
-          ∙ filter-same IsClear (passes shown) (passes tabled) (λ p clear. ap test (decision-same p clear)) (open_papers facts tabled) open-clear)
+          ∙ filter-same IsClear (passes shown) (passes tabled) (λ p clear. ap test (decision-same p clear))
+          (open_papers facts tabled) open-clear)
         where
           passes : Shown → ℕ → Bool
           passes from p = test (decision_by facts from p)
@@ -200,7 +233,8 @@ module _ (u : Option ℕ) (H : History) (told : AreTold H) (forms : AreFormsTold
       decisions-same : decisions_told facts shown ≡ decisions_told facts tabled
       decisions-same =
           let lines = ap (flat_map (decision_line facts shown)) open-same
-          ∙ flat_map-same IsClear (decision_line facts shown) (decision_line facts tabled) same (open_papers facts tabled) open-clear in
+          ∙ flat_map-same IsClear (decision_line facts shown) (decision_line facts tabled) same
+          (open_papers facts tabled) open-clear in
           let accepted = decided-same is_accepting in
           let rejected = decided-same is_rejecting in
           let undecided = decided-same is_undecided in
@@ -224,17 +258,22 @@ module _ (u : Option ℕ) (H : History) (told : AreTold H) (forms : AreFormsTold
     written-same p clear o = written-tables u H told p (clear_chair p clear) o
 
     seats-same : (p : ℕ) → IsClear p → shown.reviewers p ≡ tabled.reviewers p
-    seats-same p clear = seats-tables u H told p (both (is_clear_chair (to p)) (chairs_see_reviewers here.phase) (clear_chair p clear) begun)
+    seats-same p clear =
+        seats-tables u H told p (both (is_clear_chair (to p)) (chairs_see_reviewers here.phase) (clear_chair p clear)
+        begun)
       where
         both : (k b : Bool) → k ≡ true → b ≡ true → (k && b) ≡ true
         both k b hk hb = grind arith
 
-    held-same : (user : ℕ) (test test' : ℕ → SeatTold → Bool) → ((p : ℕ) → IsClear p → (seat : SeatTold) → test p seat ≡ test' p seat)
+    held-same : (user : ℕ) (test test' : ℕ → SeatTold → Bool)
+        → ((p : ℕ) → IsClear p → (seat : SeatTold) → test p seat ≡ test' p seat)
         → held facts shown user test ≡ held facts tabled user test'
-    held-same user test test' same = ap total (map-same IsClear (count shown test) (count tabled test') counted (clear_papers facts) clear-clear)
+    held-same user test test' same =
+        ap total (map-same IsClear (count shown test) (count tabled test') counted (clear_papers facts) clear-clear)
       where
         count : Shown → (ℕ → SeatTold → Bool) → ℕ → ℕ
-        count from passes p = length (filter (λ (seat : SeatTold). is_number seat.user user && passes p seat) (from.reviewers p))
+        count from passes p =
+            length (filter (λ (seat : SeatTold). is_number seat.user user && passes p seat) (from.reviewers p))
 
         counted : (p : ℕ) → IsClear p → count shown test p ≡ count tabled test' p
         counted p clear =
@@ -243,14 +282,19 @@ module _ (u : Option ℕ) (H : History) (told : AreTold H) (forms : AreFormsTold
             λ i. length (filter (λ (seat : SeatTold). is_number seat.user user && tests seat i) (seats i))
 
     load-same : load_told facts shown ≡ load_told facts tabled
-    load-same = let each = line in λ i. flat_map (λ (a : AccountLine). each a i) (filter (λ (a : AccountLine). is_member a.role) facts.accounts)
+    load-same = let each = line in λ i. flat_map (λ (a : AccountLine). each a i)
+        (filter (λ (a : AccountLine). is_member a.role) facts.accounts)
       where
         line : (a : AccountLine) → load_line facts shown a ≡ load_line facts tabled a
         line a =
-            let primary = held-same a.user (λ p seat. is_seat_of_kind Primary seat) (λ p seat. is_seat_of_kind Primary seat) (λ p clear seat. refl) in
-            let secondary = held-same a.user (λ p seat. is_seat_of_kind Secondary seat) (λ p seat. is_seat_of_kind Secondary seat) (λ p clear seat. refl) in
-            let others = held-same a.user (λ p seat. is_seat_of_kind Pc seat) (λ p seat. is_seat_of_kind Pc seat) (λ p clear seat. refl) in
-            let written = held-same a.user (λ p seat. shown.written p seat.ordinal) (λ p seat. tabled.written p seat.ordinal)
+            let primary = held-same a.user (λ p seat. is_seat_of_kind Primary seat)
+            (λ p seat. is_seat_of_kind Primary seat) (λ p clear seat. refl) in
+            let secondary = held-same a.user (λ p seat. is_seat_of_kind Secondary seat)
+            (λ p seat. is_seat_of_kind Secondary seat) (λ p clear seat. refl) in
+            let others = held-same a.user (λ p seat. is_seat_of_kind Pc seat) (λ p seat. is_seat_of_kind Pc seat)
+            (λ p clear seat. refl) in
+            let written =
+            held-same a.user (λ p seat. shown.written p seat.ordinal) (λ p seat. tabled.written p seat.ordinal)
             (λ p clear seat. written-same p clear seat.ordinal) in
             λ i.
             to_left 32 a.name
@@ -267,7 +311,8 @@ module _ (u : Option ℕ) (H : History) (told : AreTold H) (forms : AreFormsTold
     letter_title =
         ap (λ (title : Option (List ℕ)). unwrap_or title [])
         (title-tables u H told p
-        (gets (to p).author (is_member here.role && members_see_papers here.phase) (is_clear_external (to p) && members_see_papers here.phase) (facts.accepted p) author))
+        (gets (to p).author (is_member here.role && members_see_papers here.phase)
+        (is_clear_external (to p) && members_see_papers here.phase) (facts.accepted p) author))
       where
         gets : (a m e accepted : Bool) → a ≡ true → (a || m || e || accepted) ≡ true
         gets a m e accepted ha = grind arith
@@ -275,7 +320,8 @@ module _ (u : Option ℕ) (H : History) (told : AreTold H) (forms : AreFormsTold
     letter_decision : decision_by facts shown p ≡ decision_by facts tabled p
     letter_decision =
         decision_by-tables u H told p
-        (gets (is_clear_member (to p) && is_from Discussion here.phase) (to p).author (is_from Notification here.phase) (facts.accepted p) author notified)
+        (gets (is_clear_member (to p) && is_from Discussion here.phase) (to p).author (is_from Notification here.phase)
+        (facts.accepted p) author notified)
       where
         gets : (m a n accepted : Bool) → a ≡ true → n ≡ true → (m || (a && n) || accepted) ≡ true
         gets m a n accepted ha hn = grind arith
@@ -292,21 +338,26 @@ module _ (u : Option ℕ) (H : History) (told : AreTold H) (forms : AreFormsTold
 
         writer-same : (o : ℕ) → writer shown o ≡ writer tabled o
         writer-same o =
-            same_key (shows_reviewer (to p)) (name (shown.assigned p o)) (name (tabled.assigned p o)) (λ names. ap name (assigned-tables u H told p names o))
+            same_key (shows_reviewer (to p)) (name (shown.assigned p o)) (name (tabled.assigned p o))
+            (λ names. ap name (assigned-tables u H told p names o))
 
         tell : ℕ → FormTold → ReviewLine
         tell o = review_told (to p) [] false None o
 
-        of : (o : ℕ) → flat_map (letter_form o (writer shown o)) (listed (shown.last_form p o)) ≡ flat_map (letter_form o (writer tabled o)) (listed (tabled.last_form p o))
+        of : (o : ℕ) → flat_map (letter_form o (writer shown o)) (listed (shown.last_form p o))
+            ≡ flat_map (letter_form o (writer tabled o)) (listed (tabled.last_form p o))
         of o =
-            let by_lines : List ReviewLine → List ℕ = flat_map (λ (line : ReviewLine). letter_form o (writer shown o) (form_of_line line)) in
+            let by_lines : List ReviewLine → List ℕ =
+            flat_map (λ (line : ReviewLine). letter_form o (writer shown o) (form_of_line line)) in
             letter-of_line (to p) [] false None o (writer shown o) (shown.last_form p o)
             ∙ ap by_lines (last_form-tables u H told p [] false None o author notified)
             ∙ sym (letter-of_line (to p) [] false None o (writer shown o) (tabled.last_form p o))
-            ∙ ap (λ (writer : Option (List ℕ)). flat_map (letter_form o writer) (listed (tabled.last_form p o))) (writer-same o)
+            ∙ ap (λ (writer : Option (List ℕ)). flat_map (letter_form o writer) (listed (tabled.last_form p o)))
+            (writer-same o)
 
     letter-same : letter_told facts shown p ≡ letter_told facts tabled p
-    letter-same = λ i. paper_named_line p (letter_title i) ++ decision_named_line (decision_word (letter_decision i)) ++ forms-same i
+    letter-same = λ i. paper_named_line p (letter_title i) ++ decision_named_line (decision_word (letter_decision i))
+        ++ forms-same i
 
   -- ---- reports
 
@@ -322,22 +373,32 @@ module _ (u : Option ℕ) (H : History) (told : AreTold H) (forms : AreFormsTold
       → judged (report_checks facts report) (replies.Report (report_told facts shown report))
       ≡ judged (report_checks facts report) (replies.Report (report_told facts tabled report))
   report-tables reports.Papers =
-      judged-behind (report_checks facts reports.Papers) [] [] (replies.Report (papers_told facts shown)) (replies.Report (papers_told facts tabled))
-      (λ none. ap answered (papers-same (not-false (is_member here.role) none.0) (not-false (members_see_papers here.phase) none.1.0)))
+      judged-behind (report_checks facts reports.Papers) [] [] (replies.Report (papers_told facts shown))
+      (replies.Report (papers_told facts tabled))
+      (λ none. ap answered (papers-same (not-false (is_member here.role) none.0)
+      (not-false (members_see_papers here.phase) none.1.0)))
   report-tables reports.Scores =
-      judged-behind (report_checks facts reports.Scores) [] [] (replies.Report (scores_told facts shown)) (replies.Report (scores_told facts tabled))
+      judged-behind (report_checks facts reports.Scores) [] [] (replies.Report (scores_told facts shown))
+      (replies.Report (scores_told facts tabled))
       (λ none.
       let discussed = not-false (is_from Discussion here.phase) none.1.0 in
-      ap answered (scores-same (not-false (is_member here.role) none.0) (begun_by (phase_rank here.phase) discussed) discussed))
+      ap answered (scores-same (not-false (is_member here.role) none.0) (begun_by (phase_rank here.phase) discussed)
+      discussed))
   report-tables reports.Load =
-      judged-behind (report_checks facts reports.Load) [] [] (replies.Report (load_told facts shown)) (replies.Report (load_told facts tabled))
-      (λ none. ap answered (load-same (not-false (is_chair here.role) none.0) (not-false (chairs_see_reviewers here.phase) none.1.0)))
+      judged-behind (report_checks facts reports.Load) [] [] (replies.Report (load_told facts shown))
+      (replies.Report (load_told facts tabled))
+      (λ none. ap answered (load-same (not-false (is_chair here.role) none.0)
+      (not-false (chairs_see_reviewers here.phase) none.1.0)))
   report-tables reports.Decisions =
-      judged-behind (report_checks facts reports.Decisions) [] [] (replies.Report (decisions_told facts shown)) (replies.Report (decisions_told facts tabled))
+      judged-behind (report_checks facts reports.Decisions) [] [] (replies.Report (decisions_told facts shown))
+      (replies.Report (decisions_told facts tabled))
       (λ none.
       let discussed = not-false (is_from Discussion here.phase) none.1.0 in
-      ap answered (decisions-same (not-false (is_member here.role) none.0) (begun_by (phase_rank here.phase) discussed) discussed))
+      ap answered (decisions-same (not-false (is_member here.role) none.0) (begun_by (phase_rank here.phase) discussed)
+      discussed))
   report-tables (reports.Letter None) = refl
   report-tables (reports.Letter (Some p)) =
-      judged-behind (report_checks facts (reports.Letter (Some p))) [] [] (replies.Report (letter_told facts shown p)) (replies.Report (letter_told facts tabled p))
-      (λ none. ap answered (letter-same p (not-false (to p).author none.1.0) (not-false (letters_are_sent here.phase) none.1.1.0)))
+      judged-behind (report_checks facts (reports.Letter (Some p))) [] [] (replies.Report (letter_told facts shown p))
+      (replies.Report (letter_told facts tabled p))
+      (λ none. ap answered (letter-same p (not-false (to p).author none.1.0)
+      (not-false (letters_are_sent here.phase) none.1.1.0)))

@@ -27,22 +27,27 @@ module _ (r : Reader) (at : Around) (stamp : Stamp) (more : Bool) where
   response_at : (p : ℕ) (e : Entry) → flat_map (response_seen p) (sight r at (stamped stamp more e))
       ≡ only (passes part.text r at (stamped stamp more e)) (response_told p e)
   response_at p (Responded paper text) =
-      told_where r at stamp more (response_seen p) part.text (Responded paper text) (response_told p (Responded paper text))
+      told_where r at stamp more (response_seen p) part.text (Responded paper text)
+      (response_told p (Responded paper text))
       (paper_value (eqb paper p) _ text)
   response_at p e = silent r at stamp more (response_seen p) e refl
 
-response_tells : (r : Reader) (p : ℕ) → Tells r (response_seen p) (λ (e : Stamped). response_told p e.entry) (passes part.text r)
+response_tells : (r : Reader) (p : ℕ) → Tells r (response_seen p) (λ (e : Stamped). response_told p e.entry)
+    (passes part.text r)
 response_tells r p at e = response_at r at e.stamp e.more p e.entry
 
 -- where each response to the paper's reviews is shown, what is told of them is kept
 response_kept : (r : Reader) (at : Around) (p : ℕ)
-    → ((stamp : Stamp) (more : Bool) (text : List ℕ) → passes part.text r at (stamped stamp more (Responded p text)) ≡ true)
+    → ((stamp : Stamp) (more : Bool) (text : List ℕ) → passes part.text r at (stamped stamp more (Responded p text))
+    ≡ true)
     → (e : Stamped) → only (passes part.text r at e) (response_told p e.entry) ≡ response_told p e.entry
 response_kept r at p shown e = by e.stamp e.more e.entry
   where
-    by : (stamp : Stamp) (more : Bool) (e : Entry) → only (passes part.text r at (stamped stamp more e)) (response_told p e) ≡ response_told p e
+    by : (stamp : Stamp) (more : Bool) (e : Entry)
+        → only (passes part.text r at (stamped stamp more e)) (response_told p e) ≡ response_told p e
     by stamp more (Responded paper text) =
-        of_paper (λ n. passes part.text r at (stamped stamp more (Responded n text))) paper p text (shown stamp more text)
+        of_paper (λ n. passes part.text r at (stamped stamp more (Responded n text))) paper p text
+        (shown stamp more text)
     by stamp more e = refl
 
 pub response-seen : (u : Option ℕ) (p : ℕ) (H : History) → is_told_response (standing_of u (Some p) H) ≡ true

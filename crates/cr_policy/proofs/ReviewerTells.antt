@@ -1,5 +1,7 @@
--- What a view says of a paper's bids and of its reviewers is what the history says, where the reader's standing tells them.
-use Rattle.std.proofs.Common.{◌≡◌, ℕ, Bool, true, false, List, [], ◌∷◌, refl, sym, ap, ◌∙◌, ◌||◌, ◌&&◌, Option, Some, None, cond, length, arith}
+-- What a view says of a paper's bids and of its reviewers is what the history says, where the reader's standing tells
+-- them.
+use Rattle.std.proofs.Common.{◌≡◌, ℕ, Bool, true, false, List, [], ◌∷◌, refl, sym, ap, ◌∙◌, ◌||◌, ◌&&◌, Option, Some}
+use Rattle.std.proofs.Common.{None, cond, length, arith}
 use Rattle.std.specs.Prelude.{map, not, filter, find, ◌==◌}
 use Rattle.std.specs.Cmp.Derive.{both_true}
 use Rattle.std.specs.List.{flat_map, list_any}
@@ -17,29 +19,37 @@ use Rattle.cr_base.specs.Answering.{reviewer_told}
 use Rattle.cr_base.specs.Lists.{last}
 use Rattle.cr_base.specs.Drawn.{stamped}
 use Rattle.cr_base.specs.History.{History, SeatTold, bid_told, assigned_told, unassigned_told}
-use Rattle.cr_base.specs.HistoryFacts.{phase_of, standing_of, is_conflict_on, is_invited, bid_of, ordinal_of, seats_of, seats_left, reviewers_of, assigned_under}
-use Rattle.cr_base.specs.Page.{is_clear_member, is_clear_chair, gets_bids, gets_conflicts, gets_reviewers, shows_reviewer, where_told}
-use Rattle.cr_base.specs.Phases.{chairs_see_conflicts, chairs_see_reviewers, members_see_reviewers, authors_see_reviewers}
+use Rattle.cr_base.specs.HistoryFacts.{phase_of, standing_of, is_conflict_on, is_invited, bid_of, ordinal_of, seats_of}
+use Rattle.cr_base.specs.HistoryFacts.{seats_left, reviewers_of, assigned_under}
+use Rattle.cr_base.specs.Page.{is_clear_member, is_clear_chair, gets_bids, gets_conflicts, gets_reviewers}
+use Rattle.cr_base.specs.Page.{shows_reviewer, where_told}
+use Rattle.cr_base.specs.Phases.{chairs_see_conflicts, chairs_see_reviewers, members_see_reviewers}
+use Rattle.cr_base.specs.Phases.{authors_see_reviewers}
 use Rattle.cr_base.specs.Sources.{name_in}
 use Rattle.cr_base.specs.Words.{is_overt, is_chair, is_member}
 use Rattle.cr_policy.specs.Part as part
 use Rattle.cr_policy.specs.Sighting.{Sighting, where_shown}
 use Rattle.cr_policy.specs.Triggers.{reader, Around, user_named, standing_to, unless_anonymous}
 use Rattle.cr_policy.specs.View.{view}
-use Rattle.cr_policy.specs.ViewFacts.{bid_seen, assigned_seen, unassigned_seen, bid_in_view, ordinal_in_view, is_invited_in_view, seats_in_view, reviewers_in_view}
+use Rattle.cr_policy.specs.ViewFacts.{bid_seen, assigned_seen, unassigned_seen, bid_in_view, ordinal_in_view}
+use Rattle.cr_policy.specs.ViewFacts.{is_invited_in_view, seats_in_view, reviewers_in_view}
 use Rattle.cr_policy.proofs.Walk.{map-flat_map, sights-all, fold_all}
 use Rattle.cr_policy.proofs.Tells.{passes, passes_both}
-use Rattle.cr_policy.proofs.SeatTells.{bid_tells, bid_value, unassigned_tells, unassigned_value, ShowsAssigned, assigned_tells}
+use Rattle.cr_policy.proofs.SeatTells.{bid_tells, bid_value, unassigned_tells, unassigned_value, ShowsAssigned}
+use Rattle.cr_policy.proofs.SeatTells.{assigned_tells}
 use Rattle.cr_policy.proofs.StandingLaws.{first_of, invited-seen_where, seat-seen_where}
 
 -- ---- bids
 
 -- a clear chair sees each bid on the paper from the bidding on
-pub bid-seen : (u v : Option ℕ) (p : ℕ) (H : History) → gets_bids (standing_of u (Some p) H) ≡ true → bid_in_view v p (view u H) ≡ bid_of v p H
+pub bid-seen : (u v : Option ℕ) (p : ℕ) (H : History) → gets_bids (standing_of u (Some p) H) ≡ true
+    → bid_in_view v p (view u H) ≡ bid_of v p H
 bid-seen u v p H told =
     ap last
-    (fold_all (reader u H) (bid_seen v p) (λ (e : Stamped). bid_told v p e.stamp.maker e.entry) (passes_both part.by part.value (reader u H))
-    (bid_tells (reader u H) v p) (λ at e. bid_value (reader u H) at v p (λ stamp more value. both_true (clear _) (clear _)) e) [] H)
+    (fold_all (reader u H) (bid_seen v p) (λ (e : Stamped). bid_told v p e.stamp.maker e.entry)
+    (passes_both part.by part.value (reader u H))
+    (bid_tells (reader u H) v p) (λ at e. bid_value (reader u H) at v p
+    (λ stamp more value. both_true (clear _) (clear _)) e) [] H)
   where
     clear : (rest : Bool) → (gets_bids (standing_of u (Some p) H) || rest) ≡ true
     clear rest = first_of (gets_bids (standing_of u (Some p) H)) rest told
@@ -47,22 +57,27 @@ bid-seen u v p H told =
 -- ---- seats
 
 -- and each entry by which anybody is assigned to it, or unassigned from it
-pub seat-seen_by_chair : (u v : Option ℕ) (p : ℕ) (H : History) → gets_conflicts (standing_of u (Some p) H) ≡ true → ordinal_in_view v p (view u H) ≡ ordinal_of v p H
+pub seat-seen_by_chair : (u v : Option ℕ) (p : ℕ) (H : History) → gets_conflicts (standing_of u (Some p) H) ≡ true
+    → ordinal_in_view v p (view u H) ≡ ordinal_of v p H
 seat-seen_by_chair u v p H told = seat-seen_where u v p H (λ at. record {
-  assigned = λ stamp more user kind ordinal hers. both_true (clear (user_named (reader u H) user) _) (clear (user_named (reader u H) user) _);
-  unassigned = λ stamp more user ordinal hers. both_true (clear (user_named (reader u H) user) _) (clear (user_named (reader u H) user) _);
+  assigned = λ stamp more user kind ordinal hers. both_true (clear (user_named (reader u H) user) _)
+      (clear (user_named (reader u H) user) _);
+  unassigned = λ stamp more user ordinal hers. both_true (clear (user_named (reader u H) user) _)
+      (clear (user_named (reader u H) user) _);
 })
   where
     chair : Bool
     chair = is_clear_chair (standing_to (reader u H) p)
 
     clear : (named rest : Bool) → (named || (chair || rest)) ≡ true
-    clear named rest = or_right named (chair || rest) (or_left chair rest (and_parts chair (chairs_see_conflicts (phase_of H)) told).0)
+    clear named rest =
+        or_right named (chair || rest) (or_left chair rest (and_parts chair (chairs_see_conflicts (phase_of H)) told).0)
 
 -- ---- invitations
 
 -- and each by which anybody is invited to it, or is no longer
-pub invited-seen_by_chair : (u v : Option ℕ) (p : ℕ) (H : History) → gets_conflicts (standing_of u (Some p) H) ≡ true → is_invited_in_view v p (view u H) ≡ is_invited v p H
+pub invited-seen_by_chair : (u v : Option ℕ) (p : ℕ) (H : History) → gets_conflicts (standing_of u (Some p) H) ≡ true
+    → is_invited_in_view v p (view u H) ≡ is_invited v p H
 invited-seen_by_chair u v p H told = invited-seen_where u v p H (λ at. record {
   invited = λ stamp more user hers. clear (user_named (reader u H) user) _;
   uninvited = λ stamp more user hers. clear (user_named (reader u H) user) _;
@@ -72,18 +87,22 @@ invited-seen_by_chair u v p H told = invited-seen_where u v p H (λ at. record {
     chair = is_clear_chair (standing_to (reader u H) p)
 
     clear : (named rest : Bool) → (named || (chair || rest)) ≡ true
-    clear named rest = or_right named (chair || rest) (or_left chair rest (and_parts chair (chairs_see_conflicts (phase_of H)) told).0)
+    clear named rest =
+        or_right named (chair || rest) (or_left chair rest (and_parts chair (chairs_see_conflicts (phase_of H)) told).0)
 
 -- ---- reviewers
 
 -- a part that is told holds the same, where it is the same if it is told
-pub same_key : {A : Type 0} (told : Bool) (x y : Option A) → (told ≡ true → x ≡ y) → where_told told x ≡ where_told told y
+pub same_key : {A : Type 0} (told : Bool) (x y : Option A) → (told ≡ true → x ≡ y)
+    → where_told told x ≡ where_told told y
 same_key true x y h = h refl
 same_key false x y h = refl
 
 -- the seats that are left are told as those are told whose label is left
-told-left : (told : SeatTold → Reviewer) → ((seat : SeatTold) → (told seat).label ≡ seat.ordinal) → (gone : List ℕ) (seats : List SeatTold)
-    → map told (seats_left gone seats) ≡ filter (λ (r : Reviewer). not (list_any (λ o. o == r.label) gone)) (map told seats)
+told-left : (told : SeatTold → Reviewer) → ((seat : SeatTold) → (told seat).label ≡ seat.ordinal)
+    → (gone : List ℕ) (seats : List SeatTold)
+    → map told (seats_left gone seats) ≡ filter (λ (r : Reviewer). not (list_any (λ o. o == r.label) gone))
+    (map told seats)
 told-left told label gone [] = refl
 told-left told label gone (seat ∷ seats) =
     by (not (list_any (λ o. o == seat.ordinal) gone)) (not (list_any (λ o. o == (told seat).label) gone))
@@ -114,12 +133,15 @@ under-named o (seat ∷ seats) = by (seat.ordinal == o) (under-named o seats)
     user seat = option_and_then (λ (seat : SeatTold). seat.user) seat
 
     by : (b : Bool) → assigned_under o (map named_alone seats) ≡ assigned_under o seats
-        → user (cond b (Some (named_alone seat)) (find found (map named_alone seats))) ≡ user (cond b (Some seat) (find found seats))
+        → user (cond b (Some (named_alone seat)) (find found (map named_alone seats)))
+        ≡ user (cond b (Some seat) (find found seats))
     by true later = refl
     by false later = later
 
--- one who is told of reviewers sees the label of each, what she is to the paper as far as the standing tells that, and who she is
-module _ (u : Option ℕ) (p : ℕ) (H : History) (accounts : List AccountLine) (written : ℕ → Bool) (told : gets_reviewers (standing_of u (Some p) H) ≡ true) where
+-- one who is told of reviewers sees the label of each, what she is to the paper as far as the standing tells that,
+-- and who she is
+module _ (u : Option ℕ) (p : ℕ) (H : History) (accounts : List AccountLine) (written : ℕ → Bool)
+    (told : gets_reviewers (standing_of u (Some p) H) ≡ true) where
   abbrev by : Standing
   by = standing_of u (Some p) H
 
@@ -139,34 +161,45 @@ module _ (u : Option ℕ) (p : ℕ) (H : History) (accounts : List AccountLine) 
   tell = reviewer_told by accounts written
 
   abbrev shown_label : Bool → Bool → Bool
-  shown_label named own = named || (chair || ((member && discussed) || ((by.author && is_overt by.mode && notified) || (own || false))))
+  shown_label named own =
+      named || (chair || ((member && discussed) || ((by.author && is_overt by.mode && notified) || (own || false))))
 
   label_shown : (named own : Bool) → shown_label named own ≡ true
-  label_shown named own = shown chair (chairs_see_reviewers by.phase) member (unless_anonymous (reader u H)) discussed by.author
+  label_shown named own =
+      shown chair (chairs_see_reviewers by.phase) member (unless_anonymous (reader u H)) discussed by.author
       (is_overt by.mode) notified named own told
     where
       shown : (c b m n d a o f named own : Bool) → (((c && b) || (m && n && d) || (a && o && f)) || (m && d)) ≡ true
           → (named || (c || ((m && d) || ((a && o && f) || (own || false))))) ≡ true
       shown c b m n d a o f named own h = grind arith
 
-  kind_shown : (named own : Bool) → member ≡ true → (named || (chair || ((member && discussed) || (own || false)))) ≡ true
+  kind_shown : (named own : Bool) → member ≡ true
+      → (named || (chair || ((member && discussed) || (own || false)))) ≡ true
   kind_shown named own clear =
-      shown chair (chairs_see_reviewers by.phase) member (unless_anonymous (reader u H)) discussed by.author (is_overt by.mode) notified named own clear
+      shown chair (chairs_see_reviewers by.phase) member (unless_anonymous (reader u H)) discussed by.author
+      (is_overt by.mode) notified named own clear
       (no_author (is_member by.role) by.author (is_conflict_on u p H) clear) told
     where
       no_author : (serves a d : Bool) → (serves && not (a || d)) ≡ true → a ≡ false
       no_author serves a d h = grind arith
 
-      shown : (c b m n d a o f named own : Bool) → m ≡ true → a ≡ false → (((c && b) || (m && n && d) || (a && o && f)) || (m && d)) ≡ true
+      shown : (c b m n d a o f named own : Bool) → m ≡ true → a ≡ false
+          → (((c && b) || (m && n && d) || (a && o && f)) || (m && d)) ≡ true
           → (named || (c || ((m && d) || (own || false)))) ≡ true
       shown c b m n d a o f named own hm ha h = grind arith
 
   user_shown : (named own : Bool) → shows_reviewer by ≡ true
-      → (named || (chair || ((member && unless_anonymous (reader u H) && discussed) || ((by.author && is_overt by.mode && notified) || (own || false))))) ≡ true
-  user_shown named own h = shown chair (chairs_see_reviewers by.phase) (member && unless_anonymous (reader u H) && discussed)
+      →
+      (named
+      ||
+      (chair || ((member && unless_anonymous (reader u H) && discussed)
+      || ((by.author && is_overt by.mode && notified) || (own || false))))) ≡ true
+  user_shown named own h =
+      shown chair (chairs_see_reviewers by.phase) (member && unless_anonymous (reader u H) && discussed)
       (by.author && is_overt by.mode && notified) named own h
     where
-      shown : (c b m a named own : Bool) → ((c && b) || m || a) ≡ true → (named || (c || (m || (a || (own || false))))) ≡ true
+      shown : (c b m a named own : Bool) → ((c && b) || m || a) ≡ true
+          → (named || (c || (m || (a || (own || false))))) ≡ true
       shown c b m a named own h = grind arith
 
   assigned-shown : (at : Around) → ShowsAssigned tell (reader u H) at p
@@ -177,15 +210,25 @@ module _ (u : Option ℕ) (p : ℕ) (H : History) (accounts : List AccountLine) 
       let shown_kind = where_shown (passes part.review_kind (reader u H) at e) (Some kind) in
       let shown_user = where_shown (passes part.user (reader u H) at e) (Some user) in
       let name : Option ℕ → Option (List ℕ) = option_and_then (name_in accounts) in
-      let kinds = same_key member shown_kind (Some kind) (λ clear. ap (λ b. where_shown b (Some kind)) (kind_shown named own clear)) in
+      let kinds = same_key member shown_kind (Some kind)
+      (λ clear. ap (λ b. where_shown b (Some kind)) (kind_shown named own clear)) in
       let names = same_key (shows_reviewer by) (name shown_user) (name (Some user))
-      (λ h. ap (λ b. name (where_shown b (Some user))) (user_shown named own h)) in
-      (label_shown named own, λ i. record { done = where_told chair (Some (written ordinal)); kind = kinds i; label = ordinal; user = names i })
+      (λ h. ap (λ b. name (where_shown b (Some user))) (user_shown named own h)) in (
+        label_shown named own,
+        λ i. record {
+          done = where_told chair (Some (written ordinal));
+          kind = kinds i;
+          label = ordinal;
+          user = names i;
+        },
+      )
 
-  seats-as : {B : Type 0} (m : SeatTold → B) → ((at : Around) → ShowsAssigned m (reader u H) at p) → map m (seats_in_view p (view u H)) ≡ map m (seats_of p H)
+  seats-as : {B : Type 0} (m : SeatTold → B) → ((at : Around) → ShowsAssigned m (reader u H) at p)
+      → map m (seats_in_view p (view u H)) ≡ map m (seats_of p H)
   seats-as m shown =
       map-flat_map m (assigned_seen p) (view u H)
-      ∙ sights-all (reader u H) (λ (s : Sighting). map m (assigned_seen p s)) (λ (e : Stamped). map m (assigned_told p e.entry))
+      ∙ sights-all (reader u H) (λ (s : Sighting). map m (assigned_seen p s))
+      (λ (e : Stamped). map m (assigned_told p e.entry))
       (assigned_tells m (reader u H) p shown) [] H
       ∙ sym (map-flat_map m (λ (e : Stamped). assigned_told p e.entry) H)
 
@@ -194,14 +237,17 @@ module _ (u : Option ℕ) (p : ℕ) (H : History) (accounts : List AccountLine) 
 
   gone-seen : flat_map (unassigned_seen p) (view u H) ≡ flat_map (λ (e : Stamped). unassigned_told p e.entry) H
   gone-seen =
-      fold_all (reader u H) (unassigned_seen p) (λ (e : Stamped). unassigned_told p e.entry) (passes part.ordinal (reader u H))
+      fold_all (reader u H) (unassigned_seen p) (λ (e : Stamped). unassigned_told p e.entry)
+      (passes part.ordinal (reader u H))
       (unassigned_tells (reader u H) p)
       (λ at e. unassigned_value (reader u H) at u p
-      (λ stamp more user ordinal. label_shown (user_named (reader u H) user) (user_named (reader u H) stamp.maker)) e) [] H
+      (λ stamp more user ordinal. label_shown (user_named (reader u H) user) (user_named (reader u H) stamp.maker)) e)
+      [] H
 
   pub reviewers-seen : map tell (reviewers_in_view p (view u H)) ≡ map tell (reviewers_of p H)
   reviewers-seen =
-      let left : List ℕ → List Reviewer → List Reviewer = λ gone rs. filter (λ (r : Reviewer). not (list_any (λ o. o == r.label) gone)) rs in
+      let left : List ℕ → List Reviewer → List Reviewer =
+      λ gone rs. filter (λ (r : Reviewer). not (list_any (λ o. o == r.label) gone)) rs in
       told-left tell (λ seat. refl) (flat_map (unassigned_seen p) (view u H)) (seats_in_view p (view u H))
       ∙ ap (λ gone. left gone (map tell (seats_in_view p (view u H)))) gone-seen
       ∙ ap (left (flat_map (λ (e : Stamped). unassigned_told p e.entry) H)) seats-seen
@@ -212,7 +258,8 @@ module _ (u : Option ℕ) (p : ℕ) (H : History) (accounts : List AccountLine) 
       sym (length-map (seats_in_view p (view u H)) tell) ∙ ap length seats-seen ∙ length-map (seats_of p H) tell
 
   -- who has a label, or has had it, where reviewers are told by name
-  assigned-seen_where : shows_reviewer by ≡ true → (o : ℕ) → assigned_under o (seats_in_view p (view u H)) ≡ assigned_under o (seats_of p H)
+  assigned-seen_where : shows_reviewer by ≡ true → (o : ℕ)
+      → assigned_under o (seats_in_view p (view u H)) ≡ assigned_under o (seats_of p H)
   assigned-seen_where names o =
       sym (under-named o (seats_in_view p (view u H)))
       ∙ ap (assigned_under o) (seats-as named_alone shown)
@@ -221,8 +268,11 @@ module _ (u : Option ℕ) (p : ℕ) (H : History) (accounts : List AccountLine) 
       shown : (at : Around) → ShowsAssigned named_alone (reader u H) at p
       shown at stamp more user kind ordinal =
           let named : Bool = user_named (reader u H) user in
-          let own : Bool = user_named (reader u H) stamp.maker in
-          (label_shown named own, ap (λ b. record { ordinal = ordinal; kind = None; user = where_shown b (Some user) }) (user_shown named own names))
+          let own : Bool = user_named (reader u H) stamp.maker in (
+            label_shown named own,
+            ap (λ b. record { ordinal = ordinal; kind = None; user = where_shown b (Some user) })
+                (user_shown named own names),
+          )
 
   -- a clear member who is told who reviews the paper sees all of each seat
   module _ (names : shows_reviewer by ≡ true) (clear : member ≡ true) where
@@ -236,18 +286,22 @@ module _ (u : Option ℕ) (p : ℕ) (H : History) (accounts : List AccountLine) 
 
     reviewers-seen_whole : reviewers_in_view p (view u H) ≡ reviewers_of p H
     reviewers-seen_whole =
-        let seats = sym (map-id (seats_in_view p (view u H))) ∙ seats-as (λ (seat : SeatTold). seat) seat-shown ∙ map-id (seats_of p H) in
-        ap (λ gone. seats_left gone (seats_in_view p (view u H))) gone-seen ∙ ap (seats_left (flat_map (λ (e : Stamped). unassigned_told p e.entry) H)) seats
+        let seats = sym (map-id (seats_in_view p (view u H))) ∙ seats-as (λ (seat : SeatTold). seat) seat-shown
+        ∙ map-id (seats_of p H) in
+        ap (λ gone. seats_left gone (seats_in_view p (view u H))) gone-seen
+        ∙ ap (seats_left (flat_map (λ (e : Stamped). unassigned_told p e.entry) H)) seats
 
 pub assigned-seen : (u : Option ℕ) (p : ℕ) (H : History) → shows_reviewer (standing_of u (Some p) H) ≡ true
     → (o : ℕ) → assigned_under o (seats_in_view p (view u H)) ≡ assigned_under o (seats_of p H)
-assigned-seen u p H names o = assigned-seen_where u p H [] (λ _. false) (first_of (shows_reviewer (standing_of u (Some p) H)) _ names) names o
+assigned-seen u p H names o =
+    assigned-seen_where u p H [] (λ _. false) (first_of (shows_reviewer (standing_of u (Some p) H)) _ names) names o
 
 -- so a clear chair sees how many labels were given from the bidding on
 pub labels-seen : (u : Option ℕ) (p : ℕ) (H : History) → gets_conflicts (standing_of u (Some p) H) ≡ true
     → length (seats_in_view p (view u H)) ≡ length (seats_of p H)
 labels-seen u p H told = labels-seen_where u p H [] (λ _. false)
-    (first_of (shows_reviewer (standing_of u (Some p) H)) _ (first_of _ _ (first_of (gets_conflicts (standing_of u (Some p) H)) _ told)))
+    (first_of (shows_reviewer (standing_of u (Some p) H)) _
+    (first_of _ _ (first_of (gets_conflicts (standing_of u (Some p) H)) _ told)))
 
 -- and all of each reviewer
 pub reviewers-seen_by_chair : (u : Option ℕ) (p : ℕ) (H : History) → gets_conflicts (standing_of u (Some p) H) ≡ true

@@ -1,5 +1,6 @@
 -- The words of the sentences against those that the lists of checks read, and judgement by the facts of a history.
-use Rattle.std.proofs.Common.{ℕ, Bool, true, false, cond, ◌≡◌, List, [], ◌∷◌, length, eqb, refl, sym, ap, ◌∙◌, ◌||◌, ◌&&◌, arith, Option, Some, None, Result, Err}
+use Rattle.std.proofs.Common.{ℕ, Bool, true, false, cond, ◌≡◌, List, [], ◌∷◌, length, eqb, refl, sym, ap, ◌∙◌, ◌||◌}
+use Rattle.std.proofs.Common.{◌&&◌, arith, Option, Some, None, Result, Err}
 use Rattle.std.specs.Prelude.{not, map, nat_le, nat_lt, is_ok, is_some, is_none, find}
 use Rattle.std.specs.List.{list_any, list_all}
 use Rattle.std.specs.Option.{option_map}
@@ -14,7 +15,8 @@ use Rattle.cr_base.specs.declared.reply.Reply.{Reply}
 use Rattle.cr_base.specs.declared.reply.Rule.{Rule}
 use Rattle.cr_base.specs.declared.retry.RetryKey.{RetryKey}
 use Rattle.cr_base.specs.declared.words.Phase.{Phase}
-use Rattle.cr_base.specs.declared.words.Phase.TheVariants.{Setup, Submission, Bidding, Reviewing, Response, Discussion, Notification, Closed}
+use Rattle.cr_base.specs.declared.words.Phase.TheVariants.{Setup, Submission, Bidding, Reviewing, Response, Discussion}
+use Rattle.cr_base.specs.declared.words.Phase.TheVariants.{Notification, Closed}
 use Rattle.cr_base.specs.declared.words.Role.{Role}
 use Rattle.cr_base.specs.declared.words.Role.TheVariants.{Account, Member, Chair}
 use Rattle.cr_base.specs.Answering.{query_checks, reply_or_rule, told_by, answer_by}
@@ -28,14 +30,15 @@ use Rattle.cr_base.specs.History.{History, Registration, all_told, registration_
 use Rattle.cr_base.specs.HistoryFacts.{role_of, is_withdrawn, authors_of, uploads_of, ordinal_of, seats_of}
 use Rattle.cr_base.specs.HistoryFacts.{accounts_of, number_of, is_invited, is_written, comments_of, response_of}
 use Rattle.cr_base.specs.Phases.{is_phase, is_from, is_next, committee_works}
-use Rattle.cr_base.specs.Sources.{Shown, number_in, user_among, users_among, role_among, facts_of_tables, shown_in_tables}
+use Rattle.cr_base.specs.Sources.{Shown, number_in, user_among, users_among, role_among, facts_of_tables}
+use Rattle.cr_base.specs.Sources.{shown_in_tables}
 use Rattle.cr_base.specs.Tables.{tables_of}
 use Rattle.cr_base.specs.Words.{is_member, is_chair, role_number}
 use Rattle.cr_base.proofs.AccountLaws.{number_in-lines_of}
 use Rattle.cr_history.specs.Laws.{AreTold, AreFormsTold}
 use Rattle.cr_history.proofs.FormAgreement.{forms_tell}
 use Rattle.cr_history.proofs.ReviewAgreement.{is_written-tables}
-use Rattle.cr_history.proofs.RuleLaws.{facts_of}
+use Rattle.cr_history.proofs.RuleFacts.{facts_of}
 use Rattle.cr_policy.specs.Judge.{judge}
 use Rattle.cr_policy.specs.Legal.{Legal}
 use Rattle.cr_policy.specs.View.{view}
@@ -53,7 +56,8 @@ none_broken [] = true
 none_broken (check ∷ checks) = not check.broken && none_broken checks
 
 -- a list of checks lets through exactly what breaks none of them
-pub judged-none_broken : {A : Type 0} (checks : List Check) (drawn : A) → is_ok (judged checks drawn) ≡ none_broken checks
+pub judged-none_broken : {A : Type 0} (checks : List Check) (drawn : A)
+    → is_ok (judged checks drawn) ≡ none_broken checks
 judged-none_broken [] drawn = refl
 judged-none_broken {A} (check ∷ checks) drawn = by check.broken (judged-none_broken checks drawn)
   where
@@ -63,7 +67,8 @@ judged-none_broken {A} (check ∷ checks) drawn = by check.broken (judged-none_b
     by false rest = rest
 
 -- and a query is answered exactly where none is broken
-pub judged-told : (checks : List Check) (reply : Reply) → is_told reply ≡ true → is_told (reply_or_rule (judged checks reply)) ≡ none_broken checks
+pub judged-told : (checks : List Check) (reply : Reply) → is_told reply ≡ true
+    → is_told (reply_or_rule (judged checks reply)) ≡ none_broken checks
 judged-told [] reply tells = tells
 judged-told (check ∷ checks) reply tells = by check.broken (judged-told checks reply tells)
   where
@@ -73,12 +78,14 @@ judged-told (check ∷ checks) reply tells = by check.broken (judged-told checks
     by false rest = rest
 
 -- and so is one whose reply may be a rule, where it isn't
-pub judged-both : (checks : List Check) (reply : Reply) → is_told (reply_or_rule (judged checks reply)) ≡ (none_broken checks && is_told reply)
+pub judged-both : (checks : List Check) (reply : Reply)
+    → is_told (reply_or_rule (judged checks reply)) ≡ (none_broken checks && is_told reply)
 judged-both [] reply = refl
 judged-both (check ∷ checks) reply = by check.broken (judged-both checks reply)
   where
     by : (b : Bool) → is_told (reply_or_rule (judged checks reply)) ≡ (none_broken checks && is_told reply)
-        → is_told (reply_or_rule (cond b (Err check.rule) (judged checks reply))) ≡ ((not b && none_broken checks) && is_told reply)
+        → is_told (reply_or_rule (cond b (Err check.rule) (judged checks reply)))
+        ≡ ((not b && none_broken checks) && is_told reply)
     by true rest = refl
     by false rest = rest
 
@@ -128,7 +135,8 @@ chair-same Account = refl
 chair-same Member = refl
 chair-same Chair = refl
 
-pub in_committee-same : (a : Phase) → committee_works a ≡ (is_it Bidding a || is_it Reviewing a || is_it Response a || is_it Discussion a)
+pub in_committee-same : (a : Phase) → committee_works a
+    ≡ (is_it Bidding a || is_it Reviewing a || is_it Response a || is_it Discussion a)
 in_committee-same Setup = refl
 in_committee-same Submission = refl
 in_committee-same Bidding = refl
@@ -155,7 +163,8 @@ over-same Discussion = refl
 over-same Notification = refl
 over-same Closed = refl
 
-pub discussed-same : (a : Phase) → is_from Discussion a ≡ (is_it Discussion a || (is_it Notification a || is_it Closed a))
+pub discussed-same : (a : Phase) → is_from Discussion a
+    ≡ (is_it Discussion a || (is_it Notification a || is_it Closed a))
 discussed-same Setup = refl
 discussed-same Submission = refl
 discussed-same Bidding = refl
@@ -165,7 +174,8 @@ discussed-same Discussion = refl
 discussed-same Notification = refl
 discussed-same Closed = refl
 
-pub reviewed-same : (a : Phase) → is_from Reviewing a ≡ ((is_it Reviewing a || is_it Response a) || is_it Discussion a || (is_it Notification a || is_it Closed a))
+pub reviewed-same : (a : Phase) → is_from Reviewing a
+    ≡ ((is_it Reviewing a || is_it Response a) || is_it Discussion a || (is_it Notification a || is_it Closed a))
 reviewed-same Setup = refl
 reviewed-same Submission = refl
 reviewed-same Bidding = refl
@@ -175,7 +185,8 @@ reviewed-same Discussion = refl
 reviewed-same Notification = refl
 reviewed-same Closed = refl
 
-pub own-same : (a : Phase) → (is_from Reviewing a && not (is_from Discussion a)) ≡ (is_it Reviewing a || is_it Response a)
+pub own-same : (a : Phase) → (is_from Reviewing a && not (is_from Discussion a))
+    ≡ (is_it Reviewing a || is_it Response a)
 own-same Setup = refl
 own-same Submission = refl
 own-same Bidding = refl
@@ -242,7 +253,8 @@ module _ (H : History) where
   line r = record { user = r.user; name = r.name; role = role_of (Some r.user) H }
 
   there-by_name : (name : List ℕ) (v : ℕ) (rs : List Registration)
-      → option_map (λ (a : AccountLine). a.user) (find (λ (a : AccountLine). bytes_eq a.name name) (map line rs)) ≡ Some v
+      → option_map (λ (a : AccountLine). a.user) (find (λ (a : AccountLine). bytes_eq a.name name) (map line rs))
+      ≡ Some v
       → list_any (λ (r : Registration). eqb r.user v) rs ≡ true
   there-by_name name v [] found = cc
   there-by_name name v (r ∷ rs) found = by (bytes_eq r.name name) found (there-by_name name v rs)
@@ -251,26 +263,34 @@ module _ (H : History) where
       rest = find (λ (a : AccountLine). bytes_eq a.name name) (map line rs)
 
       by : (b : Bool) → option_map (λ (a : AccountLine). a.user) (cond b (Some (line r)) rest) ≡ Some v
-          → (option_map (λ (a : AccountLine). a.user) rest ≡ Some v → list_any (λ (r : Registration). eqb r.user v) rs ≡ true)
+          → (option_map (λ (a : AccountLine). a.user) rest ≡ Some v → list_any (λ (r : Registration). eqb r.user v) rs
+          ≡ true)
           → (eqb r.user v || list_any (λ (r : Registration). eqb r.user v) rs) ≡ true
-      by true is later = let e : r.user ≡ v = cc in or_left (eqb r.user v) (list_any (λ (r : Registration). eqb r.user v) rs) (eq-eqb r.user v e)
+      by true is later = let e : r.user ≡ v =
+          cc in or_left (eqb r.user v) (list_any (λ (r : Registration). eqb r.user v) rs) (eq-eqb r.user v e)
       by false is later = or_right (eqb r.user v) (list_any (λ (r : Registration). eqb r.user v) rs) (later is)
 
   role-there : (v : ℕ) (rs : List Registration) → list_any (λ (r : Registration). eqb r.user v) rs ≡ true
-      → option_map (λ (a : AccountLine). a.role) (find (λ (a : AccountLine). eqb a.user v) (map line rs)) ≡ Some (role_of (Some v) H)
+      → option_map (λ (a : AccountLine). a.role) (find (λ (a : AccountLine). eqb a.user v) (map line rs))
+      ≡ Some (role_of (Some v) H)
   role-there v [] h = cc
   role-there v (r ∷ rs) h = by (eqb r.user v) refl h (role-there v rs)
     where
       by : (b : Bool) → eqb r.user v ≡ b → (b || list_any (λ (r : Registration). eqb r.user v) rs) ≡ true
           → (list_any (λ (r : Registration). eqb r.user v) rs ≡ true
-          → option_map (λ (a : AccountLine). a.role) (find (λ (a : AccountLine). eqb a.user v) (map line rs)) ≡ Some (role_of (Some v) H))
-          → option_map (λ (a : AccountLine). a.role) (cond b (Some (line r)) (find (λ (a : AccountLine). eqb a.user v) (map line rs))) ≡ Some (role_of (Some v) H)
+          → option_map (λ (a : AccountLine). a.role) (find (λ (a : AccountLine). eqb a.user v) (map line rs))
+          ≡ Some (role_of (Some v) H))
+          → option_map (λ (a : AccountLine). a.role)
+          (cond b (Some (line r)) (find (λ (a : AccountLine). eqb a.user v) (map line rs)))
+          ≡ Some (role_of (Some v) H)
       by true same h rest = ap (λ (n : ℕ). Some (role_of (Some n) H)) (eqb-true r.user v same)
       by false same h rest = rest h
 
   -- whoever registered a name is among the accounts, with her role
-  pub role-by_name : (name : List ℕ) (v : ℕ) → number_in (accounts_of H) name ≡ Some v → role_among (accounts_of H) (Some v) ≡ Some (role_of (Some v) H)
-  role-by_name name v found = role-there v (all_told registration_told H) (there-by_name name v (all_told registration_told H) found)
+  pub role-by_name : (name : List ℕ) (v : ℕ) → number_in (accounts_of H) name ≡ Some v
+      → role_among (accounts_of H) (Some v) ≡ Some (role_of (Some v) H)
+  role-by_name name v found =
+      role-there v (all_told registration_told H) (there-by_name name v (all_told registration_told H) found)
 
 -- ---- judgement by the facts of the history
 
@@ -324,7 +344,8 @@ module _ (u : Option ℕ) (H : History) (legal : Legal H) where
     invited = λ v p. told.invited v p i;
   }
 
-  -- judgement by the view is that by the facts of the history, at whatever moment the command comes, and whatever its key
+  -- judgement by the view is that by the facts of the history, at whatever moment the command comes, and whatever its
+  -- key
   module _ (m : ℕ) (key : Option RetryKey) where
     abbrev pub judged_on : Command → Result Drawn Rule
     judged_on command = judge_by (facts_of u H) (shown_of H) (stamp_of (call_of u m key command)) command
@@ -334,12 +355,14 @@ module _ (u : Option ℕ) (H : History) (legal : Legal H) where
         let stamp : Stamp = stamp_of (call_of u m key command) in
         Legal-judge H (call_of u m key command) legal ∙ sym (λ i. judge_by (facts-same i) (shown-same i) stamp command)
 
-    pub accepted-as : (command : Command) → is_ok (judge (view u H) (call_of u m key command)) ≡ is_ok (judged_on command)
+    pub accepted-as : (command : Command) → is_ok (judge (view u H) (call_of u m key command))
+        ≡ is_ok (judged_on command)
     accepted-as command = ap (λ (r : Result Drawn Rule). is_ok r) (judge-history command)
 
     -- and accepts what breaks none of these checks
     pub accepted-checks : (command : Command) (checks : List Check) (drawn : Drawn)
-        → judged_on command ≡ judged checks drawn → is_ok (judge (view u H) (call_of u m key command)) ≡ none_broken checks
+        → judged_on command ≡ judged checks drawn
+        → is_ok (judge (view u H) (call_of u m key command)) ≡ none_broken checks
     accepted-checks command checks drawn is =
         accepted-as command ∙ ap (λ (r : Result Drawn Rule). is_ok r) is ∙ judged-none_broken checks drawn
 
@@ -347,7 +370,8 @@ module _ (u : Option ℕ) (H : History) (legal : Legal H) where
 
   pub number-same : (name : List ℕ) → number_in (accounts_of H) name ≡ number_of name H
   number-same name =
-      ap (λ (lines : List AccountLine). number_in lines name) told.accounts ∙ number_in-lines_of (tables_of H).accounts name ∙ sym (told.number name)
+      ap (λ (lines : List AccountLine). number_in lines name) told.accounts
+      ∙ number_in-lines_of (tables_of H).accounts name ∙ sym (told.number name)
 
   -- what is tested of the user of a name
   pub by_name : (test : Option ℕ → Bool) (may : ℕ → Bool) (name : Option (List ℕ)) → test None ≡ false
@@ -363,10 +387,12 @@ module _ (u : Option ℕ) (H : History) (legal : Legal H) where
   pub somebody : (name : Option (List ℕ)) → not (is_none (user_among (accounts_of H) name)) ≡ is_somebody name H
   somebody name = by_name (λ (o : Option ℕ). not (is_none o)) (λ v. true) name refl (λ v is. refl)
 
-  pub all_somebody : (names : List (Option (List ℕ))) → not (list_any is_none (users_among (accounts_of H) names)) ≡ list_all (λ name. is_somebody name H) names
+  pub all_somebody : (names : List (Option (List ℕ)))
+      → not (list_any is_none (users_among (accounts_of H) names)) ≡ list_all (λ name. is_somebody name H) names
   all_somebody [] = refl
   all_somebody (name ∷ names) =
-      said (is_none (user_among (accounts_of H) name)) (is_somebody name H) (list_any is_none (users_among (accounts_of H) names))
+      said (is_none (user_among (accounts_of H) name)) (is_somebody name H)
+      (list_any is_none (users_among (accounts_of H) names))
       (list_all (λ name. is_somebody name H) names) (somebody name) (all_somebody names)
     where
       said : (x x' y y' : Bool) → not x ≡ x' → not y ≡ y' → not (x || y) ≡ (x' && y')
@@ -374,10 +400,13 @@ module _ (u : Option ℕ) (H : History) (legal : Legal H) where
 
   -- ---- queries
 
-  pub answered-as : (query : Query) → is_told (answer u (view u H) query) ≡ is_told (answer_by (facts_of u H) (shown_of H) u query)
-  answered-as query = ap is_told (Legal-answer u H query legal ∙ sym (λ i. answer_by (facts-same i) (shown-same i) u query))
+  pub answered-as : (query : Query) → is_told (answer u (view u H) query)
+      ≡ is_told (answer_by (facts_of u H) (shown_of H) u query)
+  answered-as query =
+      ap is_told (Legal-answer u H query legal ∙ sym (λ i. answer_by (facts-same i) (shown-same i) u query))
 
   pub answered-checks : (query : Query) → is_told (told_by (facts_of u H) (shown_of H) u query) ≡ true
       → is_told (answer u (view u H) query) ≡ none_broken (query_checks (facts_of u H) (shown_of H) query)
   answered-checks query tells =
-      answered-as query ∙ judged-told (query_checks (facts_of u H) (shown_of H) query) (told_by (facts_of u H) (shown_of H) u query) tells
+      answered-as query ∙ judged-told (query_checks (facts_of u H) (shown_of H) query)
+      (told_by (facts_of u H) (shown_of H) u query) tells

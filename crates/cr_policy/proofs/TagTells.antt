@@ -1,5 +1,7 @@
--- What a view says of a paper's tags, as far as they are for its reader, is what the history says, where her standing tells them.
-use Rattle.std.proofs.Common.{◌≡◌, ℕ, Bool, true, false, cond, List, [], ◌∷◌, refl, sym, ap, ◌∙◌, ◌||◌, ◌&&◌, Option, Some, None, eqb, arith}
+-- What a view says of a paper's tags, as far as they are for its reader, is what the history says, where her standing
+-- tells them.
+use Rattle.std.proofs.Common.{◌≡◌, ℕ, Bool, true, false, cond, List, [], ◌∷◌, refl, sym, ap, ◌∙◌, ◌||◌, ◌&&◌, Option}
+use Rattle.std.proofs.Common.{Some, None, eqb, arith}
 use Rattle.std.specs.Prelude.{map, filter, not, drop}
 use Rattle.std.specs.List.{All, flat_map}
 use Rattle.std.proofs.lemmas.Bool.{eqb-true, or_left, or_right, true≢false, false≢true}
@@ -53,15 +55,18 @@ module _ (u : Option ℕ) (chair : Bool) (tag : List ℕ) (on : Bool) where
       ∙ only-true (filter (is_for u chair) (t ∷ []))
 
   -- or it apart for her, nor is what may be seen of it
-  neither : (own shown : Bool) (t : TagTold) → filter (is_for u chair) (seen_as own true) ≡ [] → is_for u chair t ≡ false
+  neither : (own shown : Bool) (t : TagTold) → filter (is_for u chair) (seen_as own true) ≡ []
+      → is_for u chair t ≡ false
       → only shown (filter (is_for u chair) (seen_as own shown)) ≡ filter (is_for u chair) (t ∷ [])
   neither own true t hs ht = ap (only true) hs ∙ sym (ap (λ b. given b t) ht)
   neither own false t hs ht = sym (ap (λ b. given b t) ht)
 
   -- a tag that this maker set is seen by whom it is for
-  tag_value : (maker : ℕ) (shown : Bool) → (is_for_all tag ≡ true → shown ≡ true) → (is_for_chairs tag ≡ true → chair ≡ true → shown ≡ true)
+  tag_value : (maker : ℕ) (shown : Bool) → (is_for_all tag ≡ true → shown ≡ true)
+      → (is_for_chairs tag ≡ true → chair ≡ true → shown ≡ true)
       → (is_number u maker ≡ true → shown ≡ true)
-      → only shown (filter (is_for u chair) (seen_as (is_number u maker) shown)) ≡ filter (is_for u chair) (owned_by (tag_owner tag maker) ∷ [])
+      → only shown (filter (is_for u chair) (seen_as (is_number u maker) shown)) ≡ filter (is_for u chair)
+      (owned_by (tag_owner tag maker) ∷ [])
   tag_value maker shown plain chairs own = by (is_tilded tag) (is_tilded (drop 1 tag)) refl refl
     where
       hers : Bool
@@ -86,7 +91,8 @@ module _ (u : Option ℕ) (chair : Bool) (tag : List ℕ) (on : Bool) where
           at (Some v) is = ap Some (eqb-true v maker is)
 
       by : (b c : Bool) → is_tilded tag ≡ b → is_tilded (drop 1 tag) ≡ c
-          → only shown (filter (is_for u chair) (seen_as hers shown)) ≡ filter (is_for u chair) (owned_by (tag_owner tag maker) ∷ [])
+          → only shown (filter (is_for u chair) (seen_as hers shown)) ≡ filter (is_for u chair)
+          (owned_by (tag_owner tag maker) ∷ [])
       by false c hb hc =
           let private : is_private tag ≡ false = ap (λ b. b && not (is_tilded (drop 1 tag))) hb in
           whole hers shown (owned_by (tag_owner tag maker)) (plain (ap not hb))
@@ -100,14 +106,17 @@ module _ (u : Option ℕ) (chair : Bool) (tag : List ℕ) (on : Bool) where
           is = ap (λ b. b && is_tilded (drop 1 tag)) hb ∙ hc
 
           for_chairs : (b : Bool) → chair ≡ b
-              → only shown (filter (is_for u chair) (seen_as hers shown)) ≡ filter (is_for u chair) (owned_by (tag_owner tag maker) ∷ [])
+              → only shown (filter (is_for u chair) (seen_as hers shown)) ≡ filter (is_for u chair)
+              (owned_by (tag_owner tag maker) ∷ [])
           for_chairs true hc' =
               whole hers shown (owned_by (tag_owner tag maker)) (chairs is hc')
               (ap seen_by private ∙ sym (ap (λ b. owned_by (owner_by b) ∷ []) private))
           for_chairs false hc' =
-              let hidden : (owner : Option ℕ) → is_for u chair (owned_by owner) ≡ false = λ owner. ap (λ b. for_by b (is_private tag) owner) is ∙ hc' in
+              let hidden : (owner : Option ℕ) → is_for u chair (owned_by owner) ≡ false =
+              λ owner. ap (λ b. for_by b (is_private tag) owner) is ∙ hc' in
               neither hers shown (owned_by (tag_owner tag maker))
-              (ap (λ b. filter (is_for u chair) (seen_by b)) private ∙ ap (λ b. given b (owned_by None)) (hidden None)) (hidden (tag_owner tag maker))
+              (ap (λ b. filter (is_for u chair) (seen_by b)) private ∙ ap (λ b. given b (owned_by None)) (hidden None))
+              (hidden (tag_owner tag maker))
       by true false hb hc = of_maker hers refl
         where
           private : is_private tag ≡ true
@@ -117,14 +126,17 @@ module _ (u : Option ℕ) (chair : Bool) (tag : List ℕ) (on : Bool) where
           apart = ap (λ b. b && is_tilded (drop 1 tag)) hb ∙ hc
 
           of_maker : (b : Bool) → hers ≡ b
-              → only shown (filter (is_for u chair) (seen_as hers shown)) ≡ filter (is_for u chair) (owned_by (tag_owner tag maker) ∷ [])
+              → only shown (filter (is_for u chair) (seen_as hers shown)) ≡ filter (is_for u chair)
+              (owned_by (tag_owner tag maker) ∷ [])
           of_maker true ho =
               whole hers shown (owned_by (tag_owner tag maker)) (own ho)
-              (ap seen_by private ∙ ap (λ b. only b (owned_by u ∷ [])) ho ∙ ap (λ (owner : Option ℕ). owned_by owner ∷ []) (herself ho)
+              (ap seen_by private ∙ ap (λ b. only b (owned_by u ∷ [])) ho
+              ∙ ap (λ (owner : Option ℕ). owned_by owner ∷ []) (herself ho)
               ∙ sym (ap (λ b. owned_by (owner_by b) ∷ []) private))
           of_maker false ho =
               neither hers shown (owned_by (tag_owner tag maker))
-              (ap (λ b. filter (is_for u chair) (seen_by b)) private ∙ ap (λ b. filter (is_for u chair) (only b (owned_by u ∷ []))) ho)
+              (ap (λ b. filter (is_for u chair) (seen_by b)) private
+              ∙ ap (λ b. filter (is_for u chair) (only b (owned_by u ∷ []))) ho)
               (ap (λ b. for_by b (is_private tag) (tag_owner tag maker)) apart
               ∙ ap (λ b. cond b (is_owner u (owner_by b)) true) private ∙ ho)
 
@@ -133,15 +145,18 @@ module _ (u : Option ℕ) (chair : Bool) (tag : List ℕ) (on : Bool) where
 module _ (r : Reader) (at : Around) (chair : Bool) where
   -- each plain tag on the paper is shown, and each for chairs where she is one
   record ShowsTags (p : ℕ) : Type 0 where
-    plain : (stamp : Stamp) (more : Bool) (tag : List ℕ) (on : Bool) → is_for_all tag ≡ true → passes part.tag r at (stamped stamp more (Tagged p tag on)) ≡ true
+    plain : (stamp : Stamp) (more : Bool) (tag : List ℕ) (on : Bool) → is_for_all tag ≡ true
+        → passes part.tag r at (stamped stamp more (Tagged p tag on)) ≡ true
     chairs : (stamp : Stamp) (more : Bool) (tag : List ℕ) (on : Bool) → is_for_chairs tag ≡ true → chair ≡ true
         → passes part.tag r at (stamped stamp more (Tagged p tag on)) ≡ true
 
   tag_at : (p : ℕ) → ShowsTags p → (stamp : Stamp) (more : Bool) (e : Entry)
-      → flat_map (λ (s : Sighting). filter (is_for r.number chair) (tag_seen r.number p s)) (sight r at (stamped stamp more e))
+      → flat_map (λ (s : Sighting). filter (is_for r.number chair) (tag_seen r.number p s))
+      (sight r at (stamped stamp more e))
       ≡ filter (is_for r.number chair) (tag_told p stamp.maker e)
   tag_at p shown stamp more (Tagged paper tag on) =
-      flat_map-given (λ (s : Sighting). filter (is_for r.number chair) (tag_seen r.number p s)) (is_seen r at e) (joined r at e) ∙ by (eqb paper p) refl
+      flat_map-given (λ (s : Sighting). filter (is_for r.number chair) (tag_seen r.number p s)) (is_seen r at e)
+      (joined r at e) ∙ by (eqb paper p) refl
     where
       e : Stamped
       e = stamped stamp more (Tagged paper tag on)
@@ -155,9 +170,11 @@ module _ (r : Reader) (at : Around) (chair : Bool) where
       seen : List TagTold
       seen = tag_shown r.number own (where_shown (is_seen r at e) (Some tag)) (where_shown (is_seen r at e) (Some on))
 
-      by : (b : Bool) → eqb paper p ≡ b → only (is_seen r at e) (filter (is_for r.number chair) (only b seen)) ≡ filter (is_for r.number chair) (given b told)
+      by : (b : Bool) → eqb paper p ≡ b → only (is_seen r at e) (filter (is_for r.number chair) (only b seen))
+          ≡ filter (is_for r.number chair) (given b told)
       by true same =
-          let on_paper : (n : ℕ) → is_seen r at (stamped stamp more (Tagged n tag on)) ≡ true → paper ≡ n → is_seen r at e ≡ true =
+          let on_paper : (n : ℕ) → is_seen r at (stamped stamp more (Tagged n tag on)) ≡ true → paper ≡ n
+          → is_seen r at e ≡ true =
           λ n h is. ap (λ k. is_seen r at (stamped stamp more (Tagged k tag on))) is ∙ h in
           ap (λ ts. only (is_seen r at e) (filter (is_for r.number chair) ts)) (only-true seen)
           ∙ tag_value r.number chair tag on stamp.maker (is_seen r at e)
@@ -165,7 +182,8 @@ module _ (r : Reader) (at : Around) (chair : Bool) where
           (λ of_chairs is. on_paper p (shown.chairs stamp more tag on of_chairs is) (eqb-true paper p same))
           (λ hers. or_right _ _ (or_right _ _ (or_left own false hers)))
       by false same = ap (λ ts. only (is_seen r at e) (filter (is_for r.number chair) ts)) (only-false seen)
-  tag_at p shown stamp more e = silent r at stamp more (λ (s : Sighting). filter (is_for r.number chair) (tag_seen r.number p s)) e refl
+  tag_at p shown stamp more e =
+      silent r at stamp more (λ (s : Sighting). filter (is_for r.number chair) (tag_seen r.number p s)) e refl
 
 tag_tells : (r : Reader) (chair : Bool) (p : ℕ) → ((at : Around) → ShowsTags r at chair p)
     → TellsAll r (λ (s : Sighting). filter (is_for r.number chair) (tag_seen r.number p s))
@@ -200,7 +218,8 @@ module _ (u : Option ℕ) (p : ℕ) where
   owned-seen [] = All-nil Owned
   owned-seen (s ∷ V) =
       All-append Owned (tag_seen u p s) (flat_map (tag_seen u p) V)
-      (owned-only (is_number s.paper p) (of_kind kinds.Tagged s (tag_shown u s.mine s.tag s.on)) (by (is_kind kinds.Tagged s))) (owned-seen V)
+      (owned-only (is_number s.paper p) (of_kind kinds.Tagged s (tag_shown u s.mine s.tag s.on))
+      (by (is_kind kinds.Tagged s))) (owned-seen V)
     where
       by : (b : Bool) → All Owned (cond b (tag_shown u s.mine s.tag s.on) [])
       by true = owned-shown s.mine s.tag s.on
@@ -208,7 +227,8 @@ module _ (u : Option ℕ) (p : ℕ) where
 
 -- a clear member sees from the bidding on the tags that are for her
 pub tags-seen : (u : Option ℕ) (p : ℕ) (H : History) → gets_tags (standing_of u (Some p) H) ≡ true
-    → tags_in_view u (is_chair (standing_of u (Some p) H).role) p (view u H) ≡ tags_for u (is_chair (standing_of u (Some p) H).role) (tags_of p H)
+    → tags_in_view u (is_chair (standing_of u (Some p) H).role) p (view u H)
+    ≡ tags_for u (is_chair (standing_of u (Some p) H).role) (tags_of p H)
 tags-seen u p H told =
     ap (map (λ (t : SetTag). t.tag))
     (tags_left-for u chair (flat_map (tag_seen u p) (view u H)) (owned-seen u p (view u H))

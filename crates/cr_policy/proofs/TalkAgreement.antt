@@ -1,5 +1,5 @@
--- Where the tables tell what a history tells, what a reader is told of the comments on a paper, of what its authors responded and of its
--- tags is what the tables have.
+-- Where the tables tell what a history tells, what a reader is told of the comments on a paper, of what its authors
+-- responded and of its tags is what the tables have.
 use Rattle.std.proofs.Common.{ℕ, true, ◌≡◌, List, [], length, sym, ap, subst, ◌∙◌, Option, Some}
 use Rattle.std.specs.Prelude.{map}
 use Rattle.std.specs.List.{All}
@@ -32,14 +32,16 @@ module _ (u : Option ℕ) (H : History) (told : AreTold H) (p : ℕ) where
   -- ---- comments
 
   -- as one who discusses the paper is told of them
-  pub comments-tables : (accounts : List AccountLine) → All IsBoundedEntry H → is_clear_member by ≡ true → members_read_comments by.phase ≡ true
+  pub comments-tables : (accounts : List AccountLine) → All IsBoundedEntry H → is_clear_member by ≡ true
+      → members_read_comments by.phase ≡ true
       → map (comment_line by accounts) (comments_in_view p (view u H))
       ≡ map (comment_line by accounts) (map comment_as_told (comments_in (tables_of H).talk p))
   comments-tables accounts bounded clear discussed =
       subst
       (λ (s : Standing). is_clear_member s ≡ true → members_read_comments s.phase ≡ true
       → map (comment_line s accounts) (comments_in_view p (view u H)) ≡ map (comment_line s accounts) (comments_of p H))
-      (told.standing u (Some p)) (λ clear discussed. comments-seen u p H accounts clear discussed bounded) clear discussed
+      (told.standing u (Some p)) (λ clear discussed. comments-seen u p H accounts clear discussed bounded) clear
+      discussed
       ∙ ap (map (comment_line by accounts)) (told.comments p)
 
   -- so she sees how many there are
@@ -61,9 +63,11 @@ module _ (u : Option ℕ) (H : History) (told : AreTold H) (p : ℕ) where
   -- ---- tags
 
   -- those that are for her, where she is told of tags
-  pub tags-tables : gets_tags by ≡ true → tags_in_view u (is_chair by.role) p (view u H) ≡ tags_in (tables_of H).tags u (is_chair by.role) p
+  pub tags-tables : gets_tags by ≡ true → tags_in_view u (is_chair by.role) p (view u H) ≡ tags_in (tables_of H).tags u
+      (is_chair by.role) p
   tags-tables may =
       subst
-      (λ (s : Standing). gets_tags s ≡ true → tags_in_view u (is_chair s.role) p (view u H) ≡ tags_for u (is_chair s.role) (tags_of p H))
+      (λ (s : Standing). gets_tags s ≡ true → tags_in_view u (is_chair s.role) p (view u H)
+      ≡ tags_for u (is_chair s.role) (tags_of p H))
       (told.standing u (Some p)) (λ gets. tags-seen u p H gets) may
       ∙ ap (tags_for u (is_chair by.role)) (told.tags p)

@@ -26,6 +26,9 @@ abbrev pub PlansTaken : Type 0
 PlansTaken =
     (user at : ℕ) (key : Option RetryKey) (H : History) (per_paper load : ℕ) (plan : List PlanPair) → Legal H
     → IsRegistered H user → IsMoment at → IsKeyOrNone key
-    → IsOk (judged (plan_asked (facts_in_view (Some user) (view (Some user) H)) (shown_in_view (Some user) (view (Some user) H)) per_paper) (tt {0}))
-    → best_plan (facts_in_view (Some user) (view (Some user) H)) (shown_in_view (Some user) (view (Some user) H)) per_paper load ≡ Some plan
+    → IsOk
+    (judged (plan_asked (facts_in_view (Some user) (view (Some user) H))
+    (shown_in_view (Some user) (view (Some user) H)) per_paper) (tt {0}))
+    → best_plan (facts_in_view (Some user) (view (Some user) H)) (shown_in_view (Some user) (view (Some user) H))
+    per_paper load ≡ Some plan
     → IsOk (judge_bulk (view (Some user) H) (bulk_by user at key (map row_of_pair plan)))

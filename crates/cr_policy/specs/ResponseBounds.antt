@@ -50,7 +50,8 @@ ReviewsForAuthors =
 abbrev pub OneReview : Type 0
 OneReview =
     (u : Option ℕ) (p o : ℕ) (H : History) → IsTrue (is_author u p H) → IsFalse (is_past_discussion (phase_of H))
-    → length (flat_map (λ (s : Sighting). only (is_others kinds.Reviewed p s && is_number s.ordinal o) (s ∷ [])) (view u H))
+    → length (flat_map (λ (s : Sighting). only (is_others kinds.Reviewed p s && is_number s.ordinal o) (s ∷ []))
+    (view u H))
     ≤ 1
 
 -- and none that was written when the response had been opened

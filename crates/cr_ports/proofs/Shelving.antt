@@ -1,6 +1,6 @@
 -- What a look-up gives after a change at one path.
-use Rattle.std.proofs.Common.{arith, ◌≡◌, ◌≢◌, ◌∙◌, sym, ap, refl, ℕ, List, [], Bool, true, false, cond, Option, Some, None}
-use Rattle.std.proofs.Common.{is_some, IsFalse, Vec, Global}
+use Rattle.std.proofs.Common.{arith, ◌≡◌, ◌≢◌, ◌∙◌, sym, ap, refl, ℕ, List, [], Bool, true, false, cond, Option, Some}
+use Rattle.std.proofs.Common.{None, is_some, IsFalse, Vec, Global}
 use Rattle.std.proofs.lemmas.Slice.Eq.{bytes_eq-Decides}
 use Rattle.std.specs.Map.{lookup}
 use Rattle.std.specs.Option.{option_map_or}
@@ -21,7 +21,8 @@ cond_apart path other x y apart = go (bytes_eq path other) refl
     go false is = ap (λ b. cond b x y) is
 
 -- nothing changes where the same is put there
-pub cond_same : {T : Type 0} (path other : List ℕ) (at : List ℕ → T) → cond (bytes_eq path other) (at path) (at other) ≡ at other
+pub cond_same : {T : Type 0} (path other : List ℕ) (at : List ℕ → T)
+    → cond (bytes_eq path other) (at path) (at other) ≡ at other
 cond_same path other at = go (bytes_eq path other) refl
   where
     go : (b : Bool) → bytes_eq path other ≡ b → cond (bytes_eq path other) (at path) (at other) ≡ at other

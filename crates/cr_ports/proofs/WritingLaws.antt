@@ -1,6 +1,6 @@
 -- What a sink took, piece by piece.
-use Rattle.std.proofs.Common.{◌≡◌, ◌≢◌, ◌∙◌, ℕ, ◌+◌, ◌<◌, ◌≤◌, ◌-◌, List, [], ◌∷◌, ◌++◌, length, take, drop, Option, Some, None, refl, sym, ap, subst}
-use Rattle.std.proofs.Common.{append_assoc, append-nil, arith, length-drop}
+use Rattle.std.proofs.Common.{◌≡◌, ◌≢◌, ◌∙◌, ℕ, ◌+◌, ◌<◌, ◌≤◌, ◌-◌, List, [], ◌∷◌, ◌++◌, length, take, drop, Option}
+use Rattle.std.proofs.Common.{Some, None, refl, sym, ap, subst, append_assoc, append-nil, arith, length-drop}
 use Rattle.std.proofs.lemmas.List.{take-append-drop, take_all}
 use Rattle.std.proofs.Math.Seq.{take-add}
 use Rattle.cr_ports.specs.Count.{Rises}
@@ -22,7 +22,8 @@ taken_and-nil (Some t) = ap (with_bytes t) (append-nil t.bytes)
 -- ---- one write of many
 
 -- one more piece of the bytes was taken
-pub wrote_on : (t t' t'' : Option Taken) (bytes piece : List ℕ) (at n : ℕ) → t' ≡ taken_and t (take at bytes) → piece ≡ drop at bytes
+pub wrote_on : (t t' t'' : Option Taken) (bytes piece : List ℕ) (at n : ℕ) → t' ≡ taken_and t (take at bytes)
+    → piece ≡ drop at bytes
     → t'' ≡ taken_and t' (take n piece) → t'' ≡ taken_and t (take (at + n) bytes)
 wrote_on t t' t'' bytes piece at n before is now =
     now ∙ ap (λ p. taken_and t' (take n p)) is ∙ ap (λ o. taken_and o (take n (drop at bytes))) before
@@ -34,7 +35,8 @@ some_left at bytes less none =
     omega (arith, less, left)
 
 -- the next write failed
-pub wrote_part : (s s' s'' : Outlet) (bytes : List ℕ) (at : ℕ) → at < length bytes → s'.taken ≡ taken_and s.taken (take at bytes) → s'.faults ≡ s.faults
+pub wrote_part : (s s' s'' : Outlet) (bytes : List ℕ) (at : ℕ) → at < length bytes
+    → s'.taken ≡ taken_and s.taken (take at bytes) → s'.faults ≡ s.faults
     → s''.taken ≡ taken_and s'.taken [] → s'.faults ≤ s''.faults → Rises s'.faults s''.faults → BreaksOff bytes s s''
 wrote_part s s' s'' bytes at less before steady now later rises = record {
   part = take at bytes;
@@ -47,7 +49,8 @@ wrote_part s s' s'' bytes at less before steady now later rises = record {
 }
 
 -- all of them were taken
-pub wrote_whole : (s s' : Outlet) (bytes : List ℕ) (at : ℕ) → length bytes ≤ at → s'.taken ≡ taken_and s.taken (take at bytes) → s'.faults ≡ s.faults
+pub wrote_whole : (s s' : Outlet) (bytes : List ℕ) (at : ℕ) → length bytes ≤ at
+    → s'.taken ≡ taken_and s.taken (take at bytes) → s'.faults ≡ s.faults
     → Writes bytes s s'
 wrote_whole s s' bytes at all took steady = record {
   took = took ∙ ap (λ (b : List ℕ). taken_and s.taken b) (take_all at bytes all);
@@ -97,7 +100,8 @@ breaks_sooner a b s t y = record {
 
 -- ---- answers
 
-pub and_answers-append : (t : Option Taken) (a b : List (List ℕ)) → and_answers (and_answers t a) b ≡ and_answers t (a ++ b)
+pub and_answers-append : (t : Option Taken) (a b : List (List ℕ))
+    → and_answers (and_answers t a) b ≡ and_answers t (a ++ b)
 and_answers-append t [] b = refl
 and_answers-append t (text ∷ a) b = and_answers-append (taken_and (and_begun t) text) a b
 
@@ -105,21 +109,24 @@ pub answers-nil : (s : Outlet) → WritesAnswers [] s s
 answers-nil s = record { took = refl; steady = refl }
 
 -- further answers behind these
-pub answers-append : (a b : List (List ℕ)) (s t u : Outlet) → WritesAnswers a s t → WritesAnswers b t u → WritesAnswers (a ++ b) s u
+pub answers-append : (a b : List (List ℕ)) (s t u : Outlet) → WritesAnswers a s t → WritesAnswers b t u
+    → WritesAnswers (a ++ b) s u
 answers-append a b s t u x y = record {
   took = y.took ∙ ap (λ (o : Option Taken). and_answers o b) x.took ∙ and_answers-append s.taken a b;
   steady = y.steady ∙ x.steady;
 }
 
 -- a further one that breaks off
-pub answer_breaks_behind : (a b : List (List ℕ)) (text : List ℕ) (s t u : Outlet) → WritesAnswers a s t → AnswerBreaksOff b text t u
+pub answer_breaks_behind : (a b : List (List ℕ)) (text : List ℕ) (s t u : Outlet) → WritesAnswers a s t
+    → AnswerBreaksOff b text t u
     → AnswerBreaksOff (a ++ b) text s u
 answer_breaks_behind a b text s t u x y = record {
   part = y.part;
   missing = y.missing;
   parts = y.parts;
   short = y.short;
-  took = y.took ∙ ap (λ (o : Option Taken). and_answers o (b ++ y.part ∷ [])) x.took ∙ and_answers-append s.taken a (b ++ y.part ∷ [])
+  took = y.took ∙ ap (λ (o : Option Taken). and_answers o (b ++ y.part ∷ [])) x.took
+      ∙ and_answers-append s.taken a (b ++ y.part ∷ [])
       ∙ ap (and_answers s.taken) (sym (append_assoc a b (y.part ∷ [])));
   later = let e = x.steady in let l = y.later in omega (arith, e, l);
   rises = subst (λ (f : ℕ). Rises f u.faults) x.steady y.rises;
@@ -128,9 +135,11 @@ answer_breaks_behind a b text s t u x y = record {
 -- ---- an answer of two pieces
 
 -- the second was written behind the first
-pub answer-append : (front block : List ℕ) (s t u : Outlet) → WritesAnswers (front ∷ []) s t → Writes block t u → WritesAnswers ((front ++ block) ∷ []) s u
+pub answer-append : (front block : List ℕ) (s t u : Outlet) → WritesAnswers (front ∷ []) s t → Writes block t u
+    → WritesAnswers ((front ++ block) ∷ []) s u
 answer-append front block s t u x y = record {
-  took = y.took ∙ ap (λ (o : Option Taken). taken_and o block) x.took ∙ taken_and-append (and_begun s.taken) front block;
+  took =
+      y.took ∙ ap (λ (o : Option Taken). taken_and o block) x.took ∙ taken_and-append (and_begun s.taken) front block;
   steady = y.steady ∙ x.steady;
 }
 
@@ -142,13 +151,15 @@ answer_breaks_later front block s t u x y = record {
   missing = y.missing;
   parts = ap (λ (r : List ℕ). front ++ r) y.parts ∙ sym (append_assoc front y.part y.missing);
   short = y.short;
-  took = y.took ∙ ap (λ (o : Option Taken). taken_and o y.part) x.took ∙ taken_and-append (and_begun s.taken) front y.part;
+  took =
+      y.took ∙ ap (λ (o : Option Taken). taken_and o y.part) x.took ∙ taken_and-append (and_begun s.taken) front y.part;
   later = let e = x.steady in let l = y.later in omega (arith, e, l);
   rises = subst (λ (f : ℕ). Rises f u.faults) x.steady y.rises;
 }
 
 -- the first did
-pub answer_breaks_sooner : (front block : List ℕ) (s t : Outlet) → AnswerBreaksOff [] front s t → AnswerBreaksOff [] (front ++ block) s t
+pub answer_breaks_sooner : (front block : List ℕ) (s t : Outlet) → AnswerBreaksOff [] front s t
+    → AnswerBreaksOff [] (front ++ block) s t
 answer_breaks_sooner front block s t x = record {
   part = x.part;
   missing = x.missing ++ block;

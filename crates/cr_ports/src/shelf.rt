@@ -43,8 +43,8 @@ pub trait Shelf {
         ensures cause { HasCause (faults self.old) (faults self.new) result };
 
     /// Takes back a keeper that was opened at this path. Its rows then stand there; or these and then whole one group
-    /// that was tried, of keepers that tell what a stop leaves. At each other path stands what stood there. The count of
-    /// faults rises by at least the keeper's. Takes no memory.
+    /// that was tried, of keepers that tell what a stop leaves. At each other path stands what stood there. The count
+    /// of faults rises by at least the keeper's. Takes no memory.
     fn shut(&mut self, path: &str, keeper: Self::Keeper)
         requires { has_opened self.old path.now }
         ensures kept { IfSome (Self.Keeper.rows keeper)

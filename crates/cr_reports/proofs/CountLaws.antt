@@ -1,8 +1,10 @@
 -- What counting makes of the loads.
-use Rattle.std.proofs.Common.{ℕ, Bool, true, false, cond, eqb, ◌≡◌, ◌≤◌, ◌<◌, ◌+◌, ◌*◌, ◌&&◌, List, [], ◌∷◌, ◌++◌, length, replicate, take, get_or, refl, sym, ap, subst, ◌∙◌, arith, zero, suc}
+use Rattle.std.proofs.Common.{ℕ, Bool, true, false, cond, eqb, ◌≡◌, ◌≤◌, ◌<◌, ◌+◌, ◌*◌, ◌&&◌, List, [], ◌∷◌, ◌++◌}
+use Rattle.std.proofs.Common.{length, replicate, take, get_or, refl, sym, ap, subst, ◌∙◌, arith, zero, suc}
 use Rattle.std.specs.Prelude.{fold, not}
 use Rattle.std.proofs.lemmas.Bool.{eqb-false, eqb-true}
-use Rattle.std.proofs.lemmas.List.{get_or_default, get_or-set_same, get_or-set_other, get_or-replicate, length-replicate, take_all, take_more}
+use Rattle.std.proofs.lemmas.List.{get_or_default, get_or-set_same, get_or-set_other, get_or-replicate}
+use Rattle.std.proofs.lemmas.List.{length-replicate, take_all, take_more}
 use Rattle.std.proofs.lemmas.List.Sums.{fold-append}
 use Rattle.std.proofs.Math.ListN.{set}
 use Rattle.cr_base.specs.declared.pairs.Tie.{Tie}
@@ -10,7 +12,8 @@ use Rattle.cr_base.specs.declared.seat.Seat.{Seat}
 use Rattle.cr_base.specs.declared.words.Kind.{Kind}
 use Rattle.cr_base.specs.declared.words.Kind.TheVariants.{Primary, Secondary, Pc}
 use Rattle.cr_reports.specs.declared.counts.Load.{Load}
-use Rattle.cr_reports.specs.Loads.{AreFew, Becomes, IsFew, load_at, no_load, with_form, with_kind, with_seat, with_seats}
+use Rattle.cr_reports.specs.Loads.{AreFew, Becomes, IsFew, load_at, no_load, with_form, with_kind, with_seat}
+use Rattle.cr_reports.specs.Loads.{with_seats}
 
 -- ---- how many
 
@@ -42,7 +45,8 @@ few-kind n Pc load few = record {
   written = omega (arith, few.written);
 }
 
-few-add : (n : ℕ) (written : Bool) (kind : Kind) (load : Load) → IsFew n load → IsFew (n + 1) (with_form written (with_kind kind load))
+few-add : (n : ℕ) (written : Bool) (kind : Kind) (load : Load) → IsFew n load
+    → IsFew (n + 1) (with_form written (with_kind kind load))
 few-add n false kind load few = few-kind n kind load few
 few-add n true Primary load few = record {
   primary = omega (arith, few.primary);
@@ -63,10 +67,12 @@ few-add n true Pc load few = record {
   written = omega (arith, few.written);
 }
 
-few-seat : (n : ℕ) (written : ℕ → Bool) (user : ℕ) (load : Load) (seat : Tie Seat) → IsFew n load → IsFew (n + 1) (with_seat written user load seat)
+few-seat : (n : ℕ) (written : ℕ → Bool) (user : ℕ) (load : Load) (seat : Tie Seat) → IsFew n load
+    → IsFew (n + 1) (with_seat written user load seat)
 few-seat n written user load seat few = by (not seat.value.vacated && eqb seat.pair.user user)
   where
-    by : (b : Bool) → IsFew (n + 1) (cond b (with_form (written seat.value.ordinal) (with_kind seat.value.kind load)) load)
+    by : (b : Bool)
+        → IsFew (n + 1) (cond b (with_form (written seat.value.ordinal) (with_kind seat.value.kind load)) load)
     by true = few-add n (written seat.value.ordinal) seat.value.kind load few
     by false = few-more n (n + 1) load (omega arith) few
 
@@ -74,12 +80,14 @@ few-seats : (n : ℕ) (written : ℕ → Bool) (user : ℕ) (seats : List (Tie S
     → IsFew (n + length seats) (with_seats written user seats load)
 few-seats n written user [] load few = few-more n (n + 0) load (omega arith) few
 few-seats n written user (seat ∷ seats) load few =
-    few-more (n + 1 + length seats) (n + length (seat ∷ seats)) (with_seats written user (seat ∷ seats) load) (omega arith)
+    few-more (n + 1 + length seats) (n + length (seat ∷ seats)) (with_seats written user (seat ∷ seats) load)
+    (omega arith)
     (few-seats (n + 1) written user seats (with_seat written user load seat) (few-seat n written user load seat few))
 
 -- the loads that become so are few as well
 pub few-becomes : (n m : ℕ) (old new : List Load) (written : ℕ → Bool) (seats : List (Tie Seat))
-    → Becomes old new (λ user load. with_seats written user seats load) → n + length seats ≤ m → AreFew n old → AreFew m new
+    → Becomes old new (λ user load. with_seats written user seats load) → n + length seats ≤ m → AreFew n old
+    → AreFew m new
 few-becomes n m old new written seats becomes less few =
     λ user within.
     few-more (n + length seats) m (load_at new user) less
@@ -96,12 +104,16 @@ pub seat-vacated : (loads : List Load) (written : ℕ → Bool) (seat : Tie Seat
     → Becomes loads loads (λ user load. with_seat written user load seat)
 seat-vacated loads written seat left =
     λ user within.
-    sym (ap (λ (b : Bool). cond (not b && eqb seat.pair.user user) (with_form (written seat.value.ordinal) (with_kind seat.value.kind (load_at loads user))) (load_at loads user)) left)
+    sym
+    (ap (λ (b : Bool). cond (not b && eqb seat.pair.user user)
+    (with_form (written seat.value.ordinal) (with_kind seat.value.kind (load_at loads user)))
+    (load_at loads user)) left)
 
 pub seat-counted : (loads : List Load) (written : ℕ → Bool) (seat : Tie Seat) (w : Bool) (index : ℕ) (load other : Load)
     → seat.value.vacated ≡ false → index ≡ seat.pair.user → index < length loads → w ≡ written seat.value.ordinal
     → load ≡ get_or loads index other
-    → Becomes loads (set loads index (with_form w (with_kind seat.value.kind load))) (λ user load. with_seat written user load seat)
+    → Becomes loads (set loads index (with_form w (with_kind seat.value.kind load)))
+    (λ user load. with_seat written user load seat)
 seat-counted loads written seat w index load other taken is within forms read =
     λ user low.
     split user (eqb seat.pair.user user) refl
@@ -116,7 +128,8 @@ seat-counted loads written seat w index load other taken is within forms read =
     new : List Load
     new = set loads index (with_form w (with_kind seat.value.kind load))
 
-    split : (user : ℕ) (b : Bool) → eqb seat.pair.user user ≡ b → load_at new user ≡ made user b (written seat.value.ordinal)
+    split : (user : ℕ) (b : Bool) → eqb seat.pair.user user ≡ b
+        → load_at new user ≡ made user b (written seat.value.ordinal)
     split user true h =
         let same : index ≡ user = is ∙ eqb-true seat.pair.user user h in
         subst (λ (n : ℕ). load_at new n ≡ made n true (written seat.value.ordinal)) same
@@ -129,10 +142,12 @@ seat-counted loads written seat w index load other taken is within forms read =
 
 -- ---- several
 
-pub seats-none : (loads : List Load) (written : ℕ → Bool) → Becomes loads loads (λ user load. with_seats written user [] load)
+pub seats-none : (loads : List Load) (written : ℕ → Bool)
+    → Becomes loads loads (λ user load. with_seats written user [] load)
 seats-none loads written = λ user within. refl
 
-pub seats-step : (old mid new : List Load) (written : ℕ → Bool) (seats : List (Tie Seat)) (i : ℕ) (seat other : Tie Seat) → i < length seats
+pub seats-step : (old mid new : List Load) (written : ℕ → Bool) (seats : List (Tie Seat)) (i : ℕ)
+    (seat other : Tie Seat) → i < length seats
     → seat ≡ get_or seats i other
     → Becomes old mid (λ user load. with_seats written user (take i seats) load)
     → Becomes mid new (λ user load. with_seat written user load seat)
@@ -147,7 +162,8 @@ seats-step old mid new written seats i seat other within is before one =
 
 -- ---- papers
 
-pub papers-step : (old mid new : List Load) (step : ℕ → Load → ℕ → Load) (before after : List ℕ) (p : ℕ) → after ≡ before ++ p ∷ []
+pub papers-step : (old mid new : List Load) (step : ℕ → Load → ℕ → Load) (before after : List ℕ) (p : ℕ)
+    → after ≡ before ++ p ∷ []
     → Becomes old mid (λ user load. fold (step user) load before) → Becomes mid new (λ user load. step user load p)
     → Becomes old new (λ user load. fold (step user) load after)
 papers-step old mid new step before after p is done one =
@@ -188,8 +204,10 @@ few-within n m old new written seats i becomes few less small =
     few-becomes n m old new written (take i seats) becomes (omega (arith, short, few, less)) small
 
 -- all seats
-pub seats-all : (old new : List Load) (written : ℕ → Bool) (seats all : List (Tie Seat)) (i : ℕ) → length seats ≤ i → seats ≡ all
-    → Becomes old new (λ user load. with_seats written user (take i seats) load) → Becomes old new (λ user load. with_seats written user all load)
+pub seats-all : (old new : List Load) (written : ℕ → Bool) (seats all : List (Tie Seat)) (i : ℕ) → length seats ≤ i
+    → seats ≡ all
+    → Becomes old new (λ user load. with_seats written user (take i seats) load)
+    → Becomes old new (λ user load. with_seats written user all load)
 seats-all old new written seats all i past is becomes =
     λ user low.
     becomes user low
@@ -205,7 +223,8 @@ filled-long n loads is = ap (λ (l : List Load). length l) is ∙ length-replica
 pub filled-few : (loads : List Load) → loads ≡ replicate 10000 no_load → AreFew 0 loads
 filled-few loads is = subst (AreFew 0) (sym is) none-few
 
-pub filled-becomes : (loads : List Load) → loads ≡ replicate 10000 no_load → Becomes (replicate 10000 no_load) loads (λ user load. load)
+pub filled-becomes : (loads : List Load) → loads ≡ replicate 10000 no_load
+    → Becomes (replicate 10000 no_load) loads (λ user load. load)
 filled-becomes loads is = λ user low. ap (λ (l : List Load). load_at l user) is
 
 -- few and 26 more

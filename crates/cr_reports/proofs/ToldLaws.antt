@@ -25,16 +25,19 @@ module _ (t : Tables) (user : ℕ) (report : Report) where
   told = report_told (facts_of_tables t (Some user)) (shown_in_tables t) report
 
   -- the rule that is broken
-  pub due-refused : (rule : Rule) → ◌≡◌ {A = Result (Unit {0}) Rule} (Err rule) (judged checks tt) → report_due t user report ≡ Err rule
+  pub due-refused : (rule : Rule) → ◌≡◌ {A = Result (Unit {0}) Rule} (Err rule) (judged checks tt)
+      → report_due t user report ≡ Err rule
   due-refused rule h = sym (refused checks tt told rule h)
 
   -- no rule is broken
   pub due-told : (text : List ℕ) → MayHave t user report → text ≡ told → report_due t user report ≡ Ok text
   due-told text may is =
-      sym (passed checks (λ (u : Unit {0}). told) tt tt may) ∙ ap {B = Result (List ℕ) Rule} (λ (l : List ℕ). Ok l) (sym is)
+      sym (passed checks (λ (u : Unit {0}). told) tt tt may)
+      ∙ ap {B = Result (List ℕ) Rule} (λ (l : List ℕ). Ok l) (sym is)
 
   -- and where memory runs out, none is
-  pub due-unserved : MayHave t user report → (r : Result (List ℕ) AnswerError) → IsErrAnd r (λ (e : AnswerError). e ≡ errors.OutOfMemory)
+  pub due-unserved : MayHave t user report → (r : Result (List ℕ) AnswerError)
+      → IsErrAnd r (λ (e : AnswerError). e ≡ errors.OutOfMemory)
       → ShowsAsDue r (report_due t user report)
   due-unserved may (Ok given) out = absurd out
   due-unserved may (Err error) out =
@@ -43,5 +46,6 @@ module _ (t : Tables) (user : ℕ) (report : Report) where
 
   -- as a reply
   pub report-answered : (r : Result (List ℕ) AnswerError) → ShowsAsDue r (report_due t user report)
-      → AnswersAsDue (as_reply (λ (l : List ℕ). replies.Report l) r) (answer_by_role t (Some user) (queries.Report report))
+      → AnswersAsDue (as_reply (λ (l : List ℕ). replies.Report l) r)
+      (answer_by_role t (Some user) (queries.Report report))
   report-answered r h = shown-answered checks told (λ (l : List ℕ). replies.Report l) (λ l rule e. cc) r h

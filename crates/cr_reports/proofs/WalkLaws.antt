@@ -1,5 +1,6 @@
 -- Walks over the papers by their numbers.
-use Rattle.std.proofs.Common.{ℕ, Bool, true, false, cond, ◌≡◌, ◌≤◌, ◌<◌, ◌+◌, List, [], ◌∷◌, ◌++◌, append_assoc, length, take, refl, sym, ap, subst, ◌∙◌, arith}
+use Rattle.std.proofs.Common.{ℕ, Bool, true, false, cond, ◌≡◌, ◌≤◌, ◌<◌, ◌+◌, List, [], ◌∷◌, ◌++◌, append_assoc, length}
+use Rattle.std.proofs.Common.{take, refl, sym, ap, subst, ◌∙◌, arith}
 use Rattle.std.specs.Prelude.{filter}
 use Rattle.std.specs.List.{flat_map}
 use Rattle.std.proofs.lemmas.Grind.{flat_map-append}
@@ -24,7 +25,8 @@ module _ {B : Type 0} (papers : List B) where
 
   -- all of them
   pub first-all : (i : ℕ) → length papers ≤ i → first i ≡ numbers_from 1 papers
-  first-all i past = take_all i (numbers_from 1 papers) (subst (λ (k : ℕ). k ≤ i) (sym (length-numbers_from 1 papers)) past)
+  first-all i past =
+      take_all i (numbers_from 1 papers) (subst (λ (k : ℕ). k ≤ i) (sym (length-numbers_from 1 papers)) past)
 
   module _ {A : Type 0} (line : ℕ → List A) (start : List A) where
     -- what is told of one more paper
@@ -54,6 +56,7 @@ flat_map-filter test line [] = refl
 flat_map-filter {A} {B} test line (x ∷ xs) = by (test x) (flat_map-filter test line xs)
   where
     by : (b : Bool) → flat_map (where_so test line) xs ≡ flat_map line (filter test xs)
-        → cond b (line x) [] ++ flat_map (where_so test line) xs ≡ flat_map line (cond b (x ∷ filter test xs) (filter test xs))
+        → cond b (line x) [] ++ flat_map (where_so test line) xs
+        ≡ flat_map line (cond b (x ∷ filter test xs) (filter test xs))
     by true h = ap (λ (l : List B). line x ++ l) h
     by false h = h

@@ -1,5 +1,6 @@
 -- What passes a test: whether there is one, and which is the last.
-use Rattle.std.proofs.Common.{Bool, true, false, cond, not, ◌≡◌, ◌||◌, ◌&&◌, List, [], ◌∷◌, reverse, refl, sym, ap, ◌∙◌, ℕ, Option, Some, None}
+use Rattle.std.proofs.Common.{Bool, true, false, cond, not, ◌≡◌, ◌||◌, ◌&&◌, List, [], ◌∷◌, reverse, refl, sym, ap, ◌∙◌}
+use Rattle.std.proofs.Common.{ℕ, Option, Some, None}
 use Rattle.std.specs.Prelude.{filter, is_some}
 use Rattle.std.specs.List.{list_any, find}
 use Rattle.std.specs.Option.{option_or}
@@ -19,7 +20,8 @@ module _ {A : Type 0} (q : A → Bool) where
   found [] = refl
   found (x ∷ xs) = by (q x) (found xs)
     where
-      by : (b : Bool) → list_any q xs ≡ not (is_nothing (filter q xs)) → (b || list_any q xs) ≡ not (is_nothing (cond b (x ∷ filter q xs) (filter q xs)))
+      by : (b : Bool) → list_any q xs ≡ not (is_nothing (filter q xs))
+          → (b || list_any q xs) ≡ not (is_nothing (cond b (x ∷ filter q xs) (filter q xs)))
       by true h = refl
       by false h = h
 
@@ -55,11 +57,13 @@ last-there [] = refl
 last-there (x ∷ xs) = last-behind x xs
 
 -- the last of what passes one test and then another
-pub last-both : {A : Type 0} (q r : A → Bool) (xs : List A) → find (λ x. q x && r x) (reverse xs) ≡ last (filter r (filter q xs))
+pub last-both : {A : Type 0} (q r : A → Bool) (xs : List A)
+    → find (λ x. q x && r x) (reverse xs) ≡ last (filter r (filter q xs))
 last-both {A} q r xs = last-found (λ (y : A). q y && r y) xs ∙ ap (λ (zs : List A). last zs) (filter-filter q r xs)
 
 -- and whether there is one
-pub found-both : {A : Type 0} (q r : A → Bool) (xs : List A) → list_any (λ x. q x && r x) xs ≡ is_some (last (filter r (filter q xs)))
+pub found-both : {A : Type 0} (q r : A → Bool) (xs : List A)
+    → list_any (λ x. q x && r x) xs ≡ is_some (last (filter r (filter q xs)))
 found-both {A} q r xs =
     found (λ (y : A). q y && r y) xs
     ∙ last-there (filter (λ (y : A). q y && r y) xs)
@@ -71,12 +75,15 @@ and-own true true then same is = is
 and-own false true then same is = refl
 and-own b false then same is = absurd (false≢true same)
 
-pub written-under : (o : ℕ) (when : Written) (form : WrittenForm) → is_written form.ordinal when form ≡ true → is_written o when form ≡ is_under o form
+pub written-under : (o : ℕ) (when : Written) (form : WrittenForm) → is_written form.ordinal when form ≡ true
+    → is_written o when form ≡ is_under o form
 written-under o Ever form is = refl
 written-under o (Before phase) form is =
-    and-own (is_under o form) (is_under form.ordinal form) (not (is_from phase form.phase)) (eq-eqb form.ordinal form.ordinal refl) is
+    and-own (is_under o form) (is_under form.ordinal form) (not (is_from phase form.phase))
+    (eq-eqb form.ordinal form.ordinal refl) is
 written-under o (Since phase) form is =
-    and-own (is_under o form) (is_under form.ordinal form) (is_from phase form.phase) (eq-eqb form.ordinal form.ordinal refl) is
+    and-own (is_under o form) (is_under form.ordinal form) (is_from phase form.phase)
+    (eq-eqb form.ordinal form.ordinal refl) is
 
 -- and where it wasn't, it was so under none
 and-none : (b own then : Bool) → own ≡ true → (own && then) ≡ false → (b && then) ≡ false
@@ -84,9 +91,12 @@ and-none true true then same none = none
 and-none false true then same none = refl
 and-none b false then same none = absurd (false≢true same)
 
-pub written-never : (o : ℕ) (when : Written) (form : WrittenForm) → is_written form.ordinal when form ≡ false → is_written o when form ≡ false
+pub written-never : (o : ℕ) (when : Written) (form : WrittenForm) → is_written form.ordinal when form ≡ false
+    → is_written o when form ≡ false
 written-never o Ever form none = absurd (false≢true (sym none ∙ eq-eqb form.ordinal form.ordinal refl))
 written-never o (Before phase) form none =
-    and-none (is_under o form) (is_under form.ordinal form) (not (is_from phase form.phase)) (eq-eqb form.ordinal form.ordinal refl) none
+    and-none (is_under o form) (is_under form.ordinal form) (not (is_from phase form.phase))
+    (eq-eqb form.ordinal form.ordinal refl) none
 written-never o (Since phase) form none =
-    and-none (is_under o form) (is_under form.ordinal form) (is_from phase form.phase) (eq-eqb form.ordinal form.ordinal refl) none
+    and-none (is_under o form) (is_under form.ordinal form) (is_from phase form.phase)
+    (eq-eqb form.ordinal form.ordinal refl) none

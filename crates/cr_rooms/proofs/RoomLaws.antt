@@ -1,5 +1,6 @@
 -- Room for values of many numbers, such as those of papers or of users.
-use Rattle.std.proofs.Common.{ℕ, Bool, true, false, cond, ◌≡◌, ◌≤◌, ◌<◌, ◌+◌, List, [], ◌∷◌, ◌++◌, length, get_or, set, map, eqb, refl, subst, ap, ◌∙◌, arith, zero, suc, Option, Some, None}
+use Rattle.std.proofs.Common.{ℕ, Bool, true, false, cond, ◌≡◌, ◌≤◌, ◌<◌, ◌+◌, List, [], ◌∷◌, ◌++◌, length, get_or, set}
+use Rattle.std.proofs.Common.{map, eqb, refl, subst, ap, ◌∙◌, arith, zero, suc, Option, Some, None}
 use Rattle.std.proofs.lemmas.Bool.Decides.{nat_tests}
 use Rattle.std.proofs.lemmas.List.Sums.{sum_by-append}
 use Rattle.std.specs.List.{filter_map, cons_option}
@@ -17,16 +18,20 @@ swap n m = grind (arith, nat_tests)
 
 -- ---- a group: room for all of it is room for its first, and when that came in, there is room for the rest
 
-pub has-room-first : (number : ℕ) (numbers rooms : List ℕ) → HasRoom (number ∷ numbers) rooms → 0 < get_or rooms number 0
+pub has-room-first : (number : ℕ) (numbers rooms : List ℕ) → HasRoom (number ∷ numbers) rooms
+    → 0 < get_or rooms number 0
 has-room-first number numbers rooms has =
     let there = times-first number number numbers ∙ ap (λ b. (0 + cond b 1 0) + times number numbers) (same number) in
     omega (arith, there, has number)
 
-pub has-room-rest : (number : ℕ) (numbers old new : List ℕ) → HasRoom (number ∷ numbers) old → IsOneLess number old new → HasRoom numbers new
+pub has-room-rest : (number : ℕ) (numbers old new : List ℕ) → HasRoom (number ∷ numbers) old → IsOneLess number old new
+    → HasRoom numbers new
 has-room-rest number numbers old new has less n =
-    by (eqb number n) (times-first n number numbers ∙ ap (λ b. (0 + cond b 1 0) + times n numbers) (swap n number)) (has n) (less n)
+    by (eqb number n) (times-first n number numbers ∙ ap (λ b. (0 + cond b 1 0) + times n numbers) (swap n number))
+    (has n) (less n)
   where
-    by : (b : Bool) → times n (number ∷ numbers) ≡ (0 + cond b 1 0) + times n numbers → times n (number ∷ numbers) ≤ get_or old n 0
+    by : (b : Bool) → times n (number ∷ numbers) ≡ (0 + cond b 1 0) + times n numbers
+        → times n (number ∷ numbers) ≤ get_or old n 0
         → get_or old n 0 ≤ get_or new n 0 + cond b 1 0 → times n numbers ≤ get_or new n 0
     by true e h k = omega (arith, e, h, k)
     by false e h k = omega (arith, e, h, k)
@@ -49,15 +54,18 @@ module _ {R : Type 0} (room : R → ℕ) where
   rooms rs = map room rs
 
   -- another row at an index
-  pub one-less-row : (i : ℕ) (rs : List R) (d r : R) → room (get_or rs i d) ≤ room r + 1 → IsOneLess i (rooms rs) (rooms (set rs i r))
+  pub one-less-row : (i : ℕ) (rs : List R) (d r : R) → room (get_or rs i d) ≤ room r + 1
+      → IsOneLess i (rooms rs) (rooms (set rs i r))
   one-less-row i [] d r le n = omega arith
   one-less-row zero (q ∷ rs) d r le zero = omega (arith, le)
   one-less-row zero (q ∷ rs) d r le (suc n) = omega arith
   one-less-row (suc i) (q ∷ rs) d r le zero = omega arith
   one-less-row (suc i) (q ∷ rs) d r le (suc n) =
-      subst (λ b. get_or (rooms rs) n 0 ≤ get_or (rooms (set rs i r)) n 0 + cond b 1 0) (one-back i n) (one-less-row i rs d r le n)
+      subst (λ b. get_or (rooms rs) n 0 ≤ get_or (rooms (set rs i r)) n 0 + cond b 1 0) (one-back i n)
+      (one-less-row i rs d r le n)
 
-  pub no-less-row : (i : ℕ) (rs : List R) (d r : R) → room (get_or rs i d) ≤ room r → IsNoLess (rooms rs) (rooms (set rs i r))
+  pub no-less-row : (i : ℕ) (rs : List R) (d r : R) → room (get_or rs i d) ≤ room r
+      → IsNoLess (rooms rs) (rooms (set rs i r))
   no-less-row i [] d r le n = omega arith
   no-less-row zero (q ∷ rs) d r le zero = le
   no-less-row zero (q ∷ rs) d r le (suc n) = omega arith
@@ -91,15 +99,19 @@ module _ {E Q : Type 0} (told : E → Option Q) (number : Q → ℕ) where
   told-numbers e q rest is = ap (λ (o : Option Q). map number (cons_option o (filter_map told rest))) is
 
   -- where what an entry tells came in, there is room for the rest
-  pub told-rest : (e : E) (q : Q) (rest : List E) (old new : List ℕ) → told e ≡ Some q → IsOneLess (number q) old new → HasRoom (numbers (e ∷ rest)) old
+  pub told-rest : (e : E) (q : Q) (rest : List E) (old new : List ℕ) → told e ≡ Some q → IsOneLess (number q) old new
+      → HasRoom (numbers (e ∷ rest)) old
       → HasRoom (numbers rest) new
   told-rest e q rest old new is less has =
-      has-room-rest (number q) (numbers rest) old new (subst (λ (ns : List ℕ). HasRoom ns old) (told-numbers e q rest is) has) less
+      has-room-rest (number q) (numbers rest) old new
+      (subst (λ (ns : List ℕ). HasRoom ns old) (told-numbers e q rest is) has) less
 
   -- whatever it tells, there is room for the rest where no number has less
-  pub rest-kept : (e : E) (rest : List E) (old new : List ℕ) → IsNoLess old new → HasRoom (numbers (e ∷ rest)) old → HasRoom (numbers rest) new
+  pub rest-kept : (e : E) (rest : List E) (old new : List ℕ) → IsNoLess old new → HasRoom (numbers (e ∷ rest)) old
+      → HasRoom (numbers rest) new
   rest-kept e rest old new keeps has = has-room-kept (numbers rest) old new (by (told e) refl) keeps
     where
       by : (o : Option Q) → told e ≡ o → HasRoom (numbers rest) old
-      by (Some q) is = has-room-behind (number q) (numbers rest) old (subst (λ (ns : List ℕ). HasRoom ns old) (told-numbers e q rest is) has)
+      by (Some q) is = has-room-behind (number q) (numbers rest) old
+          (subst (λ (ns : List ℕ). HasRoom ns old) (told-numbers e q rest is) has)
       by None is = subst (λ (o : Option Q). HasRoom (map number (cons_option o (filter_map told rest))) old) is has

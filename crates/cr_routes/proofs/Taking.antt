@@ -1,12 +1,15 @@
 -- The router finds the first row that takes the path.
-use Rattle.std.proofs.Common.{◌≡◌, ℕ, zero, suc, ◌-◌, List, [], ◌∷◌, length, drop, Bool, true, false, cond, not, ◌&&◌, ◌==◌, ltb, nat_eq, Option, Some, None, refl, sym, ap, ◌∙◌, IsTrue, ◌<◌, arith}
+use Rattle.std.proofs.Common.{◌≡◌, ℕ, zero, suc, ◌-◌, List, [], ◌∷◌, length, drop, Bool, true, false, cond, not, ◌&&◌}
+use Rattle.std.proofs.Common.{◌==◌, ltb, nat_eq, Option, Some, None, refl, sym, ap, ◌∙◌, IsTrue, ◌<◌, arith}
 use Rattle.std.specs.Cmp.Lexicographic.{pointwise}
 use Rattle.std.proofs.lemmas.Bool.{eqb-true, ne_eqb, and_parts}
 use Rattle.std.proofs.lemmas.Bool.Decides.{nat_tests}
 use Rattle.matchit.specs.Rows.{param_token}
-use Rattle.matchit.specs.Seek.{seek, first, step, own, or_else, param_step, has_slash, segment, cuts, longest_from, longest_suffix, with_suffix}
+use Rattle.matchit.specs.Seek.{seek, first, step, own, or_else, param_step, has_slash, segment, cuts, longest_from}
+use Rattle.matchit.specs.Seek.{longest_suffix, with_suffix}
 use Rattle.cr_routes.specs.Rows.{Rows}
-use Rattle.cr_routes.proofs.Rows.{none, Route, precedes_all, are_good, all_next, front, behind_empty, good_step, good_suffix, no_catch_all, next_step, none_behind}
+use Rattle.cr_routes.proofs.Rows.{none, Route, precedes_all, are_good, all_next, front, behind_empty, good_step}
+use Rattle.cr_routes.proofs.Rows.{good_suffix, no_catch_all, next_step, none_behind}
 
 -- what is left of a path from its first slash on
 abbrev pub from_slash : List ℕ → List ℕ
@@ -18,7 +21,8 @@ abbrev pub fits_tokens : List ℕ → List ℕ → Bool
 fits_tokens [] [] = true
 fits_tokens [] (b ∷ path) = false
 fits_tokens (x ∷ t) [] = false
-fits_tokens (x ∷ t) (b ∷ path) = cond (x == param_token) (not (b == 47) && fits_tokens t (from_slash path)) (x == b && fits_tokens t path)
+fits_tokens (x ∷ t) (b ∷ path) =
+    cond (x == param_token) (not (b == 47) && fits_tokens t (from_slash path)) (x == b && fits_tokens t path)
 
 -- the first row that takes a path
 abbrev pub taking : Rows → List ℕ → Option Route
@@ -37,7 +41,8 @@ nothing : (skip : ℕ) (path : List ℕ) → seek skip none path ≡ None
 unfolding seek
 nothing skip [] = refl
 nothing (suc skip) (b ∷ path) = nothing skip path
-nothing zero (b ∷ path) = rw (nothing 0 path, no_param (b ∷ path), nothing ((param_step none (b ∷ path)).0 - 1) path) refl
+nothing zero (b ∷ path) =
+    rw (nothing 0 path, no_param (b ∷ path), nothing ((param_step none (b ∷ path)).0 - 1) path) refl
 
 -- ---- one byte
 
@@ -67,7 +72,8 @@ at_parameter true fits r more rest e = e
 at_parameter false true r more rest e = refl
 at_parameter false false r more rest e = e
 
-at_byte : (here fits : Bool) (t : List ℕ) (r : Route) (rows : Rows) (path : List ℕ) (more other : Option Route) → fits_tokens t path ≡ fits
+at_byte : (here fits : Bool) (t : List ℕ) (r : Route) (rows : Rows) (path : List ℕ) (more other : Option Route)
+    → fits_tokens t path ≡ fits
     → more ≡ or_else (taking rows path) other
     → cond (here && fits) (Some r) more ≡ or_else (taking (cond here ((t, r) ∷ rows) rows) path) other
 at_byte false fits t r rows path more other e f = f
@@ -89,14 +95,18 @@ split ((x ∷ t, r) ∷ rest) b path other h =
   where
     by : (v : Bool) → (x == param_token) ≡ v → IsTrue (precedes_all (x ∷ t) rest)
         → taking rest (b ∷ path) ≡ or_else (taking (step b rest) path) (behind (step param_token rest) b path)
-        → taking ((x ∷ t, r) ∷ rest) (b ∷ path) ≡ or_else (taking (step b ((x ∷ t, r) ∷ rest)) path) (behind (step param_token ((x ∷ t, r) ∷ rest)) b path)
+        → taking ((x ∷ t, r) ∷ rest) (b ∷ path) ≡ or_else (taking (step b ((x ∷ t, r) ∷ rest)) path)
+        (behind (step param_token ((x ∷ t, r) ∷ rest)) b path)
     by true e all more =
         let is : x ≡ param_token = eqb-true x param_token e in
         let gone : step b rest ≡ none = none_behind x b t rest is other all in
-        let not_here : (x == b) ≡ false = rw is (ne_eqb param_token b (λ same. let bad : true ≡ false = rw (← same) at other in cc)) in
-        rw (e, not_here, gone) (at_parameter (b == 47) (fits_tokens t (from_slash path)) r (taking rest (b ∷ path)) (taking (step param_token rest) (from_slash path)) (rw gone at more))
+        let not_here : (x == b) ≡ false =
+        rw is (ne_eqb param_token b (λ same. let bad : true ≡ false = rw (← same) at other in cc)) in
+        rw (e, not_here, gone) (at_parameter (b == 47) (fits_tokens t (from_slash path)) r (taking rest (b ∷ path))
+        (taking (step param_token rest) (from_slash path)) (rw gone at more))
     by false e all more =
-        rw e (at_byte (x == b) (fits_tokens t path) t r (step b rest) path (taking rest (b ∷ path)) (behind (step param_token rest) b path) refl more)
+        rw e (at_byte (x == b) (fits_tokens t path) t r (step b rest) path (taking rest (b ∷ path))
+        (behind (step param_token rest) b path) refl more)
 
 -- a byte that is the parameter's own token
 split_token : (rows : Rows) (b : ℕ) (path : List ℕ) → b ≡ param_token → IsTrue (are_good rows)
@@ -108,11 +118,13 @@ split_token ((x ∷ t, r) ∷ rest) b path is h =
     by (x == param_token) refl (split_token rest b path is row.4)
   where
     by : (v : Bool) → (x == param_token) ≡ v → taking rest (b ∷ path) ≡ taking (step param_token rest) (from_slash path)
-        → taking ((x ∷ t, r) ∷ rest) (b ∷ path) ≡ taking (cond v ((t, r) ∷ step param_token rest) (step param_token rest)) (from_slash path)
+        → taking ((x ∷ t, r) ∷ rest) (b ∷ path) ≡ taking
+        (cond v ((t, r) ∷ step param_token rest) (step param_token rest)) (from_slash path)
     by true e more = rw (e, is) (ap (λ rest. cond (fits_tokens t (from_slash path)) (Some r) rest) (rw is at more))
     by false e more = rw (is, e) (rw is at more)
 
-none_takes : (rows : Rows) (b : ℕ) (path : List ℕ) → (b == 47) ≡ false → IsTrue (all_next rows) → taking rows (b ∷ path) ≡ None
+none_takes : (rows : Rows) (b : ℕ) (path : List ℕ) → (b == 47) ≡ false → IsTrue (all_next rows)
+    → taking rows (b ∷ path) ≡ None
 none_takes [] b path other h = refl
 none_takes (([], r) ∷ rest) b path other h = none_takes rest b path other h
 none_takes ((x ∷ t, r) ∷ rest) b path other h =
@@ -121,11 +133,13 @@ none_takes ((x ∷ t, r) ∷ rest) b path other h =
     rw (eqb-true x 47 row.0, not_here) (none_takes rest b path other row.1)
 
 -- such a byte changes nothing
-beside : (rows : Rows) (path : List ℕ) → IsTrue (all_next rows) → or_else (taking rows path) (taking rows (from_slash path)) ≡ taking rows (from_slash path)
+beside : (rows : Rows) (path : List ℕ) → IsTrue (all_next rows)
+    → or_else (taking rows path) (taking rows (from_slash path)) ≡ taking rows (from_slash path)
 beside rows [] h = or_same (taking rows [])
 beside rows (b ∷ path) h = by (b == 47) refl
   where
-    by : (v : Bool) → (b == 47) ≡ v → or_else (taking rows (b ∷ path)) (taking rows (cond v (b ∷ path) (from_slash path))) ≡ taking rows (cond v (b ∷ path) (from_slash path))
+    by : (v : Bool) → (b == 47) ≡ v → or_else (taking rows (b ∷ path))
+        (taking rows (cond v (b ∷ path) (from_slash path))) ≡ taking rows (cond v (b ∷ path) (from_slash path))
     by true e = or_same (taking rows (b ∷ path))
     by false e = rw (none_takes rows b path e h) refl
 
@@ -133,11 +147,13 @@ one_byte : (rows : Rows) (b : ℕ) (path : List ℕ) → IsTrue (are_good rows)
     → or_else (taking (step b rows) path) (behind (step param_token rows) b path) ≡ taking rows (b ∷ path)
 one_byte rows b path h = by (b == param_token) refl
   where
-    by : (v : Bool) → (b == param_token) ≡ v → or_else (taking (step b rows) path) (behind (step param_token rows) b path) ≡ taking rows (b ∷ path)
+    by : (v : Bool) → (b == param_token) ≡ v
+        → or_else (taking (step b rows) path) (behind (step param_token rows) b path) ≡ taking rows (b ∷ path)
     by false e = sym (split rows b path e h)
     by true e =
         let is : b ≡ param_token = eqb-true b param_token e in
-        let more : taking rows (param_token ∷ path) ≡ taking (step param_token rows) (from_slash path) = split_token rows param_token path refl h in
+        let more : taking rows (param_token ∷ path) ≡ taking (step param_token rows) (from_slash path) =
+        split_token rows param_token path refl h in
         rw is (beside (step param_token rows) path (next_step rows h) ∙ sym more)
 
 -- ---- a parameter
@@ -175,7 +191,8 @@ long b c s false = grind (arith, nat_tests)
 
 cutting : (b : ℕ) (path : List ℕ) → (b == 47) ≡ false → cuts (b ∷ segment path) (47 ∷ []) ≡ has_slash path
 cutting b [] other = refl
-cutting b (c ∷ path) other = rw (long b c (segment path) (c == 47)) (ends b (segment (c ∷ path)) ∙ last_slash b (c ∷ path) other)
+cutting b (c ∷ path) other =
+    rw (long b c (segment path) (c == 47)) (ends b (segment (c ∷ path)) ∙ last_slash b (c ∷ path) other)
 
 -- some of these rows go on
 abbrev goes_on : Rows → Bool
@@ -190,7 +207,8 @@ longest_stays seg ((x ∷ t, r) ∷ rest) h =
     let row = and_parts (x == 47) (all_next rest) h in
     rw (eqb-true x 47 row.0) (longest_stays seg rest row.1)
 
-longest : (seg : List ℕ) (rows : Rows) (v : Bool) → cuts seg (47 ∷ []) ≡ v → IsTrue (all_next rows) → longest_suffix seg rows ≡ cond (v && goes_on rows) (47 ∷ []) []
+longest : (seg : List ℕ) (rows : Rows) (v : Bool) → cuts seg (47 ∷ []) ≡ v → IsTrue (all_next rows)
+    → longest_suffix seg rows ≡ cond (v && goes_on rows) (47 ∷ []) []
 longest seg [] true e h = refl
 longest seg [] false e h = refl
 longest seg (([], r) ∷ rest) v e h = longest seg rest v e h
@@ -207,24 +225,31 @@ Step = ℕ × Rows
 -- how far a parameter reaches, and the rows behind it
 stepped : (rows : Rows) (b : ℕ) (path : List ℕ) → IsTrue (all_next rows)
     → param_step rows (b ∷ path)
-    ≡ cond {A = Step} (b == 47) (0, none) (cond {A = Step} (has_slash path) (cond {A = Step} (goes_on rows) (length (b ∷ segment path) - 1, with_suffix (47 ∷ []) rows) (0, none)) (length (b ∷ path), rows))
+    ≡ cond {A = Step} (b == 47) (0, none) (cond {A = Step} (has_slash path)
+    (cond {A = Step} (goes_on rows) (length (b ∷ segment path) - 1, with_suffix (47 ∷ []) rows) (0, none))
+    (length (b ∷ path), rows))
 unfolding param_step
 stepped rows b path h = by (b == 47) refl (has_slash path) refl (goes_on rows) refl
   where
     by : (v : Bool) → (b == 47) ≡ v → (s : Bool) → has_slash path ≡ s → (g : Bool) → goes_on rows ≡ g
         → param_step rows (b ∷ path)
-        ≡ cond {A = Step} v (0, none) (cond {A = Step} s (cond {A = Step} g (length (b ∷ segment path) - 1, with_suffix (47 ∷ []) rows) (0, none)) (length (b ∷ path), rows))
+        ≡ cond {A = Step} v (0, none)
+        (cond {A = Step} s (cond {A = Step} g (length (b ∷ segment path) - 1, with_suffix (47 ∷ []) rows) (0, none))
+        (length (b ∷ path), rows))
     by true e s f g k =
         let short : longest_suffix (b ∷ []) rows ≡ [] = longest (b ∷ []) rows false refl h in
         rw e (rw short refl)
     by false e true f true k =
-        let long : longest_suffix (b ∷ segment path) rows ≡ 47 ∷ [] = rw k at (longest (b ∷ segment path) rows true (cutting b path e ∙ f) h) in
+        let long : longest_suffix (b ∷ segment path) rows ≡ 47 ∷ [] =
+        rw k at (longest (b ∷ segment path) rows true (cutting b path e ∙ f) h) in
         rw e (rw long refl)
     by false e true f false k =
-        let short : longest_suffix (b ∷ segment path) rows ≡ [] = rw k at (longest (b ∷ segment path) rows true (cutting b path e ∙ f) h) in
+        let short : longest_suffix (b ∷ segment path) rows ≡ [] =
+        rw k at (longest (b ∷ segment path) rows true (cutting b path e ∙ f) h) in
         rw e (rw short (rw f refl))
     by false e false f g k =
-        let short : longest_suffix (b ∷ segment path) rows ≡ [] = longest (b ∷ segment path) rows false (cutting b path e ∙ f) h in
+        let short : longest_suffix (b ∷ segment path) rows ≡ [] =
+        longest (b ∷ segment path) rows false (cutting b path e ∙ f) h in
         rw e (rw short (rw f refl))
 
 some_segment : (path : List ℕ) → has_slash path ≡ true → 0 < length (segment path)
@@ -239,7 +264,8 @@ to_slash : (path : List ℕ) → has_slash path ≡ true → skipped (length (se
 to_slash [] h = cc
 to_slash (b ∷ path) h = by (b == 47) h (λ e. to_slash path e)
   where
-    by : (v : Bool) → cond v true (has_slash path) ≡ true → (has_slash path ≡ true → skipped (length (segment path) - 1) path ≡ from_slash path)
+    by : (v : Bool) → cond v true (has_slash path) ≡ true
+        → (has_slash path ≡ true → skipped (length (segment path) - 1) path ≡ from_slash path)
         → skipped (length (cond v (b ∷ []) (b ∷ segment path)) - 1) (b ∷ path) ≡ cond v (b ∷ path) (from_slash path)
     by true e rest = refl
     by false e rest =
@@ -255,7 +281,8 @@ pub no_slash : (path : List ℕ) → has_slash path ≡ false → from_slash pat
 no_slash [] h = refl
 no_slash (b ∷ path) h = by (b == 47) h (λ e. no_slash path e)
   where
-    by : (v : Bool) → cond v true (has_slash path) ≡ false → (has_slash path ≡ false → from_slash path ≡ []) → cond v (b ∷ path) (from_slash path) ≡ []
+    by : (v : Bool) → cond v true (has_slash path) ≡ false → (has_slash path ≡ false → from_slash path ≡ [])
+        → cond v (b ∷ path) (from_slash path) ≡ []
     by true e rest = cc
     by false e rest = rest e
 
@@ -263,12 +290,14 @@ pub a_slash : (path : List ℕ) → has_slash path ≡ true → (rest : List ℕ
 a_slash [] h = cc
 a_slash (b ∷ path) h = by (b == 47) refl h (λ e. a_slash path e)
   where
-    by : (v : Bool) → (b == 47) ≡ v → cond v true (has_slash path) ≡ true → (has_slash path ≡ true → (rest : List ℕ) × (from_slash path ≡ 47 ∷ rest))
+    by : (v : Bool) → (b == 47) ≡ v → cond v true (has_slash path) ≡ true
+        → (has_slash path ≡ true → (rest : List ℕ) × (from_slash path ≡ 47 ∷ rest))
         → (rest : List ℕ) × (cond v (b ∷ path) (from_slash path) ≡ 47 ∷ rest)
     by true e f more = (path, rw (eqb-true b 47 e) refl)
     by false e f more = more f
 
-suffix_takes : (rows : Rows) (path : List ℕ) → IsTrue (all_next rows) → taking (with_suffix (47 ∷ []) rows) (47 ∷ path) ≡ taking rows (47 ∷ path)
+suffix_takes : (rows : Rows) (path : List ℕ) → IsTrue (all_next rows)
+    → taking (with_suffix (47 ∷ []) rows) (47 ∷ path) ≡ taking rows (47 ∷ path)
 suffix_takes [] path h = refl
 suffix_takes (([], r) ∷ rest) path h = suffix_takes rest path h
 suffix_takes ((x ∷ t, r) ∷ rest) path h =
@@ -283,17 +312,28 @@ none_goes_on ((x ∷ t, r) ∷ rest) b path e = cc
 by_param : (rows : Rows) (b : ℕ) (path : List ℕ) → IsTrue (all_next rows) → IsTrue (are_good rows)
     → ((skip : ℕ) (some : Rows) → IsTrue (are_good some) → seek skip some path ≡ taking some (skipped skip path))
     → seek ((param_step rows (b ∷ path)).0 - 1) (param_step rows (b ∷ path)).1 path ≡ behind rows b path
-by_param rows b path next h found = rw (stepped rows b path next) (by (b == 47) (has_slash path) refl (goes_on rows) refl)
+by_param rows b path next h found =
+    rw (stepped rows b path next) (by (b == 47) (has_slash path) refl (goes_on rows) refl)
   where
     by : (v s : Bool) → has_slash path ≡ s → (g : Bool) → goes_on rows ≡ g
-        → seek ((cond {A = Step} v (0, none) (cond {A = Step} s (cond {A = Step} g (length (b ∷ segment path) - 1, with_suffix (47 ∷ []) rows) (0, none)) (length (b ∷ path), rows))).0 - 1)
-        (cond {A = Step} v (0, none) (cond {A = Step} s (cond {A = Step} g (length (b ∷ segment path) - 1, with_suffix (47 ∷ []) rows) (0, none)) (length (b ∷ path), rows))).1 path
+        → seek
+        ((cond {A = Step} v (0, none)
+        (cond {A = Step} s (cond {A = Step} g (length (b ∷ segment path) - 1, with_suffix (47 ∷ []) rows)
+        (0, none)) (length (b ∷ path), rows))).0 - 1)
+        (cond {A = Step} v (0, none)
+        (cond {A = Step} s (cond {A = Step} g (length (b ∷ segment path) - 1, with_suffix (47 ∷ []) rows) (0, none))
+        (length (b ∷ path), rows))).1 path
         ≡ cond v None (taking rows (from_slash path))
     by true s e g f = nothing 0 path
     by false true e true f =
         let less : length (b ∷ segment path) - 1 - 1 ≡ length (segment path) - 1 = omega arith in
         let rest = a_slash path e in
-        rw (less, found (length (segment path) - 1) (with_suffix (47 ∷ []) rows) (good_suffix (47 ∷ []) rows h), to_slash path e, rest.1)
+        rw (
+          less,
+          found (length (segment path) - 1) (with_suffix (47 ∷ []) rows) (good_suffix (47 ∷ []) rows h),
+          to_slash path e,
+          rest.1,
+        )
         (suffix_takes rows rest.0 next)
     by false true e false f =
         let rest = a_slash path e in
@@ -304,16 +344,19 @@ by_param rows b path next h found = rw (stepped rows b path next) (by (b == 47) 
 
 -- ---- the whole path
 
-found : (path : List ℕ) (skip : ℕ) (rows : Rows) → IsTrue (are_good rows) → seek skip rows path ≡ taking rows (skipped skip path)
+found : (path : List ℕ) (skip : ℕ) (rows : Rows) → IsTrue (are_good rows)
+    → seek skip rows path ≡ taking rows (skipped skip path)
 unfolding seek
 found [] zero rows h = taking_end rows
 found [] (suc skip) rows h = taking_end rows
 found (b ∷ path) (suc skip) rows h = found path skip rows h
 found (b ∷ path) zero rows h =
-    let here : seek 0 (step b rows) path ≡ taking (step b rows) path = found path 0 (step b rows) (good_step b rows h) in
+    let here : seek 0 (step b rows) path ≡ taking (step b rows) path =
+    found path 0 (step b rows) (good_step b rows h) in
     rw (
       here,
-      by_param (step param_token rows) b path (next_step rows h) (good_step param_token rows h) (λ skip some good. found path skip some good),
+      by_param (step param_token rows) b path (next_step rows h) (good_step param_token rows h)
+          (λ skip some good. found path skip some good),
       no_catch_all rows h,
       or_none (behind (step param_token rows) b path),
     ) (one_byte rows b path h)

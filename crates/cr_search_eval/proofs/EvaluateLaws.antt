@@ -1,5 +1,7 @@
 -- The last step of a search, and the steps of its operands before it.
-use Rattle.std.proofs.Common.{ℕ, Bool, true, false, ◌≡◌, ◌<◌, ◌≤◌, ◌+◌, ◌-◌, ◌&&◌, ◌||◌, List, [], ◌∷◌, ◌++◌, length, take, drop, get_or, append_assoc, length-append, length-take-le, refl, sym, ap, ◌∙◌, arith}
+use Rattle.std.proofs.Common.{ℕ, Bool, true, false, ◌≡◌, ◌<◌, ◌≤◌, ◌+◌, ◌-◌, ◌&&◌, ◌||◌, List, [], ◌∷◌, ◌++◌, length}
+use Rattle.std.proofs.Common.{take, drop, get_or, append_assoc, length-append, length-take-le, refl, sym, ap, ◌∙◌}
+use Rattle.std.proofs.Common.{arith}
 use Rattle.std.specs.Prelude.{not}
 use Rattle.std.proofs.lemmas.List.{drop_at, same_from_push, take_all, take_at, take_more}
 use Rattle.cr_base.specs.declared.search.Step.{Step}
@@ -34,11 +36,13 @@ ends (either s t) = sym (append_assoc (steps_of s) (steps_of t) (step.Or (length
 pub some-step : (steps : List Step) → Spelled steps → 0 < length steps
 some-step steps spelled =
     let t = spelled.0 in
-    let long : length steps ≡ length (front_of t) + 1 = ap length (spelled.1 ∙ ends t) ∙ length-append (front_of t) (last_of t ∷ []) in
+    let long : length steps ≡ length (front_of t) + 1 =
+    ap length (spelled.1 ∙ ends t) ∙ length-append (front_of t) (last_of t ∷ []) in
     omega (arith, long)
 
 -- the steps of a search, cut before the last one
-pub cut-last : (steps before : List Step) (last other : Step) (t : Tree) → steps ≡ steps_of t → before ≡ take (length steps - 1) steps
+pub cut-last : (steps before : List Step) (last other : Step) (t : Tree) → steps ≡ steps_of t
+    → before ≡ take (length steps - 1) steps
     → last ≡ get_or steps (length steps - 1) other → (before ≡ front_of t) × (last ≡ last_of t)
 cut-last steps before last other t is front end =
     let n : ℕ = length steps - 1 in
@@ -82,11 +86,14 @@ pub record IsCut (steps : List Step) (n : ℕ) (s t : Tree) : Type 0 where
   pub first : take (length steps - 1 - n) (take (length steps - 1) steps) ≡ steps_of s
   pub second : drop (length steps - 1 - n) (take (length steps - 1) steps) ≡ steps_of t
 
-cut-of : (steps : List Step) (n : ℕ) (s t : Tree) → 0 < length steps → take (length steps - 1) steps ≡ steps_of s ++ steps_of t → n ≡ length (steps_of t)
+cut-of : (steps : List Step) (n : ℕ) (s t : Tree) → 0 < length steps
+    → take (length steps - 1) steps ≡ steps_of s ++ steps_of t → n ≡ length (steps_of t)
     → IsCut steps n s t
 cut-of steps n s t some front second =
-    let whole : length (take (length steps - 1) steps) ≡ length steps - 1 = length-take-le (length steps - 1) steps (omega arith) in
-    let both_long : length (take (length steps - 1) steps) ≡ length (steps_of s) + length (steps_of t) = ap length front ∙ length-append (steps_of s) (steps_of t) in
+    let whole : length (take (length steps - 1) steps) ≡ length steps - 1 =
+    length-take-le (length steps - 1) steps (omega arith) in
+    let both_long : length (take (length steps - 1) steps) ≡ length (steps_of s) + length (steps_of t) =
+    ap length front ∙ length-append (steps_of s) (steps_of t) in
     let cut : length (steps_of s) ≡ length steps - 1 - n = omega (arith, whole, both_long, second, some) in
     record {
       within = omega (arith, whole, both_long, second, some);
@@ -94,9 +101,11 @@ cut-of steps n s t some front second =
       second = ap (drop (length steps - 1 - n)) front ∙ drop_at (steps_of s) (steps_of t) (length steps - 1 - n) cut;
     }
 
-pub and-cut : (steps : List Step) (n : ℕ) (last other : Step) (t : Tree) → steps ≡ steps_of t → last ≡ get_or steps (length steps - 1) other → last ≡ step.And n
+pub and-cut : (steps : List Step) (n : ℕ) (last other : Step) (t : Tree) → steps ≡ steps_of t
+    → last ≡ get_or steps (length steps - 1) other → last ≡ step.And n
     → (s : Tree) × (u : Tree) × (t ≡ both s u) × IsCut steps n s u
-and-cut steps n last other t is at_end and = by t is (cut-last steps (take (length steps - 1) steps) last other t is refl at_end)
+and-cut steps n last other t is at_end and =
+    by t is (cut-last steps (take (length steps - 1) steps) last other t is refl at_end)
   where
     by : (v : Tree) → steps ≡ steps_of v → (take (length steps - 1) steps ≡ front_of v) × (last ≡ last_of v)
         → (s : Tree) × (u : Tree) × (v ≡ both s u) × IsCut steps n s u
@@ -108,9 +117,11 @@ and-cut steps n last other t is at_end and = by t is (cut-last steps (take (leng
         let same : n ≡ length (steps_of u) = cc in
         (s, u, refl, cut-of steps n s u (some-step steps (both s u, steps_are)) parts.0 same)
 
-pub or-cut : (steps : List Step) (n : ℕ) (last other : Step) (t : Tree) → steps ≡ steps_of t → last ≡ get_or steps (length steps - 1) other → last ≡ step.Or n
+pub or-cut : (steps : List Step) (n : ℕ) (last other : Step) (t : Tree) → steps ≡ steps_of t
+    → last ≡ get_or steps (length steps - 1) other → last ≡ step.Or n
     → (s : Tree) × (u : Tree) × (t ≡ either s u) × IsCut steps n s u
-or-cut steps n last other t is at_end or = by t is (cut-last steps (take (length steps - 1) steps) last other t is refl at_end)
+or-cut steps n last other t is at_end or =
+    by t is (cut-last steps (take (length steps - 1) steps) last other t is refl at_end)
   where
     by : (v : Tree) → steps ≡ steps_of v → (take (length steps - 1) steps ≡ front_of v) × (last ≡ last_of v)
         → (s : Tree) × (u : Tree) × (v ≡ either s u) × IsCut steps n s u
@@ -125,13 +136,16 @@ or-cut steps n last other t is at_end or = by t is (cut-last steps (take (length
 module _ (holds : Term → Bool) (s u t : Tree) (first second : Bool) (first_is : first ≡ tree_holds holds s) where
   -- where the first operand doesn't hold, or does, the second isn't looked at
   pub and-false : t ≡ both s u → first ≡ false → false ≡ tree_holds holds t
-  and-false is fails = sym (ap (tree_holds holds) is ∙ ap (λ (b : Bool). b && tree_holds holds u) (sym first_is ∙ fails))
+  and-false is fails =
+      sym (ap (tree_holds holds) is ∙ ap (λ (b : Bool). b && tree_holds holds u) (sym first_is ∙ fails))
 
   pub and-true : t ≡ both s u → first ≡ true → second ≡ tree_holds holds u → second ≡ tree_holds holds t
-  and-true is so second_is = second_is ∙ sym (ap (tree_holds holds) is ∙ ap (λ (b : Bool). b && tree_holds holds u) (sym first_is ∙ so))
+  and-true is so second_is =
+      second_is ∙ sym (ap (tree_holds holds) is ∙ ap (λ (b : Bool). b && tree_holds holds u) (sym first_is ∙ so))
 
   pub or-true : t ≡ either s u → first ≡ true → true ≡ tree_holds holds t
   or-true is so = sym (ap (tree_holds holds) is ∙ ap (λ (b : Bool). b || tree_holds holds u) (sym first_is ∙ so))
 
   pub or-false : t ≡ either s u → first ≡ false → second ≡ tree_holds holds u → second ≡ tree_holds holds t
-  or-false is fails second_is = second_is ∙ sym (ap (tree_holds holds) is ∙ ap (λ (b : Bool). b || tree_holds holds u) (sym first_is ∙ fails))
+  or-false is fails second_is =
+      second_is ∙ sym (ap (tree_holds holds) is ∙ ap (λ (b : Bool). b || tree_holds holds u) (sym first_is ∙ fails))

@@ -1,5 +1,6 @@
 -- A walk over the papers that tells of those that are found.
-use Rattle.std.proofs.Common.{ℕ, Bool, true, false, cond, ◌≡◌, ◌&&◌, List, [], length, Option, Some, None, refl, sym, ap, ◌∙◌}
+use Rattle.std.proofs.Common.{ℕ, Bool, true, false, cond, ◌≡◌, ◌&&◌, List, [], length, Option, Some, None, refl, sym}
+use Rattle.std.proofs.Common.{ap, ◌∙◌}
 use Rattle.std.specs.Prelude.{is_some, unwrap_or}
 use Rattle.std.specs.Option.{option_map}
 use Rattle.cr_base.specs.declared.found.FoundPaper.{FoundPaper}
@@ -14,12 +15,14 @@ use Rattle.cr_search_eval.specs.Found.{told_to}
 -- ---- one paper
 
 pub found-given : (p : ℕ) (told : PaperTold) (search : List Step)
-    → ◌≡◌ {A = List FoundPaper} (listed (option_map (λ (title : List ℕ). record { paper = p; title = title }) (title_found told search)))
+    → ◌≡◌ {A = List FoundPaper}
+    (listed (option_map (λ (title : List ℕ). record { paper = p; title = title }) (title_found told search)))
     (given (is_found told search) (found_paper p told))
 found-given p told search = by told.page.title (search_holds (term_holds told) search)
   where
     by : (title : Option (List ℕ)) (holds : Bool)
-        → ◌≡◌ {A = List FoundPaper} (listed (option_map (λ (text : List ℕ). record { paper = p; title = text }) (cond holds title None)))
+        → ◌≡◌ {A = List FoundPaper}
+        (listed (option_map (λ (text : List ℕ). record { paper = p; title = text }) (cond holds title None)))
         (given (is_some title && holds) (record { paper = p; title = unwrap_or title [] }))
     by None true = refl
     by None false = refl
@@ -32,7 +35,8 @@ pub found-length : (p : ℕ) (told : PaperTold) (search : List Step)
 found-length p told search = by told.page.title (search_holds (term_holds told) search)
   where
     by : (title : Option (List ℕ)) (holds : Bool)
-        → length (listed (cond holds title None)) ≡ length (given {A = FoundPaper} (is_some title && holds) (record { paper = p; title = unwrap_or title [] }))
+        → length (listed (cond holds title None))
+        ≡ length (given {A = FoundPaper} (is_some title && holds) (record { paper = p; title = unwrap_or title [] }))
     by None true = refl
     by None false = refl
     by (Some title) true = refl
@@ -42,7 +46,8 @@ found-length p told search = by told.page.title (search_holds (term_holds told) 
 
 module _ (t : Tables) (user p : ℕ) (asked : Asked) (is : asked ≡ asked_of t user p) (search : List Step) where
   -- its title, where the search holds of it, and none where it doesn't
-  pub title-found : (title : Option (List ℕ)) → title ≡ (told_at t asked).page.title → search_holds (term_holds (told_at t asked)) search ≡ true
+  pub title-found : (title : Option (List ℕ)) → title ≡ (told_at t asked).page.title
+      → search_holds (term_holds (told_at t asked)) search ≡ true
       → title ≡ title_found (told_to t user p) search
   title-found title told holds =
       told ∙ sym (ap (λ (b : Bool). cond b (told_at t asked).page.title None) holds)
@@ -60,7 +65,8 @@ module _ (t : Tables) (user p : ℕ) (asked : Asked) (is : asked ≡ asked_of t 
       by title true none = none
       by title false none = refl
 
-  pub title-unfound : search_holds (term_holds (told_at t asked)) search ≡ false → None ≡ title_found (told_to t user p) search
+  pub title-unfound : search_holds (term_holds (told_at t asked)) search ≡ false
+      → None ≡ title_found (told_to t user p) search
   title-unfound fails =
       sym (ap (λ (b : Bool). cond b (told_at t asked).page.title None) fails)
       ∙ ap (λ (a : Asked). title_found (told_at t a) search) is

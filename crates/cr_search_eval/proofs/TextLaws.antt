@@ -1,5 +1,6 @@
 -- Whether a value stands in a text: from one byte that is like its first to the next.
-use Rattle.std.proofs.Common.{ℕ, zero, suc, Bool, true, false, ◌≡◌, ◌<◌, ◌≤◌, ◌+◌, ◌-◌, ◌&&◌, ◌||◌, ◌==◌, List, [], ◌∷◌, length, drop, refl, sym, ap, subst, ◌∙◌, arith, slice_index, if◌then◌else◌}
+use Rattle.std.proofs.Common.{ℕ, zero, suc, Bool, true, false, ◌≡◌, ◌<◌, ◌≤◌, ◌+◌, ◌-◌, ◌&&◌, ◌||◌, ◌==◌, List, [], ◌∷◌}
+use Rattle.std.proofs.Common.{length, drop, refl, sym, ap, subst, ◌∙◌, arith, slice_index, if◌then◌else◌}
 use Rattle.std.specs.Char.{to_ascii_lowercase, to_ascii_uppercase}
 use Rattle.std.specs.Int.{IsInRange}
 use Rattle.std.specs.Bool.{⊤}
@@ -37,7 +38,8 @@ AreIn n (k ∷ places) = (k < n) × AreIn n places
 
 -- a byte is like another where it is that one, in lower case or in capitals
 pub alike-cases : (b c : ℕ) → is_alike b c ≡ is_byte2 (to_ascii_lowercase b) (to_ascii_uppercase b) c
-alike-cases b c = like b c (to_ascii_lowercase b) (to_ascii_lowercase c) (to_ascii_uppercase b) (lowercase_is b) (lowercase_is c) (uppercase_is b)
+alike-cases b c = like b c (to_ascii_lowercase b) (to_ascii_lowercase c) (to_ascii_uppercase b) (lowercase_is b)
+    (lowercase_is c) (uppercase_is b)
   where
     like : (b c lower lower' upper : ℕ)
         → (IsInRange 65 90 b → lower ≡ b + 32) × (b < 65 → lower ≡ b) × (90 < b → lower ≡ b)
@@ -51,7 +53,8 @@ pub leaps : (b : ℕ) (value text : List ℕ) (i n : ℕ) → i + n ≡ length t
     → stands_at_some (b ∷ value) text (places_from (is_byte2 (to_ascii_lowercase b) (to_ascii_uppercase b)) text i n)
     ≡ contains (b ∷ value) (drop i text)
 unfolding places_from
-leaps b value text i zero h = sym (ap (λ (rest : List ℕ). contains (b ∷ value) rest) (drop_of_length-le text (omega (arith, h))))
+leaps b value text i zero h =
+    sym (ap (λ (rest : List ℕ). contains (b ∷ value) rest) (drop_of_length-le text (omega (arith, h))))
 leaps b value text i (suc n) h =
     by (test byte) (sym (alike-cases b byte)) (leaps b value text (i + 1) n (omega (arith, h)))
     ∙ sym (at_drop_more (contains (b ∷ value)) text i 0 within)
@@ -68,13 +71,18 @@ leaps b value text i (suc n) h =
     later : List ℕ
     later = places_from test text (i + 1) n
 
-    by : (t : Bool) → t ≡ is_alike b byte → stands_at_some (b ∷ value) text later ≡ contains (b ∷ value) (drop (i + 1) text)
+    by : (t : Bool) → t ≡ is_alike b byte → stands_at_some (b ∷ value) text later
+        ≡ contains (b ∷ value) (drop (i + 1) text)
         → stands_at_some (b ∷ value) text (if t then i ∷ later else later)
         ≡ (is_alike b byte && begins_alike value (drop (i + 1) text) || contains (b ∷ value) (drop (i + 1) text))
     by true alike rest =
-        ap (λ (x : Bool). x || stands_at_some (b ∷ value) text later) (at_drop_more (begins_alike (b ∷ value)) text i 0 within)
+        ap (λ (x : Bool). x || stands_at_some (b ∷ value) text later)
+        (at_drop_more (begins_alike (b ∷ value)) text i 0 within)
         ∙ ap (λ (x : Bool). is_alike b byte && begins_alike value (drop (i + 1) text) || x) rest
-    by false alike rest = rest ∙ ap (λ (a : Bool). a && begins_alike value (drop (i + 1) text) || contains (b ∷ value) (drop (i + 1) text)) alike
+    by false alike rest =
+        rest
+        ∙ ap (λ (a : Bool). a && begins_alike value (drop (i + 1) text) || contains (b ∷ value) (drop (i + 1) text))
+        alike
 
 -- these places are in the text
 pub places-in : (test : ℕ → Bool) (text : List ℕ) (i n m : ℕ) → i + n ≤ m → AreIn m (places_from test text i n)
@@ -95,11 +103,13 @@ pub leads : (value text rest : List ℕ) (lower upper : ℕ) → 0 < length valu
 leads [] text rest lower upper some low up h = absurd (omega (arith, some))
 leads (b ∷ value) text rest lower upper some low up h = (
   ap (stands_at_some (b ∷ value) text) (h ∙ cased) ∙ leaps b value text 0 (length text - 0) all,
-  subst (AreIn (length text)) (sym h) (places-in (is_byte2 lower upper) text 0 (length text - 0) (length text) (omega (arith, all))),
+  subst (AreIn (length text)) (sym h) (places-in (is_byte2 lower upper) text 0 (length text - 0) (length text)
+      (omega (arith, all))),
 )
   where
     all : 0 + (length text - 0) ≡ length text
     all = omega arith
 
     cased : places (is_byte2 lower upper) text ≡ places (is_byte2 (to_ascii_lowercase b) (to_ascii_uppercase b)) text
-    cased = ap (λ (lower : ℕ). places (is_byte2 lower upper) text) low ∙ ap (λ (upper : ℕ). places (is_byte2 (to_ascii_lowercase b) upper) text) up
+    cased = ap (λ (lower : ℕ). places (is_byte2 lower upper) text) low
+        ∙ ap (λ (upper : ℕ). places (is_byte2 (to_ascii_lowercase b) upper) text) up

@@ -1,10 +1,16 @@
 -- The reader reads all that the grammar spells, within its limits.
-use Rattle.std.proofs.Common.{◌≡◌, ℕ, ◌+◌, ◌≤◌, List, [], ◌∷◌, ◌++◌, length, Option, Some, None, refl, sym, ap, ◌∙◌, append-nil, arith, add-zero, add_assoc}
+use Rattle.std.proofs.Common.{◌≡◌, ℕ, ◌+◌, ◌≤◌, List, [], ◌∷◌, ◌++◌, length, Option, Some, None, refl, sym, ap, ◌∙◌}
+use Rattle.std.proofs.Common.{append-nil, arith, add-zero, add_assoc}
 use Rattle.cr_base.specs.Search.{Tree, steps_of, all_steps}
 use Rattle.cr_base.specs.declared.search.Step.{Step}
 use Rattle.cr_base.specs.declared.search.Step.TheVariants as step
-use Rattle.cr_search_parse.specs.Grammar.{Symbol, opens, closes, dash, word, Item, All, Any, term, added, dashed, negated, grouped, one, beside, joined, sole, other, gap_symbols, and_word, or_word, not_word, item_symbols, all_symbols, any_symbols, item_tree, all_tree, any_tree, item_depth, all_depth, any_depth, item_terms, all_terms, any_terms, IsQuery}
-use Rattle.cr_search_parse.specs.Reading.{Level, State, Next, first, ended, wanted, touching, start, levels_depth, denied, with_operand, level_steps, after_symbols, steps_read}
+use Rattle.cr_search_parse.specs.Grammar.{Symbol, opens, closes, dash, word, Item, All, Any, term, added, dashed}
+use Rattle.cr_search_parse.specs.Grammar.{negated, grouped, one, beside, joined, sole, other, gap_symbols, and_word}
+use Rattle.cr_search_parse.specs.Grammar.{or_word, not_word, item_symbols, all_symbols, any_symbols, item_tree}
+use Rattle.cr_search_parse.specs.Grammar.{all_tree, any_tree, item_depth, all_depth, any_depth, item_terms, all_terms}
+use Rattle.cr_search_parse.specs.Grammar.{any_terms, IsQuery}
+use Rattle.cr_search_parse.specs.Reading.{Level, State, Next, first, ended, wanted, touching, start, levels_depth}
+use Rattle.cr_search_parse.specs.Reading.{denied, with_operand, level_steps, after_symbols, steps_read}
 use Rattle.cr_search_parse.proofs.TreeLaws.{with_operand-steps_of}
 use Rattle.cr_search_parse.proofs.ReaderLaws.{after_row, after_one, after_gaps, shallow, denied_more, after_word-term}
 
@@ -24,11 +30,18 @@ level_steps-level_of (other a before behind b) = with_operand-steps_of step.Or (
 -- a state by its parts
 abbrev pub state : List Level → List Step → List Step → ℕ → Next → ℕ → State
 state around alternatives items negations next terms =
-    record { around = around; level = record { alternatives = alternatives; items = items; negations = negations }; next = next; terms = terms }
+    record {
+      around = around;
+      level = record { alternatives = alternatives; items = items; negations = negations };
+      next = next;
+      terms = terms;
+    }
 
 -- one item behind those before
-pub with_operand-item : (s t : Tree) → with_operand step.And (steps_of s) (denied 0 (steps_of t)) ≡ steps_of s ++ (steps_of t ++ (step.And (length (steps_of t)) ∷ []))
-with_operand-item s t = ap (with_operand step.And (steps_of s)) (append-nil (steps_of t)) ∙ with_operand-steps_of step.And s (steps_of t)
+pub with_operand-item : (s t : Tree) → with_operand step.And (steps_of s) (denied 0 (steps_of t)) ≡ steps_of s
+    ++ (steps_of t ++ (step.And (length (steps_of t)) ∷ []))
+with_operand-item s t =
+    ap (with_operand step.And (steps_of s)) (append-nil (steps_of t)) ∙ with_operand-steps_of step.And s (steps_of t)
 
 -- the same as a state, with the terms of both
 item_more : (around : List Level) (alternatives : List Step) (s t : Tree) (a b c : ℕ)
@@ -37,10 +50,14 @@ item_more : (around : List Level) (alternatives : List Step) (s t : Tree) (a b c
     0 ended (a + (b + c)))
 item_more around alternatives s t a b c =
     ap (λ (xs : List Step). Some (state around alternatives xs 0 ended (a + b + c))) (with_operand-item s t)
-    ∙ ap (λ (n : ℕ). Some (state around alternatives (steps_of s ++ (steps_of t ++ (step.And (length (steps_of t)) ∷ []))) 0 ended n)) (add_assoc a b c)
+    ∙ ap
+    (λ (n : ℕ). Some (state around alternatives (steps_of s ++ (steps_of t ++ (step.And (length (steps_of t)) ∷ [])))
+    0 ended n)) (add_assoc a b c)
 
 -- alternatives behind those before
-other_more : (around : List Level) (a : Any) (items : List Step) (n m k : ℕ) → Some (state around (level_steps (level_of a)) items 0 ended (n + m + k)) ≡ Some (state around (steps_of (any_tree a)) items 0 ended (n + (m + k)))
+other_more : (around : List Level) (a : Any) (items : List Step) (n m k : ℕ)
+    → Some (state around (level_steps (level_of a)) items 0 ended (n + m + k))
+    ≡ Some (state around (steps_of (any_tree a)) items 0 ended (n + (m + k)))
 other_more around a items n m k =
     ap (λ (xs : List Step). Some (state around xs items 0 ended (n + m + k))) (level_steps-level_of a)
     ∙ ap (λ (j : ℕ). Some (state around (steps_of (any_tree a)) items 0 ended j)) (add_assoc n m k)
@@ -52,25 +69,43 @@ mutual
       ≡ Some (state around alternatives (with_operand step.And items (denied negations (steps_of (item_tree i)))) 0
       ended (terms + item_terms i))
   reads-item (term text t is) around alternatives items negations next terms low few =
-      after_one (state around alternatives items negations next terms) _ (word text) [] (after_word-term (state around alternatives items negations next terms) text t is few)
+      after_one (state around alternatives items negations next terms) _ (word text) []
+      (after_word-term (state around alternatives items negations next terms) text t is few)
   reads-item added around alternatives items negations next terms low few =
-      ap (λ (n : ℕ). Some (state around alternatives (with_operand step.And items (denied negations (steps_of (item_tree added)))) 0 ended n)) (sym (add-zero terms))
+      ap
+      (λ (n : ℕ).
+      Some (state around alternatives (with_operand step.And items (denied negations (steps_of (item_tree added))))
+      0 ended n)) (sym (add-zero terms))
   reads-item (dashed i) around alternatives items negations next terms low few =
-      after_one (state around alternatives items negations next terms) _ dash (item_symbols i) (shallow (state around alternatives items (negations + 1) touching terms) (omega arith))
+      after_one (state around alternatives items negations next terms) _ dash (item_symbols i)
+      (shallow (state around alternatives items (negations + 1) touching terms) (omega arith))
       ∙ reads-item i around alternatives items (negations + 1) touching terms (omega arith) few
-      ∙ ap (λ (xs : List Step). Some (state around alternatives (with_operand step.And items xs) 0 ended (terms + item_terms i))) (denied_more negations (steps_of (item_tree i)))
+      ∙ ap
+      (λ (xs : List Step). Some (state around alternatives (with_operand step.And items xs) 0 ended
+      (terms + item_terms i))) (denied_more negations (steps_of (item_tree i)))
   reads-item (negated n i) around alternatives items negations next terms low few =
-      after_one (state around alternatives items negations next terms) _ (word not_word) (gap_symbols n ++ item_symbols i) (shallow (state around alternatives items (negations + 1) wanted terms) (omega arith))
+      after_one (state around alternatives items negations next terms) _ (word not_word)
+      (gap_symbols n ++ item_symbols i) (shallow (state around alternatives items (negations + 1) wanted terms)
+      (omega arith))
       ∙ after_gaps (state around alternatives items (negations + 1) wanted terms) n (item_symbols i) refl
       ∙ reads-item i around alternatives items (negations + 1) wanted terms (omega arith) few
-      ∙ ap (λ (xs : List Step). Some (state around alternatives (with_operand step.And items xs) 0 ended (terms + item_terms i))) (denied_more negations (steps_of (item_tree i)))
+      ∙ ap
+      (λ (xs : List Step). Some (state around alternatives (with_operand step.And items xs) 0 ended
+      (terms + item_terms i))) (denied_more negations (steps_of (item_tree i)))
   reads-item (grouped n a m) around alternatives items negations next terms low few =
       let level : Level = record { alternatives = alternatives; items = items; negations = negations } in
-      after_one (state around alternatives items negations next terms) _ opens (gap_symbols n ++ (any_symbols a ++ (gap_symbols m ++ (closes ∷ [])))) (shallow (state (level ∷ around) [] [] 0 first terms) (omega arith))
-      ∙ after_gaps (state (level ∷ around) [] [] 0 first terms) n (any_symbols a ++ (gap_symbols m ++ (closes ∷ []))) refl
-      ∙ after_row _ _ (any_symbols a) (gap_symbols m ++ (closes ∷ [])) (reads-any a (level ∷ around) first terms (omega arith) few)
-      ∙ after_gaps (record { around = level ∷ around; level = level_of a; next = ended; terms = terms + any_terms a }) m (closes ∷ []) refl
-      ∙ ap (λ (xs : List Step). Some (state around alternatives (with_operand step.And items (denied negations xs)) 0 ended (terms + any_terms a))) (level_steps-level_of a)
+      after_one (state around alternatives items negations next terms) _ opens
+      (gap_symbols n ++ (any_symbols a ++ (gap_symbols m ++ (closes ∷ []))))
+      (shallow (state (level ∷ around) [] [] 0 first terms) (omega arith))
+      ∙ after_gaps (state (level ∷ around) [] [] 0 first terms) n (any_symbols a ++ (gap_symbols m ++ (closes ∷ [])))
+      refl
+      ∙ after_row _ _ (any_symbols a) (gap_symbols m ++ (closes ∷ []))
+      (reads-any a (level ∷ around) first terms (omega arith) few)
+      ∙ after_gaps (record { around = level ∷ around; level = level_of a; next = ended; terms = terms + any_terms a }) m
+      (closes ∷ []) refl
+      ∙ ap
+      (λ (xs : List Step). Some (state around alternatives (with_operand step.And items (denied negations xs)) 0 ended
+      (terms + any_terms a))) (level_steps-level_of a)
 
   reads-all : (a : All) (around : List Level) (alternatives : List Step) (next : Next) (terms : ℕ)
       → levels_depth around + all_depth a ≤ 64 → terms + all_terms a ≤ 128
@@ -78,17 +113,25 @@ mutual
       ≡ Some (state around alternatives (steps_of (all_tree a)) 0 ended (terms + all_terms a))
   reads-all (one i) around alternatives next terms low few =
       reads-item i around alternatives [] 0 next terms (omega arith) few
-      ∙ ap (λ (xs : List Step). Some (state around alternatives xs 0 ended (terms + item_terms i))) (append-nil (steps_of (item_tree i)))
+      ∙ ap (λ (xs : List Step). Some (state around alternatives xs 0 ended (terms + item_terms i)))
+      (append-nil (steps_of (item_tree i)))
   reads-all (beside a n i) around alternatives next terms low few =
-      after_row _ _ (all_symbols a) (gap_symbols n ++ item_symbols i) (reads-all a around alternatives next terms (omega arith) (omega arith))
-      ∙ after_gaps (state around alternatives (steps_of (all_tree a)) 0 ended (terms + all_terms a)) n (item_symbols i) refl
-      ∙ reads-item i around alternatives (steps_of (all_tree a)) 0 ended (terms + all_terms a) (omega arith) (omega arith)
+      after_row _ _ (all_symbols a) (gap_symbols n ++ item_symbols i)
+      (reads-all a around alternatives next terms (omega arith) (omega arith))
+      ∙ after_gaps (state around alternatives (steps_of (all_tree a)) 0 ended (terms + all_terms a)) n (item_symbols i)
+      refl
+      ∙ reads-item i around alternatives (steps_of (all_tree a)) 0 ended (terms + all_terms a) (omega arith)
+      (omega arith)
       ∙ item_more around alternatives (all_tree a) (item_tree i) terms (all_terms a) (item_terms i)
   reads-all (joined a n m i) around alternatives next terms low few =
-      after_row _ _ (all_symbols a) (gap_symbols n ++ (word and_word ∷ (gap_symbols m ++ item_symbols i))) (reads-all a around alternatives next terms (omega arith) (omega arith))
-      ∙ after_gaps (state around alternatives (steps_of (all_tree a)) 0 ended (terms + all_terms a)) n (word and_word ∷ (gap_symbols m ++ item_symbols i)) refl
-      ∙ after_gaps (state around alternatives (steps_of (all_tree a)) 0 wanted (terms + all_terms a)) m (item_symbols i) refl
-      ∙ reads-item i around alternatives (steps_of (all_tree a)) 0 wanted (terms + all_terms a) (omega arith) (omega arith)
+      after_row _ _ (all_symbols a) (gap_symbols n ++ (word and_word ∷ (gap_symbols m ++ item_symbols i)))
+      (reads-all a around alternatives next terms (omega arith) (omega arith))
+      ∙ after_gaps (state around alternatives (steps_of (all_tree a)) 0 ended (terms + all_terms a)) n
+      (word and_word ∷ (gap_symbols m ++ item_symbols i)) refl
+      ∙ after_gaps (state around alternatives (steps_of (all_tree a)) 0 wanted (terms + all_terms a)) m (item_symbols i)
+      refl
+      ∙ reads-item i around alternatives (steps_of (all_tree a)) 0 wanted (terms + all_terms a) (omega arith)
+      (omega arith)
       ∙ item_more around alternatives (all_tree a) (item_tree i) terms (all_terms a) (item_terms i)
 
   reads-any : (a : Any) (around : List Level) (next : Next) (terms : ℕ) → levels_depth around + any_depth a ≤ 64
@@ -96,15 +139,19 @@ mutual
       ≡ Some (record { around = around; level = level_of a; next = ended; terms = terms + any_terms a })
   reads-any (sole a) around next terms low few = reads-all a around [] next terms low few
   reads-any (other a n m b) around next terms low few =
-      after_row _ _ (any_symbols a) (gap_symbols n ++ (word or_word ∷ (gap_symbols m ++ all_symbols b))) (reads-any a around next terms (omega arith) (omega arith))
-      ∙ after_gaps (record { around = around; level = level_of a; next = ended; terms = terms + any_terms a }) n (word or_word ∷ (gap_symbols m ++ all_symbols b)) refl
+      after_row _ _ (any_symbols a) (gap_symbols n ++ (word or_word ∷ (gap_symbols m ++ all_symbols b)))
+      (reads-any a around next terms (omega arith) (omega arith))
+      ∙ after_gaps (record { around = around; level = level_of a; next = ended; terms = terms + any_terms a }) n
+      (word or_word ∷ (gap_symbols m ++ all_symbols b)) refl
       ∙ after_gaps (state around (level_steps (level_of a)) [] 0 wanted (terms + any_terms a)) m (all_symbols b) refl
       ∙ reads-all b around (level_steps (level_of a)) wanted (terms + any_terms a) (omega arith) (omega arith)
       ∙ other_more around a (steps_of (all_tree b)) terms (any_terms a) (all_terms b)
 
 -- the reader reads each query, and has its steps then
-pub only : (symbols : List Symbol) (t : Option Tree) → IsQuery symbols t → (s : State) × (after_symbols start symbols ≡ Some s) × (steps_read s ≡ Some (all_steps t))
-only symbols None (n, is) = (start, ap (after_symbols start) (is ∙ sym (append-nil (gap_symbols n))) ∙ after_gaps start n [] refl, refl)
+pub only : (symbols : List Symbol) (t : Option Tree) → IsQuery symbols t
+    → (s : State) × (after_symbols start symbols ≡ Some s) × (steps_read s ≡ Some (all_steps t))
+only symbols None (n, is) =
+    (start, ap (after_symbols start) (is ∙ sym (append-nil (gap_symbols n))) ∙ after_gaps start n [] refl, refl)
 only symbols (Some t) (n, a, m, is, tree, low, few) = (
   last,
   ap (after_symbols start) is

@@ -1,6 +1,6 @@
 -- How the code's reader follows the states of reading.
-use Rattle.std.proofs.Common.{◌≡◌, ℕ, ◌+◌, ◌-◌, ◌<◌, ◌≤◌, suc, Bool, true, false, eqb, cond, List, [], ◌∷◌, ◌++◌, length}
-use Rattle.std.proofs.Common.{refl, ap, ap₂, sym, ◌∙◌, append_assoc, append-nil, length-append, replicate}
+use Rattle.std.proofs.Common.{◌≡◌, ℕ, ◌+◌, ◌-◌, ◌<◌, ◌≤◌, suc, Bool, true, false, eqb, cond, List, [], ◌∷◌, ◌++◌}
+use Rattle.std.proofs.Common.{length, refl, ap, ap₂, sym, ◌∙◌, append_assoc, append-nil, length-append, replicate}
 use Rattle.std.proofs.Common.{ne_eqb, arith}
 use Rattle.std.proofs.lemmas.List.{length-replicate}
 use Rattle.cr_base.specs.declared.search.Step.{Step}
@@ -8,15 +8,16 @@ use Rattle.cr_base.specs.declared.search.Step.TheVariants as step
 use Rattle.cr_search_parse.specs.Reading.{State, Level, first, ended, wanted, no_level, levels_depth}
 use Rattle.cr_search_parse.specs.Reading.{with_operand, denied, with_item, after_item, level_steps, one_negation_more}
 use Rattle.cr_search_parse.specs.Reading.{after_open, closed}
-use Rattle.cr_search_parse.specs.Standing.{Stands, StandsForOne, next_told, counted, all_counted, steps_of_levels, operation_behind}
-use Rattle.cr_search_parse.specs.Standing.{count_behind, behind_item, counts_behind_item}
+use Rattle.cr_search_parse.specs.Standing.{Stands, StandsForOne, next_told, counted, all_counted, steps_of_levels}
+use Rattle.cr_search_parse.specs.Standing.{operation_behind, count_behind, behind_item, counts_behind_item}
 use Rattle.cr_search_parse.specs.declared.reader.Level.{Level as Counts}
 use Rattle.cr_search_parse.specs.declared.reader.Reader.{Reader}
 
 -- ---- operands
 
 operand-is : (operation : ℕ → Step) (before second : List Step)
-    → with_operand operation before second ≡ before ++ (second ++ operation_behind (length before) (operation (length second)))
+    → with_operand operation before second ≡ before
+    ++ (second ++ operation_behind (length before) (operation (length second)))
 operand-is operation [] second = sym (append-nil second)
 operand-is operation (s ∷ before) second = rw (ne_eqb (suc (length before)) 0 (λ e. omega arith)) refl
 
@@ -28,29 +29,39 @@ operand-length operation (s ∷ before) second =
 
 -- so many steps an item has with its negations
 denied-length : (n : ℕ) (item : List Step) → length (denied n item) ≡ length item + n
-denied-length n item = length-append item (replicate n step.Not) ∙ ap (λ (k : ℕ). length item + k) (length-replicate n step.Not)
+denied-length n item =
+    length-append item (replicate n step.Not) ∙ ap (λ (k : ℕ). length item + k) (length-replicate n step.Not)
 
 -- what is written behind an item that ends makes its level's steps
 pub item-steps : (before item : List Step) (level : Level) →
     ((before ++ (level.alternatives ++ level.items)) ++ item)
-    ++ (replicate level.negations step.Not ++ operation_behind (length level.items) (step.And (length item + level.negations)))
+    ++ (replicate level.negations step.Not ++ operation_behind (length level.items)
+    (step.And (length item + level.negations)))
     ≡ before ++ ((with_item item level).alternatives ++ (with_item item level).items)
 item-steps before item level =
-    rw (operand-is step.And level.items (denied level.negations item), denied-length level.negations item) (simp append_assoc)
+    rw (operand-is step.And level.items (denied level.negations item), denied-length level.negations item)
+    (simp append_assoc)
 
 pub item-counts : (item : List Step) (level : Level) →
-    ◌≡◌ {A = Counts} (record { alternatives = length level.alternatives; items = count_behind (length level.items) (length item + level.negations); negations = 0 })
+    ◌≡◌ {A = Counts}
+    (record {
+      alternatives = length level.alternatives;
+      items = count_behind (length level.items) (length item + level.negations);
+      negations = 0;
+    })
     (counted (with_item item level))
 item-counts item level =
     rw (operand-length step.And level.items (denied level.negations item), denied-length level.negations item) refl
 
 -- and what is written where a level ends makes those of the level
 pub level-steps : (before : List Step) (level : Level) →
-    (before ++ (level.alternatives ++ level.items)) ++ operation_behind (length level.alternatives) (step.Or (length level.items))
+    (before ++ (level.alternatives ++ level.items)) ++ operation_behind (length level.alternatives)
+    (step.Or (length level.items))
     ≡ before ++ level_steps level
 level-steps before level = rw (operand-is step.Or level.alternatives level.items) (simp append_assoc)
 
-pub level-count : (level : Level) → count_behind (length level.alternatives) (length level.items) ≡ length (level_steps level)
+pub level-count : (level : Level) → count_behind (length level.alternatives) (length level.items)
+    ≡ length (level_steps level)
 level-count level = sym (operand-length step.Or level.alternatives level.items)
 
 -- ---- the levels around
@@ -92,7 +103,8 @@ no-level_left (level ∷ levels) e = absurd (none (all_counted levels) e)
 -- a parenthesis opens
 pub open_stands : (r q : Reader) (s : State) → Stands r s → q.steps.items ≡ r.steps.items
     → q.around.items ≡ r.around.items ++ (r.level ∷ [])
-    → q.level ≡ counted no_level → first ≡ next_told q.next → q.outside ≡ r.outside + (r.level.negations + 1) → q.terms ≡ r.terms
+    → q.level ≡ counted no_level → first ≡ next_told q.next → q.outside ≡ r.outside + (r.level.negations + 1)
+    → q.terms ≡ r.terms
     → r.outside + r.level.negations < 64 → Stands q (after_open s)
 open_stands r q s stands steps around level next outside terms low =
     let negations = ap (λ (l : Counts). l.negations) stands.level in
@@ -107,7 +119,8 @@ open_stands r q s stands steps around level next outside terms low =
     }
 
 -- an item has ended, whose steps come last
-pub item_stands : (q : Reader) (s : State) (item : List Step) (count : ℕ) (level : Counts) (steps : List Step) → level ≡ counted s.level
+pub item_stands : (q : Reader) (s : State) (item : List Step) (count : ℕ) (level : Counts) (steps : List Step)
+    → level ≡ counted s.level
     → count ≡ length item → steps ≡ steps_of_levels (s.level ∷ s.around) ++ item
     → q.steps.items ≡ steps ++ behind_item level count
     → q.around.items ≡ all_counted s.around
@@ -126,16 +139,22 @@ item_stands q s item count level steps is_level is_count is_steps written around
 
 -- the alternatives of a level have one more
 pub or_stands : (r q : Reader) (s : State) → Stands r s
-    → q.steps.items ≡ r.steps.items ++ operation_behind r.level.alternatives (step.Or r.level.items) → q.around.items ≡ r.around.items
+    → q.steps.items ≡ r.steps.items ++ operation_behind r.level.alternatives (step.Or r.level.items)
+    → q.around.items ≡ r.around.items
     → q.level ≡ record { alternatives = count_behind r.level.alternatives r.level.items; items = 0; negations = 0 }
     → wanted ≡ next_told q.next → q.outside ≡ r.outside → q.terms ≡ r.terms
-    → Stands q (record s { level = record { alternatives = level_steps s.level; items = []; negations = 0 }; next = wanted })
+    → Stands q (record s {
+      level = record { alternatives = level_steps s.level; items = []; negations = 0 };
+      next = wanted;
+    })
 or_stands r q s stands steps around level next outside terms = record {
   steps =
       let none_more = ap (λ (l : List Step). steps_of_levels s.around ++ l) (sym (append-nil (level_steps s.level))) in
       steps ∙ (rw (stands.steps, stands.level) (level-steps (steps_of_levels s.around) s.level ∙ none_more));
   around = around ∙ stands.around;
-  level = level ∙ rw stands.level (ap (λ (n : ℕ). record { alternatives = n; items = 0; negations = 0 }) (level-count s.level));
+  level =
+      level
+      ∙ rw stands.level (ap (λ (n : ℕ). record { alternatives = n; items = 0; negations = 0 }) (level-count s.level));
   next = next;
   outside = outside ∙ stands.outside;
   terms = terms ∙ stands.terms;
@@ -143,7 +162,8 @@ or_stands r q s stands steps around level next outside terms = record {
 }
 
 -- one negation more waits
-pub negation_stands : (r q : Reader) (s : State) → Stands r s → q.steps.items ≡ r.steps.items → q.around.items ≡ r.around.items
+pub negation_stands : (r q : Reader) (s : State) → Stands r s → q.steps.items ≡ r.steps.items
+    → q.around.items ≡ r.around.items
     → q.level ≡ record r.level { negations = r.level.negations + 1 } → q.outside ≡ r.outside → q.terms ≡ r.terms
     → r.outside + r.level.negations < 64 → Stands q (one_negation_more (next_told q.next) s)
 negation_stands r q s stands steps around level outside terms low =
@@ -160,7 +180,8 @@ negation_stands r q s stands steps around level outside terms low =
 
 -- the steps that end the text
 pub end_steps : (r : Reader) (s : State) (steps : List Step) → Stands r s → r.around.items ≡ []
-    → steps ≡ r.steps.items ++ operation_behind r.level.alternatives (step.Or r.level.items) → steps ≡ level_steps s.level
+    → steps ≡ r.steps.items ++ operation_behind r.level.alternatives (step.Or r.level.items)
+    → steps ≡ level_steps s.level
 end_steps r s steps stands none written =
     let no_more = no-level_left s.around (sym none ∙ stands.around) in
     written ∙ rw (stands.steps, stands.level, no_more) (level-steps [] s.level)
@@ -182,9 +203,14 @@ count-most count second = most (eqb count 0)
     most false = omega arith
 
 level-length : (before : List Step) (level : Level) →
-    length (before ++ (level.alternatives ++ level.items)) ≡ length before + (length level.alternatives + length level.items)
+    length (before ++ (level.alternatives ++ level.items)) ≡ length before
+    + (length level.alternatives + length level.items)
 level-length before level =
-    omega (arith, length-append before (level.alternatives ++ level.items), length-append level.alternatives level.items)
+    omega (
+      arith,
+      length-append before (level.alternatives ++ level.items),
+      length-append level.alternatives level.items,
+    )
 
 -- what the level around has room for
 pub record Around (r : Reader) (last : Counts) : Type 0 where
@@ -192,7 +218,8 @@ pub record Around (r : Reader) (last : Counts) : Type 0 where
   pub low : r.outside ≤ 64
   pub few : last.items + (r.level.alternatives + r.level.items) ≤ length r.steps.items
 
-pub around_code : (r : Reader) (left : List Counts) (last : Counts) → StandsForOne r → r.around.items ≡ left ++ (last ∷ [])
+pub around_code : (r : Reader) (left : List Counts) (last : Counts) → StandsForOne r
+    → r.around.items ≡ left ++ (last ∷ [])
     → Around r last
 around_code r left last stood is =
     let s = stood.0 in
@@ -216,11 +243,13 @@ around_code r left last stood is =
 
 pub close_fits : (r : Reader) (last : Counts) (count : ℕ) → Around r last → length r.steps.items < 60000
     → count ≡ count_behind r.level.alternatives r.level.items → last.items + (count + last.negations) < 65535
-close_fits r last count so light is = omega (arith, so.inside, so.low, so.few, is, count-most r.level.alternatives r.level.items)
+close_fits r last count so light is =
+    omega (arith, so.inside, so.low, so.few, is, count-most r.level.alternatives r.level.items)
 
 pub close_grows : (old written after : List Step) (last : Counts) (count : ℕ) (o p : Step) (i j outside : ℕ)
     → last.negations + 1 ≤ outside
-    → written ≡ old ++ operation_behind i o → after ≡ written ++ (replicate last.negations step.Not ++ operation_behind j p)
+    → written ≡ old ++ operation_behind i o → after ≡ written
+    ++ (replicate last.negations step.Not ++ operation_behind j p)
     → length after + (outside - (last.negations + 1) + 0) ≤ length old + (outside + count) + 2
 close_grows old written after last count o p i j outside inside e f =
     let first_more = length-append old (operation_behind i o) in
@@ -229,7 +258,17 @@ close_grows old written after last count o p i j outside inside e f =
     let item_more = length-append nots (operation_behind j p) in
     let most = behind-most i o in
     let most_more = behind-most j p in
-    omega (arith, ap length e, ap length f, first_more, second_more, item_more, length-replicate last.negations step.Not, most, most_more)
+    omega (
+      arith,
+      ap length e,
+      ap length f,
+      first_more,
+      second_more,
+      item_more,
+      length-replicate last.negations step.Not,
+      most,
+      most_more,
+    )
 
 pub close_stands : (r q : Reader) (s : State) (last : Counts) (count : ℕ) (steps : List Step) → Stands r s
     → (p : Popped s.around q.around.items last)

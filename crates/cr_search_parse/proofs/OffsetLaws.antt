@@ -1,5 +1,6 @@
 -- Where the reader stops, the text stops being the beginning of a query; and a text spells one query at most.
-use Rattle.std.proofs.Common.{◌≡◌, ℕ, ◌+◌, ◌≤◌, ◌<◌, List, [], ◌∷◌, ◌++◌, length, take, drop, replicate, Option, Some, None, refl, sym, ap, subst, ◌∙◌, arith, take_all, take-take, take-append-drop}
+use Rattle.std.proofs.Common.{◌≡◌, ℕ, ◌+◌, ◌≤◌, ◌<◌, List, [], ◌∷◌, ◌++◌, length, take, drop, replicate, Option, Some}
+use Rattle.std.proofs.Common.{None, refl, sym, ap, subst, ◌∙◌, arith, take_all, take-take, take-append-drop}
 use Rattle.std.proofs.lemmas.List.Concat.{flat_map-append}
 use Rattle.std.proofs.lemmas.Option.{none-some, same_Some, option_and_then_some}
 use Rattle.cr_base.specs.Search.{Tree, all_steps, tree_of}
@@ -18,45 +19,69 @@ use Rattle.cr_search_parse.proofs.TreeLaws.{tree_of-all_steps}
 -- ---- what is read can be completed
 
 -- all open parentheses are closed
-close_all : (around : List Level) (level : Level) (terms : ℕ) → (t : State) × (after_symbols (record { around = around; level = level; next = ended; terms = terms }) (replicate (length around) closes) ≡ Some t) × (steps : List Step) × (steps_read t ≡ Some steps)
-close_all [] level terms = (record { around = []; level = level; next = ended; terms = terms }, refl, level_steps level, refl)
+close_all : (around : List Level) (level : Level) (terms : ℕ)
+    → (t : State)
+    × (after_symbols (record { around = around; level = level; next = ended; terms = terms })
+    (replicate (length around) closes) ≡ Some t) × (steps : List Step) × (steps_read t ≡ Some steps)
+close_all [] level terms =
+    (record { around = []; level = level; next = ended; terms = terms }, refl, level_steps level, refl)
 close_all (outer ∷ around) level terms = close_all around (with_item (level_steps level) outer) terms
 
 good : (runs : List Run) (s : State) → after_symbols start (symbols_of runs) ≡ Some s → IsGood runs
 good runs s read = (length s.around, query.0, query.2)
   where
-    closed : (t : State) × (after_symbols (record { around = s.around; level = with_item (step.Term (terms.Plain []) ∷ []) s.level; next = ended; terms = s.terms }) (replicate (length s.around) closes) ≡ Some t) × (steps : List Step) × (steps_read t ≡ Some steps)
+    closed : (t : State)
+        ×
+        (after_symbols (record {
+          around = s.around;
+          level = with_item (step.Term (terms.Plain []) ∷ []) s.level;
+          next = ended;
+          terms = s.terms;
+        }) (replicate (length s.around) closes) ≡ Some t) × (steps : List Step)
+        × (steps_read t ≡ Some steps)
     closed = close_all s.around (with_item (step.Term (terms.Plain []) ∷ []) s.level) s.terms
 
-    query : (t : Option Tree) × (closed.2 ≡ all_steps t) × IsQuery (symbols_of runs ++ (sample ∷ replicate (length s.around) closes)) t
-    query = found (symbols_of runs ++ (sample ∷ replicate (length s.around) closes)) closed.0 closed.2 (after_row start s (symbols_of runs) (sample ∷ replicate (length s.around) closes) read ∙ closed.1) closed.3
+    query : (t : Option Tree) × (closed.2 ≡ all_steps t)
+        × IsQuery (symbols_of runs ++ (sample ∷ replicate (length s.around) closes)) t
+    query = found (symbols_of runs ++ (sample ∷ replicate (length s.around) closes)) closed.0 closed.2
+        (after_row start s (symbols_of runs) (sample ∷ replicate (length s.around) closes) read ∙ closed.1) closed.3
 
 -- ---- what begins with symbols that are read, and with some that aren't
 
-front_read : (xs ys : List Symbol) (t : State) → after_symbols start (xs ++ ys) ≡ Some t → (s : State) × (after_symbols start xs ≡ Some s)
+front_read : (xs ys : List Symbol) (t : State) → after_symbols start (xs ++ ys) ≡ Some t
+    → (s : State) × (after_symbols start xs ≡ Some s)
 front_read xs ys t read =
-    option_and_then_some (λ (u : State). after_symbols u ys) (after_symbols start xs) t (sym (after_symbols-append start xs ys) ∙ read) (λ s is more. (s, is))
+    option_and_then_some (λ (u : State). after_symbols u ys) (after_symbols start xs) t
+    (sym (after_symbols-append start xs ys) ∙ read) (λ s is more. (s, is))
 
 -- the symbols of runs that begin with these
 symbols_split : (k : ℕ) (runs : List Run) → symbols_of runs ≡ symbols_of (take k runs) ++ symbols_of (drop k runs)
-symbols_split k runs = ap symbols_of (sym (take-append-drop k runs)) ∙ flat_map-append run_symbols (take k runs) (drop k runs)
+symbols_split k runs =
+    ap symbols_of (sym (take-append-drop k runs)) ∙ flat_map-append run_symbols (take k runs) (drop k runs)
 
-take_good : (k : ℕ) (runs : List Run) (s : State) → after_symbols start (symbols_of runs) ≡ Some s → IsGood (take k runs)
+take_good : (k : ℕ) (runs : List Run) (s : State) → after_symbols start (symbols_of runs) ≡ Some s
+    → IsGood (take k runs)
 take_good k runs s read =
-    let front : (u : State) × (after_symbols start (symbols_of (take k runs)) ≡ Some u) = front_read (symbols_of (take k runs)) (symbols_of (drop k runs)) s (ap (after_symbols start) (sym (symbols_split k runs)) ∙ read) in
+    let front : (u : State) × (after_symbols start (symbols_of (take k runs)) ≡ Some u) =
+    front_read (symbols_of (take k runs)) (symbols_of (drop k runs)) s
+    (ap (after_symbols start) (sym (symbols_split k runs)) ∙ read) in
     good (take k runs) front.0 front.1
 
 -- what isn't read begins no query
 no_query : (xs ys : List Symbol) (t : Option Tree) → after_symbols start xs ≡ None → IsQuery (xs ++ ys) t → ⊥
 no_query xs ys t unread query =
-    let whole : (s : State) × (after_symbols start (xs ++ ys) ≡ Some s) × (steps_read s ≡ Some (all_steps t)) = only (xs ++ ys) t query in
+    let whole : (s : State) × (after_symbols start (xs ++ ys) ≡ Some s) × (steps_read s ≡ Some (all_steps t)) =
+    only (xs ++ ys) t query in
     let front : (s : State) × (after_symbols start xs ≡ Some s) = front_read xs ys whole.0 whole.1 in
     none-some front.0 (sym unread ∙ front.1)
 
 -- ---- offsets
 
 -- the reader stops at a run
-pub stuck : (runs : List Run) (n : ℕ) (s : State) → n < length runs → after_symbols start (symbols_of (take n runs)) ≡ Some s → after_symbols start (symbols_of (take (n + 1) runs)) ≡ None → IsOffset runs (runs_length (take n runs)) × ((t : Option Tree) → IsQuery (symbols_of runs) t → ⊥)
+pub stuck : (runs : List Run) (n : ℕ) (s : State) → n < length runs
+    → after_symbols start (symbols_of (take n runs)) ≡ Some s
+    → after_symbols start (symbols_of (take (n + 1) runs)) ≡ None → IsOffset runs (runs_length (take n runs))
+    × ((t : Option Tree) → IsQuery (symbols_of runs) t → ⊥)
 stuck runs n s more read unread = ((n, within n (length runs) more, refl, before, behind), none)
   where
     within : (a b : ℕ) → a < b → a ≤ b
@@ -66,14 +91,26 @@ stuck runs n s more read unread = ((n, within n (length runs) more, refl, before
     before k low = subst (λ (xs : List Run). IsGood xs) (take-take k n runs low) (take_good k (take n runs) s read)
 
     behind : n < length runs → IsGood (take (n + 1) runs) → ⊥
-    behind h (closings, t, query) = no_query (symbols_of (take (n + 1) runs)) (sample ∷ replicate closings closes) t unread query
+    behind h (closings, t, query) =
+        no_query (symbols_of (take (n + 1) runs)) (sample ∷ replicate closings closes) t unread query
 
     none : (t : Option Tree) → IsQuery (symbols_of runs) t → ⊥
-    none t query = no_query (symbols_of (take (n + 1) runs)) (symbols_of (drop (n + 1) runs)) t unread (subst (λ (xs : List Symbol). IsQuery xs t) (symbols_split (n + 1) runs) query)
+    none t query = no_query (symbols_of (take (n + 1) runs)) (symbols_of (drop (n + 1) runs)) t unread
+        (subst (λ (xs : List Symbol). IsQuery xs t) (symbols_split (n + 1) runs) query)
 
 -- the runs end too early
-pub short : (runs : List Run) (s : State) → after_symbols start (symbols_of runs) ≡ Some s → steps_read s ≡ None → IsOffset runs (runs_length runs) × ((t : Option Tree) → IsQuery (symbols_of runs) t → ⊥)
-short runs s read open_end = ((length runs, same (length runs), ap runs_length (sym (take_all (length runs) runs (same (length runs)))), before, behind), none)
+pub short : (runs : List Run) (s : State) → after_symbols start (symbols_of runs) ≡ Some s → steps_read s ≡ None
+    → IsOffset runs (runs_length runs) × ((t : Option Tree) → IsQuery (symbols_of runs) t → ⊥)
+short runs s read open_end = (
+  (
+    length runs,
+    same (length runs),
+    ap runs_length (sym (take_all (length runs) runs (same (length runs)))),
+    before,
+    behind,
+  ),
+  none,
+)
   where
     same : (n : ℕ) → n ≤ n
     same n = omega arith
@@ -89,7 +126,8 @@ short runs s read open_end = ((length runs, same (length runs), ap runs_length (
 
     none : (t : Option Tree) → IsQuery (symbols_of runs) t → ⊥
     none t query =
-        let whole : (u : State) × (after_symbols start (symbols_of runs) ≡ Some u) × (steps_read u ≡ Some (all_steps t)) = only (symbols_of runs) t query in
+        let whole : (u : State) × (after_symbols start (symbols_of runs) ≡ Some u)
+        × (steps_read u ≡ Some (all_steps t)) = only (symbols_of runs) t query in
         none-some (all_steps t) (sym open_end ∙ ap steps_read (same_Some s whole.0 (sym read ∙ whole.1)) ∙ whole.2)
 
 -- ---- one tree
@@ -97,7 +135,11 @@ short runs s read open_end = ((length runs, same (length runs), ap runs_length (
 -- symbols are one query at most
 pub one : (symbols : List Symbol) (t u : Option Tree) → IsQuery symbols t → IsQuery symbols u → t ≡ u
 one symbols t u query other =
-    let read : (s : State) × (after_symbols start symbols ≡ Some s) × (steps_read s ≡ Some (all_steps t)) = only symbols t query in
-    let again : (s : State) × (after_symbols start symbols ≡ Some s) × (steps_read s ≡ Some (all_steps u)) = only symbols u other in
+    let read : (s : State) × (after_symbols start symbols ≡ Some s) × (steps_read s ≡ Some (all_steps t)) =
+    only symbols t query in
+    let again : (s : State) × (after_symbols start symbols ≡ Some s) × (steps_read s ≡ Some (all_steps u)) =
+    only symbols u other in
     let same : read.0 ≡ again.0 = same_Some read.0 again.0 (sym read.1 ∙ again.1) in
-    sym (tree_of-all_steps t) ∙ ap tree_of (same_Some (all_steps t) (all_steps u) (sym read.2 ∙ ap steps_read same ∙ again.2)) ∙ tree_of-all_steps u
+    sym (tree_of-all_steps t)
+    ∙ ap tree_of (same_Some (all_steps t) (all_steps u) (sym read.2 ∙ ap steps_read same ∙ again.2))
+    ∙ tree_of-all_steps u

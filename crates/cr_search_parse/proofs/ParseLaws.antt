@@ -1,5 +1,6 @@
 -- What is found, and where a text stops being the beginning of a query, by what reading comes to.
-use Rattle.std.proofs.Common.{◌≡◌, inl, inr, ℕ, ◌≤◌, Bool, List, length, Option, Ok, Err, if◌then◌else◌, ap, sym, ◌∙◌, subst}
+use Rattle.std.proofs.Common.{◌≡◌, inl, inr, ℕ, ◌≤◌, Bool, List, length, Option, Ok, Err, if◌then◌else◌, ap, sym, ◌∙◌}
+use Rattle.std.proofs.Common.{subst}
 use Rattle.std.proofs.lemmas.Bool.{le-ltb}
 use Rattle.cr_base.specs.Search.{Tree, all_steps, tree_of, IsSpelled}
 use Rattle.cr_base.specs.declared.search.Step.{Step}
@@ -41,22 +42,28 @@ gives-spells text steps few given =
     let same = sym (spelled-tree (runs_of text) steps query) in
     (few, subst (λ (tree : Option Tree). IsQuery (symbols_of (runs_of text)) tree) same query.query)
 
-pub gives-only : (runs : List Run) (steps : List Step) (t : Option Tree) → Gives runs steps → IsQuery (symbols_of runs) t
+pub gives-only : (runs : List Run) (steps : List Step) (t : Option Tree) → Gives runs steps
+    → IsQuery (symbols_of runs) t
     → steps ≡ all_steps t
 gives-only runs steps t given is =
-    let query = gives-found runs steps given in query.spelled ∙ ap all_steps (one (symbols_of runs) query.tree t query.query is)
+    let query =
+    gives-found runs steps given in query.spelled ∙ ap all_steps (one (symbols_of runs) query.tree t query.query is)
 
-pub stops-no_query : (runs : List Run) (offset : ℕ) → StopsAt runs offset → (t : Option Tree) → IsQuery (symbols_of runs) t → ⊥
+pub stops-no_query : (runs : List Run) (offset : ℕ) → StopsAt runs offset → (t : Option Tree)
+    → IsQuery (symbols_of runs) t → ⊥
 stops-no_query runs offset (inl stop) = (stuck runs stop.before stop.state stop.more stop.leads stop.stuck).1
 stops-no_query runs offset (inr stop) = (short runs stop.state stop.leads stop.short).1
 
-pub stops-bad : (text : List ℕ) (offset : ℕ) → length text ≤ most_bytes → StopsAt (runs_of text) offset → IsBad text offset
+pub stops-bad : (text : List ℕ) (offset : ℕ) → length text ≤ most_bytes → StopsAt (runs_of text) offset
+    → IsBad text offset
 stops-bad text offset few stop = inr (few, stops-no_query (runs_of text) offset stop, at stop)
   where
     at : StopsAt (runs_of text) offset → IsOffset (runs_of text) offset
     at (inl stop) =
-        subst (IsOffset (runs_of text)) (sym stop.there) (stuck (runs_of text) stop.before stop.state stop.more stop.leads stop.stuck).0
-    at (inr stop) = subst (IsOffset (runs_of text)) (sym stop.there) (short (runs_of text) stop.state stop.leads stop.short).0
+        subst (IsOffset (runs_of text)) (sym stop.there)
+        (stuck (runs_of text) stop.before stop.state stop.more stop.leads stop.stuck).0
+    at (inr stop) =
+        subst (IsOffset (runs_of text)) (sym stop.there) (short (runs_of text) stop.state stop.leads stop.short).0
 
 -- ---- refusals
 
@@ -75,11 +82,14 @@ told-bad text told.OutOfMemory offset few stop is = absurd cc
 
 -- a text that isn't too long is read run by run
 pub few-read : (text : List ℕ) → length text ≤ most_bytes → text_read text ≡ runs_read (runs_of text) 0 start
-few-read text few = ap (λ (b : Bool). if b then Err most_bytes else runs_read (runs_of text) 0 start) (le-ltb most_bytes (length text) few)
+few-read text few = ap (λ (b : Bool). if b then Err most_bytes else runs_read (runs_of text) 0 start)
+    (le-ltb most_bytes (length text) few)
 
-pub gives-exact : (text : List ℕ) (steps : List Step) → length text ≤ most_bytes → Gives (runs_of text) steps → text_read text ≡ Ok steps
+pub gives-exact : (text : List ℕ) (steps : List Step) → length text ≤ most_bytes → Gives (runs_of text) steps
+    → text_read text ≡ Ok steps
 gives-exact text steps few given = few-read text few ∙ gives-read (runs_of text) steps given
 
-pub stops-exact : (text : List ℕ) (error : ParseError) → length text ≤ most_bytes → Reads (Err error) text → Parses (Err error) (text_read text)
+pub stops-exact : (text : List ℕ) (error : ParseError) → length text ≤ most_bytes → Reads (Err error) text
+    → Parses (Err error) (text_read text)
 stops-exact text (told.BadQuery offset) few stop = few-read text few ∙ stops-read (runs_of text) offset stop
 stops-exact text told.OutOfMemory few stop = tt

@@ -21,12 +21,14 @@ few-said text few (inl (steps, given)) =
     let says : GrammarSays text (Ok steps) = (query.tree, query.spelled, (few, query.query)) in
     subst (GrammarSays text) (sym (few-read text few ∙ gives-read (runs_of text) steps given)) says
 few-said text few (inr (offset, stop)) =
-    subst (GrammarSays text) (sym (few-read text few ∙ stops-read (runs_of text) offset stop)) (stops-bad text offset few stop)
+    subst (GrammarSays text) (sym (few-read text few ∙ stops-read (runs_of text) offset stop))
+    (stops-bad text offset few stop)
 
 long-said : (text : List ℕ) → most_bytes < length text → GrammarSays text (text_read text)
 long-said text long =
     let read : text_read text ≡ Err most_bytes =
-    ap (λ (b : Bool). if b then Err most_bytes else runs_read (runs_of text) 0 start) (lt-ltb most_bytes (length text) long) in
+    ap (λ (b : Bool). if b then Err most_bytes else runs_read (runs_of text) 0 start)
+    (lt-ltb most_bytes (length text) long) in
     let says : GrammarSays text (Err most_bytes) = inl (long, refl) in
     subst (GrammarSays text) (sym read) says
 

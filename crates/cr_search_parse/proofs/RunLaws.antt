@@ -20,9 +20,11 @@ chunked-spaced byte (chunk bytes ∷ runs) = refl
 
 -- a space is one more before the spaces that follow
 IsSpaced : List ℕ → Type 0
-IsSpaced text = spaced (runs_within false text) ≡ spaces (spaces_length text + 1) ∷ runs_within false (drop (spaces_length text) text)
+IsSpaced text = spaced (runs_within false text) ≡ spaces (spaces_length text + 1)
+    ∷ runs_within false (drop (spaces_length text) text)
 
-more_spaces : (byte : ℕ) (text : List ℕ) (is32 is40 is41 : Bool) → eqb byte 32 ≡ is32 → eqb byte 40 ≡ is40 → eqb byte 41 ≡ is41
+more_spaces : (byte : ℕ) (text : List ℕ) (is32 is40 is41 : Bool) → eqb byte 32 ≡ is32 → eqb byte 40 ≡ is40
+    → eqb byte 41 ≡ is41
     → IsSpaced text → IsSpaced (byte ∷ text)
 unfolding IsSpaced
 more_spaces byte text true is40 is41 e f g before =
@@ -32,7 +34,8 @@ more_spaces byte text false false true e f g before = simp (e, f, g) refl
 more_spaces byte text false false false e f g before = simp (e, f, g) (spaced-chunked _ _)
 
 pub spaces-first : (text : List ℕ)
-    → spaced (runs_within false text) ≡ spaces (spaces_length text + 1) ∷ runs_within false (drop (spaces_length text) text)
+    → spaced (runs_within false text) ≡ spaces (spaces_length text + 1)
+    ∷ runs_within false (drop (spaces_length text) text)
 unfolding IsSpaced
 spaces-first [] = refl
 spaces-first (byte ∷ text) = more_spaces byte text _ _ _ refl refl refl (spaces-first text)
@@ -43,7 +46,8 @@ IsChunked quoted text =
     (first : ℕ) → chunked first (runs_within quoted text)
     ≡ chunk (first ∷ take (chunk_length quoted text) text) ∷ runs_within false (drop (chunk_length quoted text) text)
 
-more_quoted : (byte : ℕ) (text : List ℕ) (is34 : Bool) → eqb byte 34 ≡ is34 → IsChunked (not is34) text → IsChunked true (byte ∷ text)
+more_quoted : (byte : ℕ) (text : List ℕ) (is34 : Bool) → eqb byte 34 ≡ is34 → IsChunked (not is34) text
+    → IsChunked true (byte ∷ text)
 unfolding IsChunked
 more_quoted byte text true e behind first = simp (e, behind byte) refl
 more_quoted byte text false e behind first = simp (e, behind byte) refl
@@ -61,7 +65,8 @@ all_chunked : (quoted : Bool) (text : List ℕ) → IsChunked quoted text
 unfolding IsChunked
 all_chunked quoted [] first = refl
 all_chunked true (byte ∷ text) first = more_quoted byte text _ refl (all_chunked (not (eqb byte 34)) text) first
-all_chunked false (byte ∷ text) first = more_unquoted byte text _ _ _ _ refl refl refl refl (all_chunked (eqb byte 34) text) first
+all_chunked false (byte ∷ text) first =
+    more_unquoted byte text _ _ _ _ refl refl refl refl (all_chunked (eqb byte 34) text) first
 
 pub chunk-first : (quoted : Bool) (first : ℕ) (text : List ℕ)
     → chunked first (runs_within quoted text)
@@ -80,14 +85,18 @@ run-spaces (byte ∷ text) some is =
 
 pub run-chunk : (text : List ℕ) → 0 < length text → (get_or text 0 0 ≡ 32 → ⊥) → (get_or text 0 0 ≡ 40 → ⊥)
     → (get_or text 0 0 ≡ 41 → ⊥)
-    → runs_within false text ≡ chunk (take (chunk_length false text) text) ∷ runs_within false (drop (chunk_length false text) text)
+    → runs_within false text ≡ chunk (take (chunk_length false text) text)
+    ∷ runs_within false (drop (chunk_length false text) text)
 run-chunk [] some not32 not40 not41 = absurd (omega arith)
 run-chunk (byte ∷ text) some not32 not40 not41 =
-    simp (ne_eqb byte 32 not32, ne_eqb byte 40 not40, ne_eqb byte 41 not41) (behind (eqb byte 34) (chunk-first (eqb byte 34) byte text))
+    simp (ne_eqb byte 32 not32, ne_eqb byte 40 not40, ne_eqb byte 41 not41)
+    (behind (eqb byte 34) (chunk-first (eqb byte 34) byte text))
   where
     behind : (is34 : Bool)
-        → chunked byte (runs_within is34 text) ≡ chunk (byte ∷ take (chunk_length is34 text) text) ∷ runs_within false (drop (chunk_length is34 text) text)
-        → chunked byte (runs_within is34 text) ≡ chunk (byte ∷ take (chunk_length (cond is34 true false) text) text) ∷ runs_within false (drop (chunk_length (cond is34 true false) text) text)
+        → chunked byte (runs_within is34 text) ≡ chunk (byte ∷ take (chunk_length is34 text) text)
+        ∷ runs_within false (drop (chunk_length is34 text) text)
+        → chunked byte (runs_within is34 text) ≡ chunk (byte ∷ take (chunk_length (cond is34 true false) text) text)
+        ∷ runs_within false (drop (chunk_length (cond is34 true false) text) text)
     behind true h = h
     behind false h = h
 

@@ -1,6 +1,6 @@
 -- What stands between quotation marks.
-use Rattle.std.proofs.Common.{◌≡◌, ℕ, Bool, true, false, ◌&&◌, eqb, cond, List, [], ◌∷◌, ◌++◌, Option, Some, None, length, get_or, take}
-use Rattle.std.proofs.Common.{take-append-drop, ◌+◌, refl, ap, sym, ◌∙◌, eq-eqb, ne_eqb, arith}
+use Rattle.std.proofs.Common.{◌≡◌, ℕ, Bool, true, false, ◌&&◌, eqb, cond, List, [], ◌∷◌, ◌++◌, Option, Some, None}
+use Rattle.std.proofs.Common.{length, get_or, take, take-append-drop, ◌+◌, refl, ap, sym, ◌∙◌, eq-eqb, ne_eqb, arith}
 use Rattle.std.proofs.lemmas.List.{drop_more, drop_all}
 use Rattle.std.specs.Option.{option_map}
 use Rattle.std.specs.List.{list_all}
@@ -32,14 +32,18 @@ last-apart : (text : List ℕ) (last : ℕ) → length text ≡ last + 1 → tex
 last-apart text last whole =
     let none = drop_all (last + 1) text (omega arith) in
     sym (take-append-drop last text)
-    ∙ ap (λ (rest : List ℕ). take last text ++ rest) (drop_more text last 0 (omega arith) ∙ ap (λ (rest : List ℕ). get_or text last 0 ∷ rest) none)
+    ∙ ap (λ (rest : List ℕ). take last text ++ rest)
+    (drop_more text last 0 (omega arith) ∙ ap (λ (rest : List ℕ). get_or text last 0 ∷ rest) none)
 
 -- the same by where the last byte stands
 pub closing-at : (text : List ℕ) (last : ℕ) → length text ≡ last + 1
-    → before_closing text ≡ cond (eqb (get_or text last 0) 34 && list_all is_quoted_byte (take last text)) (Some (take last text)) None
-closing-at text last whole = ap before_closing (last-apart text last whole) ∙ closing-is (take last text) (get_or text last 0)
+    → before_closing text ≡ cond (eqb (get_or text last 0) 34 && list_all is_quoted_byte (take last text))
+    (Some (take last text)) None
+closing-at text last whole =
+    ap before_closing (last-apart text last whole) ∙ closing-is (take last text) (get_or text last 0)
 
-pub not-closed : (text : List ℕ) (last : ℕ) → length text ≡ last + 1 → (get_or text last 0 ≡ 34 → ⊥) → before_closing text ≡ None
+pub not-closed : (text : List ℕ) (last : ℕ) → length text ≡ last + 1 → (get_or text last 0 ≡ 34 → ⊥)
+    → before_closing text ≡ None
 not-closed text last whole other = closing-at text last whole ∙ rw (ne_eqb (get_or text last 0) 34 other) refl
 
 pub is-closed : (text : List ℕ) (last : ℕ) → length text ≡ last + 1 → get_or text last 0 ≡ 34

@@ -43,12 +43,15 @@ wish-draws H w d is = by w.what refl (is_unauthorized u V w.what) refl is
     none : {A : Type 0} → None ≡ Some d → A
     none e = absurd (cc (e))
 
-    by : (what : What) → w.what ≡ what → (b : Bool) → is_unauthorized u V what ≡ b → cond b None (drawn_of u V w.at what) ≡ Some d → Accepts H w u d
+    by : (what : What) → w.what ≡ what → (b : Bool) → is_unauthorized u V what ≡ b
+        → cond b None (drawn_of u V w.at what) ≡ Some d → Accepts H w u d
     by what at true test e = none e
     by (whats.Command key command) at false test e =
-        by_command key command (record { is = at; by = refl; may = test }) (drawn-judged (decide V (call_of u w.at key command)) d e)
+        by_command key command (record { is = at; by = refl; may = test })
+        (drawn-judged (decide V (call_of u w.at key command)) d e)
     by (whats.Bulk key rows) at false test e =
-        by_bulk key rows (record { is = at; by = refl; may = test }) (drawn-judged (decide_bulk V (bulk_by (maker_of u) w.at key rows)) d e)
+        by_bulk key rows (record { is = at; by = refl; may = test })
+        (drawn-judged (decide_bulk V (bulk_by (maker_of u) w.at key rows)) d e)
     by whats.NoRoute at false test e = none e
     by (whats.WrongMethod resource) at false test e = none e
     by (whats.BadNumber ask) at false test e = none e
@@ -60,14 +63,18 @@ wish-draws H w d is = by w.what refl (is_unauthorized u V w.what) refl is
 pub accepted-sent : (H : History) (w : Wish) (u : Option ℕ) (d : Drawn) (sending : Sending) → Accepts H w u d
     → told_sent H w sending ≡ reply_text (replies.Accepted d.receipt) sending
 accepted-sent H w u d sending (by_command key command may decided) =
-    sent-by H w u (whats.Command key command) sending may ∙ ap (λ (o : Outcome Rule). reply_text (reply_of (as_bulk o)) sending) decided
+    sent-by H w u (whats.Command key command) sending may
+    ∙ ap (λ (o : Outcome Rule). reply_text (reply_of (as_bulk o)) sending) decided
 accepted-sent H w u d sending (by_bulk key rows may decided) =
-    sent-by H w u (whats.Bulk key rows) sending may ∙ ap (λ (o : Outcome Broken). reply_text (reply_of o) sending) decided
+    sent-by H w u (whats.Bulk key rows) sending may
+    ∙ ap (λ (o : Outcome Broken). reply_text (reply_of o) sending) decided
 
 -- where the same mark is kept under the number, what is given repeats what left that
-pub settled-repeats : {E : Type 0} (used : E) (bulk : Bool) (key : RetryKey) (kept : ℕ → Option KeptCall) (judgement : Result Drawn E) (k : KeptCall)
+pub settled-repeats : {E : Type 0} (used : E) (bulk : Bool) (key : RetryKey) (kept : ℕ → Option KeptCall)
+    (judgement : Result Drawn E) (k : KeptCall)
     → kept key.number ≡ Some k → k.mark ≡ key.mark
     → ◌≡◌ {A = Outcome E} (settled used bulk (Some key) kept judgement) (Repeats (repeated_receipt bulk k))
 settled-repeats used bulk key kept judgement k is mark =
     ap (λ (o : Option KeptCall). settled_by used bulk key.mark o judgement) is
-    ∙ ap (λ (b : Bool). cond b (Repeats (repeated_receipt bulk k)) (Judged (Err used))) ((bytes_eq-Decides k.mark key.mark).1 mark)
+    ∙ ap (λ (b : Bool). cond b (Repeats (repeated_receipt bulk k)) (Judged (Err used)))
+    ((bytes_eq-Decides k.mark key.mark).1 mark)

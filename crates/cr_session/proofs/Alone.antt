@@ -1,6 +1,7 @@
 -- Where one pass took all the turns of its lock, no other turn came between two of them: so its turns are Replay.
-use Rattle.std.proofs.Common.{◌≡◌, ◌∙◌, ◌≤◌, ◌<◌, ◌^◌, ◌-◌, ◌⊎◌, inl, inr, ℕ, zero, suc, ◌+◌, List, [], ◌∷◌, ◌++◌, length, drop, Bool, true, false, cond, refl, Option, Some, None, IfSome}
-use Rattle.std.proofs.Common.{sym, ap, subst, arith, append-nil, append_assoc, length-append}
+use Rattle.std.proofs.Common.{◌≡◌, ◌∙◌, ◌≤◌, ◌<◌, ◌^◌, ◌-◌, ◌⊎◌, inl, inr, ℕ, zero, suc, ◌+◌, List, [], ◌∷◌, ◌++◌}
+use Rattle.std.proofs.Common.{length, drop, Bool, true, false, cond, refl, Option, Some, None, IfSome, sym, ap, subst}
+use Rattle.std.proofs.Common.{arith, append-nil, append_assoc, length-append}
 use mathlib.Core.List.{IsPrefix}
 use Rattle.cr_base.specs.declared.entry.Stamped.{Stamped}
 use Rattle.cr_base.specs.History.{History}
@@ -30,19 +31,23 @@ groups-snoc (u ∷ us) t = ap (λ g. u.group ++ g) (groups-snoc us t) ∙ sym (a
 
 module _ {K : Type 0} (tries : Tries K) where
   -- over one turn: the groups grow by what it adds, behind the history that it saw
-  grows-turn : (j : JudgedWish) (p q : KnownPass K) → TakesTurn tries j p q → (grown q + length j.seen ≡ grown p + length q.seen) × (length j.seen ≤ length q.seen)
+  grows-turn : (j : JudgedWish) (p q : KnownPass K) → TakesTurn tries j p q
+      → (grown q + length j.seen ≡ grown p + length q.seen) × (length j.seen ≤ length q.seen)
   grows-turn j p q t =
       let group : History = drop (length j.seen) (history_after j) in
       let a : grown q ≡ length (groups_of p.mine ++ group) =
-      ap (λ (x : KnownPass K). grown x) t.turn ∙ ap length (groups-snoc p.mine (turn_at (length j.seen) group t.faults t.faults')) in
+      ap (λ (x : KnownPass K). grown x) t.turn
+      ∙ ap length (groups-snoc p.mine (turn_at (length j.seen) group t.faults t.faults')) in
       let b : length (groups_of p.mine ++ group) ≡ grown p + length group = length-append (groups_of p.mine) group in
-      let c : length (j.seen ++ group) ≡ length (history_after j) = ap length (prefix_drop j.seen (history_after j) (after-begins j)) in
+      let c : length (j.seen ++ group) ≡ length (history_after j) =
+      ap length (prefix_drop j.seen (history_after j) (after-begins j)) in
       let d : length (j.seen ++ group) ≡ length j.seen + length group = length-append j.seen group in
       let e : length q.seen ≡ length (history_after j) = ap (λ (x : KnownPass K). length x.seen) t.turn in
       (omega (arith, a, b, c, d, e), omega (arith, c, d, e))
 
   -- what was seen grows by the groups at least
-  grows-all : (js : List JudgedWish) (p q : KnownPass K) → TakesTurns tries js p q → length p.seen + grown q ≤ length q.seen + grown p
+  grows-all : (js : List JudgedWish) (p q : KnownPass K) → TakesTurns tries js p q
+      → length p.seen + grown q ≤ length q.seen + grown p
   grows-all [] p q r =
       let a = ap (λ (x : KnownPass K). length x.seen) r in
       let b = ap (λ (x : KnownPass K). grown x) r in
@@ -87,7 +92,8 @@ counts-lost (suc n) f g c = by c.many
     by (inl le) = record {
       between = f + 1;
       first = (omega arith, λ below. omega arith);
-      rest = record { later = omega (arith, le); still = λ e. absurd (omega (arith, e)); many = inl (omega (arith, le)) };
+      rest =
+          record { later = omega (arith, le); still = λ e. absurd (omega (arith, e)); many = inl (omega (arith, le)) };
     }
     by (inr le) = record {
       between = g;
@@ -117,13 +123,15 @@ rises-snoc [] t = omega arith
 rises-snoc (u ∷ us) t = let i = rises-snoc us t in omega (arith, i)
 
 module _ {K : Type 0} (tries : Tries K) where
-  none-rises : (js : List JudgedWish) (p q : KnownPass K) → TakesTurns tries js p q → lost_count js ≡ 0 → rises q.mine ≡ rises p.mine
+  none-rises : (js : List JudgedWish) (p q : KnownPass K) → TakesTurns tries js p q → lost_count js ≡ 0
+      → rises q.mine ≡ rises p.mine
   none-rises [] p q r none = ap (λ (x : KnownPass K). rises x.mine) r
   none-rises (j ∷ js) p q r none =
       let t = r.1 in
       let one = rises-turn j.lost t.faults t.faults' (lost_count js) t.counted none in
       let here : rises r.0.mine ≡ rises p.mine + (t.faults' - t.faults) =
-      ap (λ (x : KnownPass K). rises x.mine) t.turn ∙ rises-snoc p.mine (turn_at (length j.seen) (drop (length j.seen) (history_after j)) t.faults t.faults') in
+      ap (λ (x : KnownPass K). rises x.mine) t.turn
+      ∙ rises-snoc p.mine (turn_at (length j.seen) (drop (length j.seen) (history_after j)) t.faults t.faults') in
       let rest = none-rises js r.0 q r.2 one.1 in
       let zero_rise = one.0 in
       omega (arith, here, rest, zero_rise)
@@ -138,7 +146,8 @@ module _ {K : Type 0} where
   same-ledger p q f g a b = ap (λ (x : KnownPass K). ledger x g) a ∙ ap (ledger p) b
 
 module _ {K : Type 0} (tries : Tries K) where
-  turned-alone : (j : JudgedWish) (p q : KnownPass K) (f g : ℕ) (t : TakesTurn tries j p q) → length j.seen ≤ length p.seen → CountsLoss j.lost f g
+  turned-alone : (j : JudgedWish) (p q : KnownPass K) (f g : ℕ) (t : TakesTurn tries j p q)
+      → length j.seen ≤ length p.seen → CountsLoss j.lost f g
       → Turned j (ledger p f) (ledger q g)
   turned-alone j p q f g t none c = record {
     seen = sym (prefix_whole p.seen j.seen t.saw none);
@@ -148,7 +157,8 @@ module _ {K : Type 0} (tries : Tries K) where
   }
 
   -- where what was seen grew by the groups alone
-  replays-alone : (js : List JudgedWish) (p q : KnownPass K) (f g : ℕ) → TakesTurns tries js p q → length q.seen + grown p ≤ length p.seen + grown q
+  replays-alone : (js : List JudgedWish) (p q : KnownPass K) (f g : ℕ) → TakesTurns tries js p q
+      → length q.seen + grown p ≤ length p.seen + grown q
       → Counts (lost_count js) f g
       → Replays js (ledger p f) (ledger q g)
   replays-alone [] p q f g r alone c = same-ledger p q f g r (c.still refl)
@@ -168,32 +178,39 @@ module _ {K : Type 0} (tries : Tries K) where
 module _ {K : Type 0} (tries : Tries K) where
   -- the value that was left, of a pass that has the whole share, is the one that is found
   found-left : (p : KnownPass K) (x found : SeenBook K) → p.share ≡ 64 → p.left ≡ Some x → IsAsLeft p found → found ≡ x
-  found-left p x found share left is = subst (λ (o : Option (SeenBook K)). IfSome o (λ value. found ≡ value)) left (is share)
+  found-left p x found share left is =
+      subst (λ (o : Option (SeenBook K)). IfSome o (λ value. found ≡ value)) left (is share)
 
   -- each turn is over the book that the turn before left
-  pub tries-alone : (js : List JudgedWish) (p q : KnownPass K) (x : SeenBook K) → p.share ≡ 64 → p.left ≡ Some x → TakesTurns tries js p q
+  pub tries-alone : (js : List JudgedWish) (p q : KnownPass K) (x : SeenBook K) → p.share ≡ 64 → p.left ≡ Some x
+      → TakesTurns tries js p q
       → (q.share ≡ 64) × (y : SeenBook K) × (q.left ≡ Some y) × TriesAlong tries js x.keeper y.keeper
-  tries-alone [] p q x share left r = (ap (λ (k : KnownPass K). k.share) r ∙ share, x, ap (λ (k : KnownPass K). k.left) r ∙ left, refl)
+  tries-alone [] p q x share left r =
+      (ap (λ (k : KnownPass K). k.share) r ∙ share, x, ap (λ (k : KnownPass K). k.left) r ∙ left, refl)
   tries-alone (j ∷ js) p q x share left r =
       let t = r.1 in
-      let rest = tries-alone js r.0 q t.leaves (ap (λ (k : KnownPass K). k.share) t.turn ∙ share) (ap (λ (k : KnownPass K). k.left) t.turn) r.2 in (
+      let rest = tries-alone js r.0 q t.leaves (ap (λ (k : KnownPass K). k.share) t.turn ∙ share)
+      (ap (λ (k : KnownPass K). k.left) t.turn) r.2 in (
         rest.0,
         rest.1,
         rest.2,
         (
           t.leaves.keeper,
-          subst (λ (b : SeenBook K). TriesWish tries j b.keeper t.leaves.keeper) (found-left p x t.found share left t.as_left) t.tried,
+          subst (λ (b : SeenBook K). TriesWish tries j b.keeper t.leaves.keeper)
+              (found-left p x t.found share left t.as_left) t.tried,
           rest.3,
         ),
       )
 
   -- and so is one in which memory ran out
-  pub tries-vain : (w : Wish) (p q : KnownPass K) (x : SeenBook K) → p.share ≡ 64 → p.left ≡ Some x → (v : TurnsInVain tries w p q)
+  pub tries-vain : (w : Wish) (p q : KnownPass K) (x : SeenBook K) → p.share ≡ 64 → p.left ≡ Some x
+      → (v : TurnsInVain tries w p q)
       → (y : SeenBook K) × (q.left ≡ Some y) × tries true v.seen None x.keeper y.keeper
   tries-vain w p q x share left v = (
     v.leaves,
     ap (λ (k : KnownPass K). k.left) v.turn,
-    subst (λ (b : SeenBook K). tries true v.seen None b.keeper v.leaves.keeper) (found-left p x v.found share left v.as_left) v.tried,
+    subst (λ (b : SeenBook K). tries true v.seen None b.keeper v.leaves.keeper)
+        (found-left p x v.found share left v.as_left) v.tried,
   )
 
 -- ---- a lock that is closed
@@ -232,25 +249,31 @@ module _ {K : Type 0} (tries : Tries K) where
       turn = turn_at (length v.seen) (drop (length v.seen) v.seen) v.faults v.faults
 
 -- the one pass of a lock that is closed, which had no turn at first, and whose turns for wishes led to q
-module _ {K Root : Type 0} (tries : Tries K) (list : SeenBook K → List Stamped) (faults : SeenBook K → ℕ) (root : SeenBook K → Root) (first x : SeenBook K)
+module _ {K Root : Type 0} (tries : Tries K) (list : SeenBook K → List Stamped) (faults : SeenBook K → ℕ)
+    (root : SeenBook K → Root) (first x : SeenBook K)
     (start q p : KnownPass K) (opens : start.seen ≡ list first) (bare : start.mine ≡ [])
-    (closes : Closes list faults root first p x) (behind : StaysBehind q p) (js : List JudgedWish) (r : TakesTurns tries js start q) where
+    (closes : Closes list faults root first p x) (behind : StaysBehind q p) (js : List JudgedWish)
+    (r : TakesTurns tries js start q) where
   counts-closed : Counts (lost_count js) (faults first) (faults x)
   counts-closed = record {
     later = (let c = closes.count in omega (arith, c));
-    still = λ none. (let c = closes.count in let n = none-rises tries js start q r none in let e = behind.rise in let zero_rise = ap rises bare in
+    still =
+        λ none. (let c = closes.count in let n = none-rises tries js start q r none in let e =
+        behind.rise in let zero_rise = ap rises bare in
         omega (arith, c, n, e, zero_rise));
     many = by closes.marks;
   }
     where
-      by : (faults first + marks p.mine ≤ faults x) ⊎ (last_count ≤ faults x) → (faults first + lost_count js ≤ faults x) ⊎ (last_count ≤ faults x)
+      by : (faults first + marks p.mine ≤ faults x) ⊎ (last_count ≤ faults x)
+          → (faults first + lost_count js ≤ faults x) ⊎ (last_count ≤ faults x)
       by (inl le) = inl (let m = marked_losses tries js start q r in let e = behind.mark in omega (arith, le, m, e))
       by (inr le) = inr le
 
   -- nobody else added anything
   whole : length p.seen + grown start ≡ length start.seen + grown p
   whole =
-      let w : length p.seen ≡ length (list first) + grown p = ap length (sym closes.stands ∙ closes.whole) ∙ length-append (list first) (groups_of p.mine) in
+      let w : length p.seen ≡ length (list first) + grown p =
+      ap length (sym closes.stands ∙ closes.whole) ∙ length-append (list first) (groups_of p.mine) in
       let o = ap length opens in
       let n = ap (λ (ts : List (Turn Stamped)). length (groups_of ts)) bare in
       omega (arith, w, o, n)
@@ -263,11 +286,13 @@ module _ {K Root : Type 0} (tries : Tries K) (list : SeenBook K → List Stamped
       prefix_whole q.seen p.seen behind.saw (omega (arith, w, g, e)) ∙ sym closes.stands
 
   -- its turns lead from the first ledger to the last
-  pub replays-closed : Replays js (record { history = list first; faults = faults first }) (record { history = list x; faults = faults x })
+  pub replays-closed : Replays js (record { history = list first; faults = faults first })
+      (record { history = list x; faults = faults x })
   replays-closed =
       let w = whole in
       let l = prefix_length q.seen p.seen behind.saw in
       let e = behind.group in
-      subst (λ (H : History). Replays js (record { history = list first; faults = faults first }) (record { history = H; faults = faults x })) seen-closed
+      subst (λ (H : History). Replays js (record { history = list first; faults = faults first })
+      (record { history = H; faults = faults x })) seen-closed
       (subst (λ (H : History). Replays js (record { history = H; faults = faults first }) (ledger q (faults x))) opens
       (replays-alone tries js start q (faults first) (faults x) r (omega (arith, w, l, e)) counts-closed))

@@ -23,17 +23,20 @@ meets-by_asks u H (w ∷ ws) =
     asked : Asked
     asked = record { before = H; wish = w.wish; closes = w.closes }
 
-    one : (hers : Bool) → given hers (record { seen = view u H; wish = w.wish; closes = w.closes }) ≡ map (encounter_at u) (given hers asked)
+    one : (hers : Bool) → given hers (record { seen = view u H; wish = w.wish; closes = w.closes })
+        ≡ map (encounter_at u) (given hers asked)
     one true = refl
     one false = refl
 
-meets-alike : (u : Option ℕ) (ones others : List Asked) → AllAskedAlike u ones others → map (encounter_at u) ones ≡ map (encounter_at u) others
+meets-alike : (u : Option ℕ) (ones others : List Asked) → AllAskedAlike u ones others
+    → map (encounter_at u) ones ≡ map (encounter_at u) others
 meets-alike u [] [] alike = refl
 meets-alike u [] (other ∷ others) alike = absurd alike
 meets-alike u (one ∷ ones) [] alike = absurd alike
 meets-alike u (one ∷ ones) (other ∷ others) alike =
     let here = looks-same u one.before other.before alike.0.before in
-    λ i. record { seen = here i; wish = alike.0.wish i; closes = alike.0.closes i } ∷ meets-alike u ones others alike.1 i
+    λ i. record { seen = here i; wish = alike.0.wish i; closes = alike.0.closes i } ∷ meets-alike u ones others alike.1
+    i
 
 pub hidden_bytes : HiddenBytes
 hidden_bytes u one other alike =

@@ -1,5 +1,6 @@
 -- Reads that are made only where more is wanted, by the wishes before.
-use Rattle.std.proofs.Common.{◌≡◌, ◌∙◌, ℕ, ◌+◌, List, [], ◌++◌, length, Option, refl, sym, ap, subst, append_assoc, append-nil, inl, inr}
+use Rattle.std.proofs.Common.{◌≡◌, ◌∙◌, ℕ, ◌+◌, List, [], ◌++◌, length, Option, refl, sym, ap, subst, append_assoc}
+use Rattle.std.proofs.Common.{append-nil, inl, inr}
 use Rattle.std.proofs.lemmas.List.{append_cancel_left}
 use Rattle.cr_ports.specs.Stream.{and_left}
 use Rattle.cr_http.specs.Filling.{ReadsWhile}
@@ -23,31 +24,37 @@ wants-first n ws text unsettled = record {
 }
 
 -- what is wanted behind some of fewer wishes
-wants-wider : (n : ℕ) (js ks : List JudgedWish) (text : List ℕ) → WantsBehind n (wishes_of js) text → WantsBehind n (wishes_of (js ++ ks)) text
+wants-wider : (n : ℕ) (js ks : List JudgedWish) (text : List ℕ) → WantsBehind n (wishes_of js) text
+    → WantsBehind n (wishes_of (js ++ ks)) text
 wants-wider n js ks text w = record {
   first = w.first;
   others = w.others ++ wishes_of ks;
-  parts = sym (wishes_of-append js ks) ∙ ap (λ (ws : List Wish). ws ++ wishes_of ks) w.parts ∙ append_assoc w.first w.others (wishes_of ks);
+  parts = sym (wishes_of-append js ks) ∙ ap (λ (ws : List Wish). ws ++ wishes_of ks) w.parts
+      ∙ append_assoc w.first w.others (wishes_of ks);
   rest = w.rest;
   reaches = w.reaches;
   unsettled = w.unsettled;
 }
 
 -- what is wanted behind wishes that come behind others
-wants-later : (n : ℕ) (js ks : List JudgedWish) (text rest : List ℕ) → Reaches n text (wishes_of js) rest → WantsBehind (n + length js) (wishes_of ks) rest
+wants-later : (n : ℕ) (js ks : List JudgedWish) (text rest : List ℕ) → Reaches n text (wishes_of js) rest
+    → WantsBehind (n + length js) (wishes_of ks) rest
     → WantsBehind n (wishes_of (js ++ ks)) text
 wants-later n js ks text rest reach w = record {
   first = wishes_of js ++ w.first;
   others = w.others;
-  parts = sym (wishes_of-append js ks) ∙ ap (λ (ws : List Wish). wishes_of js ++ ws) w.parts ∙ sym (append_assoc (wishes_of js) w.first w.others);
+  parts = sym (wishes_of-append js ks) ∙ ap (λ (ws : List Wish). wishes_of js ++ ws) w.parts
+      ∙ sym (append_assoc (wishes_of js) w.first w.others);
   rest = w.rest;
-  reaches = reaches_wishes n text (wishes_of js) rest w.first w.rest reach (subst (λ (k : ℕ). Reaches k rest w.first w.rest) (counted_wishes n js) w.reaches);
+  reaches = reaches_wishes n text (wishes_of js) rest w.first w.rest reach
+      (subst (λ (k : ℕ). Reaches k rest w.first w.rest) (counted_wishes n js) w.reaches);
   unsettled = w.unsettled;
 }
 
 module _ {S : Type 0} (left : S → Option (List ℕ)) (gives : S → S → List ℕ → Type 0) where
   -- the same reads behind another text
-  reads_behind : (V W : List ℕ → Type 0) (p q : S) (t u got : List ℕ) → ((more : List ℕ) → V (t ++ more) → W (u ++ more))
+  reads_behind : (V W : List ℕ → Type 0) (p q : S) (t u got : List ℕ)
+      → ((more : List ℕ) → V (t ++ more) → W (u ++ more))
       → ReadsWhile left gives V p q t (t ++ got) → ReadsWhile left gives W p q u (u ++ got)
   reads_behind V W p q t u got f (inl still) =
       let none : got ≡ [] = append_cancel_left t got [] (still.1 ∙ sym (append-nil t)) in
@@ -67,17 +74,21 @@ module _ {S : Type 0} (left : S → Option (List ℕ)) (gives : S → S → List
       })
 
   -- of one reading
-  pub no_further-one : (n : ℕ) (answered : List JudgedWish) (p q : S) (old new : List ℕ) → ReadsWhile left gives IsUnsettled p q old new
+  pub no_further-one : (n : ℕ) (answered : List JudgedWish) (p q : S) (old new : List ℕ)
+      → ReadsWhile left gives IsUnsettled p q old new
       → ReadsNoFurther left gives n answered p q old new
   no_further-one n answered p q old new x =
-      reads_for left gives IsUnsettled (WantsBehind n (wishes_of answered)) p q old new (λ text left' moves. wants-first n (wishes_of answered) text) x
+      reads_for left gives IsUnsettled (WantsBehind n (wishes_of answered)) p q old new
+      (λ text left' moves. wants-first n (wishes_of answered) text) x
 
   -- nothing was read
-  pub no_further-still : (n : ℕ) (answered : List JudgedWish) (p : S) (old : List ℕ) → ReadsNoFurther left gives n answered p p old old
+  pub no_further-still : (n : ℕ) (answered : List JudgedWish) (p : S) (old : List ℕ)
+      → ReadsNoFurther left gives n answered p p old old
   no_further-still n answered p old = inl (refl, refl)
 
   -- of what came before, and of what came then
-  pub no_further-append : (n : ℕ) (js ks : List JudgedWish) (p q r : S) (a b got more : List ℕ) → left p ≡ and_left got (left q)
+  pub no_further-append : (n : ℕ) (js ks : List JudgedWish) (p q r : S) (a b got more : List ℕ)
+      → left p ≡ and_left got (left q)
       → Reaches n (a ++ got) (wishes_of js) b
       → ReadsNoFurther left gives n js p q a (a ++ got) → ReadsNoFurther left gives (n + length js) ks q r b (b ++ more)
       → ReadsNoFurther left gives n (js ++ ks) p r a (a ++ (got ++ more))
@@ -88,6 +99,8 @@ module _ {S : Type 0} (left : S → Option (List ℕ)) (gives : S → S → List
       (record { got = got; given = given; kept = refl })
       (reads_for left gives (WantsBehind n (wishes_of js)) (WantsBehind n (wishes_of (js ++ ks))) p q a (a ++ got)
       (λ text left' moves. wants-wider n js ks text) x)
-      (reads_behind (WantsBehind (n + length js) (wishes_of ks)) (WantsBehind n (wishes_of (js ++ ks))) q r b (a ++ got) more
-      (λ m wants. wants-later n js ks ((a ++ got) ++ m) (b ++ m) (Reaches-more n (a ++ got) m (wishes_of js) b reach) wants) y)
+      (reads_behind (WantsBehind (n + length js) (wishes_of ks)) (WantsBehind n (wishes_of (js ++ ks))) q r b (a ++ got)
+      more
+      (λ m wants. wants-later n js ks ((a ++ got) ++ m) (b ++ m) (Reaches-more n (a ++ got) m (wishes_of js) b reach)
+      wants) y)
       )

@@ -1,5 +1,6 @@
 -- A connection that ends for lack of memory behind no wish.
-use Rattle.std.proofs.Common.{◌≡◌, ◌∙◌, ℕ, List, [], ◌∷◌, ◌++◌, Option, Some, None, Bool, false, refl, sym, ap, subst, inl, inr}
+use Rattle.std.proofs.Common.{◌≡◌, ◌∙◌, ℕ, List, [], ◌∷◌, ◌++◌, Option, Some, None, Bool, false, refl, sym, ap, subst}
+use Rattle.std.proofs.Common.{inl, inr}
 use Rattle.cr_base.specs.Lists.{listed}
 use Rattle.cr_ports.specs.Stream.{and_left}
 use Rattle.cr_ports.specs.Writing.{Outlet}
@@ -10,12 +11,14 @@ use Rattle.cr_session.specs.declared.serve.Ending.{Ending}
 use Rattle.cr_session.specs.declared.serve.Ending.TheVariants as endings
 use Rattle.cr_session.specs.Answering.{ClockState, Desk, GivesMoments}
 use Rattle.cr_session.specs.Replay.{JudgedWish}
-use Rattle.cr_session.specs.Serving.{World, Connection, NotesNoMemory, WritesNote, GivesNote, TellsWantOfMemory, MayLackMemory, ReadsNoFurther}
+use Rattle.cr_session.specs.Serving.{World, Connection, NotesNoMemory, WritesNote, GivesNote, TellsWantOfMemory}
+use Rattle.cr_session.specs.Serving.{MayLackMemory, ReadsNoFurther}
 use Rattle.cr_session.proofs.Answering.{moments-nil, moments-append, fails_later, gives-none}
 use Rattle.cr_session.proofs.NoFurther.{no_further-still}
 
 -- the note was written with this moment, which the clock gave
-noted_at : (head : Bool) (at : ℕ) (d d' : Desk) (s : Outlet) → s ≡ d.sink → GivesMoments (at ∷ []) d.clock d'.clock → WritesNote head at s d'.sink
+noted_at : (head : Bool) (at : ℕ) (d d' : Desk) (s : Outlet) → s ≡ d.sink → GivesMoments (at ∷ []) d.clock d'.clock
+    → WritesNote head at s d'.sink
     → GivesNote [] head at d d'
 noted_at head at d d' s same timed note = by (subst (λ (o : Outlet). WritesNote head at o d'.sink) same note)
   where
@@ -24,23 +27,33 @@ noted_at head at d d' s same timed note = by (subst (λ (o : Outlet). WritesNote
     by (inr broken) = inr (record { timed = timed; broken = broken })
 
 -- it was written with the moment that the clock had given for the request, and else with one for which it was asked
-pub noted-read : (read : Option ℕ) (head : Bool) (d e d' : Desk) → e.sink ≡ d.sink → GivesMoments (listed read) d.clock e.clock
+pub noted-read : (read : Option ℕ) (head : Bool) (d e d' : Desk) → e.sink ≡ d.sink
+    → GivesMoments (listed read) d.clock e.clock
     → NotesNoMemory read head e d' → TellsWantOfMemory [] read head d d'
 noted-read (Some at) head d e d' same timed note =
-    noted_at head at d d' e.sink same (subst (λ (c : ClockState). GivesMoments (at ∷ []) d.clock c) (sym note.0) timed) note.1
+    noted_at head at d d' e.sink same (subst (λ (c : ClockState). GivesMoments (at ∷ []) d.clock c) (sym note.0) timed)
+    note.1
 noted-read None head d e d' same timed (inl note) =
-    inl (note.0, noted_at head note.0 d d' e.sink same (moments-append [] (note.0 ∷ []) d.clock e.clock d'.clock timed note.1) note.2)
+    inl (
+      note.0,
+      noted_at head note.0 d d' e.sink same
+          (moments-append [] (note.0 ∷ []) d.clock e.clock d'.clock timed note.1) note.2,
+    )
 noted-read None head d e d' same timed (inr note) = inr (record {
   failed = fails_later [] [] d.clock e.clock d'.clock timed note.0;
   written = (gives-none d (record { sink = d'.sink; clock = d.clock }) (note.1 ∙ same) (moments-nil d.clock)).written;
 })
 
-module _ {B : Type 0} (Judges : List JudgedWish → B → B → Type 0) (Lacks : Wish → B → B → Type 0) (none : (b : B) → Judges [] b b) {S : Type 0} (left : S
+module _ {B : Type 0} (Judges : List JudgedWish → B → B → Type 0) (Lacks : Wish → B → B → Type 0)
+    (none : (b : B) → Judges [] b b) {S : Type 0} (left : S
     → Option (List ℕ)) (gives : S → S → List ℕ → Type 0) where
-  pub no_memory : (ending : Ending) (n : ℕ) (i got : List ℕ) (read : Option ℕ) (head : Bool) (w w' : World B S) → ending ≡ endings.OutOfMemory
+  pub no_memory : (ending : Ending) (n : ℕ) (i got : List ℕ) (read : Option ℕ) (head : Bool) (w w' : World B S)
+      → ending ≡ endings.OutOfMemory
       → IsToHead (i ++ got) head → MayLackMemory Judges Lacks read w.state w'.state (i ++ got)
-      → left w.source ≡ and_left got (left w'.source) → TellsWantOfMemory [] read head w.desk w'.desk → w'.read_faults ≡ w.read_faults
-      → ReadsNoFurther left gives n [] w.source w'.source i (i ++ got) → Connection Judges Lacks left gives ending n i w w'
+      → left w.source ≡ and_left got (left w'.source) → TellsWantOfMemory [] read head w.desk w'.desk
+      → w'.read_faults ≡ w.read_faults
+      → ReadsNoFurther left gives n [] w.source w'.source i (i ++ got)
+      → Connection Judges Lacks left gives ending n i w w'
   no_memory ending n i got read head w w' is to may given notes counts needed =
       subst (λ (e : Ending). Connection Judges Lacks left gives e n i w w') (sym is) (record {
         got = got;
@@ -57,10 +70,13 @@ module _ {B : Type 0} (Judges : List JudgedWish → B → B → Type 0) (Lacks :
       })
 
   -- before anything was read
-  pub round_unbegun : (n : ℕ) (w w' : World B S) → w'.source ≡ w.source → w'.state ≡ w.state → NotesNoMemory None false w.desk w'.desk
+  pub round_unbegun : (n : ℕ) (w w' : World B S) → w'.source ≡ w.source → w'.state ≡ w.state
+      → NotesNoMemory None false w.desk w'.desk
       → w'.read_faults ≡ w.read_faults
       → Connection Judges Lacks left gives endings.OutOfMemory n [] w w'
   round_unbegun n w w' source same notes counts =
       no_memory endings.OutOfMemory n [] [] None false w w' refl refl (inl (inl refl, same))
-      (sym (ap left source) ∙ sym (and_left-nil (left w'.source))) (noted-read None false w.desk w.desk w'.desk refl (moments-nil w.desk.clock) notes) counts
-      (subst (λ (s : S). ReadsNoFurther left gives n [] w.source s [] []) (sym source) (no_further-still left gives n [] w.source []))
+      (sym (ap left source) ∙ sym (and_left-nil (left w'.source)))
+      (noted-read None false w.desk w.desk w'.desk refl (moments-nil w.desk.clock) notes) counts
+      (subst (λ (s : S). ReadsNoFurther left gives n [] w.source s [] []) (sym source)
+      (no_further-still left gives n [] w.source []))

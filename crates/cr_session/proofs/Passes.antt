@@ -1,6 +1,6 @@
 -- Turns of one pass, one after another.
-use Rattle.std.proofs.Common.{◌≡◌, ◌∙◌, ◌≤◌, ◌<◌, ◌^◌, ◌-◌, ℕ, ◌+◌, List, [], ◌∷◌, ◌++◌, length, drop, Bool, true, false, cond, Option, Some, None, refl, ap}
-use Rattle.std.proofs.Common.{subst, arith}
+use Rattle.std.proofs.Common.{◌≡◌, ◌∙◌, ◌≤◌, ◌<◌, ◌^◌, ◌-◌, ℕ, ◌+◌, List, [], ◌∷◌, ◌++◌, length, drop, Bool, true}
+use Rattle.std.proofs.Common.{false, cond, Option, Some, None, refl, ap, subst, arith}
 use Rattle.std.specs.Prelude.{◌||◌, nat_lt, nat_le}
 use mathlib.Core.List.{IsPrefix}
 use Rattle.cr_base.specs.declared.entry.Stamped.{Stamped}
@@ -38,7 +38,8 @@ module _ {K : Type 0} (tries : Tries K) where
   takes-one j p q turn = (q, turn, refl)
 
   -- what was judged then, behind what was judged before
-  pub takes-append : (js ks : List JudgedWish) (p q r : KnownPass K) → TakesTurns tries js p q → TakesTurns tries ks q r → TakesTurns tries (js ++ ks) p r
+  pub takes-append : (js ks : List JudgedWish) (p q r : KnownPass K) → TakesTurns tries js p q → TakesTurns tries ks q r
+      → TakesTurns tries (js ++ ks) p r
   takes-append [] ks p q r first then = subst (λ (x : KnownPass K). TakesTurns tries ks x r) first then
   takes-append (j ∷ js) ks p q r first then = (first.0, first.1, takes-append js ks first.0 q r first.2 then)
 
@@ -75,7 +76,8 @@ marks-snoc [] t = omega arith
 marks-snoc (u ∷ us) t = let i = marks-snoc us t in omega (arith, i)
 
 module _ {K : Type 0} (tries : Tries K) where
-  marks-turn : (j : JudgedWish) (p q : KnownPass K) → TakesTurn tries j p q → marks p.mine + cond j.lost 1 0 ≤ marks q.mine
+  marks-turn : (j : JudgedWish) (p q : KnownPass K) → TakesTurn tries j p q
+      → marks p.mine + cond j.lost 1 0 ≤ marks q.mine
   marks-turn j p q t =
       let n = ap (λ (x : KnownPass K). marks x.mine) t.turn ∙ marks-snoc p.mine
       (turn_at (length j.seen) (drop (length j.seen) (history_after j)) t.faults t.faults') in
@@ -83,7 +85,8 @@ module _ {K : Type 0} (tries : Tries K) where
       omega (arith, n, m)
 
   -- at most as many are lost as there are marks more
-  pub marked_losses : (js : List JudgedWish) (p q : KnownPass K) → TakesTurns tries js p q → marks p.mine + lost_count js ≤ marks q.mine
+  pub marked_losses : (js : List JudgedWish) (p q : KnownPass K) → TakesTurns tries js p q
+      → marks p.mine + lost_count js ≤ marks q.mine
   marked_losses [] p q r = let e = ap (λ (x : KnownPass K). marks x.mine) r in omega (arith, e)
   marked_losses (j ∷ js) p q r =
       let one = marks-turn j p r.0 r.1 in

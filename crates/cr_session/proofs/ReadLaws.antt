@@ -18,39 +18,49 @@ use Rattle.cr_wire.specs.Wish.{wish_text}
 
 module _ {S : Type 0} (left : S → Option (List ℕ)) (gives : S → S → List ℕ → Type 0) where
   -- the answer says so of the text, and no more was read than it needs
-  read_as : (source source' : S) (old kept : List ℕ) (inbox inbox' : InboxText) (read : RequestRead) (answer : WishRead) → old ≡ inbox.rest
-      → (x : Reads left gives source source' inbox inbox' read) → Says answer (inbox.rest ++ x.got) kept → AtEndIfEnded answer (left source')
+  read_as : (source source' : S) (old kept : List ℕ) (inbox inbox' : InboxText) (read : RequestRead) (answer : WishRead)
+      → old ≡ inbox.rest
+      → (x : Reads left gives source source' inbox inbox' read) → Says answer (inbox.rest ++ x.got) kept
+      → AtEndIfEnded answer (left source')
       → ReadsWish left gives source source' old kept answer
   read_as source source' old kept inbox inbox' read answer same x says ended = record {
     got = x.got;
     given = x.given;
     says = subst (λ (t : List ℕ). Says answer (t ++ x.got) kept) (sym same) says;
     ended = ended;
-    needed = subst (λ (t : List ℕ). ReadsWhile left gives IsUnsettled source source' t (t ++ x.got)) (sym same) x.needed;
+    needed =
+        subst (λ (t : List ℕ). ReadsWhile left gives IsUnsettled source source' t (t ++ x.got)) (sym same) x.needed;
   }
 
   -- memory ran out before a whole request was read
-  pub read_no_memory : (source source' : S) (old kept : List ℕ) (inbox inbox' : InboxText) (head : Bool) → old ≡ inbox.rest
-      → Reads left gives source source' inbox inbox' (requests.OutOfMemory head) → ReadsWish left gives source source' old kept (reads.OutOfMemory head None)
+  pub read_no_memory : (source source' : S) (old kept : List ℕ) (inbox inbox' : InboxText) (head : Bool)
+      → old ≡ inbox.rest
+      → Reads left gives source source' inbox inbox' (requests.OutOfMemory head)
+      → ReadsWish left gives source source' old kept (reads.OutOfMemory head None)
   read_no_memory source source' old kept inbox inbox' head same x =
-      read_as source source' old kept inbox inbox' (requests.OutOfMemory head) (reads.OutOfMemory head None) same x (x.answers.1, x.answers.0) tt
+      read_as source source' old kept inbox inbox' (requests.OutOfMemory head) (reads.OutOfMemory head None) same x
+      (x.answers.1, x.answers.0) tt
 
   -- what stands there is no request, and the clock gave the moment for the refusal, or failed
-  pub read_refused : (source source' : S) (old kept : List ℕ) (inbox inbox' : InboxText) (why : Refusal) (head : Bool) (answer : WishRead) → old ≡ inbox.rest
+  pub read_refused : (source source' : S) (old kept : List ℕ) (inbox inbox' : InboxText) (why : Refusal) (head : Bool)
+      (answer : WishRead) → old ≡ inbox.rest
       → Reads left gives source source' inbox inbox' (requests.Refused why head) → IsRefusedNow answer why head
       → ReadsWish left gives source source' old kept answer
   read_refused source source' old kept inbox inbox' why head (reads.Malformed said to at) same x now =
       read_as source source' old kept inbox inbox' (requests.Refused why head) (reads.Malformed said to at) same x
-      (subst (λ (f : Found). StandsAt (inbox.rest ++ x.got) f) (λ i. refused (sym now.0 i) (sym now.1 i)) x.answers.0) tt
+      (subst (λ (f : Found). StandsAt (inbox.rest ++ x.got) f) (λ i. refused (sym now.0 i) (sym now.1 i)) x.answers.0)
+      tt
   read_refused source source' old kept inbox inbox' why head reads.ClockFault same x now =
-      read_as source source' old kept inbox inbox' (requests.Refused why head) reads.ClockFault same x (refused why head, tt, x.answers.0) tt
+      read_as source source' old kept inbox inbox' (requests.Refused why head) reads.ClockFault same x
+      (refused why head, tt, x.answers.0) tt
   read_refused source source' old kept inbox inbox' why head (reads.Wish w) same x now = absurd now
   read_refused source source' old kept inbox inbox' why head reads.Clean same x now = absurd now
   read_refused source source' old kept inbox inbox' why head reads.Cut same x now = absurd now
   read_refused source source' old kept inbox inbox' why head reads.ReadFault same x now = absurd now
   read_refused source source' old kept inbox inbox' why head (reads.OutOfMemory to at) same x now = absurd now
 
-  says : (answer : WishRead) (text kept : List ℕ) (request : Option RequestText) → IsSomeAnd request (λ r. StandsWhole text r kept) → IsWishedNow answer request
+  says : (answer : WishRead) (text kept : List ℕ) (request : Option RequestText)
+      → IsSomeAnd request (λ r. StandsWhole text r kept) → IsWishedNow answer request
       → Says answer text kept
   says answer text kept None stands now = absurd stands
   says (reads.Wish w) text kept (Some r) stands now =
@@ -66,7 +76,8 @@ module _ {S : Type 0} (left : S → Option (List ℕ)) (gives : S → S → List
   says reads.Cut text kept (Some r) stands now = absurd now.1
   says reads.ReadFault text kept (Some r) stands now = absurd now.1
 
-  ended : (answer : WishRead) (left' : Option (List ℕ)) (request : Option RequestText) → IsWishedNow answer request → AtEndIfEnded answer left'
+  ended : (answer : WishRead) (left' : Option (List ℕ)) (request : Option RequestText) → IsWishedNow answer request
+      → AtEndIfEnded answer left'
   ended (reads.Wish w) left' request now = tt
   ended (reads.OutOfMemory head at) left' request now = tt
   ended reads.ClockFault left' request now = tt
@@ -81,4 +92,5 @@ module _ {S : Type 0} (left : S → Option (List ℕ)) (gives : S → S → List
       → ReadsWish left gives source source' old inbox'.rest answer
   read_whole source source' old inbox inbox' answer same x now =
       read_as source source' old inbox'.rest inbox inbox' requests.Whole answer same x
-      (says answer (inbox.rest ++ x.got) inbox'.rest inbox'.request x.answers now) (ended answer (left source') inbox'.request now)
+      (says answer (inbox.rest ++ x.got) inbox'.rest inbox'.request x.answers now)
+      (ended answer (left source') inbox'.request now)

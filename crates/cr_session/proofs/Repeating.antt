@@ -1,5 +1,7 @@
--- A number that was accepted keeps its group: no later command of its maker's is accepted with it. So what a repeat is told stays what the first was.
-use Rattle.std.proofs.Common.{ℕ, Bool, true, false, ◌≡◌, ◌&&◌, List, [], ◌∷◌, ◌++◌, length, refl, sym, ap, subst, ◌∙◌, Option, Some, None, Ok}
+-- A number that was accepted keeps its group: no later command of its maker's is accepted with it. So what a repeat
+-- is told stays what the first was.
+use Rattle.std.proofs.Common.{ℕ, Bool, true, false, ◌≡◌, ◌&&◌, List, [], ◌∷◌, ◌++◌, length, refl, sym, ap, subst, ◌∙◌}
+use Rattle.std.proofs.Common.{Option, Some, None, Ok}
 use Rattle.std.specs.Prelude.{map}
 use Rattle.std.proofs.lemmas.Bool.{true≢false, eq-eqb}
 use Rattle.cr_base.specs.declared.bulk.BulkRow.{BulkRow}
@@ -65,18 +67,22 @@ pub record WishAdds (H : History) (w : Wish) (u : Option ℕ) (d : Drawn) : Type
   pub keyed : (key : RetryKey) → key_of w.what ≡ Some key → IsKeyed H u stamp (is_bulk w.what) d
 
 -- a user's command is made by her: a registration is nobody's
-made-by_user : (H : History) (user : ℕ) (command : Command) → IsCaller H (Some user) command → made_by (Some user) H command ≡ user
+made-by_user : (H : History) (user : ℕ) (command : Command) → IsCaller H (Some user) command
+    → made_by (Some user) H command ≡ user
 made-by_user H user (Register name digest) is = absurd (cc (is))
 made-by_user H user command is = refl
 
 module _ (H : History) (legal : Legal H) (d : Drawn) where
-  first-told : (user : ℕ) (command : Command) (group : History) → map (λ (e : Stamped). e.entry) group ≡ added (Some user) H command
+  first-told : (user : ℕ) (command : Command) (group : History)
+      → map (λ (e : Stamped). e.entry) group ≡ added (Some user) H command
       → d.receipt ∷ [] ≡ answered (Some user) H command → IsTold false H group d.receipt
   first-told user command [] is told = tt
-  first-told user command (e ∷ es) is told = first-tells user H legal command e.entry (map (λ (s : Stamped). s.entry) es) d.receipt (sym is) told
+  first-told user command (e ∷ es) is told =
+      first-tells user H legal command e.entry (map (λ (s : Stamped). s.entry) es) d.receipt (sym is) told
 
   -- a command with a key
-  command-keyed : (u : Option ℕ) (at : ℕ) (key : Option RetryKey) (command : Command) (k : RetryKey) → key ≡ Some k → IsCaller H u command → IsKeyOf u key
+  command-keyed : (u : Option ℕ) (at : ℕ) (key : Option RetryKey) (command : Command) (k : RetryKey) → key ≡ Some k
+      → IsCaller H u command → IsKeyOf u key
       → IsAdded (stamp_added H (call_of u at key command)) (added u H command) (answered u H command) d
       → IsKeyed H u (stamp_added H (call_of u at key command)) false d
   command-keyed u at None command k is calls may adds = absurd (cc (is))
@@ -93,17 +99,20 @@ module _ (H : History) (legal : Legal H) (d : Drawn) where
     bounds what is = subst (λ (x : What). IsBoundedWhat x) is bounded.what
 
     -- its key, told by what it is
-    key-told : (what : What) (key : Option RetryKey) → w.what ≡ what → key_of what ≡ key → (k : RetryKey) → key_of w.what ≡ Some k → key ≡ Some k
+    key-told : (what : What) (key : Option RetryKey) → w.what ≡ what → key_of what ≡ key → (k : RetryKey)
+        → key_of w.what ≡ Some k → key ≡ Some k
     key-told what key is has k told = sym has ∙ ap key_of (sym is) ∙ told
 
-    command-adds : (u : Option ℕ) (key : Option RetryKey) (command : Command) → MayWish H w u (whats.Command key command)
+    command-adds : (u : Option ℕ) (key : Option RetryKey) (command : Command)
+        → MayWish H w u (whats.Command key command)
         → decide (view u H) (call_of u w.at key command) ≡ Judged (Ok d) → WishAdds H w u d
     command-adds u key command may decided =
         let call : Call = call_of u w.at key command in
         let bound = bounds (whats.Command key command) may.is in
         let calls : IsCaller H u command = caller-command H w u key command may in
         let keyed : IsKeyOf u key = caller-key H u (command_wants_login command) key calls bound.1 in
-        let given : IsGiven H call = record { caller = calls; bounded = bound.0; moment = bounded.moment; key = keyed } in
+        let given : IsGiven H call =
+        record { caller = calls; bounded = bound.0; moment = bounded.moment; key = keyed } in
         let accepted = decided-accepted H call d given decided in
         let group = accepted-group H call d legal accepted.0 accepted.1 in
         record {
@@ -114,7 +123,8 @@ module _ (H : History) (legal : Legal H) (d : Drawn) where
           key_is = ap key_of (sym may.is);
           legal = Legal-accepted H call d legal accepted.0 accepted.1;
           keyed = λ k told. subst (λ (x : What). IsKeyed H u (stamp_added H call) (is_bulk x) d) (sym may.is)
-              (command-keyed u w.at key command k (key-told (whats.Command key command) key may.is refl k told) calls keyed
+              (command-keyed u w.at key command k (key-told (whats.Command key command) key may.is refl k told) calls
+              keyed
               (adds_as_said H call d legal calls accepted.1));
         }
 
@@ -123,7 +133,8 @@ module _ (H : History) (legal : Legal H) (d : Drawn) where
     bulk-adds None key rows may decided = absurd (true≢false may.may)
     bulk-adds (Some user) key rows may decided =
         let bulk : BulkCall = bulk_by user w.at key rows in
-        let given : IsBulkGiven H bulk = caller-bulk H w (Some user) key rows may (bounds (whats.Bulk key rows) may.is) bounded.moment in
+        let given : IsBulkGiven H bulk =
+        caller-bulk H w (Some user) key rows may (bounds (whats.Bulk key rows) may.is) bounded.moment in
         let accepted = decided-bulk_accepted H bulk d given decided in
         let draws = bulk-draws bulk.stamp H rows d accepted.1 in
         record {
@@ -134,7 +145,12 @@ module _ (H : History) (legal : Legal H) (d : Drawn) where
           key_is = ap key_of (sym may.is);
           legal = Legal-bulk_accepted H bulk d legal accepted.0 accepted.1;
           keyed = λ k told. subst (λ (x : What). IsKeyed H (Some user) bulk.stamp (is_bulk x) d) (sym may.is)
-              (record { user = user; caller_is = refl; maker = refl; told = bulk-tells H bulk d legal given accepted.1 });
+              (record {
+                user = user;
+                caller_is = refl;
+                maker = refl;
+                told = bulk-tells H bulk d legal given accepted.1;
+              });
         }
 
     pub wish-adds : (u : Option ℕ) → Accepts H w u d → WishAdds H w u d
@@ -148,7 +164,8 @@ abbrev pub IsUnder : RetryKey → History → Type 0
 IsUnder key [] = ⊥
 IsUnder key (e ∷ es) = e.stamp.key ≡ Some key
 
--- an act with a key is kept in a history: under its number stand the entries that it added, and these alone, and its receipt is what they tell
+-- an act with a key is kept in a history: under its number stand the entries that it added, and these alone, and its
+-- receipt is what they tell
 pub record IsKept (H : History) (act : Act) (key : RetryKey) : Type 0 where
   pub user : ℕ
   pub caller_is : caller act.before act.wish ≡ Some user
@@ -160,7 +177,8 @@ pub record IsKept (H : History) (act : Act) (key : RetryKey) : Type 0 where
 abbrev pub IsKeptIf : History → Act → Type 0
 IsKeptIf H act = (key : RetryKey) → key_of act.wish.what ≡ Some key → IsKept H act key
 
-told-stays : (bulk : Bool) (H more group : History) (receipt : Receipt) → IsTold bulk H group receipt → IsTold bulk (H ++ more) group receipt
+told-stays : (bulk : Bool) (H more group : History) (receipt : Receipt) → IsTold bulk H group receipt
+    → IsTold bulk (H ++ more) group receipt
 told-stays true H more group receipt is = is
 told-stays false H more [] receipt is = tt
 told-stays false H more (e ∷ es) receipt is =
@@ -170,19 +188,23 @@ not_both : (key : RetryKey) (group : History) → IsUnder key group → [] ≡ g
 not_both key [] is none = is
 not_both key (e ∷ es) is none = cc (none)
 
-first-under : (key : RetryKey) (stamp : Stamp) (es : List Entry) → stamp.key ≡ Some key → is_nothing (grouped stamp es) ≡ false → IsUnder key (grouped stamp es)
+first-under : (key : RetryKey) (stamp : Stamp) (es : List Entry) → stamp.key ≡ Some key
+    → is_nothing (grouped stamp es) ≡ false → IsUnder key (grouped stamp es)
 first-under key stamp [] has some = absurd (true≢false some)
 first-under key stamp (e ∷ []) has some = has
 first-under key stamp (e ∷ next ∷ es) has some = has
 
 module _ (H : History) (w : Wish) (d : Drawn) (adds : WishAdds H w (caller H w) d) where
   -- what is kept of an act stays, since nothing is added under its number
-  under-stays : (act : Act) (key : RetryKey) (was : IsKept H act key) → (b : Bool) → is_under was.user key.number adds.stamp ≡ b
+  under-stays : (act : Act) (key : RetryKey) (was : IsKept H act key) → (b : Bool)
+      → is_under was.user key.number adds.stamp ≡ b
       → kept_under was.user key.number (H ++ d.group) ≡ kept_under was.user key.number H
   under-stays act key was true is =
-      absurd (not_both key act.drawn.group was.first (sym (new-unused H was.user key.number adds.stamp.maker adds.stamp.key adds.new is) ∙ was.under))
+      absurd (not_both key act.drawn.group was.first
+      (sym (new-unused H was.user key.number adds.stamp.maker adds.stamp.key adds.new is) ∙ was.under))
   under-stays act key was false is =
-      ap (λ (g : History). kept_under was.user key.number (H ++ g)) adds.group_is ∙ kept-other H was.user key.number adds.stamp adds.entries is
+      ap (λ (g : History). kept_under was.user key.number (H ++ g)) adds.group_is
+      ∙ kept-other H was.user key.number adds.stamp adds.entries is
 
   pub kept-stays : (act : Act) → IsKeptIf H act → IsKeptIf (H ++ d.group) act
   kept-stays act kept key is =
@@ -197,7 +219,8 @@ module _ (H : History) (w : Wish) (d : Drawn) (adds : WishAdds H w (caller H w) 
       }
 
   -- and what was added is kept, where it isn't nothing
-  pub kept-new : Accepts H w (caller H w) d → is_nothing d.group ≡ false → IsKeptIf (H ++ d.group) (record { before = H; wish = w; drawn = d })
+  pub kept-new : Accepts H w (caller H w) d → is_nothing d.group ≡ false
+      → IsKeptIf (H ++ d.group) (record { before = H; wish = w; drawn = d })
   kept-new accepts some key is =
       let keyed = adds.keyed key is in
       let has : adds.stamp.key ≡ Some key = adds.key_is ∙ is in
@@ -210,7 +233,8 @@ module _ (H : History) (w : Wish) (d : Drawn) (adds : WishAdds H w (caller H w) 
         under = ap (λ (g : History). kept_under keyed.user key.number (H ++ g)) adds.group_is
             ∙ kept-own H keyed.user key.number adds.stamp adds.entries adds.new here ∙ sym adds.group_is;
         first = subst (IsUnder key) (sym adds.group_is)
-            (first-under key adds.stamp adds.entries has (ap (λ (g : History). is_nothing g) (sym adds.group_is) ∙ some));
+            (first-under key adds.stamp adds.entries has
+            (ap (λ (g : History). is_nothing g) (sym adds.group_is) ∙ some));
         told = told-stays (is_bulk w.what) H d.group d.group d.receipt keyed.told;
         accepts = accepts;
       }

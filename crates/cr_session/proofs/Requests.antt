@@ -15,19 +15,23 @@ use Rattle.cr_session.specs.Tries.{Tries}
 use Rattle.cr_session.specs.Passing.{KnownPass}
 use Rattle.cr_wire.specs.Wishes.{closes}
 use Rattle.cr_ports.specs.Writing.{Outlet, WritesAnswers, AnswerBreaksOff}
-use Rattle.cr_session.specs.Turning.{Turns, TurnTries, AnswersWish, turn_text, MayWantToPrint, MayWantMemory, Sends, JudgesInTurn, TurnsInVain, ServesRequest}
+use Rattle.cr_session.specs.Turning.{Turns, TurnTries, AnswersWish, turn_text, MayWantToPrint, MayWantMemory, Sends}
+use Rattle.cr_session.specs.Turning.{JudgesInTurn, TurnsInVain, ServesRequest}
 
 -- ---- what was judged
 
-answer_to-kept : (n : ℕ) (w : Wish) (old : History) → answer_to n (record { wish = w; seen = old; lost = false }) ≡ told old w (closes n w)
+answer_to-kept : (n : ℕ) (w : Wish) (old : History)
+    → answer_to n (record { wish = w; seen = old; lost = false }) ≡ told old w (closes n w)
 unfolding answer_to
 answer_to-kept n w old = refl
 
-history_after-kept : (w : Wish) (old : History) → history_after (record { wish = w; seen = old; lost = false }) ≡ after_wish old w
+history_after-kept : (w : Wish) (old : History)
+    → history_after (record { wish = w; seen = old; lost = false }) ≡ after_wish old w
 unfolding history_after
 history_after-kept w old = refl
 
-answer_to-lost : (n : ℕ) (w : Wish) (old : History) → answer_to n (record { wish = w; seen = old; lost = true }) ≡ turn_text turns.Lost (sending_of w (closes n w))
+answer_to-lost : (n : ℕ) (w : Wish) (old : History)
+    → answer_to n (record { wish = w; seen = old; lost = true }) ≡ turn_text turns.Lost (sending_of w (closes n w))
 unfolding answer_to unkept
 answer_to-lost n w old = refl
 
@@ -36,7 +40,8 @@ unfolding history_after
 history_after-lost w old = refl
 
 -- One turn of the pass on a ledger, which it left so, over a book that it found and left so.
-module _ {K : Type 0} (tries : Tries K) (w : Wish) (b b' : Ledger) (found leaves : SeenBook K) (p p' : KnownPass K) (saw : IsPrefix p.seen b.history)
+module _ {K : Type 0} (tries : Tries K) (w : Wish) (b b' : Ledger) (found leaves : SeenBook K) (p p' : KnownPass K)
+    (saw : IsPrefix p.seen b.history)
     (as_left : IsAsLeft p found) (is : p' ≡ after_turn p leaves b.history b'.history b.faults b'.faults) where
   -- it came to this, and the request was judged with that answer
   record WasJudged (turn : TurnResult) (n : ℕ) : Type 0 where
@@ -52,7 +57,8 @@ module _ {K : Type 0} (tries : Tries K) (w : Wish) (b b' : Ledger) (found leaves
   judged_so lost = record { wish = w; seen = b.history; lost = lost }
 
   -- what is so of the ledger is so of the pass
-  abbrev in_turn : (lost : Bool) → Turned (judged_so lost) b b' → tries lost b.history (drawn b.history w) found.keeper leaves.keeper
+  abbrev in_turn : (lost : Bool) → Turned (judged_so lost) b b'
+      → tries lost b.history (drawn b.history w) found.keeper leaves.keeper
       → JudgesInTurn tries w p p'
   in_turn lost t did = record {
     judged = judged_so lost;
@@ -71,9 +77,16 @@ module _ {K : Type 0} (tries : Tries K) (w : Wish) (b b' : Ledger) (found leaves
     };
   }
 
-  kept-judged : (turn : TurnResult) (n : ℕ) → AnswersWish turn w b b' → tries false b.history (drawn b.history w) found.keeper leaves.keeper → WasJudged turn n
+  kept-judged : (turn : TurnResult) (n : ℕ) → AnswersWish turn w b b'
+      → tries false b.history (drawn b.history w) found.keeper leaves.keeper → WasJudged turn n
   kept-judged turn n a did = record {
-    judges = in_turn false (record { seen = refl; lost = tt; history = a.stepped ∙ sym (history_after-kept w b.history); counted = a.steady }) did;
+    judges =
+        in_turn false (record {
+          seen = refl;
+          lost = tt;
+          history = a.stepped ∙ sym (history_after-kept w b.history);
+          counted = a.steady;
+        }) did;
     text = a.told_is (closes n w) ∙ sym (answer_to-kept n w b.history);
   }
 
@@ -81,12 +94,19 @@ module _ {K : Type 0} (tries : Tries K) (w : Wish) (b b' : Ledger) (found leaves
   abbrev Did : TurnResult → Type 0
   Did turn = TurnTries tries turn b.history (drawn b.history w) found.keeper leaves.keeper
 
-  was_judged : (turn : TurnResult) (n : ℕ) → (turn ≡ turns.OutOfMemory → ⊥) → Turns turn w b b' → Did turn → WasJudged turn n
+  was_judged : (turn : TurnResult) (n : ℕ) → (turn ≡ turns.OutOfMemory → ⊥) → Turns turn w b b' → Did turn
+      → WasJudged turn n
   was_judged (turns.Refused refused) n memory t did = kept-judged (turns.Refused refused) n t did
   was_judged (turns.Accepted receipt) n memory t did = kept-judged (turns.Accepted receipt) n t did
   was_judged (turns.Answered reply) n memory t did = kept-judged (turns.Answered reply) n t.0 did.0
   was_judged turns.Lost n memory t did = record {
-    judges = in_turn true (record { seen = refl; lost = t.0; history = t.1 ∙ sym (history_after-lost w b.history); counted = t.2 }) did;
+    judges =
+        in_turn true (record {
+          seen = refl;
+          lost = t.0;
+          history = t.1 ∙ sym (history_after-lost w b.history);
+          counted = t.2;
+        }) did;
     text = sym (answer_to-lost n w b.history);
   }
   was_judged turns.OutOfMemory n memory t did = absurd (memory refl)
@@ -94,8 +114,10 @@ module _ {K : Type 0} (tries : Tries K) (w : Wish) (b b' : Ledger) (found leaves
   -- ---- what was served
 
   -- the answer was sent
-  pub serves_sent : (turn : TurnResult) (sent : RequestOutcome) (n : ℕ) (close : Bool) (reply : List ℕ) (s s' : Outlet) → (turn ≡ turns.OutOfMemory → ⊥)
-      → Turns turn w b b' → Did turn → close ≡ closes n w → reply ≡ turn_text turn (sending_of w close) → Sends sent close reply s s'
+  pub serves_sent : (turn : TurnResult) (sent : RequestOutcome) (n : ℕ) (close : Bool) (reply : List ℕ) (s s' : Outlet)
+      → (turn ≡ turns.OutOfMemory → ⊥)
+      → Turns turn w b b' → Did turn → close ≡ closes n w → reply ≡ turn_text turn (sending_of w close)
+      → Sends sent close reply s s'
       → ServesRequest tries sent n w p p' s s'
   serves_sent turn sent n close reply s s' memory t did closing text_is sends = by sent sends
     where
@@ -112,7 +134,8 @@ module _ {K : Type 0} (tries : Tries K) (w : Wish) (b b' : Ledger) (found leaves
       by served.OutOfMemory x = absurd x
 
   -- memory ran out in the turn
-  vain : (b' ≡ b) → MayWantMemory b.history w → tries true b.history None found.keeper leaves.keeper → TurnsInVain tries w p p'
+  vain : (b' ≡ b) → MayWantMemory b.history w → tries true b.history None found.keeper leaves.keeper
+      → TurnsInVain tries w p p'
   vain same wants did = record {
     seen = b.history;
     saw = saw;
@@ -125,8 +148,10 @@ module _ {K : Type 0} (tries : Tries K) (w : Wish) (b b' : Ledger) (found leaves
     turn = is ∙ ap (λ (x : Ledger). after_turn p leaves b.history x.history b.faults x.faults) same;
   }
 
-  pub turned_in_vain : (turn : TurnResult) → turn ≡ turns.OutOfMemory → Turns turn w b b' → Did turn → TurnsInVain tries w p p'
-  turned_in_vain turn none t did = let stays = subst (λ (x : TurnResult). Turns x w b b') none t in vain stays.0 stays.1 (subst Did none did)
+  pub turned_in_vain : (turn : TurnResult) → turn ≡ turns.OutOfMemory → Turns turn w b b' → Did turn
+      → TurnsInVain tries w p p'
+  turned_in_vain turn none t did = let stays =
+      subst (λ (x : TurnResult). Turns x w b b') none t in vain stays.0 stays.1 (subst Did none did)
 
   -- or in writing its answer
   pub unprinted : (turn : TurnResult) → Turns turn w b b' → Did turn → MayWantToPrint turn → TurnsInVain tries w p p'

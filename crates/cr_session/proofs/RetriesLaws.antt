@@ -1,5 +1,7 @@
--- A wish that repeats an act adds nothing, and is told what the act's group tells. So without the repeats all ends the same.
-use Rattle.std.proofs.Common.{ℕ, Bool, true, false, cond, ◌≡◌, List, [], ◌∷◌, ◌++◌, length, eqb, refl, sym, ap, subst, ◌∙◌, append-nil, Option, Some, None}
+-- A wish that repeats an act adds nothing, and is told what the act's group tells. So without the repeats all ends
+-- the same.
+use Rattle.std.proofs.Common.{ℕ, Bool, true, false, cond, ◌≡◌, List, [], ◌∷◌, ◌++◌, length, eqb, refl, sym, ap, subst}
+use Rattle.std.proofs.Common.{◌∙◌, append-nil, Option, Some, None}
 use Rattle.std.specs.Prelude.{IfSome, find, is_none, not}
 use Rattle.std.specs.List.{All}
 use Rattle.std.specs.Option.{option_map}
@@ -34,8 +36,8 @@ use Rattle.cr_wire.specs.declared.what.What.{What}
 use Rattle.cr_wire.specs.declared.what.What.TheVariants as whats
 use Rattle.cr_wire.specs.declared.what.Wish.{Wish}
 use Rattle.cr_wire.specs.Caller.{caller}
-use Rattle.cr_session.specs.Retries.{Act, act_drawn, acts_of, key_of, is_bulk, is_same_key, is_repeat_of, repeated_by, without_repeats, ends_in, IsToldAgain, AreToldAgain}
-use Rattle.cr_session.specs.Retries.{AreBounded, RetriesActOnce}
+use Rattle.cr_session.specs.Retries.{Act, act_drawn, acts_of, key_of, is_bulk, is_same_key, is_repeat_of, repeated_by}
+use Rattle.cr_session.specs.Retries.{without_repeats, ends_in, IsToldAgain, AreToldAgain, AreBounded, RetriesActOnce}
 use Rattle.cr_session.specs.Told.{sending_of, told, told_sent, as_bulk, reply_of, drawn, and_drawn, after_wish}
 use Rattle.cr_session.specs.Turning.{IsBoundedWish}
 use Rattle.cr_session.specs.TwoRuns.{WishInTurn, is_same}
@@ -53,7 +55,8 @@ record TellsAgain (H : History) (key : RetryKey) (bulk : Bool) (group : History)
   mark : call.mark ≡ key.mark
   receipt_is : repeated_receipt bulk call ≡ receipt
 
-tells-again : (H : History) (key : RetryKey) (bulk : Bool) (group : History) (receipt : Receipt) → IsUnder key group → IsTold bulk H group receipt
+tells-again : (H : History) (key : RetryKey) (bulk : Bool) (group : History) (receipt : Receipt) → IsUnder key group
+    → IsTold bulk H group receipt
     → TellsAgain H key bulk group receipt
 tells-again H key bulk [] receipt under told = absurd under
 tells-again H key bulk (e ∷ es) receipt under told = record {
@@ -64,11 +67,16 @@ tells-again H key bulk (e ∷ es) receipt under told = record {
 }
   where
     call : KeptCall
-    call = record { mark = key_mark e.stamp.key; receipt = receipt_of (name_told_by (accounts_of H) e.entry) e.entry; entries = length (e ∷ es) }
+    call = record {
+      mark = key_mark e.stamp.key;
+      receipt = receipt_of (name_told_by (accounts_of H) e.entry) e.entry;
+      entries = length (e ∷ es);
+    }
 
     by : (b : Bool) → IsTold b H (e ∷ es) receipt → repeated_receipt b call ≡ receipt
     by true told = sym told
-    by false told = ap (λ (name : List ℕ). receipt_of name e.entry) (names-told H e.entry told.name told.named) ∙ sym told.told
+    by false told = ap (λ (name : List ℕ). receipt_of name e.entry) (names-told H e.entry told.name told.named)
+        ∙ sym told.told
 
 -- ---- a wish that repeats an act
 
@@ -86,21 +94,25 @@ module _ (H : History) (w : Wish) (user : ℕ) (key : RetryKey) (call : KeptCall
   wishes : (what : What) → w.what ≡ what → MayWish H w (Some user) what
   wishes what is = record { is = is; by = sym calls; may = refl }
 
-  repeat-told : (what : What) → w.what ≡ what → key_of what ≡ Some key → Repeated H w (repeated_receipt (is_bulk what) call)
+  repeat-told : (what : What) → w.what ≡ what → key_of what ≡ Some key
+      → Repeated H w (repeated_receipt (is_bulk what) call)
   repeat-told (whats.Command k command) is has =
       let outcome : decide V (call_of (Some user) w.at k command) ≡ Repeats (repeated_receipt false call) =
       ap (λ (o : Option RetryKey). decide V (call_of (Some user) w.at o command)) has
-      ∙ settled-repeats rules.NumberUsed false key (kept_in_view V) (judge V (call_of (Some user) w.at (Some key) command)) call looked_up mark in
+      ∙ settled-repeats rules.NumberUsed false key (kept_in_view V)
+      (judge V (call_of (Some user) w.at (Some key) command)) call looked_up mark in
       let may = wishes (whats.Command k command) is in
       record {
-        nothing = drawn-by H w (Some user) (whats.Command k command) may ∙ ap (λ (o : Outcome Rule). drawn_by o) outcome;
+        nothing =
+            drawn-by H w (Some user) (whats.Command k command) may ∙ ap (λ (o : Outcome Rule). drawn_by o) outcome;
         sent = λ sending. sent-by H w (Some user) (whats.Command k command) sending may
             ∙ ap (λ (o : Outcome Rule). reply_text (reply_of (as_bulk o)) sending) outcome;
       }
   repeat-told (whats.Bulk k rows) is has =
       let outcome : decide_bulk V (bulk_by user w.at k rows) ≡ Repeats (repeated_receipt true call) =
       ap (λ (o : Option RetryKey). decide_bulk V (bulk_by user w.at o rows)) has
-      ∙ settled-repeats (broken.Rule rules.NumberUsed) true key (kept_in_view V) (judge_bulk V (bulk_by user w.at (Some key) rows)) call looked_up mark in
+      ∙ settled-repeats (broken.Rule rules.NumberUsed) true key (kept_in_view V)
+      (judge_bulk V (bulk_by user w.at (Some key) rows)) call looked_up mark in
       let may = wishes (whats.Bulk k rows) is in
       record {
         nothing = drawn-by H w (Some user) (whats.Bulk k rows) may ∙ ap (λ (o : Outcome Broken). drawn_by o) outcome;
@@ -151,7 +163,8 @@ again H w act kept_if is = record {
     receipt_is = ap (option_map (repeated_receipt (is_bulk w.wish.what))) tells.call_is;
     told_is = done.sent sending;
     first = λ same. done.sent sending
-        ∙ ap (λ (receipt : Receipt). reply_text (replies.Accepted receipt) sending) (ap (λ (b : Bool). repeated_receipt b tells.call) same ∙ tells.receipt_is)
+        ∙ ap (λ (receipt : Receipt). reply_text (replies.Accepted receipt) sending)
+        (ap (λ (b : Bool). repeated_receipt b tells.call) same ∙ tells.receipt_is)
         ∙ sym (accepted-sent act.before act.wish (caller act.before act.wish) act.drawn sending kept.accepts);
   };
 }
@@ -159,8 +172,10 @@ again H w act kept_if is = record {
     sending : Sending
     sending = sending_of w.wish w.closes
 
-    parts : (is_same (caller act.before act.wish) (caller H w.wish) ≡ true) × (is_same_key (key_of act.wish.what) (key_of w.wish.what) ≡ true)
-    parts = and_parts (is_same (caller act.before act.wish) (caller H w.wish)) (is_same_key (key_of act.wish.what) (key_of w.wish.what)) is
+    parts : (is_same (caller act.before act.wish) (caller H w.wish) ≡ true)
+        × (is_same_key (key_of act.wish.what) (key_of w.wish.what) ≡ true)
+    parts = and_parts (is_same (caller act.before act.wish) (caller H w.wish))
+        (is_same_key (key_of act.wish.what) (key_of w.wish.what)) is
 
     keys : SameKey (key_of act.wish.what) (key_of w.wish.what)
     keys = same-key (key_of act.wish.what) (key_of w.wish.what) parts.1
@@ -186,11 +201,13 @@ again H w act kept_if is = record {
 -- ---- one wish after another
 
 -- what a search finds is there, and passes
-found-there : {A : Type 0} (P : A → Type 0) (test : A → Bool) (xs : List A) (x : A) → All P xs → find test xs ≡ Some x → P x × (test x ≡ true)
+found-there : {A : Type 0} (P : A → Type 0) (test : A → Bool) (xs : List A) (x : A) → All P xs → find test xs ≡ Some x
+    → P x × (test x ≡ true)
 found-there P test [] x all is = absurd (cc (is))
 found-there P test (y ∷ ys) x all is = by (test y) refl is (found-there P test ys x (All-tail P y ys all))
   where
-    by : (b : Bool) → test y ≡ b → cond b (Some y) (find test ys) ≡ Some x → (find test ys ≡ Some x → P x × (test x ≡ true)) → P x × (test x ≡ true)
+    by : (b : Bool) → test y ≡ b → cond b (Some y) (find test ys) ≡ Some x
+        → (find test ys ≡ Some x → P x × (test x ≡ true)) → P x × (test x ≡ true)
     by true passes is rest = let e : y ≡ x = cc (is) in (subst P e (All-head P y ys all), ap test (sym e) ∙ passes)
     by false passes is rest = rest is
 
@@ -199,7 +216,8 @@ record Goes (acts : List Act) (H : History) (w : Wish) (o : Option Drawn) : Type
   legal : Legal (and_drawn H o)
   kept : All (IsKeptIf (and_drawn H o)) (acts ++ act_drawn H w o)
 
-goes-on : (acts : List Act) (H : History) (w : Wish) → Legal H → All (IsKeptIf H) acts → IsBoundedWish w → (o : Option Drawn) → drawn H w ≡ o
+goes-on : (acts : List Act) (H : History) (w : Wish) → Legal H → All (IsKeptIf H) acts → IsBoundedWish w
+    → (o : Option Drawn) → drawn H w ≡ o
     → Goes acts H w o
 goes-on acts H w legal kept bounded None is = record {
   legal = legal;
@@ -221,9 +239,11 @@ goes-on acts H w legal kept bounded (Some d) is = record {
     act : Act
     act = record { before = H; wish = w; drawn = d }
 
-    by : (b : Bool) → is_nothing d.group ≡ b → All (IsKeptIf (H ++ d.group)) (given (not b) (record { before = H; wish = w; drawn = d }))
+    by : (b : Bool) → is_nothing d.group ≡ b
+        → All (IsKeptIf (H ++ d.group)) (given (not b) (record { before = H; wish = w; drawn = d }))
     by true none = All-nil (IsKeptIf (H ++ d.group))
-    by false some = All-cons (IsKeptIf (H ++ d.group)) act [] (kept-new H w d adds accepts some) (All-nil (IsKeptIf (H ++ d.group)))
+    by false some =
+        All-cons (IsKeptIf (H ++ d.group)) act [] (kept-new H w d adds accepts some) (All-nil (IsKeptIf (H ++ d.group)))
 
 record Once (acts : List Act) (H : History) (ws : List WishInTurn) : Type 0 where
   ends : ends_in H (without_repeats acts H ws) ≡ ends_in H ws
@@ -231,23 +251,27 @@ record Once (acts : List Act) (H : History) (ws : List WishInTurn) : Type 0 wher
 
 -- the same of a wish before others, which repeats this act or none
 record OnceFor (acts : List Act) (H : History) (w : WishInTurn) (ws : List WishInTurn) (o : Option Act) : Type 0 where
-  ends : ends_in H (given (is_none o) w ++ without_repeats (acts ++ acts_of H w.wish) (after_wish H w.wish) ws) ≡ ends_in (after_wish H w.wish) ws
+  ends : ends_in H (given (is_none o) w ++ without_repeats (acts ++ acts_of H w.wish) (after_wish H w.wish) ws)
+      ≡ ends_in (after_wish H w.wish) ws
   told : IfSome o (λ (act : Act). IsToldAgain act H w)
   told_behind : AreToldAgain (acts ++ acts_of H w.wish) (after_wish H w.wish) ws
 
 acts-once_for : (acts : List Act) (H : History) (w : WishInTurn) (ws : List WishInTurn) → All (IsKeptIf H) acts
-    → Once (acts ++ acts_of H w.wish) (after_wish H w.wish) ws → (o : Option Act) → repeated_by acts H w.wish ≡ o → OnceFor acts H w ws o
+    → Once (acts ++ acts_of H w.wish) (after_wish H w.wish) ws → (o : Option Act) → repeated_by acts H w.wish ≡ o
+    → OnceFor acts H w ws o
 acts-once_for acts H w ws kept rest None is = record { ends = rest.ends; told = tt; told_behind = rest.told }
 acts-once_for acts H w ws kept rest (Some act) is =
     let found = found-there (IsKeptIf H) (is_repeat_of H w.wish) acts act kept is in
     let told_so : AgainIn H w act = again H w act found.0 found.1 in
     record {
-      ends = ap (λ (G : History). ends_in G (without_repeats (acts ++ acts_of H w.wish) (after_wish H w.wish) ws)) (sym told_so.stays) ∙ rest.ends;
+      ends = ap (λ (G : History). ends_in G (without_repeats (acts ++ acts_of H w.wish) (after_wish H w.wish) ws))
+          (sym told_so.stays) ∙ rest.ends;
       told = told_so.told;
       told_behind = rest.told;
     }
 
-acts-once : (acts : List Act) (H : History) (ws : List WishInTurn) → Legal H → All (IsKeptIf H) acts → AreBounded ws → Once acts H ws
+acts-once : (acts : List Act) (H : History) (ws : List WishInTurn) → Legal H → All (IsKeptIf H) acts → AreBounded ws
+    → Once acts H ws
 acts-once acts H [] legal kept bounded = record { ends = refl; told = tt }
 acts-once acts H (w ∷ ws) legal kept bounded =
     let behind = goes-on acts H w.wish legal kept bounded.0 (drawn H w.wish) refl in

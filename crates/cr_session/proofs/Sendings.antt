@@ -6,6 +6,7 @@ use Rattle.cr_session.specs.declared.turn.TurnResult.TheVariants as turns
 use Rattle.cr_session.specs.Turning.{turn_block, turn_front, turn_text}
 
 -- what is printed, and what is written behind it
-pub turn_parts : (turn : TurnResult) (sending : Sending) → turn_front turn sending ++ turn_block turn sending ≡ turn_text turn sending
+pub turn_parts : (turn : TurnResult) (sending : Sending)
+    → turn_front turn sending ++ turn_block turn sending ≡ turn_text turn sending
 turn_parts (turns.Answered reply) sending = refl
 turn_parts turn sending = append-nil (turn_text turn sending)

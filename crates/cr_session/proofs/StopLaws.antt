@@ -1,6 +1,6 @@
 -- What a stop may leave of a connection's groups, wish by wish.
-use Rattle.std.proofs.Common.{◌≡◌, ◌∙◌, ◌≤◌, ◌⊎◌, ⊎_elim, inl, inr, ℕ, List, [], ◌∷◌, ◌++◌, Bool, true, false, Option, Some, None, Ok, Err, IsTrue, refl}
-use Rattle.std.proofs.Common.{sym, ap, subst, arith, append-nil, append_assoc, cond}
+use Rattle.std.proofs.Common.{◌≡◌, ◌∙◌, ◌≤◌, ◌⊎◌, ⊎_elim, inl, inr, ℕ, List, [], ◌∷◌, ◌++◌, Bool, true, false, Option}
+use Rattle.std.proofs.Common.{Some, None, Ok, Err, IsTrue, refl, sym, ap, subst, arith, append-nil, append_assoc, cond}
 use Rattle.std.specs.Bool.{⊤}
 use Rattle.std.proofs.lemmas.List.{map-append}
 use Rattle.cr_base.specs.declared.row.Row.{Row}
@@ -20,9 +20,11 @@ after-lost : (j : JudgedWish) → j.lost ≡ true → history_after j ≡ j.seen
 unfolding history_after
 after-lost j is = ap (λ b. cond b j.seen (and_drawn j.seen (drawn j.seen j.wish))) is
 
-after-kept : (j : JudgedWish) (d : Option Drawn) → j.lost ≡ false → drawn j.seen j.wish ≡ d → history_after j ≡ and_drawn j.seen d
+after-kept : (j : JudgedWish) (d : Option Drawn) → j.lost ≡ false → drawn j.seen j.wish ≡ d
+    → history_after j ≡ and_drawn j.seen d
 unfolding history_after
-after-kept j d is drew = ap (λ b. cond b j.seen (and_drawn j.seen (drawn j.seen j.wish))) is ∙ ap (and_drawn j.seen) drew
+after-kept j d is drew =
+    ap (λ b. cond b j.seen (and_drawn j.seen (drawn j.seen j.wish))) is ∙ ap (and_drawn j.seen) drew
 
 -- where nothing is drawn, it stays
 after-nothing : (j : JudgedWish) (lost : Bool) → j.lost ≡ lost → drawn j.seen j.wish ≡ None → history_after j ≡ j.seen
@@ -56,16 +58,23 @@ lost-more js ks H group l = record {
 }
 
 module _ (opens : List ℕ → List Row → Type 0) (opening : History) where
-  opens-more : (js ks : List JudgedWish) (image : List ℕ) → OpensBehind opens opening js image → OpensBehind opens opening (js ++ ks) image
+  opens-more : (js ks : List JudgedWish) (image : List ℕ) → OpensBehind opens opening js image
+      → OpensBehind opens opening (js ++ ks) image
   opens-more js ks image o = record {
     first = o.first;
     others = o.others ++ ks;
     parts = ap (λ (x : List JudgedWish). x ++ ks) o.parts ∙ append_assoc o.first o.others ks;
-    opens_to = ⊎_elim (λ same. inl same) (λ more. inr (more.0, lost-more js ks (history_behind opening o.first) more.0 more.1, more.2)) o.opens_to;
+    opens_to =
+        ⊎_elim (λ same. inl same) (λ more. inr (
+          more.0,
+          lost-more js ks (history_behind opening o.first) more.0 more.1,
+          more.2,
+        )) o.opens_to;
   }
 
   -- the rows of the history that these of them lead to
-  opens-all : (js ks : List JudgedWish) (H : History) (image : List ℕ) → history_behind opening js ≡ H → opens image (rows_of H)
+  opens-all : (js ks : List JudgedWish) (H : History) (image : List ℕ) → history_behind opening js ≡ H
+      → opens image (rows_of H)
       → OpensBehind opens opening (js ++ ks) image
   opens-all js ks H image at o = record {
     first = js;
@@ -75,7 +84,8 @@ module _ (opens : List ℕ → List Row → Type 0) (opening : History) where
   }
 
   -- or those and one group
-  opens-group : (js ks : List JudgedWish) (H group : History) (image : List ℕ) → history_behind opening js ≡ H → IsLostGroup (js ++ ks) H group
+  opens-group : (js ks : List JudgedWish) (H group : History) (image : List ℕ) → history_behind opening js ≡ H
+      → IsLostGroup (js ++ ks) H group
       → opens image (rows_of (H ++ group)) → OpensBehind opens opening (js ++ ks) image
   opens-group js ks H group image at lost o = record {
     first = js;
@@ -89,10 +99,12 @@ module _ (opens : List ℕ → List Row → Type 0) (opening : History) where
   }
 
 -- behind the history's rows come those of the group
-rows-behind : (opens : List ℕ → List Row → Type 0) (H group : History) (added : List Row) (image : List ℕ) → added ≡ rows_of group
+rows-behind : (opens : List ℕ → List Row → Type 0) (H group : History) (added : List Row) (image : List ℕ)
+    → added ≡ rows_of group
     → opens image (rows_of H ++ added) → opens image (rows_of (H ++ group))
 rows-behind opens H group added image is o =
-    subst (λ (r : List Row). opens image r) (ap (λ (a : List Row). rows_of H ++ a) is ∙ sym (map-append row_of H group)) o
+    subst (λ (r : List Row). opens image r) (ap (λ (a : List Row). rows_of H ++ a) is ∙ sym (map-append row_of H group))
+    o
 
 -- ---- one wish behind another
 
@@ -106,17 +118,20 @@ module _ {K : Type 0} (tells : Bool) (rows : K → Option (List Row)) (tried : K
     pub at : history_behind opening done ≡ H
     pub later : begun ≤ moment k
     -- what was tried since the last that was kept are groups of wishes that were lost
-    pub lost : (added : List Row) → IsAmong (tried k) added → (group : History) × IsLostGroup done H group × (added ≡ rows_of group)
+    pub lost : (added : List Row) → IsAmong (tried k) added → (group : History) × IsLostGroup done H group
+        × (added ≡ rows_of group)
     pub since : (image : List ℕ) → left_since k begun image → OpensBehind opens opening done image
 
   -- before the first of them
   pub kept-none : (k : K) → begun ≤ moment k → tried k ≡ []
-      → ((image : List ℕ) → left_since k begun image → OpensTo opens (rows_of opening) (tried k) image) → KeptBehind [] opening k
+      → ((image : List ℕ) → left_since k begun image → OpensTo opens (rows_of opening) (tried k) image)
+      → KeptBehind [] opening k
   kept-none k later none between = record {
     at = refl;
     later = later;
     lost = λ added among. absurd (untried added among);
-    since = λ image left. ⊎_elim (λ same. opens-all opens opening [] [] opening image refl same) (λ one. absurd (untried one.0 one.1)) (between image left);
+    since = λ image left. ⊎_elim (λ same. opens-all opens opening [] [] opening image refl same)
+        (λ one. absurd (untried one.0 one.1)) (between image left);
   }
     where
       untried : (added : List Row) → IsAmong (tried k) added → ⊥
@@ -134,21 +149,25 @@ module _ {K : Type 0} (tells : Bool) (rows : K → Option (List Row)) (tried : K
     module _ (ks : List JudgedWish) (d : Drawn)
         (own : (image : List ℕ) → opens image (rows_of (H ++ d.group)) → OpensBehind opens opening (done ++ ks) image)
         (stops : LeavesOnly moment left_since k k' (OpensTo opens (rows_of H) (rows_of d.group ∷ tried k))) where
-      one-more : (image : List ℕ) (added : List Row) → IsAmong (rows_of d.group ∷ tried k) added → opens image (rows_of H ++ added)
+      one-more : (image : List ℕ) (added : List Row) → IsAmong (rows_of d.group ∷ tried k) added
+          → opens image (rows_of H ++ added)
           → OpensBehind opens opening (done ++ ks) image
       one-more image added (inl is) o = own image (rows-behind opens H d.group added image is o)
       one-more image added (inr there) o =
           let l = kept.lost added there in
-          opens-group opens opening done ks H l.0 image kept.at (lost-more done ks H l.0 l.1) (rows-behind opens H l.0 added image l.2 o)
+          opens-group opens opening done ks H l.0 image kept.at (lost-more done ks H l.0 l.1)
+          (rows-behind opens H l.0 added image l.2 o)
 
       since-then : (image : List ℕ) → left_since k' begun image → OpensBehind opens opening (done ++ ks) image
       since-then image left =
           ⊎_elim (λ before. opens-more opens opening done ks image (kept.since image before))
-          (λ now. ⊎_elim (λ same. opens-all opens opening done ks H image kept.at same) (λ one. one-more image one.0 one.1 one.2) now)
+          (λ now. ⊎_elim (λ same. opens-all opens opening done ks H image kept.at same)
+          (λ one. one-more image one.0 one.1 one.2) now)
           (stops.before begun image kept.later left)
 
     -- a wish that draws nothing
-    kept-nothing : (j : JudgedWish) (H' : History) → history_after j ≡ H' → H' ≡ H → k' ≡ k → KeptBehind (done ++ j ∷ []) H' k'
+    kept-nothing : (j : JudgedWish) (H' : History) → history_after j ≡ H' → H' ≡ H → k' ≡ k
+        → KeptBehind (done ++ j ∷ []) H' k'
     kept-nothing j H' at same still =
         subst (λ (x : K). KeptBehind (done ++ j ∷ []) H' x) (sym still) (record {
           at = behind-last opening done j ∙ at;
@@ -158,13 +177,17 @@ module _ {K : Type 0} (tells : Bool) (rows : K → Option (List Row)) (tried : K
         })
 
     -- one whose group was lost
-    kept-lost : (j : JudgedWish) (d : Drawn) (H' : History) → j.lost ≡ true → j.seen ≡ H → drawn H j.wish ≡ Some d → history_after j ≡ H' → H' ≡ H
-        → Adding rows tried moment left_since opens {T = ⊤} {E = ⊤} (Err tt) H d.group k k' → KeptBehind (done ++ j ∷ []) H' k'
+    kept-lost : (j : JudgedWish) (d : Drawn) (H' : History) → j.lost ≡ true → j.seen ≡ H → drawn H j.wish ≡ Some d
+        → history_after j ≡ H' → H' ≡ H
+        → Adding rows tried moment left_since opens {T = ⊤} {E = ⊤} (Err tt) H d.group k k'
+        → KeptBehind (done ++ j ∷ []) H' k'
     kept-lost j d H' lost seen draws at same a = record {
       at = behind-last opening done j ∙ at;
       later = (let before = kept.later in let more = a.stops.later in omega (arith, before, more));
       lost = λ added among. by added among a.tried_after;
-      since = since-then (j ∷ []) d (λ image o. opens-group opens opening done (j ∷ []) H d.group image kept.at (its H refl) o) a.stops;
+      since =
+          since-then (j ∷ []) d (λ image o. opens-group opens opening done (j ∷ []) H d.group image kept.at (its H refl)
+          o) a.stops;
     }
       where
         its : (h : History) → h ≡ H → IsLostGroup (done ++ j ∷ []) h d.group
@@ -178,16 +201,23 @@ module _ {K : Type 0} (tells : Bool) (rows : K → Option (List Row)) (tried : K
           group_is = refl;
         }
 
-        by : (added : List Row) → IsAmong (tried k') added → (tried k' ≡ []) ⊎ ((tried k' ≡ rows_of d.group ∷ []) ⊎ (tried k' ≡ tried k))
+        by : (added : List Row) → IsAmong (tried k') added
+            → (tried k' ≡ []) ⊎ ((tried k' ≡ rows_of d.group ∷ []) ⊎ (tried k' ≡ tried k))
             → (group : History) × IsLostGroup (done ++ j ∷ []) H' group × (added ≡ rows_of group)
         by added among (inl none) = absurd (subst (λ (l : List (List Row)). IsAmong l added) none among)
-        by added among (inr (inl one)) =
-            (d.group, its H' same, ⊎_elim (λ is. is) (λ none. absurd none) (subst (λ (l : List (List Row)). IsAmong l added) one among))
-        by added among (inr (inr as_was)) = lost-before (j ∷ []) H' same added (subst (λ (l : List (List Row)). IsAmong l added) as_was among)
+        by added among (inr (inl one)) = (
+          d.group,
+          its H' same,
+          ⊎_elim (λ is. is) (λ none. absurd none)
+              (subst (λ (l : List (List Row)). IsAmong l added) one among),
+        )
+        by added among (inr (inr as_was)) =
+            lost-before (j ∷ []) H' same added (subst (λ (l : List (List Row)). IsAmong l added) as_was among)
 
     -- one whose group was kept
     kept-added : (j : JudgedWish) (d : Drawn) (H' : History) → history_after j ≡ H' → H' ≡ H ++ d.group
-        → Adding rows tried moment left_since opens {T = ⊤} {E = ⊤} (Ok tt) H d.group k k' → KeptBehind (done ++ j ∷ []) H' k'
+        → Adding rows tried moment left_since opens {T = ⊤} {E = ⊤} (Ok tt) H d.group k k'
+        → KeptBehind (done ++ j ∷ []) H' k'
     kept-added j d H' at adds a = record {
       at = behind-last opening done j ∙ at;
       later = (let before = kept.later in let more = a.stops.later in omega (arith, before, more));
@@ -195,14 +225,16 @@ module _ {K : Type 0} (tells : Bool) (rows : K → Option (List Row)) (tried : K
       since = since-then (j ∷ []) d whole a.stops;
     }
       where
-        whole : (image : List ℕ) → opens image (rows_of (H ++ d.group)) → OpensBehind opens opening (done ++ j ∷ []) image
+        whole : (image : List ℕ) → opens image (rows_of (H ++ d.group))
+            → OpensBehind opens opening (done ++ j ∷ []) image
         whole image o =
             subst (λ (js : List JudgedWish). OpensBehind opens opening js image) (append-nil (done ++ j ∷ []))
             (opens-all opens opening (done ++ j ∷ []) [] H' image (behind-last opening done j ∙ at)
             (subst (λ (h : History). opens image (rows_of h)) (sym adds) o))
 
     -- by whether it was lost, and by what it draws
-    kept-wish : (j : JudgedWish) (lost : Bool) (d : Option Drawn) → IsTrue tells → j.lost ≡ lost → j.seen ≡ H → drawn H j.wish ≡ d → tries lost H d k k'
+    kept-wish : (j : JudgedWish) (lost : Bool) (d : Option Drawn) → IsTrue tells → j.lost ≡ lost → j.seen ≡ H
+        → drawn H j.wish ≡ d → tries lost H d k k'
         → KeptBehind (done ++ j ∷ []) (history_after j) k'
     kept-wish j lost None told is seen draws did =
         kept-nothing j (history_after j) refl
@@ -211,30 +243,38 @@ module _ {K : Type 0} (tells : Bool) (rows : K → Option (List Row)) (tried : K
         kept-lost j d (history_after j) is seen draws refl (after-lost j is ∙ seen) (did told)
     kept-wish j false (Some d) told is seen draws did =
         kept-added j d (history_after j) refl
-        (after-kept j (Some d) is (ap (λ (h : History). drawn h j.wish) seen ∙ draws) ∙ ap (λ (h : History). h ++ d.group) seen) (did told)
+        (after-kept j (Some d) is (ap (λ (h : History). drawn h j.wish) seen ∙ draws)
+        ∙ ap (λ (h : History). h ++ d.group) seen) (did told)
 
   -- a wish as it was judged
-  kept-judged : (done : List JudgedWish) (H : History) (k k' : K) → IsTrue tells → KeptBehind done H k → (j : JudgedWish) → j.seen ≡ H
+  kept-judged : (done : List JudgedWish) (H : History) (k k' : K) → IsTrue tells → KeptBehind done H k
+      → (j : JudgedWish) → j.seen ≡ H
       → TriesWish tries j k k' → KeptBehind (done ++ j ∷ []) (history_after j) k'
   kept-judged done H k k' told kept j seen did =
       kept-wish done H k k' kept j j.lost (drawn H j.wish) told refl seen refl
       (subst (λ (h : History). tries j.lost h (drawn h j.wish) k k') seen did)
 
   -- and all of them
-  pub kept-along : (js done : List JudgedWish) (b b' : Ledger) (k k' : K) → IsTrue tells → KeptBehind done b.history k → Replays js b b'
+  pub kept-along : (js done : List JudgedWish) (b b' : Ledger) (k k' : K) → IsTrue tells → KeptBehind done b.history k
+      → Replays js b b'
       → TriesAlong tries js k k' → KeptBehind (done ++ js) b'.history k'
   kept-along [] done b b' k k' told kept r t =
       subst (λ (x : List JudgedWish). KeptBehind x b'.history k') (sym (append-nil done))
-      (subst (λ (x : K). KeptBehind done b'.history x) (sym t) (subst (λ (l : Ledger). KeptBehind done l.history k) (sym r) kept))
+      (subst (λ (x : K). KeptBehind done b'.history x) (sym t)
+      (subst (λ (l : Ledger). KeptBehind done l.history k) (sym r) kept))
   kept-along (j ∷ js) done b b' k k' told kept r t =
       let here = kept-judged done b.history k t.0 told kept j r.1.seen t.1 in
       subst (λ (x : List JudgedWish). KeptBehind x b'.history k') (append_assoc done (j ∷ []) js)
-      (kept-along js (done ++ j ∷ []) r.0 b' t.0 k' told (subst (λ (h : History). KeptBehind (done ++ j ∷ []) h t.0) (sym r.1.history) here) r.2 t.2)
+      (kept-along js (done ++ j ∷ []) r.0 b' t.0 k' told
+      (subst (λ (h : History). KeptBehind (done ++ j ∷ []) h t.0) (sym r.1.history) here) r.2 t.2)
 
 -- over a keeper that is as it was
-pub wishes-none : {K : Type 0} (tells : Bool) (rows : K → Option (List Row)) (tried : K → List (List Row)) (moment : K → ℕ)
-    (left_since : K → ℕ → List ℕ → Type 0) (opens : List ℕ → List Row → Type 0) (k : K) (opening : History) (judged : List JudgedWish)
+pub wishes-none : {K : Type 0} (tells : Bool) (rows : K → Option (List Row)) (tried : K → List (List Row))
+    (moment : K → ℕ)
+    (left_since : K → ℕ → List ℕ → Type 0) (opens : List ℕ → List Row → Type 0) (k : K) (opening : History)
+    (judged : List JudgedWish)
     → KeepsWishes tells tried moment left_since opens k k opening judged
 wishes-none tells rows tried moment left_since opens k opening judged told none between image left =
     opens-more opens opening [] judged image
-    ((kept-none tells rows tried moment left_since opens (moment k) opening k (omega arith) none between).since image left)
+    ((kept-none tells rows tried moment left_since opens (moment k) opening k (omega arith) none between).since image
+    left)

@@ -22,36 +22,47 @@ use Rattle.cr_session.proofs.StopLaws.{KeptBehind, kept-along, kept-none}
 left-closed : {T : Type 0} (left : Option T) (x y : T) → left ≡ Some y → IfSome left (λ value. x ≡ value) → x ≡ y
 left-closed {T} left x y is closes = subst (λ (o : Option T). IfSome o (λ value. x ≡ value)) is closes
 
-module _ {K S Root : Type 0} (tells : Bool) (rows : K → Option (List Row)) (tried : K → List (List Row)) (moment : K → ℕ)
+module _ {K S Root : Type 0} (tells : Bool) (rows : K → Option (List Row)) (tried : K → List (List Row))
+    (moment : K → ℕ)
     (left_since : K → ℕ → List ℕ → Type 0) (opens : List ℕ → List Row → Type 0)
     (list : SeenBook K → List Stamped) (faults : SeenBook K → ℕ) (root : SeenBook K → Root) (first x : SeenBook K)
-    (left : S → Option (List ℕ)) (gives : S → S → List ℕ → Type 0) (ending : Ending) (p p' : KnownPass K) (source source' : S) (f f' : ℕ) (d d' : Desk) where
+    (left : S → Option (List ℕ)) (gives : S → S → List ℕ → Type 0) (ending : Ending) (p p' : KnownPass K)
+    (source source' : S) (f f' : ℕ) (d d' : Desk) where
   abbrev tries : Tries K
   tries = tries_of tells rows tried moment left_since opens
 
   module _ (whole : p.share ≡ 64) (begins : p.left ≡ Some first) (seen : p.seen ≡ list first) (bare : p.mine ≡ [])
       (closes : Closes list faults root first p' x)
-      (c : ConnectionInHistory tries left gives ending 0 [] (in_history p source f d) (in_history p' source' f' d')) where
+      (c : ConnectionInHistory tries left gives ending 0 [] (in_history p source f d)
+      (in_history p' source' f' d')) where
     abbrev judged : List JudgedWish
     judged = c.answered ++ listed c.failed
 
-    pub stops-closed : KeepsWishes tells tried moment left_since opens first.keeper x.keeper (list first) (c.answered ++ listed c.failed)
-    stops-closed told none between image left_here = kept.since image (subst (λ (k : K). left_since k (moment first.keeper) image) last left_here)
+    pub stops-closed : KeepsWishes tells tried moment left_since opens first.keeper x.keeper (list first)
+        (c.answered ++ listed c.failed)
+    stops-closed told none between image left_here =
+        kept.since image (subst (λ (k : K). left_since k (moment first.keeper) image) last left_here)
       where
-        alone : (c.judged.share ≡ 64) × (y : SeenBook K) × (c.judged.left ≡ Some y) × TriesAlong tries judged first.keeper y.keeper
+        alone : (c.judged.share ≡ 64) × (y : SeenBook K) × (c.judged.left ≡ Some y)
+            × TriesAlong tries judged first.keeper y.keeper
         alone = tries-alone tries judged p c.judged first whole begins c.turns
 
-        kept : KeptBehind tells rows tried moment left_since opens (moment first.keeper) (list first) judged (list x) alone.1.keeper
+        kept : KeptBehind tells rows tried moment left_since opens (moment first.keeper) (list first) judged (list x)
+            alone.1.keeper
         kept = kept-along tells rows tried moment left_since opens (moment first.keeper) (list first) judged []
-            (record { history = list first; faults = faults first }) (record { history = list x; faults = faults x }) first.keeper alone.1.keeper told
-            (kept-none tells rows tried moment left_since opens (moment first.keeper) (list first) first.keeper (omega arith) none between)
+            (record { history = list first; faults = faults first }) (record { history = list x; faults = faults x })
+            first.keeper alone.1.keeper told
+            (kept-none tells rows tried moment left_since opens (moment first.keeper) (list first) first.keeper
+            (omega arith) none between)
             (replays-closed tries list faults root first x p c.judged p' seen bare closes
-            (stays_behind tries ending 0 c.got c.got c.answered c.failed c.judged p' d d' c.settled c.ends) judged c.turns)
+            (stays_behind tries ending 0 c.got c.got c.answered c.failed c.judged p' d d' c.settled c.ends) judged
+            c.turns)
             alone.3
 
         at_rest : p' ≡ c.judged → x.keeper ≡ alone.1.keeper
         at_rest same =
-            ap (λ (b : SeenBook K). b.keeper) (left-closed p'.left x alone.1 (ap (λ (k : KnownPass K). k.left) same ∙ alone.2) closes.left)
+            ap (λ (b : SeenBook K). b.keeper) (left-closed p'.left x alone.1
+            (ap (λ (k : KnownPass K). k.left) same ∙ alone.2) closes.left)
 
         in_vain : (w : Wish) → TurnsInVain tries w c.judged p' → x.keeper ≡ alone.1.keeper
         in_vain w v =
@@ -61,4 +72,5 @@ module _ {K S Root : Type 0} (tells : Bool) (rows : K → Option (List Row)) (tr
         -- behind the turns of the wishes nothing is tried
         last : x.keeper ≡ alone.1.keeper
         last = ⊎_elim at_rest (λ turn. in_vain turn.0 turn.1)
-            (behind_judged (TakesTurns tries) (TurnsInVain tries) ending 0 c.got c.got c.answered c.failed c.judged p' d d' c.settled c.ends)
+            (behind_judged (TakesTurns tries) (TurnsInVain tries) ending 0 c.got c.got c.answered c.failed c.judged p' d
+            d' c.settled c.ends)

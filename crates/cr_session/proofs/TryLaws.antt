@@ -1,5 +1,6 @@
 -- What a turn does with the keeper, by what its wish draws.
-use Rattle.std.proofs.Common.{◌≡◌, ℕ, List, Bool, true, false, Option, Some, None, IsSome, Result, Ok, Err, IsTrue, ap, sym, subst, refl}
+use Rattle.std.proofs.Common.{◌≡◌, ℕ, List, Bool, true, false, Option, Some, None, IsSome, Result, Ok, Err, IsTrue, ap}
+use Rattle.std.proofs.Common.{sym, subst, refl}
 use Rattle.cr_base.specs.declared.reply.Receipt.{Receipt}
 use Rattle.cr_base.specs.declared.row.Row.{Row}
 use Rattle.cr_base.specs.Drawn.{Drawn}
@@ -17,7 +18,8 @@ use Rattle.cr_session.specs.Turning.{TurnTries}
 -- ---- nothing was drawn
 
 -- what was accepted and draws nothing is a repeat, which changes nothing
-pub accepted-still : {F K : Type 0} (outcome : Outcome F) (b b' : SeenBook K) (receipt : Receipt) → Acts outcome b.log b'.log receipt
+pub accepted-still : {F K : Type 0} (outcome : Outcome F) (b b' : SeenBook K) (receipt : Receipt)
+    → Acts outcome b.log b'.log receipt
     → ((r : Receipt) → outcome ≡ Repeats r → b' ≡ b) → drawn_by outcome ≡ None → b'.keeper ≡ b.keeper
 accepted-still {F} {K} (Repeats r) b b' receipt acts stays none = ap (λ (x : SeenBook K). x.keeper) (stays r refl)
 accepted-still (Judged (Ok drawn)) b b' receipt acts stays none = absurd (cc (none))
@@ -29,11 +31,14 @@ module _ {K : Type 0} (tells : Bool) (rows : K → Option (List Row)) (tried : K
   abbrev tries : Tries K
   tries = tries_of tells rows tried moment left_since opens
 
-  pub nothing-drawn : (unkept : Bool) (H : History) (d : Option Drawn) (k k' : K) → d ≡ None → k' ≡ k → tries unkept H d k k'
-  nothing-drawn unkept H d k k' none same = subst (λ (o : Option Drawn). tries unkept H o k k') (sym none) (λ told. same)
+  pub nothing-drawn : (unkept : Bool) (H : History) (d : Option Drawn) (k k' : K) → d ≡ None → k' ≡ k
+      → tries unkept H d k k'
+  nothing-drawn unkept H d k k' none same =
+      subst (λ (o : Option Drawn). tries unkept H o k k') (sym none) (λ told. same)
 
   -- whatever the turn came to
-  pub tries-nothing : (turn : TurnResult) (H : History) (d : Option Drawn) (k k' : K) → d ≡ None → k' ≡ k → TurnTries tries turn H d k k'
+  pub tries-nothing : (turn : TurnResult) (H : History) (d : Option Drawn) (k k' : K) → d ≡ None → k' ≡ k
+      → TurnTries tries turn H d k k'
   tries-nothing (turns.Refused refused) H d k k' none same = nothing-drawn false H d k k' none same
   tries-nothing (turns.Accepted receipt) H d k k' none same = nothing-drawn false H d k k' none same
   tries-nothing (turns.Answered reply) H d k k' none same = (nothing-drawn false H d k k' none same, λ told. same)
@@ -47,10 +52,13 @@ module _ {K : Type 0} (tells : Bool) (rows : K → Option (List Row)) (tried : K
     abbrev Adds : Option Drawn → Type 0
     Adds d = IsTrue tells → (x : Drawn) → d ≡ Some x → Adding rows tried moment left_since opens result H x.group k k'
 
-    pub tries-kept : (done : T) (d : Option Drawn) → result ≡ Ok done → (d ≡ None → k' ≡ k) → Adds d → tries false H d k k'
+    pub tries-kept : (done : T) (d : Option Drawn) → result ≡ Ok done → (d ≡ None → k' ≡ k) → Adds d
+        → tries false H d k k'
     tries-kept done None is still adds = λ told. still refl
-    tries-kept done (Some x) is still adds = λ told. kept_adding rows tried moment left_since opens result done tt H x.group k k' is (adds told x refl)
+    tries-kept done (Some x) is still adds =
+        λ told. kept_adding rows tried moment left_since opens result done tt H x.group k k' is (adds told x refl)
 
     pub tries-refused : (error : E) (d : Option Drawn) → result ≡ Err error → IsSome d → Adds d → tries true H d k k'
     tries-refused error None is some adds = absurd (cc (some))
-    tries-refused error (Some x) is some adds = λ told. refused_adding rows tried moment left_since opens result error tt H x.group k k' is (adds told x refl)
+    tries-refused error (Some x) is some adds =
+        λ told. refused_adding rows tried moment left_since opens result error tt H x.group k k' is (adds told x refl)

@@ -1,5 +1,6 @@
 -- What a user is answered follows from what she meets.
-use Rattle.std.proofs.Common.{◌≡◌, ◌∙◌, ℕ, List, [], ◌∷◌, ◌++◌, map, Bool, true, false, Option, Some, None, refl, sym, ap, arith}
+use Rattle.std.proofs.Common.{◌≡◌, ◌∙◌, ℕ, List, [], ◌∷◌, ◌++◌, map, Bool, true, false, Option, Some, None, refl, sym}
+use Rattle.std.proofs.Common.{ap, arith}
 use Rattle.std.specs.Prelude.{◌==◌}
 use Rattle.std.proofs.lemmas.Bool.Decides.{nat_tests}
 use Rattle.std.proofs.lemmas.List.{map-append}
@@ -25,7 +26,8 @@ same_user (Some m) None e = cc
 same_user (Some m) (Some n) e = ap Some (sym (equal_numbers m n e))
 
 told-at : (u v : Option ℕ) (H : History) (w : Wish) (closes : Bool) → v ≡ u
-    → told_to v (view v H) w.at (sending_of w closes) w.what ≡ answer_at u (record { seen = view u H; wish = w; closes = closes })
+    → told_to v (view v H) w.at (sending_of w closes) w.what
+    ≡ answer_at u (record { seen = view u H; wish = w; closes = closes })
 unfolding answer_at
 told-at u v H w closes e = ap (λ x. told_to x (view x H) w.at (sending_of w closes) w.what) e
 
@@ -33,15 +35,18 @@ told-at u v H w closes e = ap (λ x. told_to x (view x H) w.at (sending_of w clo
 answered : (u : Option ℕ) (H : History) (w : Wish) (closes : Bool) (b : Bool) → is_hers u H w ≡ b
     → given b (told H w closes) ≡ map (answer_at u) (given b (record { seen = view u H; wish = w; closes = closes }))
 unfolding told
-answered u H w closes true e = ap (λ (text : List ℕ). text ∷ []) (told-at u (caller H w) H w closes (same_user u (caller H w) e))
+answered u H w closes true e =
+    ap (λ (text : List ℕ). text ∷ []) (told-at u (caller H w) H w closes (same_user u (caller H w) e))
 answered u H w closes false e = refl
 
 -- all of them
 hears-by_meets : (u : Option ℕ) (H : History) (ws : List WishInTurn) → hears u H ws ≡ map (answer_at u) (meets u H ws)
 hears-by_meets u H [] = refl
 hears-by_meets u H (w ∷ ws) =
-    ap (λ (texts : List (List ℕ)). texts ++ hears u (after_wish H w.wish) ws) (answered u H w.wish w.closes (is_hers u H w.wish) refl)
-    ∙ ap (λ (texts : List (List ℕ)). map (answer_at u) (encounter w) ++ texts) (hears-by_meets u (after_wish H w.wish) ws)
+    ap (λ (texts : List (List ℕ)). texts ++ hears u (after_wish H w.wish) ws)
+    (answered u H w.wish w.closes (is_hers u H w.wish) refl)
+    ∙ ap (λ (texts : List (List ℕ)). map (answer_at u) (encounter w) ++ texts)
+    (hears-by_meets u (after_wish H w.wish) ws)
     ∙ sym (map-append (answer_at u) (encounter w) (meets u (after_wish H w.wish) ws))
   where
     encounter : WishInTurn → List Encounter
@@ -49,4 +54,5 @@ hears-by_meets u H (w ∷ ws) =
 
 pub two_runs : (u : Option ℕ) (one other : Run) → MeetsAlike u one other → HearsAlike u one other
 two_runs u one other e =
-    hears-by_meets u one.opening one.wishes ∙ ap (map (answer_at u)) e ∙ sym (hears-by_meets u other.opening other.wishes)
+    hears-by_meets u one.opening one.wishes ∙ ap (map (answer_at u)) e
+    ∙ sym (hears-by_meets u other.opening other.wishes)

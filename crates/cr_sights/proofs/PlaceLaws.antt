@@ -1,5 +1,6 @@
 -- At which place of some entries the last of a series stands.
-use Rattle.std.proofs.Common.{◌≡◌, ◌∙◌, ℕ, ◌+◌, ◌<◌, ◌≤◌, Bool, true, false, cond, List, [], ◌∷◌, ◌++◌, length, take, get_or, eqb, refl, sym, ap, subst, arith}
+use Rattle.std.proofs.Common.{◌≡◌, ◌∙◌, ℕ, ◌+◌, ◌<◌, ◌≤◌, Bool, true, false, cond, List, [], ◌∷◌, ◌++◌, length, take}
+use Rattle.std.proofs.Common.{get_or, eqb, refl, sym, ap, subst, arith}
 use Rattle.std.specs.Prelude.{not, ◌||◌, slice_index, Option, Some, None}
 use Rattle.std.proofs.lemmas.Bool.{ne_eqb}
 use Rattle.std.proofs.lemmas.Bool.Decides.{nat_tests}
@@ -17,7 +18,8 @@ eqb-same n = grind (arith, nat_tests)
 
 module _ (k : ℕ) where
   -- behind some entries come more
-  last_place-append : (d n : ℕ) (xs ys : History) → last_place k d n (xs ++ ys) ≡ last_place k (last_place k d n xs) (n + length xs) ys
+  last_place-append : (d n : ℕ) (xs ys : History)
+      → last_place k d n (xs ++ ys) ≡ last_place k (last_place k d n xs) (n + length xs) ys
   last_place-append d n [] ys = ap (λ (m : ℕ). last_place k d m ys) (let e : n ≡ n + 0 = omega arith in e)
   last_place-append d n (e ∷ xs) ys =
       last_place-append (cond (is_of k e.entry) n d) (n + 1) xs ys
@@ -25,12 +27,15 @@ module _ (k : ℕ) where
       (let s : n + 1 + length xs ≡ n + length (e ∷ xs) = omega arith in s)
 
   -- one more entry is the last where it is of the series
-  last_place-push : (H : History) (e : Stamped) → last_place k 0 1 (H ++ e ∷ []) ≡ cond (is_of k e.entry) (length H + 1) (last_place k 0 1 H)
+  last_place-push : (H : History) (e : Stamped)
+      → last_place k 0 1 (H ++ e ∷ []) ≡ cond (is_of k e.entry) (length H + 1) (last_place k 0 1 H)
   last_place-push H e =
       last_place-append 0 1 H (e ∷ [])
-      ∙ ap (λ (m : ℕ). last_place k (last_place k 0 1 H) m (e ∷ [])) (let z : 1 + length H ≡ length H + 1 = omega arith in z)
+      ∙ ap (λ (m : ℕ). last_place k (last_place k 0 1 H) m (e ∷ []))
+      (let z : 1 + length H ≡ length H + 1 = omega arith in z)
 
-  kept-step : (d n : ℕ) (H : History) (b : Bool) → (some_of k H ≡ false → last_place k d (n + 1) H ≡ d) → b || some_of k H ≡ false
+  kept-step : (d n : ℕ) (H : History) (b : Bool) → (some_of k H ≡ false → last_place k d (n + 1) H ≡ d)
+      → b || some_of k H ≡ false
       → last_place k (cond b n d) (n + 1) H ≡ d
   kept-step d n H true rest none = cc
   kept-step d n H false rest none = rest none
@@ -60,7 +65,8 @@ module _ (k : ℕ) where
     where
       by : (b : Bool) → some_of k H ≡ b → eqb (last_place k d n H) d ≡ not (some_of k H)
       by false none = ap (λ (m : ℕ). eqb m d) (kept d n H none) ∙ eqb-same d ∙ sym (ap not none)
-      by true some = ne_eqb (last_place k d n H) d (let h = moved d n H some in λ e. omega (arith, e, h)) ∙ sym (ap not some)
+      by true some = ne_eqb (last_place k d n H) d (let h = moved d n H some in λ e. omega (arith, e, h))
+          ∙ sym (ap not some)
 
   -- the place of an entry of the series is the last one where none behind it is
   last-here : (before : History) (e : Stamped) (after : History) → is_of k e.entry ≡ true
@@ -68,7 +74,8 @@ module _ (k : ℕ) where
   last-here before e after of =
       ap (λ (m : ℕ). eqb m n)
       (last_place-append 0 1 before (e ∷ after)
-      ∙ ap (λ (m : ℕ). last_place k (last_place k 0 1 before) m (e ∷ after)) (let z : 1 + length before ≡ n = omega arith in z)
+      ∙ ap (λ (m : ℕ). last_place k (last_place k 0 1 before) m (e ∷ after))
+      (let z : 1 + length before ≡ n = omega arith in z)
       ∙ ap (λ b. last_place k (cond b n (last_place k 0 1 before)) (n + 1) after) of)
       ∙ still-last n (n + 1) after (omega arith)
     where
@@ -82,20 +89,24 @@ pub none-noted : AreLast [] []
 none-noted k = refl
 
 -- by the places of a series, none of these entries is of it; so where there is no series
-pub none-passed : (places : List ℕ) (H : History) (series : Option ℕ) → AreLast places H → none_of series H ≡ is_last_at places series 0
+pub none-passed : (places : List ℕ) (H : History) (series : Option ℕ) → AreLast places H
+    → none_of series H ≡ is_last_at places series 0
 none-passed places H None last = refl
 none-passed places H (Some k) last = sym (ap (λ (n : ℕ). eqb n 0) (last k) ∙ still-last k 0 1 H (omega arith))
 
 -- none behind an entry is of its series
-pub none-behind : (places : List ℕ) (before : History) (e : Stamped) (after : History) (series : Option ℕ) → ((k : ℕ) → is_of k e.entry ≡ is_number series k)
+pub none-behind : (places : List ℕ) (before : History) (e : Stamped) (after : History) (series : Option ℕ)
+    → ((k : ℕ) → is_of k e.entry ≡ is_number series k)
     → AreLast places (before ++ e ∷ after) → none_of series after ≡ is_last_at places series (length before + 1)
 none-behind places before e after None of last = refl
 none-behind places before e after (Some k) of last =
     sym (ap (λ (n : ℕ). eqb n (length before + 1)) (last k) ∙ last-here k before e after (of k ∙ eqb-same k))
 
 -- one more entry is noted
-pub noted : (old new : List ℕ) (H : History) (e : Stamped) (series : Option ℕ) → ((k : ℕ) → is_of k e.entry ≡ is_number series k)
-    → ((k : ℕ) → slice_index new k ≡ cond (is_number series k) (length H + 1) (slice_index old k)) → AreLast old H → AreLast new (H ++ e ∷ [])
+pub noted : (old new : List ℕ) (H : History) (e : Stamped) (series : Option ℕ)
+    → ((k : ℕ) → is_of k e.entry ≡ is_number series k)
+    → ((k : ℕ) → slice_index new k ≡ cond (is_number series k) (length H + 1) (slice_index old k)) → AreLast old H
+    → AreLast new (H ++ e ∷ [])
 noted old new H e series of now was k =
     now k
     ∙ ap (cond (is_number series k) (length H + 1)) (was k)
@@ -109,8 +120,10 @@ module _ (log : History) (at : ℕ) (d : Stamped) (within : at < length log) whe
   at-length = length-take-le at log (omega (arith, within))
 
   -- it is noted behind those before it
-  pub noted-here : (old new : List ℕ) (series : Option ℕ) → ((k : ℕ) → is_of k (get_or log at d).entry ≡ is_number series k)
-      → ((k : ℕ) → slice_index new k ≡ cond (is_number series k) (at + 1) (slice_index old k)) → AreLast old (take at log) → AreLast new (take (at + 1) log)
+  pub noted-here : (old new : List ℕ) (series : Option ℕ)
+      → ((k : ℕ) → is_of k (get_or log at d).entry ≡ is_number series k)
+      → ((k : ℕ) → slice_index new k ≡ cond (is_number series k) (at + 1) (slice_index old k))
+      → AreLast old (take at log) → AreLast new (take (at + 1) log)
   noted-here old new series of now was =
       subst (AreLast new) (sym (one_more log at d within))
       (noted old new (take at log) (get_or log at d) series of

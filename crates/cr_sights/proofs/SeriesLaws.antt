@@ -1,5 +1,6 @@
 -- An entry is of a series where it tells something of it.
-use Rattle.std.proofs.Common.{◌≡◌, ◌∙◌, ℕ, ◌+◌, ◌*◌, ◌<◌, ◌≤◌, ◌/◌, ◌%◌, Bool, true, false, List, [], ◌∷◌, ◌++◌, eqb, refl, ap, arith}
+use Rattle.std.proofs.Common.{◌≡◌, ◌∙◌, ℕ, ◌+◌, ◌*◌, ◌<◌, ◌≤◌, ◌/◌, ◌%◌, Bool, true, false, List, [], ◌∷◌, ◌++◌, eqb}
+use Rattle.std.proofs.Common.{refl, ap, arith}
 use Rattle.std.specs.Prelude.{not, ◌&&◌, ◌||◌, Some}
 use Rattle.std.specs.List.{list_any}
 use Rattle.std.proofs.lemmas.Bool.Decides.{nat_tests}
@@ -14,8 +15,10 @@ use Rattle.cr_sights.specs.Series.{is_label, is_of, none_of}
 
 -- ---- what tells of a series
 
-module _ {A : Type 0} (told : Entry → List A) (test : Entry → Bool) (tells : (e : Entry) → is_nothing (told e) ≡ not (test e)) where
-  none-step : (xs : List A) (b : Bool) (rest : List A) (more : Bool) → is_nothing xs ≡ not b → is_nothing rest ≡ not more
+module _ {A : Type 0} (told : Entry → List A) (test : Entry → Bool)
+    (tells : (e : Entry) → is_nothing (told e) ≡ not (test e)) where
+  none-step : (xs : List A) (b : Bool) (rest : List A) (more : Bool) → is_nothing xs ≡ not b
+      → is_nothing rest ≡ not more
       → is_nothing (xs ++ rest) ≡ not (b || more)
   none-step [] true rest more here behind = cc
   none-step [] false rest more here behind = behind
@@ -24,7 +27,8 @@ module _ {A : Type 0} (told : Entry → List A) (test : Entry → Bool) (tells :
 
   none-any : (H : History) → none_in told H ≡ not (list_any (λ (e : Stamped). test e.entry) H)
   none-any [] = refl
-  none-any (e ∷ H) = none-step (told e.entry) (test e.entry) (all_told told H) (list_any (λ (e : Stamped). test e.entry) H) (tells e.entry) (none-any H)
+  none-any (e ∷ H) = none-step (told e.entry) (test e.entry) (all_told told H)
+      (list_any (λ (e : Stamped). test e.entry) H) (tells e.entry) (none-any H)
 
 -- ---- the series of a paper
 
@@ -59,7 +63,8 @@ module _ (paper index k : ℕ) (at : k % 29 ≡ index) (of : k / 29 ≡ paper) w
   content-tells : index ≡ 27 → (e : Entry) → is_nothing (upload_told paper e) ≡ not (is_of k e)
   content-tells last (Submitted q title abstract) = rw (at, last) refl
   content-tells last (Revised q title abstract) = rw (at, last) refl
-  content-tells last (Uploaded q version content) = rw (at, of, last) (given-nothing (eqb q paper) (record { version = version; content = content }))
+  content-tells last (Uploaded q version content) =
+      rw (at, of, last) (given-nothing (eqb q paper) (record { version = version; content = content }))
   content-tells last (Reviewed q o version form) = rw (at, last) (ap not (label-other 27 o (eqb q (k / 29)) refl))
   content-tells last (Decided q decision) = rw (at, last) refl
   content-tells last _ = refl
@@ -73,7 +78,8 @@ module _ (paper index k : ℕ) (at : k % 29 ≡ index) (of : k / 29 ≡ paper) w
   decision-tells end _ = refl
 
   form-tells : is_label index ≡ true → (e : Entry) → is_nothing (form_told paper index e) ≡ not (is_of k e)
-  form-tells label (Reviewed q o version form) = rw (at, of) (given-nothing (eqb q paper && eqb o index) _ ∙ ap not (label-same index o (eqb q paper) label))
+  form-tells label (Reviewed q o version form) =
+      rw (at, of) (given-nothing (eqb q paper && eqb o index) _ ∙ ap not (label-same index o (eqb q paper) label))
   form-tells label (Submitted q title abstract) = rw at (ap not (first-other index (eqb q (k / 29)) label))
   form-tells label (Revised q title abstract) = rw at (ap not (first-other index (eqb q (k / 29)) label))
   form-tells label (Uploaded q version content) = rw at (ap not (content-other index (eqb q (k / 29)) label))

@@ -23,9 +23,11 @@ part-shown test shown x part is shows = is ∙ by test ∙ ap (λ (b : Bool). wh
     by true = refl
     by false = refl
 
-pub lent-shown : {A B : Type 0} (f : A → B) (test shown : Bool) (x : A) (part : Option A) → part ≡ then_some test x → test ≡ shown
+pub lent-shown : {A B : Type 0} (f : A → B) (test shown : Bool) (x : A) (part : Option A) → part ≡ then_some test x
+    → test ≡ shown
     → option_map f part ≡ where_shown shown (Some (f x))
-lent-shown f test shown x part is shows = ap (option_map f) is ∙ by test ∙ ap (λ (b : Bool). where_shown b (Some (f x))) shows
+lent-shown f test shown x part is shows =
+    ap (option_map f) is ∙ by test ∙ ap (λ (b : Bool). where_shown b (Some (f x))) shows
   where
     by : (b : Bool) → option_map f (then_some b x) ≡ where_shown b (Some (f x))
     by true = refl
@@ -51,12 +53,14 @@ author-shown by accepted =
     behind false false c d = refl
 
 -- who is told of an entry by the whole or by its parts, is told of what they share
-pub told-shared : (whole part more : Bool) → true ≡ (whole || ((whole && part) || ((whole && not part) || more))) → (whole || (more || false)) ≡ true
+pub told-shared : (whole part more : Bool) → true ≡ (whole || ((whole && part) || ((whole && not part) || more)))
+    → (whole || (more || false)) ≡ true
 told-shared true part more told = refl
 told-shared false part more told = sym (told ∙ last-row more)
 
 -- what an entry shows that is seen, where it is this one
-pub seen-shown : (r : Reader) (at : Around) (e : Stamped) (x : Entry) → e.entry ≡ x → is_seen r at (record e { entry = x }) ≡ true
+pub seen-shown : (r : Reader) (at : Around) (e : Stamped) (x : Entry) → e.entry ≡ x
+    → is_seen r at (record e { entry = x }) ≡ true
     → joined r at (record e { entry = x }) ∷ [] ≡ sight r at e
 seen-shown r at e x is seen =
     ap (λ (b : Bool). given b (joined r at (record e { entry = x }))) (sym seen)

@@ -1,5 +1,6 @@
 -- A user's view, entry by entry over the history.
-use Rattle.std.proofs.Common.{◌≡◌, ◌∙◌, ℕ, ◌+◌, ◌<◌, ◌≤◌, List, [], ◌∷◌, ◌++◌, length, take, drop, get_or, refl, sym, ap, subst, arith, append_assoc, append-nil, length-append, Option, Some, None}
+use Rattle.std.proofs.Common.{◌≡◌, ◌∙◌, ℕ, ◌+◌, ◌<◌, ◌≤◌, List, [], ◌∷◌, ◌++◌, length, take, drop, get_or, refl, sym}
+use Rattle.std.proofs.Common.{ap, subst, arith, append_assoc, append-nil, length-append, Option, Some, None}
 use Rattle.std.specs.Prelude.{IfSome}
 use Rattle.std.proofs.lemmas.Grind.{flat_map-append}
 use Rattle.std.proofs.lemmas.List.{drop_all}
@@ -29,21 +30,25 @@ module _ (r : Reader) (H : History) (at : ℕ) (d : Stamped) (within : at < leng
   step : sights_from r H at ≡ sights_at r H at (get_or H at d) ++ sights_from r H (at + 1)
   step =
       ap (sights r (take at H)) (and_behind H at d within)
-      ∙ ap (λ (before : History). sights_at r H at (get_or H at d) ++ sights r before (drop (at + 1) H)) (sym (one_more H at d within))
+      ∙ ap (λ (before : History). sights_at r H at (get_or H at d) ++ sights r before (drop (at + 1) H))
+      (sym (one_more H at d within))
 
   -- what one entry shows, by what is known of it
   pub seen_here : d ≡ get_or H at d → (seen : View) (position : Position) → IsPositionIn H at position
-      → ((place : Around) → position_of place d.entry ≡ position → seen ≡ sight r place d) → seen ≡ sights_at r H at (get_or H at d)
+      → ((place : Around) → position_of place d.entry ≡ position → seen ≡ sight r place d)
+      → seen ≡ sights_at r H at (get_or H at d)
   seen_here here seen position known is =
       let place : Around = record { before = take at H; after = drop (at + 1) H } in
       is place
       (ap (λ (e : Stamped). position_of place e.entry) here
-      ∙ subst (λ o. IfSome o (λ (e : Stamped). position_of place e.entry ≡ position)) (slice_get-get_or H at d within) known)
+      ∙ subst (λ o. IfSome o (λ (e : Stamped). position_of place e.entry ≡ position)) (slice_get-get_or H at d within)
+      known)
       ∙ ap (λ (e : Stamped). sights_at r H at e) here
 
   -- ---- lengths
 
-  pub counted : (count n : ℕ) (seen : View) → n ≡ length seen → seen ≡ sights_at r H at (get_or H at d) → count + length (sights_from r H at) ≡ length (sights r [] H)
+  pub counted : (count n : ℕ) (seen : View) → n ≡ length seen → seen ≡ sights_at r H at (get_or H at d)
+      → count + length (sights_from r H at) ≡ length (sights r [] H)
       → (count + n) + length (sights_from r H (at + 1)) ≡ length (sights r [] H)
   counted count n seen many is was =
       let l = length-append (sights_at r H at (get_or H at d)) (sights_from r H (at + 1)) in
@@ -67,20 +72,24 @@ pub record Reached (r : Reader) (H : History) (at : ℕ) (s s' : Outlet) : Type 
 pub begun : (r : Reader) (H : History) (s : Outlet) → Reached r H 0 s s
 begun r H s = record { done = []; split = refl; written = writes-nil s }
 
-module _ (r : Reader) (H : History) (at : ℕ) (d : Stamped) (within : at < length H) (line : List ℕ) (seen : View) (is : seen ≡ sights_at r H at (get_or H at d)) (text : line ≡ lines_text seen) where
+module _ (r : Reader) (H : History) (at : ℕ) (d : Stamped) (within : at < length H) (line : List ℕ) (seen : View)
+    (is : seen ≡ sights_at r H at (get_or H at d)) (text : line ≡ lines_text seen) where
   lines : lines_text (sights_from r H at) ≡ line ++ lines_text (sights_from r H (at + 1))
   lines =
-      ap lines_text (step r H at d within) ∙ flat_map-append line_text (sights_at r H at (get_or H at d)) (sights_from r H (at + 1))
+      ap lines_text (step r H at d within) ∙ flat_map-append line_text (sights_at r H at (get_or H at d))
+      (sights_from r H (at + 1))
       ∙ ap (λ (b : List ℕ). b ++ lines_text (sights_from r H (at + 1))) (sym (text ∙ ap lines_text is))
 
   pub wrote_line : (s s' s'' : Outlet) → Reached r H at s s' → Writes line s' s'' → Reached r H (at + 1) s s''
   wrote_line s s' s'' was now = record {
     done = was.done ++ line;
-    split = was.split ∙ ap (λ (b : List ℕ). was.done ++ b) lines ∙ sym (append_assoc was.done line (lines_text (sights_from r H (at + 1))));
+    split = was.split ∙ ap (λ (b : List ℕ). was.done ++ b) lines
+        ∙ sym (append_assoc was.done line (lines_text (sights_from r H (at + 1))));
     written = writes-append was.done line s s' s'' was.written now;
   }
 
-  pub broke_line : (s s' s'' : Outlet) → Reached r H at s s' → BreaksOff line s' s'' → BreaksOff (lines_text (sights r [] H)) s s''
+  pub broke_line : (s s' s'' : Outlet) → Reached r H at s s' → BreaksOff line s' s''
+      → BreaksOff (lines_text (sights r [] H)) s s''
   broke_line s s' s'' was now =
       let rest = lines_text (sights_from r H (at + 1)) in
       subst (λ (b : List ℕ). BreaksOff b s s'') (sym (was.split ∙ ap (λ (b : List ℕ). was.done ++ b) lines))
@@ -88,15 +97,21 @@ module _ (r : Reader) (H : History) (at : ℕ) (d : Stamped) (within : at < leng
 
 -- ---- the ends
 
-pub written_whole : (r : Reader) (H : History) (at : ℕ) (s s' : Outlet) → length H ≤ at → Reached r H at s s' → Writes (lines_text (sights r [] H)) s s'
+pub written_whole : (r : Reader) (H : History) (at : ℕ) (s s' : Outlet) → length H ≤ at → Reached r H at s s'
+    → Writes (lines_text (sights r [] H)) s s'
 written_whole r H at s s' all was =
     subst (λ (b : List ℕ). Writes b s s')
-    (sym (was.split ∙ ap (λ (rest : History). was.done ++ lines_text (sights r (take at H) rest)) (drop_all at H all) ∙ append-nil was.done)) was.written
+    (sym (was.split ∙ ap (λ (rest : History). was.done ++ lines_text (sights r (take at H) rest)) (drop_all at H all)
+    ∙ append-nil was.done)) was.written
 
-pub stopped_short : (r : Reader) (H : History) (at : ℕ) (s s' : Outlet) → Reached r H at s s' → StopsShort (lines_text (sights r [] H)) s s'
-stopped_short r H at s s' was = record { part = was.done; missing = lines_text (sights_from r H at); parts = was.split; written = was.written }
+pub stopped_short : (r : Reader) (H : History) (at : ℕ) (s s' : Outlet) → Reached r H at s s'
+    → StopsShort (lines_text (sights r [] H)) s s'
+stopped_short r H at s s' was =
+    record { part = was.done; missing = lines_text (sights_from r H at); parts = was.split; written = was.written }
 
-pub counted_whole : (r : Reader) (H : History) (at count : ℕ) → length H ≤ at → count + length (sights_from r H at) ≡ length (sights r [] H) → count ≡ length (sights r [] H)
+pub counted_whole : (r : Reader) (H : History) (at count : ℕ) → length H ≤ at
+    → count + length (sights_from r H at) ≡ length (sights r [] H) → count ≡ length (sights r [] H)
 counted_whole r H at count all was =
-    let none : length (sights_from r H at) ≡ 0 = ap (λ (rest : History). length (sights r (take at H) rest)) (drop_all at H all) in
+    let none : length (sights_from r H at) ≡ 0 =
+    ap (λ (rest : History). length (sights r (take at H) rest)) (drop_all at H all) in
     omega (arith, none, was)

@@ -1,5 +1,6 @@
 -- What a search says of the tags of a paper, and what all are with one on in its place, or off.
-use Rattle.std.proofs.Common.{ℕ, Bool, true, false, ◌≡◌, ◌∙◌, List, length, set, insert, Result, Ok, Err, MatchResult, sym, ap, subst, arith}
+use Rattle.std.proofs.Common.{ℕ, Bool, true, false, ◌≡◌, ◌∙◌, List, length, set, insert, Result, Ok, Err, MatchResult}
+use Rattle.std.proofs.Common.{sym, ap, subst, arith}
 use Rattle.std.specs.List.{remove}
 use Rattle.std.specs.List.Sorted.{IsSearchInRange, IsBinarySearchResult}
 use Rattle.cr_base.specs.declared.filed.Filed.{Filed}
@@ -13,8 +14,10 @@ use Rattle.cr_tags.specs.BinarySearch.{IsAt, IsGapFor}
 use Rattle.cr_tags.proofs.PaperTags.{sorted-of, with_own, switched-of}
 
 -- a search ends where the tag stands, or where it would stand
-pub searched : (t : SetTag) (tags : List SetTag) (found : Result ℕ ℕ) → IsSortedTags tags → IsSearchInRange found (length tags)
-    → IsBinarySearchResult (λ (s : SetTag). tag_order s t) tags found → MatchResult found (IsAt t tags) (IsGapFor t tags)
+pub searched : (t : SetTag) (tags : List SetTag) (found : Result ℕ ℕ) → IsSortedTags tags
+    → IsSearchInRange found (length tags)
+    → IsBinarySearchResult (λ (s : SetTag). tag_order s t) tags found
+    → MatchResult found (IsAt t tags) (IsGapFor t tags)
 searched t tags (Ok index) sorted in_range is = record { in_range = in_range; is = is }
 searched t tags (Err index) sorted in_range is =
     let parts = is (sorted-searchable tag_order tag_order-total tag_before tag_before-order t tags sorted) in
@@ -28,20 +31,23 @@ module _ (p : ℕ) (t : SetTag) (tags : TagsState) (index : ℕ) (sorted : IsSor
   pub replaced : IsAt t own index → with_values p (set own index t) tags ≡ tag_switched true (filed p t) tags
   replaced at =
       ap (λ (ts : List SetTag). with_values p ts tags)
-      (sym (switched-found tag_order tag_order-total tag_before tag_before-order true t own index (sorted-of p tags sorted) at.in_range at.is))
+      (sym (switched-found tag_order tag_order-total tag_before tag_before-order true t own index
+      (sorted-of p tags sorted) at.in_range at.is))
       ∙ switched-of p t true tags sorted
 
   pub inserted : IsGapFor t own index → with_values p (insert own index t) tags ≡ tag_switched true (filed p t) tags
   inserted gap =
       ap (λ (ts : List SetTag). with_values p ts tags)
-      (sym (switched-gap tag_order tag_order-total tag_before tag_before-order true t own index gap.in_range gap.before gap.behind))
+      (sym (switched-gap tag_order tag_order-total tag_before tag_before-order true t own index gap.in_range gap.before
+      gap.behind))
       ∙ switched-of p t true tags sorted
 
   -- after it was taken from where it stands
   pub removed : IsAt t own index → with_values p (remove own index) tags ≡ tag_switched false (filed p t) tags
   removed at =
       ap (λ (ts : List SetTag). with_values p ts tags)
-      (sym (switched-found tag_order tag_order-total tag_before tag_before-order false t own index (sorted-of p tags sorted) at.in_range at.is))
+      (sym (switched-found tag_order tag_order-total tag_before tag_before-order false t own index
+      (sorted-of p tags sorted) at.in_range at.is))
       ∙ switched-of p t false tags sorted
 
   -- and as they stay, where the tag isn't on
@@ -49,9 +55,11 @@ module _ (p : ℕ) (t : SetTag) (tags : TagsState) (index : ℕ) (sorted : IsSor
   absent gap =
       sym (with_own p tags sorted)
       ∙ ap (λ (ts : List SetTag). with_values p ts tags)
-      (sym (switched-gap tag_order tag_order-total tag_before tag_before-order false t own index gap.in_range gap.before gap.behind))
+      (sym (switched-gap tag_order tag_order-total tag_before tag_before-order false t own index gap.in_range gap.before
+      gap.behind))
       ∙ switched-of p t false tags sorted
 
 -- the order stays
-pub sorted-after : (on : Bool) (x : Filed SetTag) (tags new : TagsState) → IsSortedState tags → new ≡ tag_switched on x tags → IsSortedState new
+pub sorted-after : (on : Bool) (x : Filed SetTag) (tags new : TagsState) → IsSortedState tags
+    → new ≡ tag_switched on x tags → IsSortedState new
 sorted-after on x tags new sorted is = subst IsSortedState (sym is) (sorted-tag_switched on x tags sorted)

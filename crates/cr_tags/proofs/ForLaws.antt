@@ -8,7 +8,8 @@ use Rattle.cr_base.specs.Tags.{is_tag_for, tags_for}
 
 -- it is where one of the tags is it and is for her
 pub any-for : (u : Option ℕ) (chair : Bool) (tag : List ℕ) (sets : List SetTag)
-    → list_any (λ (s : SetTag). is_tag_for u chair s && bytes_eq tag s.tag) sets ≡ list_any (bytes_eq tag) (tags_for u chair sets)
+    → list_any (λ (s : SetTag). is_tag_for u chair s && bytes_eq tag s.tag) sets ≡ list_any (bytes_eq tag)
+    (tags_for u chair sets)
 any-for u chair tag [] = refl
 any-for u chair tag (s ∷ sets) = by (is_tag_for u chair s) (any-for u chair tag sets)
   where

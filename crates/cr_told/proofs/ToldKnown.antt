@@ -39,9 +39,11 @@ all-known H legal = by H (all-there H kept.in_order) (by-authors H kept.in_order
     kept : Invariants H
     kept = legal_invariants H legal
 
-    by : (G : History) → AllByRecursion (λ (e : Stamped). IsThere H e.stamp.maker e.entry) G → AllByRecursion (λ (e : Stamped). IsByAuthor H e.stamp.maker e.entry) G
+    by : (G : History) → AllByRecursion (λ (e : Stamped). IsThere H e.stamp.maker e.entry) G
+        → AllByRecursion (λ (e : Stamped). IsByAuthor H e.stamp.maker e.entry) G
         → AllByRecursion (λ (e : Stamped). IsSettled H e.stamp.maker e.entry) G
-        → AllByRecursion (λ (e : Stamped). IsHeld H e.stamp.maker e.entry) G → AllByRecursion (λ (e : Stamped). IsKnown H e.stamp.maker e.entry) G
+        → AllByRecursion (λ (e : Stamped). IsHeld H e.stamp.maker e.entry) G
+        → AllByRecursion (λ (e : Stamped). IsKnown H e.stamp.maker e.entry) G
     by [] there author settled held = tt
     by (e ∷ G) there author settled held = (
       record { there = there.0; author = author.0; settled = settled.0; held = held.0 },
@@ -57,15 +59,20 @@ known-own false x shown = absurd (true≢false (sym shown))
 abbrev pub AllOf : EntryKind → Type 0
 AllOf kind =
     (u : Option ℕ) (H : History) (before : View) (s : Sighting) (after : View) (what : Part) → Legal H
-    → view u H ≡ before ++ s ∷ after → IsTrue (is_kind kind s) → IsTrue (has what s) → IsTrue (is_part_told u H s kind what || is_left_untold u H s after kind what)
+    → view u H ≡ before ++ s ∷ after → IsTrue (is_kind kind s) → IsTrue (has what s)
+    → IsTrue (is_part_told u H s kind what || is_left_untold u H s after kind what)
 
 -- a part of an entry of this kind, as a user is shown it, is told or left out
 abbrev pub Each : EntryKind → Type 0
 Each kind =
-    (u : Option ℕ) (H : History) (legal : Legal H) (before after : View) (what : Part) (earlier later : History) (stamp : Stamp) (more : Bool) (e : Entry)
-    → earlier ++ stamped stamp more e ∷ later ≡ H → IsKnown H stamp.maker e → is_told u H earlier later stamp.maker e ≡ true → view u H ≡ before ++ shown_to u H earlier later stamp e ∷ after
-    → IsTrue (is_kind kind (shown_to u H earlier later stamp e)) → IsTrue (has what (shown_to u H earlier later stamp e))
-    → IsTrue (is_part_told u H (shown_to u H earlier later stamp e) kind what || is_left_untold u H (shown_to u H earlier later stamp e) after kind what)
+    (u : Option ℕ) (H : History) (legal : Legal H) (before after : View) (what : Part) (earlier later : History)
+    (stamp : Stamp) (more : Bool) (e : Entry)
+    → earlier ++ stamped stamp more e ∷ later ≡ H → IsKnown H stamp.maker e
+    → is_told u H earlier later stamp.maker e ≡ true → view u H ≡ before ++ shown_to u H earlier later stamp e ∷ after
+    → IsTrue (is_kind kind (shown_to u H earlier later stamp e))
+    → IsTrue (has what (shown_to u H earlier later stamp e))
+    → IsTrue (is_part_told u H (shown_to u H earlier later stamp e) kind what
+    || is_left_untold u H (shown_to u H earlier later stamp e) after kind what)
 
 -- so it is of each sighting of the kind
 pub all-of : (kind : EntryKind) → Each kind → AllOf kind
@@ -73,5 +80,6 @@ all-of kind each u H before s after what legal is =
     at-sighting u H (λ s. view u H ≡ before ++ s ∷ after → IsTrue (is_kind kind s) → IsTrue (has what s)
     → IsTrue (is_part_told u H s kind what || is_left_untold u H s after kind what))
     (λ (e : Stamped). IsKnown H e.stamp.maker e.entry)
-    (λ earlier later stamp more e whole known told. each u H legal before after what earlier later stamp more e whole known told)
+    (λ earlier later stamp more e whole known told. each u H legal before after what earlier later stamp more e whole
+    known told)
     before s after is (all-known H legal) is

@@ -11,7 +11,8 @@ use Rattle.cr_told.proofs.ToldPartsConflicts.{conflict-all}
 use Rattle.cr_told.proofs.ToldPartsContents.{uploaded-all}
 use Rattle.cr_told.proofs.ToldPartsForms.{reviewed-all}
 use Rattle.cr_told.proofs.ToldPartsInvites.{invited-all, uninvited-all}
-use Rattle.cr_told.proofs.ToldPartsPublic.{registered-all, named-all, dismissed-all, phase-set-all, mode-set-all, deadline-set-all, submitted-all, coauthor-all, revised-all, withdrawn-all}
+use Rattle.cr_told.proofs.ToldPartsPublic.{registered-all, named-all, dismissed-all, phase-set-all, mode-set-all}
+use Rattle.cr_told.proofs.ToldPartsPublic.{deadline-set-all, submitted-all, coauthor-all, revised-all, withdrawn-all}
 use Rattle.cr_told.proofs.ToldPartsSeats.{assigned-all, unassigned-all}
 use Rattle.cr_told.proofs.ToldPartsTags.{tagged-all}
 use Rattle.cr_told.proofs.ToldPartsTalk.{commented-all, responded-all, decided-all}

@@ -1,5 +1,6 @@
 -- Of uploads each part that is shown is told: the versions of a paper have numbers of their own.
-use Rattle.std.proofs.Common.{◌≡◌, ◌≤◌, ℕ, Bool, true, false, List, [], ◌∷◌, ◌++◌, refl, sym, ap, ◌∙◌, ◌||◌, ◌&&◌, Option, Some, eqb, arith, length, length-append}
+use Rattle.std.proofs.Common.{◌≡◌, ◌≤◌, ℕ, Bool, true, false, List, [], ◌∷◌, ◌++◌, refl, sym, ap, ◌∙◌, ◌||◌, ◌&&◌}
+use Rattle.std.proofs.Common.{Option, Some, eqb, arith, length, length-append}
 use Rattle.std.specs.Prelude.{not, IsTrue, unwrap_or}
 use Rattle.std.specs.Str.{bytes_eq}
 use Rattle.std.specs.List.{flat_map, list_any}
@@ -43,21 +44,32 @@ module _ (u : Option ℕ) (p : ℕ) (H : History) where
   content_at k t = only (is_kind kinds.Uploaded t && (is_number t.paper p && is_number t.version k)) (listed t.content)
 
   -- the number of a version that is told next is none of those before
-  next-number : (before : History) (stamp : Stamp) (more : Bool) (e : Entry) (later : History) (k : ℕ) → HasNextNumber before e → k ≤ length (uploads_of p before)
+  next-number : (before : History) (stamp : Stamp) (more : Bool) (e : Entry) (later : History) (k : ℕ)
+      → HasNextNumber before e → k ≤ length (uploads_of p before)
       → content_at k (shown_to u H before later stamp e) ≡ []
   next-number before stamp more (Uploaded paper version content) later k next few =
-      by (eqb paper p) refl (eqb version k) refl (owns u H stamp.maker paper || (not (is_superseded paper later) && (has_before_her u paper H || appears paper H)))
+      by (eqb paper p) refl (eqb version k) refl
+      (owns u H stamp.maker paper || (not (is_superseded paper later)
+      && (has_before_her u paper H || appears paper H)))
     where
       by : (same : Bool) → eqb paper p ≡ same → (this : Bool) → eqb version k ≡ this → (shown : Bool)
           → only (same && is_number (where_known shown version) k) (listed (where_known shown content)) ≡ []
       by false e this f shown = only-false _
       by true e true f shown =
-          absurd (omega (arith, next, few, eqb-true version k f, ap (λ q. length (uploads_of q before)) (eqb-true paper p e)))
+          absurd
+          (omega (
+            arith,
+            next,
+            few,
+            eqb-true version k f,
+            ap (λ q. length (uploads_of q before)) (eqb-true paper p e),
+          ))
       by true e false f true = ap (λ b. only b (content ∷ [])) f
       by true e false f false = refl
   next-number before stamp more e later k next few = refl
 
-  given-none : {A : Type 0} (f : Sighting → List A) (b : Bool) (t : Sighting) (rest : View) → f t ≡ [] → flat_map f rest ≡ [] → flat_map f (given b t ++ rest) ≡ []
+  given-none : {A : Type 0} (f : Sighting → List A) (b : Bool) (t : Sighting) (rest : View) → f t ≡ []
+      → flat_map f rest ≡ [] → flat_map f (given b t ++ rest) ≡ []
   given-none f true t rest e none = ap (λ xs. xs ++ flat_map f rest) e ∙ none
   given-none f false t rest e none = none
 
@@ -66,7 +78,8 @@ module _ (u : Option ℕ) (p : ℕ) (H : History) where
       → flat_map (content_at k) (each_told u H (shown_to u H) before G) ≡ []
   none-later before [] order k few = refl
   none-later before (e ∷ G) order k few =
-      given-none (content_at k) (is_told u H before G e.stamp.maker e.entry) (shown_to u H before G e.stamp e.entry) (each_told u H (shown_to u H) (before ++ e ∷ []) G)
+      given-none (content_at k) (is_told u H before G e.stamp.maker e.entry) (shown_to u H before G e.stamp e.entry)
+      (each_told u H (shown_to u H) (before ++ e ∷ []) G)
       (next-number before e.stamp e.more e.entry G k order.0.number few)
       (none-later (before ++ e ∷ []) G order.1 k more)
     where
@@ -80,17 +93,23 @@ module _ (u : Option ℕ) (p : ℕ) (H : History) where
           )
 
   -- the number that is shown is among those told
-  number-told : (before : History) (stamp : Stamp) (more : Bool) (e : Entry) (later : History) (k : ℕ) → HasNextNumber before e
-      → is_nothing (content_at k (shown_to u H before later stamp e)) ≡ false → k ≤ length (uploads_of p (before ++ stamped stamp more e ∷ []))
+  number-told : (before : History) (stamp : Stamp) (more : Bool) (e : Entry) (later : History) (k : ℕ)
+      → HasNextNumber before e
+      → is_nothing (content_at k (shown_to u H before later stamp e)) ≡ false
+      → k ≤ length (uploads_of p (before ++ stamped stamp more e ∷ []))
   number-told before stamp more (Uploaded paper version content) later k next some =
-      by (eqb paper p) refl (eqb version k) refl (owns u H stamp.maker paper || (not (is_superseded paper later) && (has_before_her u paper H || appears paper H))) some
+      by (eqb paper p) refl (eqb version k) refl
+      (owns u H stamp.maker paper || (not (is_superseded paper later)
+      && (has_before_her u paper H || appears paper H))) some
     where
       grown : uploads_of p (before ++ stamped stamp more (Uploaded paper version content) ∷ [])
           ≡ uploads_of p before ++ (given (eqb paper p) (record { version = version; content = content }) ++ [])
-      grown = flat_map-append (λ (e : Stamped). upload_told p e.entry) before (stamped stamp more (Uploaded paper version content) ∷ [])
+      grown = flat_map-append (λ (e : Stamped). upload_told p e.entry) before
+          (stamped stamp more (Uploaded paper version content) ∷ [])
 
       by : (same : Bool) → eqb paper p ≡ same → (this : Bool) → eqb version k ≡ this → (shown : Bool)
-          → is_nothing (only (same && is_number (where_known shown version) k) (listed (where_known shown content))) ≡ false
+          → is_nothing (only (same && is_number (where_known shown version) k) (listed (where_known shown content)))
+          ≡ false
           → k ≤ length (uploads_of p (before ++ stamped stamp more (Uploaded paper version content) ∷ []))
       by false e this f true h = absurd (true≢false h)
       by false e this f false h = absurd (true≢false h)
@@ -100,7 +119,9 @@ module _ (u : Option ℕ) (p : ℕ) (H : History) where
             next,
             eqb-true version k f,
             ap (λ q. length (uploads_of q before)) (eqb-true paper p e),
-            ap length (grown ∙ ap (λ b. uploads_of p before ++ (given b (record { version = version; content = content }) ++ [])) e),
+            ap length
+                (grown
+                ∙ ap (λ b. uploads_of p before ++ (given b (record { version = version; content = content }) ++ [])) e),
             length-append (uploads_of p before) (record { version = version; content = content } ∷ []),
           )
       by true e false f true h = absurd (true≢false (sym (ap (λ b. is_nothing (only b (content ∷ []))) f) ∙ h))
@@ -119,7 +140,8 @@ module _ (u : Option ℕ) (p : ℕ) (H : History) where
   behind [] = []
   behind (t ∷ ts) = ts
 
-  some-there : {X A : Type 0} (f : X → List A) (first : List X) (s : X) (after : List X) → is_nothing (f s) ≡ false → flat_map f (first ++ s ∷ after) ≡ [] → ⊥
+  some-there : {X A : Type 0} (f : X → List A) (first : List X) (s : X) (after : List X) → is_nothing (f s) ≡ false
+      → flat_map f (first ++ s ∷ after) ≡ [] → ⊥
   some-there f first s after some none =
       true≢false
       (sym (ap is_nothing (sym (flat_map-append f first (s ∷ after)) ∙ none))
@@ -132,11 +154,13 @@ module _ (u : Option ℕ) (p : ℕ) (H : History) where
 
   -- and no earlier one has it either
   none-earlier : (before G : History) → InTurn IsInOrder before G → (first : View) (s : Sighting) (after : View)
-      → each_told u H (shown_to u H) before G ≡ first ++ s ∷ after → (k : ℕ) → is_nothing (content_at k s) ≡ false → flat_map (content_at k) first ≡ []
+      → each_told u H (shown_to u H) before G ≡ first ++ s ∷ after → (k : ℕ) → is_nothing (content_at k s) ≡ false
+      → flat_map (content_at k) first ≡ []
   none-earlier before G order [] s after is k some = refl
   none-earlier before [] order (b ∷ first) s after is k some = absurd (true≢false (ap is_nothing is))
   none-earlier before (e ∷ G) order (b ∷ first) s after is k some =
-      by (is_told u H before G e.stamp.maker e.entry) is (λ is. none-earlier (before ++ e ∷ []) G order.1 (b ∷ first) s after is k some)
+      by (is_told u H before G e.stamp.maker e.entry) is
+      (λ is. none-earlier (before ++ e ∷ []) G order.1 (b ∷ first) s after is k some)
       (λ is. none-earlier (before ++ e ∷ []) G order.1 first s after is k some)
     where
       shown : Sighting
@@ -145,15 +169,18 @@ module _ (u : Option ℕ) (p : ℕ) (H : History) where
       rest : View
       rest = each_told u H (shown_to u H) (before ++ e ∷ []) G
 
-      here : rest ≡ first ++ s ∷ after → (nothing : Bool) → is_nothing (content_at k shown) ≡ nothing → content_at k shown ≡ []
+      here : rest ≡ first ++ s ∷ after → (nothing : Bool) → is_nothing (content_at k shown) ≡ nothing
+          → content_at k shown ≡ []
       here is true h = nothing-is (content_at k shown) h
       here is false h =
           absurd (some-there (content_at k) first s after some
-          (ap (flat_map (content_at k)) (sym is) ∙ none-later (before ++ e ∷ []) G order.1 k (number-told before e.stamp e.more e.entry G k order.0.number h)))
+          (ap (flat_map (content_at k)) (sym is) ∙ none-later (before ++ e ∷ []) G order.1 k
+          (number-told before e.stamp e.more e.entry G k order.0.number h)))
 
       by : (told : Bool) → given told shown ++ rest ≡ b ∷ (first ++ s ∷ after)
           → (rest ≡ b ∷ (first ++ s ∷ after) → content_at k b ++ flat_map (content_at k) first ≡ [])
-          → (rest ≡ first ++ s ∷ after → flat_map (content_at k) first ≡ []) → content_at k b ++ flat_map (content_at k) first ≡ []
+          → (rest ≡ first ++ s ∷ after → flat_map (content_at k) first ≡ [])
+          → content_at k b ++ flat_map (content_at k) first ≡ []
       by false is same next = same is
       by true is same next =
           ap (λ xs. xs ++ flat_map (content_at k) first)
@@ -161,7 +188,8 @@ module _ (u : Option ℕ) (p : ℕ) (H : History) where
           ∙ next (ap behind is)
 
 -- the first of what is shown is this one's, where no earlier one shows any
-first-here : {X A : Type 0} (f : X → List A) (before : List X) (s : X) (after : List X) (x : A) → flat_map f before ≡ [] → f s ≡ x ∷ []
+first-here : {X A : Type 0} (f : X → List A) (before : List X) (s : X) (after : List X) (x : A) → flat_map f before ≡ []
+    → f s ≡ x ∷ []
     → first_of (flat_map f (before ++ s ∷ after)) ≡ Some x
 first-here f before s after x none is =
     ap first_of (flat_map-append f before (s ∷ after))
@@ -172,8 +200,10 @@ module _ (u : Option ℕ) (H : History) (legal : Legal H) (before after : View) 
   abbrev V : View
   V = view u H
 
-  module _ (earlier later : History) (stamp : Stamp) (more : Bool) (paper version : ℕ) (content : List ℕ) (there : IsSubmitted H paper)
-      (wrote : is_author (Some stamp.maker) paper H ≡ true) (told : is_told u H earlier later stamp.maker (Uploaded paper version content) ≡ true)
+  module _ (earlier later : History) (stamp : Stamp) (more : Bool) (paper version : ℕ) (content : List ℕ)
+      (there : IsSubmitted H paper)
+      (wrote : is_author (Some stamp.maker) paper H ≡ true)
+      (told : is_told u H earlier later stamp.maker (Uploaded paper version content) ≡ true)
       (is : view u H ≡ before ++ shown_to u H earlier later stamp (Uploaded paper version content) ∷ after)
     where
       abbrev s : Sighting
@@ -181,46 +211,57 @@ module _ (u : Option ℕ) (H : History) (legal : Legal H) (before after : View) 
 
       -- who is told of an upload is shown all of it
       abbrev sees : Bool
-      sees = owns u H stamp.maker paper || (not (is_superseded paper later) && (has_before_her u paper H || appears paper H))
+      sees =
+          owns u H stamp.maker paper || (not (is_superseded paper later)
+          && (has_before_her u paper H || appears paper H))
 
       -- and reads the paper
       reads : reads_it u paper H there (legal_invariants H legal).in_order ≡ true
       reads =
-          ap (λ b. is_author u paper H || (has_before_her u paper H || b)) (public u paper H there (legal_invariants H legal).in_order)
-          ∙ by (is_number u stamp.maker) (is_author u paper H) (not (is_superseded paper later)) (has_before_her u paper H || appears paper H) told
+          ap (λ b. is_author u paper H || (has_before_her u paper H || b))
+          (public u paper H there (legal_invariants H legal).in_order)
+          ∙ by (is_number u stamp.maker) (is_author u paper H) (not (is_superseded paper later))
+          (has_before_her u paper H || appears paper H) told
           (own-so (λ v. is_author v paper H) u stamp.maker wrote)
         where
           by : (m a x r : Bool) → ((m || a) || (x && r)) ≡ true → (not m || a) ≡ true → (a || r) ≡ true
           by m a x r told own = grind (arith, told, own)
 
-      uploaded : (what : Part) → IsTrue (has what s) → IsTrue (is_part_told u H s kinds.Uploaded what || is_left_untold u H s after kinds.Uploaded what)
+      uploaded : (what : Part) → IsTrue (has what s)
+          → IsTrue (is_part_told u H s kinds.Uploaded what || is_left_untold u H s after kinds.Uploaded what)
       uploaded part.version shown =
           or_left _ false
           (ap (λ key. lists key (is_number s.version)) keyed
-          ∙ (λ i. list_any (is_number (where_known (told i) version)) (shown_by kinds.Uploaded paper (λ (t : Sighting). t.version) V))
+          ∙ (λ i. list_any (is_number (where_known (told i) version))
+          (shown_by kinds.Uploaded paper (λ (t : Sighting). t.version) V))
           ∙ ap (λ (W : View). list_any (eqb version) (shown_by kinds.Uploaded paper (λ (t : Sighting). t.version) W)) is
-          ∙ listed-here (eqb version) (λ (t : Sighting). only (is_kind kinds.Uploaded t && is_number t.paper paper) (listed t.version)) before after s
+          ∙ listed-here (eqb version) (λ (t : Sighting). only (is_kind kinds.Uploaded t && is_number t.paper paper)
+          (listed t.version)) before after s
           ((λ i. list_any (eqb version) (only (eq-eqb paper paper refl i) (listed (where_known (told i) version))))
           ∙ ap (λ b. b || false) (eq-eqb version version refl)))
         where
-          keyed : page_told (λ page. page.versions) u paper H ≡ Some (shown_by kinds.Uploaded paper (λ (t : Sighting). t.version) V)
+          keyed : page_told (λ page. page.versions) u paper H
+              ≡ Some (shown_by kinds.Uploaded paper (λ (t : Sighting). t.version) V)
           keyed =
               (pages_told u paper H legal there).versions
               ∙ ap (λ b. where_known b (shown_by kinds.Uploaded paper (λ (t : Sighting). t.version) V))
               (sym (abstract-some u paper H there (legal_invariants H legal).in_order) ∙ reads)
       uploaded part.content shown =
           or_left _ false
-          ((λ i. agree bytes_eq (where_known (told i) content) (content_answered (answer u V (queries.Version (Some paper) (unwrap_or (where_known (told i) version) 0)))))
+          ((λ i. agree bytes_eq (where_known (told i) content)
+          (content_answered (answer u V (queries.Version (Some paper) (unwrap_or (where_known (told i) version) 0)))))
           ∙ ap (agree bytes_eq (Some content))
           ((contents_told u paper H legal there).version version
           ∙ ap (λ (W : View). first_of (contents_of paper version W)) is
           ∙ first-here (content_at u paper H version) before s after content
-          (none-earlier u paper H [] H (legal_invariants H legal).in_order before s after (sym (view-told u H) ∙ is) version (ap is_nothing shows)) shows)
+          (none-earlier u paper H [] H (legal_invariants H legal).in_order before s after (sym (view-told u H) ∙ is)
+          version (ap is_nothing shows)) shows)
           ∙ same-bytes content)
         where
           shows : content_at u paper H version s ≡ content ∷ []
           shows =
-              (λ i. only (eq-eqb paper paper refl i && is_number (where_known (told i) version) version) (listed (where_known (told i) content)))
+              (λ i. only (eq-eqb paper paper refl i && is_number (where_known (told i) version) version)
+              (listed (where_known (told i) content)))
               ∙ ap (λ b. only b (content ∷ [])) (eq-eqb version version refl)
       uploaded part.at shown = known-own (is_number u stamp.maker) stamp.at shown
       uploaded part.key shown = known-own (is_number u stamp.maker) stamp.key shown
@@ -230,6 +271,9 @@ pub uploaded-all : AllOf kinds.Uploaded
 uploaded-all = all-of kinds.Uploaded each
   where
     each : Each kinds.Uploaded
-    each u H legal before after what earlier later stamp more (Uploaded paper version content) whole known told is kind shown =
-        uploaded u H legal before after earlier later stamp more paper version content known.there known.author told is what shown
-    each u H legal before after what earlier later stamp more e whole known told is kind shown = absurd (true≢false (sym kind))
+    each u H legal before after what earlier later stamp more (Uploaded paper version content) whole known told is kind
+        shown =
+        uploaded u H legal before after earlier later stamp more paper version content known.there known.author told is
+        what shown
+    each u H legal before after what earlier later stamp more e whole known told is kind shown =
+        absurd (true≢false (sym kind))

@@ -1,5 +1,6 @@
 -- Of invitations each part that is shown is told or left out.
-use Rattle.std.proofs.Common.{◌≡◌, ℕ, Bool, true, false, [], ◌∷◌, ◌++◌, refl, sym, ap, subst, ◌∙◌, ◌||◌, ◌&&◌, Option, Some, eqb, List}
+use Rattle.std.proofs.Common.{◌≡◌, ℕ, Bool, true, false, [], ◌∷◌, ◌++◌, refl, sym, ap, subst, ◌∙◌, ◌||◌, ◌&&◌, Option}
+use Rattle.std.proofs.Common.{Some, eqb, List}
 use Rattle.std.specs.Prelude.{not, filter, ◌==◌, IsTrue, unwrap_or}
 use Rattle.std.specs.Option.{option_map}
 use Rattle.std.specs.List.{flat_map, list_any}
@@ -36,10 +37,12 @@ use Rattle.cr_told.proofs.ToldPublic.{roles}
 -- to which papers a user is told that she is invited
 invited-is : (H : History) (v : ℕ) (u : Option ℕ) → u ≡ Some v
     → invited_given u H
-    ≡ Some (filter (λ (p : ℕ). not (is_on_committee (role_shown u (view u H))) && is_shown_invited u p (view u H)) (papers_in_view (view u H)))
+    ≡ Some (filter (λ (p : ℕ). not (is_on_committee (role_shown u (view u H))) && is_shown_invited u p (view u H))
+    (papers_in_view (view u H)))
 invited-is H v u e =
     subst (λ (w : Option ℕ). invited_given w H
-    ≡ Some (filter (λ (p : ℕ). not (is_on_committee (role_shown w (view w H))) && is_shown_invited w p (view w H)) (papers_in_view (view w H)))) (sym e)
+    ≡ Some (filter (λ (p : ℕ). not (is_on_committee (role_shown w (view w H))) && is_shown_invited w p (view w H))
+    (papers_in_view (view w H)))) (sym e)
     (ap (option_map (λ (me : Me). me.invited)) (me_told v H))
 
 module _ (u : Option ℕ) (H : History) (legal : Legal H) (before after : View) where
@@ -75,12 +78,15 @@ module _ (u : Option ℕ) (H : History) (legal : Legal H) (before after : View) 
           stands : is_shown_invited u paper V ≡ true
           stands =
               ap (λ (W : View). is_shown_invited u paper W) is
-              ∙ ap (λ o. unwrap_or o false) (last-here turns before after s true (λ i. only (eq-eqb paper paper refl i && mine i) (true ∷ [])) none)
+              ∙ ap (λ o. unwrap_or o false) (last-here turns before after s true
+              (λ i. only (eq-eqb paper paper refl i && mine i) (true ∷ [])) none)
 
-      invited : (what : Part) → IsTrue (has what s) → IsTrue (is_part_told u H s kinds.Invited what || is_left_untold u H s after kinds.Invited what)
+      invited : (what : Part) → IsTrue (has what s)
+          → IsTrue (is_part_told u H s kinds.Invited what || is_left_untold u H s after kinds.Invited what)
       invited part.user shown = by (is_number u user) refl onc refl (is_nothing (flat_map turns after)) refl
         where
-          by : (mine : Bool) → is_number u user ≡ mine → (out : Bool) → onc ≡ out → (none : Bool) → is_nothing (flat_map turns after) ≡ none
+          by : (mine : Bool) → is_number u user ≡ mine → (out : Bool) → onc ≡ out → (none : Bool)
+              → is_nothing (flat_map turns after) ≡ none
               → ((mine && invited-so) || ((not mine || out) || not none)) ≡ true
           by false e out f none g = refl
           by true e true f none g = or_right invited-so true refl
@@ -96,19 +102,23 @@ invited-all = all-of kinds.Invited each
     each : Each kinds.Invited
     each u H legal before after what earlier later stamp more (Invited paper user) whole known told is kind shown =
         invited u H legal before after earlier later stamp more paper user known.there.0 is what shown
-    each u H legal before after what earlier later stamp more e whole known told is kind shown = absurd (true≢false (sym kind))
+    each u H legal before after what earlier later stamp more e whole known told is kind shown =
+        absurd (true≢false (sym kind))
 
 pub uninvited-all : AllOf kinds.Uninvited
 uninvited-all = all-of kinds.Uninvited each
   where
     each : Each kinds.Uninvited
-    each u H legal before after what earlier later stamp more (Uninvited paper user) whole known told is kind shown = none what shown
+    each u H legal before after what earlier later stamp more (Uninvited paper user) whole known told is kind shown =
+        none what shown
       where
         none : (what : Part) → has what (shown_to u H earlier later stamp (Uninvited paper user)) ≡ true
             → (is_part_told u H (shown_to u H earlier later stamp (Uninvited paper user)) kinds.Uninvited what
-            || is_left_untold u H (shown_to u H earlier later stamp (Uninvited paper user)) after kinds.Uninvited what) ≡ true
+            || is_left_untold u H (shown_to u H earlier later stamp (Uninvited paper user)) after kinds.Uninvited what)
+            ≡ true
         none part.user shown = refl
         none part.at shown = known-own (is_number u stamp.maker) stamp.at shown
         none part.key shown = known-own (is_number u stamp.maker) stamp.key shown
         none _ shown = absurd (true≢false (sym shown))
-    each u H legal before after what earlier later stamp more e whole known told is kind shown = absurd (true≢false (sym kind))
+    each u H legal before after what earlier later stamp more e whole known told is kind shown =
+        absurd (true≢false (sym kind))

@@ -1,5 +1,6 @@
 -- Of tags each part that is shown is told or left out.
-use Rattle.std.proofs.Common.{◌≡◌, ℕ, Bool, true, false, List, [], ◌∷◌, ◌++◌, refl, sym, ap, ◌∙◌, ◌||◌, ◌&&◌, Option, Some, None, eqb, arith, fold}
+use Rattle.std.proofs.Common.{◌≡◌, ℕ, Bool, true, false, List, [], ◌∷◌, ◌++◌, refl, sym, ap, ◌∙◌, ◌||◌, ◌&&◌, Option}
+use Rattle.std.proofs.Common.{Some, None, eqb, arith, fold}
 use Rattle.std.specs.Prelude.{not, map, filter, IsTrue, if◌then◌else◌}
 use Rattle.std.specs.Str.{bytes_eq}
 use Rattle.std.specs.List.{flat_map, list_any}
@@ -37,7 +38,8 @@ use Rattle.cr_told.proofs.ToldPlaces.{number-is}
 -- ---- whom a tag is for
 
 -- a private tag is neither the committee's nor the chairs'
-private-words : (tag : List ℕ) → is_private tag ≡ true → (is_committees tag || is_chairs tag || is_for_chairs tag) ≡ false
+private-words : (tag : List ℕ) → is_private tag ≡ true
+    → (is_committees tag || is_chairs tag || is_for_chairs tag) ≡ false
 private-words [] h = absurd (true≢false (sym h))
 private-words (a ∷ []) h = by (eqb a 126) h
   where
@@ -75,7 +77,8 @@ module _ (u : Option ℕ) (chair : Bool) (tag : List ℕ) where
 
       by : (shown same : Bool) → bytes_eq tag x.tag ≡ same → ((same && shown) || list_any here ts) ≡ true
           → (list_any here ts ≡ true → list_any (bytes_eq tag) (tags_for u chair ts) ≡ true)
-          → list_any (bytes_eq tag) (map (λ (y : SetTag). y.tag) (if shown then x ∷ filter (is_tag_for u chair) ts else filter (is_tag_for u chair) ts)) ≡ true
+          → list_any (bytes_eq tag) (map (λ (y : SetTag). y.tag)
+          (if shown then x ∷ filter (is_tag_for u chair) ts else filter (is_tag_for u chair) ts)) ≡ true
       by true true e h rest = ap (λ b. b || list_any (bytes_eq tag) (tags_for u chair ts)) e
       by true false e h rest = or_right (bytes_eq tag x.tag) (list_any (bytes_eq tag) (tags_for u chair ts)) (rest h)
       by false true e h rest = rest h
@@ -84,13 +87,15 @@ module _ (u : Option ℕ) (chair : Bool) (tag : List ℕ) where
   -- it is put there
   put : (t : SetTag) (ts : List SetTag) → here t ≡ true → list_any here (with_tag true t ts) ≡ true
   put t ts is =
-      list_any-append here (filter (λ (s : SetTag). tag_before s t) ts ++ t ∷ []) (filter (λ (s : SetTag). tag_before t s) ts)
+      list_any-append here (filter (λ (s : SetTag). tag_before s t) ts ++ t ∷ [])
+      (filter (λ (s : SetTag). tag_before t s) ts)
       ∙ or_left _ (list_any here (filter (λ (s : SetTag). tag_before t s) ts))
       (list_any-append here (filter (λ (s : SetTag). tag_before s t) ts) (t ∷ [])
       ∙ or_right (list_any here (filter (λ (s : SetTag). tag_before s t) ts)) _ (ap (λ b. b || false) is))
 
   -- and stays where another is turned on or off
-  split : (lo hi : SetTag → Bool) → ((x : SetTag) → here x ≡ true → (lo x || hi x) ≡ true) → (ts : List SetTag) → list_any here ts ≡ true
+  split : (lo hi : SetTag → Bool) → ((x : SetTag) → here x ≡ true → (lo x || hi x) ≡ true) → (ts : List SetTag)
+      → list_any here ts ≡ true
       → (list_any here (filter lo ts) || list_any here (filter hi ts)) ≡ true
   split lo hi either [] h = absurd (true≢false (sym h))
   split lo hi either (x ∷ ts) h = by (here x) refl (lo x) refl (hi x) refl h (split lo hi either ts)
@@ -112,7 +117,8 @@ module _ (u : Option ℕ) (chair : Bool) (tag : List ℕ) where
 
       by : (q : Bool) → here x ≡ q → (l : Bool) → lo x ≡ l → (g : Bool) → hi x ≡ g → (q || list_any here ts) ≡ true
           → (list_any here ts ≡ true → (list_any here (filter lo ts) || list_any here (filter hi ts)) ≡ true)
-          → (list_any here (if l then x ∷ filter lo ts else filter lo ts) || list_any here (if g then x ∷ filter hi ts else filter hi ts)) ≡ true
+          → (list_any here (if l then x ∷ filter lo ts else filter lo ts)
+          || list_any here (if g then x ∷ filter hi ts else filter hi ts)) ≡ true
       by true e true f true g h rest = first (here x) low (here x || high) e
       by true e true f false g h rest = first (here x) low high e
       by true e false f true g h rest = second (here x) low high e
@@ -122,7 +128,8 @@ module _ (u : Option ℕ) (chair : Bool) (tag : List ℕ) where
       by false e false f true g h rest = more false (here x) low high (rest h)
       by false e false f false g h rest = rest h
 
-  stays : (t : TagTold) (ts : List SetTag) → bytes_eq tag t.tag.tag ≡ false → list_any here ts ≡ true → list_any here (turn ts t) ≡ true
+  stays : (t : TagTold) (ts : List SetTag) → bytes_eq tag t.tag.tag ≡ false → list_any here ts ≡ true
+      → list_any here (turn ts t) ≡ true
   stays t ts other is =
       list_any-append here (low ++ (if t.on then t.tag ∷ [] else [])) high
       ∙ ap (λ b. b || list_any here high) (list_any-append here low (if t.on then t.tag ∷ [] else []))
@@ -145,9 +152,12 @@ module _ (u : Option ℕ) (chair : Bool) (tag : List ℕ) where
           by true e c f = refl
           by false e true f = refl
           by false e false f =
-              absurd (true≢false (sym (and_parts (bytes_eq tag x.tag) (is_tag_for u chair x) h).0 ∙ ap (bytes_eq tag) (tag_before-level x t.tag e f).0 ∙ other))
+              absurd
+              (true≢false (sym (and_parts (bytes_eq tag x.tag) (is_tag_for u chair x) h).0
+              ∙ ap (bytes_eq tag) (tag_before-level x t.tag e f).0 ∙ other))
 
-  stays-on : (turned : List TagTold) (ts : List SetTag) → list_any (λ (t : TagTold). bytes_eq tag t.tag.tag) turned ≡ false → list_any here ts ≡ true
+  stays-on : (turned : List TagTold) (ts : List SetTag)
+      → list_any (λ (t : TagTold). bytes_eq tag t.tag.tag) turned ≡ false → list_any here ts ≡ true
       → list_any here (fold turn ts turned) ≡ true
   stays-on [] ts other is = is
   stays-on (t ∷ turned) ts other is =
@@ -160,11 +170,14 @@ module _ (u : Option ℕ) (p : ℕ) (tag : List ℕ) where
   abbrev names-it : Sighting → Bool
   names-it t = is_kind kinds.Tagged t && is_number t.paper p && agree bytes_eq (Some tag) t.tag
 
-  turns-other : (t : Sighting) → names-it t ≡ false → list_any (λ (r : TagTold). bytes_eq tag r.tag.tag) (tag_seen u p t) ≡ false
+  turns-other : (t : Sighting) → names-it t ≡ false
+      → list_any (λ (r : TagTold). bytes_eq tag r.tag.tag) (tag_seen u p t) ≡ false
   turns-other t other = by (is_number t.paper p) (is_kind kinds.Tagged t) t.tag t.on t.mine other
     where
-      by : (on-it tagged : Bool) (name : Option (List ℕ)) (on : Option Bool) (mine : Bool) → (tagged && on-it && agree bytes_eq (Some tag) name) ≡ false
-          → list_any (λ (r : TagTold). bytes_eq tag r.tag.tag) (only on-it (if tagged then tag_shown u mine name on else [])) ≡ false
+      by : (on-it tagged : Bool) (name : Option (List ℕ)) (on : Option Bool) (mine : Bool)
+          → (tagged && on-it && agree bytes_eq (Some tag) name) ≡ false
+          → list_any (λ (r : TagTold). bytes_eq tag r.tag.tag)
+          (only on-it (if tagged then tag_shown u mine name on else [])) ≡ false
       by on-it false name on mine h = refl
       by on-it true None on mine h = refl
       by on-it true (Some other) None mine h = refl
@@ -173,7 +186,8 @@ module _ (u : Option ℕ) (p : ℕ) (tag : List ℕ) where
           hidden : (private mine : Bool)
               → list_any (λ (r : TagTold). bytes_eq tag r.tag.tag)
               (only false
-              (if private then only mine (record { tag = record { tag = other; owner = u }; on = on } ∷ []) else record { tag = record { tag = other; owner = None }; on = on } ∷ []))
+              (if private then only mine (record { tag = record { tag = other; owner = u }; on = on } ∷ []) else
+              record { tag = record { tag = other; owner = None }; on = on } ∷ []))
               ≡ false
           hidden true true = refl
           hidden true false = refl
@@ -183,18 +197,21 @@ module _ (u : Option ℕ) (p : ℕ) (tag : List ℕ) where
           shown : (private mine : Bool)
               → list_any (λ (r : TagTold). bytes_eq tag r.tag.tag)
               (only true
-              (if private then only mine (record { tag = record { tag = other; owner = u }; on = on } ∷ []) else record { tag = record { tag = other; owner = None }; on = on } ∷ []))
+              (if private then only mine (record { tag = record { tag = other; owner = u }; on = on } ∷ []) else
+              record { tag = record { tag = other; owner = None }; on = on } ∷ []))
               ≡ false
           shown true true = ap (λ b. b || false) h
           shown true false = refl
           shown false mine = ap (λ b. b || false) h
 
-  turn-others : (ts : View) → list_any names-it ts ≡ false → list_any (λ (r : TagTold). bytes_eq tag r.tag.tag) (flat_map (tag_seen u p) ts) ≡ false
+  turn-others : (ts : View) → list_any names-it ts ≡ false
+      → list_any (λ (r : TagTold). bytes_eq tag r.tag.tag) (flat_map (tag_seen u p) ts) ≡ false
   turn-others [] h = refl
   turn-others (t ∷ ts) h =
       let parts = or_parts (names-it t) (list_any names-it ts) h in
       list_any-append (λ (r : TagTold). bytes_eq tag r.tag.tag) (tag_seen u p t) (flat_map (tag_seen u p) ts)
-      ∙ (λ i. turns-other t parts.0 i || list_any (λ (r : TagTold). bytes_eq tag r.tag.tag) (flat_map (tag_seen u p) ts))
+      ∙ (λ i. turns-other t parts.0 i || list_any (λ (r : TagTold). bytes_eq tag r.tag.tag)
+      (flat_map (tag_seen u p) ts))
       ∙ turn-others ts parts.1
 
 -- ---- a tag that is shown
@@ -206,7 +223,8 @@ module _ (u : Option ℕ) (H : History) (legal : Legal H) (before after : View) 
   abbrev lead : Bool
   lead = chairs_committee (role_of u H)
 
-  module _ (earlier later : History) (stamp : Stamp) (more : Bool) (paper : ℕ) (tag : List ℕ) (on : Bool) (there : IsSubmitted H paper)
+  module _ (earlier later : History) (stamp : Stamp) (more : Bool) (paper : ℕ) (tag : List ℕ) (on : Bool)
+      (there : IsSubmitted H paper)
       (told : is_told u H earlier later stamp.maker (Tagged paper tag on) ≡ true)
       (is : view u H ≡ before ++ shown_to u H earlier later stamp (Tagged paper tag on) ∷ after)
     where
@@ -220,17 +238,22 @@ module _ (u : Option ℕ) (H : History) (legal : Legal H) (before after : View) 
       standing-tags = lists (page_told (λ page. page.tags) u paper H) (bytes_eq tag)
 
       -- it is left on, whoever owns it
-      left-on : (owner : Option ℕ) → tag_seen u paper s ≡ record { tag = record { tag = tag; owner = owner }; on = true } ∷ []
-          → is_tag_for u lead (record { tag = tag; owner = owner }) ≡ true → again ≡ false → is_eligible u paper H ≡ true → standing-tags ≡ true
+      left-on : (owner : Option ℕ) → tag_seen u paper s
+          ≡ record { tag = record { tag = tag; owner = owner }; on = true } ∷ []
+          → is_tag_for u lead (record { tag = tag; owner = owner }) ≡ true → again ≡ false
+          → is_eligible u paper H ≡ true → standing-tags ≡ true
       left-on owner seen hers none handling =
           ap (λ tags. lists tags (bytes_eq tag))
-          ((page_lists_told u paper H legal there).tags ∙ ap (λ b. where_known b (tags_in_view u lead paper V)) handling)
+          ((page_lists_told u paper H legal there).tags
+          ∙ ap (λ b. where_known b (tags_in_view u lead paper V)) handling)
           ∙ listed-for u lead tag (tags_left (flat_map (tag_seen u paper) V))
           (ap (λ T. list_any (here u lead tag) (tags_left T))
           (ap (flat_map (tag_seen u paper)) is ∙ flat_map-append (tag_seen u paper) before (s ∷ after)
           ∙ ap (λ xs. flat_map (tag_seen u paper) before ++ (xs ++ flat_map (tag_seen u paper) after)) seen)
-          ∙ ap (list_any (here u lead tag)) (fold-append (turn u lead tag) [] (flat_map (tag_seen u paper) before) (x ∷ flat_map (tag_seen u paper) after))
-          ∙ stays-on u lead tag (flat_map (tag_seen u paper) after) (with_tag true x.tag (tags_left (flat_map (tag_seen u paper) before)))
+          ∙ ap (list_any (here u lead tag)) (fold-append (turn u lead tag) [] (flat_map (tag_seen u paper) before)
+          (x ∷ flat_map (tag_seen u paper) after))
+          ∙ stays-on u lead tag (flat_map (tag_seen u paper) after)
+          (with_tag true x.tag (tags_left (flat_map (tag_seen u paper) before)))
           (turn-others u paper tag after none)
           (put u lead tag x.tag (tags_left (flat_map (tag_seen u paper) before)) (λ i. same-bytes tag i && hers i)))
         where
@@ -247,10 +270,12 @@ module _ (u : Option ℕ) (H : History) (legal : Legal H) (before after : View) 
           mine : (m t k c h l : Bool) → (m || ((t && h) || (k && (h && l)))) ≡ true → ((t || k) || c) ≡ false → m ≡ true
           mine m t k c h l told none = grind (arith, told, none)
 
-          leading : (m t k h l : Bool) → (m || ((t && h) || (k && (h && l)))) ≡ true → ((m && k) && not l) ≡ false → t ≡ false → k ≡ true → l ≡ true
+          leading : (m t k h l : Bool) → (m || ((t && h) || (k && (h && l)))) ≡ true → ((m && k) && not l) ≡ false
+              → t ≡ false → k ≡ true → l ≡ true
           leading m t k h l told still ht hk = grind (arith, told, still, ht, hk)
 
-          by : (private : Bool) → is_private tag ≡ private → (chairs : Bool) → is_for_chairs tag ≡ chairs → standing-tags ≡ true
+          by : (private : Bool) → is_private tag ≡ private → (chairs : Bool) → is_for_chairs tag ≡ chairs
+              → standing-tags ≡ true
           by true p chairs c =
               left-on u
               (λ i. only (eq-eqb paper paper refl i)
@@ -267,26 +292,31 @@ module _ (u : Option ℕ) (H : History) (legal : Legal H) (before after : View) 
               not-chairs = (or_parts (is_committees tag || is_chairs tag) (is_for_chairs tag) words).1
 
               own-tag : is_number u stamp.maker ≡ true
-              own-tag = mine (is_number u stamp.maker) (is_committees tag) (is_chairs tag) (is_for_chairs tag) (is_eligible u paper H) lead told words
+              own-tag = mine (is_number u stamp.maker) (is_committees tag) (is_chairs tag) (is_for_chairs tag)
+                  (is_eligible u paper H) lead told words
           by false p true c =
               left-on None
               (λ i. only (eq-eqb paper paper refl i)
-              (if p i then only (is_number u stamp.maker) (record { tag = record { tag = tag; owner = u }; on = turned i } ∷ [])
+              (if p i then only (is_number u stamp.maker)
+              (record { tag = record { tag = tag; owner = u }; on = turned i } ∷ [])
               else record { tag = record { tag = tag; owner = None }; on = turned i } ∷ []))
               ((λ i. if c i then lead else (if p i then is_owner u None else true))
-              ∙ leading (is_number u stamp.maker) (is_committees tag) (is_chairs tag) (is_eligible u paper H) lead told still (chairs-words tag c) (sym (for-chairs tag) ∙ c))
+              ∙ leading (is_number u stamp.maker) (is_committees tag) (is_chairs tag) (is_eligible u paper H) lead told
+              still (chairs-words tag c) (sym (for-chairs tag) ∙ c))
               none handling
           by false p false c =
               left-on None
               (λ i. only (eq-eqb paper paper refl i)
-              (if p i then only (is_number u stamp.maker) (record { tag = record { tag = tag; owner = u }; on = turned i } ∷ [])
+              (if p i then only (is_number u stamp.maker)
+              (record { tag = record { tag = tag; owner = u }; on = turned i } ∷ [])
               else record { tag = record { tag = tag; owner = None }; on = turned i } ∷ []))
               (λ i. if c i then lead else (if p i then is_owner u None else true))
               none handling
 
       tagged : IsTrue (is_part_told u H s kinds.Tagged part.tag || is_left_untold u H s after kinds.Tagged part.tag)
       tagged =
-          final on standing-tags again (is_number u stamp.maker) (is_eligible u paper H) (is_committees tag) (is_chairs tag) lead told
+          final on standing-tags again (is_number u stamp.maker) (is_eligible u paper H) (is_committees tag)
+          (is_chairs tag) lead told
           (implies (on && not again && is_eligible u paper H && not once-chair) standing-tags
           (λ h. let first = and_parts (on && not again && is_eligible u paper H) (not once-chair) h in
           let second = and_parts (on && not again) (is_eligible u paper H) first.0 in
@@ -301,11 +331,13 @@ module _ (u : Option ℕ) (H : History) (legal : Legal H) (before after : View) 
           is-false true h = absurd (true≢false (sym h))
           is-false false h = refl
 
-          final : (on L X m h t k l : Bool) → (m || ((t && h) || (k && (h && l)))) ≡ true → (not (((on && not X) && h) && not ((m && k) && not l)) || L) ≡ true
+          final : (on L X m h t k l : Bool) → (m || ((t && h) || (k && (h && l)))) ≡ true
+              → (not (((on && not X) && h) && not ((m && k) && not l)) || L) ≡ true
               → ((on && L) || (((not on || X) || (m && not h)) || ((m && k) && not l))) ≡ true
           final on L X m h t k l told hl = grind (arith, told, hl)
 
-      tagged-all' : (what : Part) → IsTrue (has what s) → IsTrue (is_part_told u H s kinds.Tagged what || is_left_untold u H s after kinds.Tagged what)
+      tagged-all' : (what : Part) → IsTrue (has what s)
+          → IsTrue (is_part_told u H s kinds.Tagged what || is_left_untold u H s after kinds.Tagged what)
       tagged-all' part.tag shown = tagged
       tagged-all' part.on shown = tagged
       tagged-all' part.at shown = known-own (is_number u stamp.maker) stamp.at shown
@@ -318,4 +350,5 @@ tagged-all = all-of kinds.Tagged each
     each : Each kinds.Tagged
     each u H legal before after what earlier later stamp more (Tagged paper tag on) whole known told is kind shown =
         tagged-all' u H legal before after earlier later stamp more paper tag on known.there told is what shown
-    each u H legal before after what earlier later stamp more e whole known told is kind shown = absurd (true≢false (sym kind))
+    each u H legal before after what earlier later stamp more e whole known told is kind shown =
+        absurd (true≢false (sym kind))

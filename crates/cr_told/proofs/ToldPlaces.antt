@@ -1,6 +1,7 @@
--- Each sighting on a paper has its place in an answer, or is the reader's own on a paper that she isn't eligible for, or
--- doesn't oversee.
-use Rattle.std.proofs.Common.{◌≡◌, ℕ, Bool, true, false, List, [], ◌∷◌, ◌++◌, refl, sym, ap, ◌∙◌, ◌||◌, ◌&&◌, Option, Some, None, append_assoc, eqb, arith}
+-- Each sighting on a paper has its place in an answer, or is the reader's own on a paper that she isn't eligible for,
+-- or doesn't oversee.
+use Rattle.std.proofs.Common.{◌≡◌, ℕ, Bool, true, false, List, [], ◌∷◌, ◌++◌, refl, sym, ap, ◌∙◌, ◌||◌, ◌&&◌, Option}
+use Rattle.std.proofs.Common.{Some, None, append_assoc, eqb, arith}
 use Rattle.std.specs.Prelude.{not, ◌==◌, is_some, IsTrue, if◌then◌else◌}
 use Rattle.std.specs.List.{AllByRecursion, list_any}
 use Rattle.std.proofs.lemmas.Bool.{or_left, eq-eqb, eqb-true, true≢false}
@@ -8,11 +9,13 @@ use Rattle.std.proofs.lemmas.List.Concat.{flat_map-append}
 use Rattle.std.proofs.lemmas.List.Elements.{recursion_from_All}
 use Rattle.std.proofs.lemmas.List.Folds.{list_any-append}
 use Rattle.cr_base.specs.declared.entry.Entry.{Entry}
-use Rattle.cr_base.specs.declared.entry.Entry.TheVariants.{Withdrawn, Conflict, Bid, Assigned, Unassigned, Reviewed, Commented, Tagged, Decided, Responded}
+use Rattle.cr_base.specs.declared.entry.Entry.TheVariants.{Withdrawn, Conflict, Bid, Assigned, Unassigned, Reviewed}
+use Rattle.cr_base.specs.declared.entry.Entry.TheVariants.{Commented, Tagged, Decided, Responded}
 use Rattle.cr_base.specs.declared.entry.Stamp.{Stamp}
 use Rattle.cr_base.specs.declared.entry.Stamped.{Stamped}
 use Rattle.cr_base.specs.declared.words.Phase.{Phase}
-use Rattle.cr_base.specs.declared.words.Phase.TheVariants.{Setup, Submission, Bidding, Reviewing, Response, Discussion, Notification, Closed}
+use Rattle.cr_base.specs.declared.words.Phase.TheVariants.{Setup, Submission, Bidding, Reviewing, Response, Discussion}
+use Rattle.cr_base.specs.declared.words.Phase.TheVariants.{Notification, Closed}
 use Rattle.cr_base.specs.Lists.{given, is_number}
 use Rattle.cr_base.specs.Drawn.{stamped}
 use Rattle.cr_base.specs.History.{History, paper_told, response_told}
@@ -20,8 +23,11 @@ use Rattle.cr_base.specs.HistoryFacts.{phase_of, mode_of, role_of, papers_of, is
 use Rattle.cr_base.specs.Phases.{is_from, is_phase, committee_works}
 use Rattle.cr_history.specs.Invariants.{Invariants, IsInOrder, InTurn, IsSubmitted, IsHeld}
 use Rattle.cr_policy.specs.Legal.{Legal}
-use Rattle.cr_policy.specs.ShownTo.{is_on_committee, chairs_committee, is_past_submission, is_past_reviewing, has_conflict, serves, is_eligible, visits, reads_visiting, has_before_her, oversees, discusses}
-use Rattle.cr_policy.specs.ShownTo.{is_party, is_answered, is_notified, is_author_since_response, is_responded_to, is_in_programme, is_told, where_known, is_committees, is_chairs, hides_reviewers, is_discussed, is_reviewed, is_decided_again}
+use Rattle.cr_policy.specs.ShownTo.{is_on_committee, chairs_committee, is_past_submission, is_past_reviewing}
+use Rattle.cr_policy.specs.ShownTo.{has_conflict, serves, is_eligible, visits, reads_visiting, has_before_her, oversees}
+use Rattle.cr_policy.specs.ShownTo.{discusses, is_party, is_answered, is_notified, is_author_since_response}
+use Rattle.cr_policy.specs.ShownTo.{is_responded_to, is_in_programme, is_told, where_known, is_committees, is_chairs}
+use Rattle.cr_policy.specs.ShownTo.{hides_reviewers, is_discussed, is_reviewed, is_decided_again}
 use Rattle.cr_policy.specs.Sighting.{Sighting}
 use Rattle.cr_policy.specs.View.{view}
 use Rattle.cr_policy.specs.ViewFacts.{is_user}
@@ -64,7 +70,8 @@ committee-begun Discussion h = refl
 committee-begun Notification h = refl
 committee-begun Closed h = refl
 
-reviewed-in : (phase : Phase) → (is_phase phase Reviewing || is_phase phase Discussion) ≡ true → is_from Reviewing phase ≡ true
+reviewed-in : (phase : Phase) → (is_phase phase Reviewing || is_phase phase Discussion) ≡ true
+    → is_from Reviewing phase ≡ true
 reviewed-in Setup h = absurd (true≢false (sym h))
 reviewed-in Submission h = absurd (true≢false (sym h))
 reviewed-in Bidding h = absurd (true≢false (sym h))
@@ -89,7 +96,8 @@ abbrev pub IsSettled : History → ℕ → Entry → Type 0
 IsSettled H maker (Withdrawn paper) = IsSubmitted H paper × (is_author (Some maker) paper H ≡ true)
 IsSettled H maker (Conflict paper user on) = IsSubmitted H paper
 IsSettled H maker (Bid paper value) = IsSubmitted H paper
-IsSettled H maker (Assigned paper user review_kind ordinal) = IsSubmitted H paper × (is_from Bidding (phase_of H) ≡ true)
+IsSettled H maker (Assigned paper user review_kind ordinal) =
+    IsSubmitted H paper × (is_from Bidding (phase_of H) ≡ true)
 IsSettled H maker (Unassigned paper user ordinal) = IsSubmitted H paper × (is_from Bidding (phase_of H) ≡ true)
 IsSettled H maker (Reviewed paper ordinal version form) =
     IsSubmitted H paper × (is_from Reviewing (phase_of H) ≡ true) × (is_reviewer (Some maker) paper H ≡ true)
@@ -111,8 +119,10 @@ module _ (H : History) where
     writes : (v : Option ℕ) (p : ℕ) → is_author v p before ≡ true → is_author v p H ≡ true
     writes v p is = still-author v p before after H whole is
 
-    settled-one : (stamp : Stamp) (more : Bool) (e : Entry) (rest : History) → after ≡ stamped stamp more e ∷ rest → IsInOrder before (stamped stamp more e) → IsHeld H stamp.maker e → IsSettled H stamp.maker e
-    settled-one stamp more (Withdrawn paper) rest here is held = (there paper is.about, writes (Some stamp.maker) paper is.right)
+    settled-one : (stamp : Stamp) (more : Bool) (e : Entry) (rest : History) → after ≡ stamped stamp more e ∷ rest
+        → IsInOrder before (stamped stamp more e) → IsHeld H stamp.maker e → IsSettled H stamp.maker e
+    settled-one stamp more (Withdrawn paper) rest here is held =
+        (there paper is.about, writes (Some stamp.maker) paper is.right)
     settled-one stamp more (Conflict paper user on) rest here is held = there paper is.about.0
     settled-one stamp more (Bid paper value) rest here is held = there paper is.about
     settled-one stamp more (Assigned paper user review_kind ordinal) rest here is held =
@@ -121,23 +131,27 @@ module _ (H : History) where
         (there paper is.about.0, from Bidding (committee-begun (phase_of before) is.phase))
     settled-one stamp more (Reviewed paper ordinal version form) rest here is held =
         (there paper is.about, from Reviewing (reviewed-in (phase_of before) is.phase), ap is_some held)
-    settled-one stamp more (Commented paper n ordinal text) rest here is held = (there paper is.about, from Discussion (discussed-in (phase_of before) is.phase))
+    settled-one stamp more (Commented paper n ordinal text) rest here is held =
+        (there paper is.about, from Discussion (discussed-in (phase_of before) is.phase))
     settled-one stamp more (Responded paper text) rest here is held = (
       there paper is.about,
       writes (Some stamp.maker) paper is.right,
       ap (λ (G : History). is_some (response_of paper G)) (sym whole)
           ∙ ap (λ (G : History). is_some (response_of paper (before ++ G))) here
-          ∙ last-there (λ (e : Stamped). response_told paper e.entry) before rest (stamped stamp more (Responded paper text)) text
+          ∙ last-there (λ (e : Stamped). response_told paper e.entry) before rest
+          (stamped stamp more (Responded paper text)) text
           (ap (λ b. given b text) (eq-eqb paper paper refl)),
     )
     settled-one stamp more (Tagged paper tag on) rest here is held = there paper is.about
-    settled-one stamp more (Decided paper decision) rest here is held = (there paper is.about, from Discussion (discussed-in (phase_of before) is.phase))
+    settled-one stamp more (Decided paper decision) rest here is held =
+        (there paper is.about, from Discussion (discussed-in (phase_of before) is.phase))
     settled-one stamp more e rest here is held = tt
 
   abbrev pub Settled : Stamped → Type 0
   Settled e = IsSettled H e.stamp.maker e.entry
 
-  settled-all : (before after : History) → before ++ after ≡ H → InTurn IsInOrder before after → AllByRecursion (λ (e : Stamped). IsHeld H e.stamp.maker e.entry) after
+  settled-all : (before after : History) → before ++ after ≡ H → InTurn IsInOrder before after
+      → AllByRecursion (λ (e : Stamped). IsHeld H e.stamp.maker e.entry) after
       → AllByRecursion Settled after
   settled-all before [] whole order held = tt
   settled-all before (e ∷ after) whole order held = (
@@ -146,7 +160,8 @@ module _ (H : History) where
   )
 
   pub settled : Invariants H → AllByRecursion Settled H
-  settled kept = settled-all [] H refl kept.in_order (recursion_from_All (λ (e : Stamped). IsHeld H e.stamp.maker e.entry) H kept.stay)
+  settled kept = settled-all [] H refl kept.in_order
+      (recursion_from_All (λ (e : Stamped). IsHeld H e.stamp.maker e.entry) H kept.stay)
 
 -- ---- the places
 
@@ -155,7 +170,8 @@ known-some true x = refl
 known-some false x = refl
 
 -- what is so of an entry's maker is so of a user, where she made it
-pub own-so : (P : Option ℕ → Bool) (u : Option ℕ) (maker : ℕ) → P (Some maker) ≡ true → (not (is_number u maker) || P u) ≡ true
+pub own-so : (P : Option ℕ → Bool) (u : Option ℕ) (maker : ℕ) → P (Some maker) ≡ true
+    → (not (is_number u maker) || P u) ≡ true
 own-so P None maker is = refl
 own-so P (Some v) maker is = by (eqb v maker) refl
   where
@@ -164,12 +180,14 @@ own-so P (Some v) maker is = by (eqb v maker) refl
     by false same = refl
 
 -- a user who may be shown is this one
-pub user-known : (u : Option ℕ) (known : Bool) (user : ℕ) → is_user u (where_known known user) ≡ (known && is_number u user)
+pub user-known : (u : Option ℕ) (known : Bool) (user : ℕ)
+    → is_user u (where_known known user) ≡ (known && is_number u user)
 user-known u true user = refl
 user-known u false user = refl
 
 -- in the reviewing, or later
-pub reviewing-on : (phase : Phase) → is_from Reviewing phase ≡ true → (is_past_reviewing phase || is_reviewing_now phase) ≡ true
+pub reviewing-on : (phase : Phase) → is_from Reviewing phase ≡ true
+    → (is_past_reviewing phase || is_reviewing_now phase) ≡ true
 reviewing-on Setup h = absurd (true≢false (sym h))
 reviewing-on Submission h = absurd (true≢false (sym h))
 reviewing-on Bidding h = absurd (true≢false (sym h))
@@ -199,9 +217,11 @@ module _ (u : Option ℕ) (H : History) (legal : Legal H) where
 
   module _ (q : ℕ) (is : IsSubmitted H q) where
     pub withdrawn-key : has_key (λ page. page.withdrawn) u q H ≡ (is_author u q H || serves u H || reads_visiting u q H)
-    withdrawn-key = ap is_some (pages_told u q H legal is).withdrawn ∙ known-some (is_author u q H || serves u H || reads_visiting u q H) _
+    withdrawn-key = ap is_some (pages_told u q H legal is).withdrawn
+        ∙ known-some (is_author u q H || serves u H || reads_visiting u q H) _
 
-    pub decision-key : has_key (λ page. page.decision) u q H ≡ (discusses u q H || is_notified u q H || is_in_programme q H)
+    pub decision-key : has_key (λ page. page.decision) u q H
+        ≡ (discusses u q H || is_notified u q H || is_in_programme q H)
     decision-key =
         ap is_some (pages_told u q H legal is).decision
         ∙ known-some (discusses u q H || is_notified u q H || is_shown_accepted q (view u H)) _
@@ -220,22 +240,27 @@ module _ (u : Option ℕ) (H : History) (legal : Legal H) where
     pub bids-key : has_key (λ page. page.bids) u q H ≡ oversees u q H
     bids-key = ap is_some (page_lists_told u q H legal is).bids ∙ known-some (oversees u q H) _
 
-    pub reviewers-key : has_key (λ page. page.reviewers) u q H ≡ (oversees u q H || discusses u q H || is_answered u q H)
-    reviewers-key = ap is_some (page_lists_told u q H legal is).reviewers ∙ known-some (oversees u q H || discusses u q H || is_answered u q H) _
+    pub reviewers-key : has_key (λ page. page.reviewers) u q H
+        ≡ (oversees u q H || discusses u q H || is_answered u q H)
+    reviewers-key = ap is_some (page_lists_told u q H legal is).reviewers
+        ∙ known-some (oversees u q H || discusses u q H || is_answered u q H) _
 
     pub tags-key : has_key (λ page. page.tags) u q H ≡ is_eligible u q H
     tags-key = ap is_some (page_lists_told u q H legal is).tags ∙ known-some (is_eligible u q H) _
 
-    pub reviews-key : has_reviews u q H ≡ (is_notified u q H || was_asked_to_respond u q H || discusses u q H || reviews_now u q H || reviews_visiting u q H)
+    pub reviews-key : has_reviews u q H ≡ (is_notified u q H || was_asked_to_respond u q H || discusses u q H
+        || reviews_now u q H || reviews_visiting u q H)
     reviews-key =
         ap is_some (reviews_told u q H legal is)
-        ∙ known-some (is_notified u q H || was_asked_to_respond u q H || discusses u q H || reviews_now u q H || reviews_visiting u q H) _
+        ∙ known-some (is_notified u q H || was_asked_to_respond u q H || discusses u q H || reviews_now u q H
+        || reviews_visiting u q H) _
 
     pub comments-key : has_comments u q H ≡ discusses u q H
     comments-key = ap is_some (comments_told u q H legal is) ∙ known-some (discusses u q H) _
 
     pub response-key : has_response u q H ≡ ((is_author u q H || discusses u q H) && is_some (response_of q H))
-    response-key = ap is_some (response_answer u q H legal is) ∙ either (is_author u q H || discusses u q H) (response_of q H)
+    response-key =
+        ap is_some (response_answer u q H legal is) ∙ either (is_author u q H || discusses u q H) (response_of q H)
       where
         either : (b : Bool) (o : Option (List ℕ)) → is_some (if b then o else None) ≡ (b && is_some o)
         either true o = refl
@@ -246,68 +271,93 @@ module _ (u : Option ℕ) (H : History) (legal : Legal H) where
 
   -- who may know who reviews
   abbrev names : ℕ → ℕ → ℕ → Bool
-  names maker paper user = is_party u H maker paper user || (discusses u paper H && not (hides_reviewers (mode_of H))) || is_answered u paper H
+  names maker paper user =
+      is_party u H maker paper user || (discusses u paper H && not (hides_reviewers (mode_of H)))
+      || is_answered u paper H
 
   -- one who is assigned, or taken off
   seat-placed : (m n l o s c d h a k : Bool) → k ≡ ((((n || m) || (l && not c)) || (d && not h)) || a)
       → ((((n || m) || (l && not c)) || d) || a) ≡ true → s ≡ true → (o && l) ≡ l
-      → (((k && n) || (((((o && s) && not c) && l) || d) || a)) || ((m || (k && n)) && not ((((o && s) && not c) && l) || d))) ≡ true
+      → (((k && n) || (((((o && s) && not c) && l) || d) || a))
+      || ((m || (k && n)) && not ((((o && s) && not c) && l) || d))) ≡ true
   seat-placed m n l o s c d h a k hk told hs hl = grind (arith, hk, told, hs, hl)
 
-  each : (p : ℕ) (before later : History) (stamp : Stamp) (more : Bool) (e : Entry) → before ++ stamped stamp more e ∷ later ≡ H → IsSettled H stamp.maker e → is_told u H before later stamp.maker e ≡ true
+  each : (p : ℕ) (before later : History) (stamp : Stamp) (more : Bool) (e : Entry)
+      → before ++ stamped stamp more e ∷ later ≡ H → IsSettled H stamp.maker e
+      → is_told u H before later stamp.maker e ≡ true
       → IsTrue (is_number (shown_to u H before later stamp e).paper p)
       → IsTrue (is_placed u p H (shown_to u H before later stamp e).kind (shown_to u H before later stamp e))
   each p before later stamp more (Withdrawn paper) whole is told same =
       at paper p (λ n. has_key (λ page. page.withdrawn) u n H) same
-      (withdrawn-key paper is.0 ∙ by (is_number u stamp.maker) (is_author u paper H) (serves u H) (reads_visiting u paper H) told (own-so (λ v. is_author v paper H) u stamp.maker is.1))
+      (withdrawn-key paper is.0 ∙ by (is_number u stamp.maker) (is_author u paper H) (serves u H)
+      (reads_visiting u paper H) told (own-so (λ v. is_author v paper H) u stamp.maker is.1))
     where
       by : (m a s v : Bool) → (((m || a) || s) || v) ≡ true → (not m || a) ≡ true → ((a || s) || v) ≡ true
       by m a s v h own = grind (arith, h, own)
   each p before later stamp more (Conflict paper user on) whole is told same =
       at paper p
-      (λ n. is_number u user || has_key (λ page. page.declared) u n H || has_key (λ page. page.conflicts) u n H || (is_number u stamp.maker && not (is_number u user) && not (oversees u n H))) same
-      ((λ i. is_number u user || declared-key paper is i || conflicts-key paper is i || (is_number u stamp.maker && not (is_number u user) && not (oversees u paper H)))
-      ∙ by (is_number u stamp.maker) (is_number u user) (is_author u paper H) (is_author (Some stamp.maker) paper H) (oversees u paper H) told)
+      (λ n. is_number u user || has_key (λ page. page.declared) u n H || has_key (λ page. page.conflicts) u n H
+      || (is_number u stamp.maker && not (is_number u user) && not (oversees u n H))) same
+      ((λ i. is_number u user || declared-key paper is i || conflicts-key paper is i
+      || (is_number u stamp.maker && not (is_number u user) && not (oversees u paper H)))
+      ∙ by (is_number u stamp.maker) (is_number u user) (is_author u paper H) (is_author (Some stamp.maker) paper H)
+      (oversees u paper H) told)
     where
-      by : (m n a w o : Bool) → (((n || m) || (a && w)) || o) ≡ true → (((n || a) || o) || ((m && not n) && not o)) ≡ true
+      by : (m n a w o : Bool) → (((n || m) || (a && w)) || o) ≡ true
+          → (((n || a) || o) || ((m && not n) && not o)) ≡ true
       by m n a w o told = grind (arith, told)
   each p before later stamp more (Bid paper value) whole is told same =
       at paper p
-      (λ n. has_key (λ page. page.bids) u n H || (is_number u stamp.maker && has_key (λ page. page.bid) u n H) || (is_number u stamp.maker && not (is_eligible u n H))) same
-      ((λ i. bids-key paper is i || (is_number u stamp.maker && bid-key paper is i) || (is_number u stamp.maker && not (is_eligible u paper H)))
+      (λ n. has_key (λ page. page.bids) u n H || (is_number u stamp.maker && has_key (λ page. page.bid) u n H)
+      || (is_number u stamp.maker && not (is_eligible u n H))) same
+      ((λ i. bids-key paper is i || (is_number u stamp.maker && bid-key paper is i)
+      || (is_number u stamp.maker && not (is_eligible u paper H)))
       ∙ by (is_number u stamp.maker) (is_eligible u paper H) (oversees u paper H) told)
     where
       by : (m h o : Bool) → (m || o) ≡ true → ((o || (m && h)) || (m && not h)) ≡ true
       by m h o told = grind (arith, told)
   each p before later stamp more (Assigned paper user review_kind ordinal) whole is told same =
       at paper p
-      (λ n. is_user u s.user || has_key (λ page. page.reviewers) u n H || ((is_number u stamp.maker || is_user u s.user) && not (oversees u n H || discusses u n H))) same
+      (λ n. is_user u s.user || has_key (λ page. page.reviewers) u n H
+      || ((is_number u stamp.maker || is_user u s.user) && not (oversees u n H || discusses u n H))) same
       ((λ i. user-known u (names stamp.maker paper user) user i || reviewers-key paper is.0 i
-      || ((is_number u stamp.maker || user-known u (names stamp.maker paper user) user i) && not (oversees u paper H || discusses u paper H)))
-      ∙ seat-placed (is_number u stamp.maker) (is_number u user) lead onc (is_past_submission (phase_of H)) (has_conflict u paper H) (discusses u paper H)
-      (hides_reviewers (mode_of H)) (is_answered u paper H) (names stamp.maker paper user) refl told (sym (phase-words (phase_of H)).bidding ∙ is.1)
+      || ((is_number u stamp.maker || user-known u (names stamp.maker paper user) user i)
+      && not (oversees u paper H || discusses u paper H)))
+      ∙ seat-placed (is_number u stamp.maker) (is_number u user) lead onc (is_past_submission (phase_of H))
+      (has_conflict u paper H) (discusses u paper H)
+      (hides_reviewers (mode_of H)) (is_answered u paper H) (names stamp.maker paper user) refl told
+      (sym (phase-words (phase_of H)).bidding ∙ is.1)
       (leads-serves (role_of u H)))
     where
       s : Sighting
       s = shown_to u H before later stamp (Assigned paper user review_kind ordinal)
   each p before later stamp more (Unassigned paper user ordinal) whole is told same =
       at paper p
-      (λ n. is_user u s.user || has_key (λ page. page.reviewers) u n H || ((is_number u stamp.maker || is_user u s.user) && not (oversees u n H || discusses u n H))) same
+      (λ n. is_user u s.user || has_key (λ page. page.reviewers) u n H
+      || ((is_number u stamp.maker || is_user u s.user) && not (oversees u n H || discusses u n H))) same
       ((λ i. user-known u (names stamp.maker paper user) user i || reviewers-key paper is.0 i
-      || ((is_number u stamp.maker || user-known u (names stamp.maker paper user) user i) && not (oversees u paper H || discusses u paper H)))
-      ∙ seat-placed (is_number u stamp.maker) (is_number u user) lead onc (is_past_submission (phase_of H)) (has_conflict u paper H) (discusses u paper H)
-      (hides_reviewers (mode_of H)) (is_answered u paper H) (names stamp.maker paper user) refl told (sym (phase-words (phase_of H)).bidding ∙ is.1)
+      || ((is_number u stamp.maker || user-known u (names stamp.maker paper user) user i)
+      && not (oversees u paper H || discusses u paper H)))
+      ∙ seat-placed (is_number u stamp.maker) (is_number u user) lead onc (is_past_submission (phase_of H))
+      (has_conflict u paper H) (discusses u paper H)
+      (hides_reviewers (mode_of H)) (is_answered u paper H) (names stamp.maker paper user) refl told
+      (sym (phase-words (phase_of H)).bidding ∙ is.1)
       (leads-serves (role_of u H)))
     where
       s : Sighting
       s = shown_to u H before later stamp (Unassigned paper user ordinal)
   each p before later stamp more (Reviewed paper ordinal version form) whole is told same =
       at paper p
-      (λ n. has_reviews u n H || has_key (λ page. page.reviewers) u n H || (is_number u stamp.maker && not (has_before_her u n H))) same
-      ((λ i. reviews-key paper is.0 i || reviewers-key paper is.0 i || (is_number u stamp.maker && not (has_before_her u paper H)))
-      ∙ by (is_number u stamp.maker) onc (visits u paper H) (is_past_submission (phase_of H)) (has_conflict u paper H) lead (is_past_reviewing (phase_of H)) (is_reviewing_now (phase_of H))
-      (is_reviewer u paper H) (is_discussed paper ordinal before later) (not (is_reviewed paper ordinal before)) (is_notified u paper H)
-      (not (is_reviewed paper ordinal later)) (is_answered u paper H) (is_author_since_response u paper H) (is_responded_to paper ordinal before later) (was_asked_to_respond u paper H)
+      (λ n. has_reviews u n H || has_key (λ page. page.reviewers) u n H
+      || (is_number u stamp.maker && not (has_before_her u n H))) same
+      ((λ i. reviews-key paper is.0 i || reviewers-key paper is.0 i
+      || (is_number u stamp.maker && not (has_before_her u paper H)))
+      ∙ by (is_number u stamp.maker) onc (visits u paper H) (is_past_submission (phase_of H)) (has_conflict u paper H)
+      lead (is_past_reviewing (phase_of H)) (is_reviewing_now (phase_of H))
+      (is_reviewer u paper H) (is_discussed paper ordinal before later) (not (is_reviewed paper ordinal before))
+      (is_notified u paper H)
+      (not (is_reviewed paper ordinal later)) (is_answered u paper H) (is_author_since_response u paper H)
+      (is_responded_to paper ordinal before later) (was_asked_to_respond u paper H)
       (heard-responds u H paper ordinal before later stamp more (Reviewed paper ordinal version form) whole)
       told (reviewing-begun (phase_of H) is.1) (reviewing-on (phase_of H) is.1)
       (own-so (λ v. is_reviewer v paper H) u stamp.maker is.2) (leads-serves (role_of u H)))
@@ -315,14 +365,17 @@ module _ (u : Option ℕ) (H : History) (legal : Legal H) where
       by : (m o v s c l d w r x y n z a h q f : Bool) → (not (h && q) || f) ≡ true
           → (((m || ((((o && s) && not c) && d) && x)) || ((l && not c) && y)) || ((h && q) || (n && z))) ≡ true
           → s ≡ true → (d || w) ≡ true → (not m || r) ≡ true → (o && l) ≡ l
-          → ((((((n || f) || (((o && s) && not c) && d)) || ((((o && s) && not c) && r) && w)) || ((((v && not c) && s) && r) && (w || d)))
+          →
+          ((((((n || f) || (((o && s) && not c) && d)) || ((((o && s) && not c) && r) && w))
+          || ((((v && not c) && s) && r) && (w || d)))
           || (((((o && s) && not c) && l) || (((o && s) && not c) && d)) || a))
           || (m && not (((o && s) && not c) || ((v && not c) && s)))) ≡ true
       by m o v s c l d w r x y n z a h q f heard told hs hd own hl = grind (arith, heard, told, hs, hd, own, hl)
   each p before later stamp more (Commented paper n ordinal text) whole is told same =
       at paper p (λ n. has_comments u n H || (is_number u stamp.maker && not (is_eligible u n H))) same
       ((λ i. comments-key paper is.0 i || (is_number u stamp.maker && not (is_eligible u paper H)))
-      ∙ by (is_number u stamp.maker) (is_eligible u paper H) (is_past_reviewing (phase_of H)) told (sym (phase-words (phase_of H)).discussion ∙ is.1))
+      ∙ by (is_number u stamp.maker) (is_eligible u paper H) (is_past_reviewing (phase_of H)) told
+      (sym (phase-words (phase_of H)).discussion ∙ is.1))
     where
       by : (m h d : Bool) → (m || (h && d)) ≡ true → d ≡ true → ((h && d) || (m && not h)) ≡ true
       by m h d told hd = grind (arith, told, hd)
@@ -342,16 +395,20 @@ module _ (u : Option ℕ) (H : History) (legal : Legal H) where
       by : (m t k h l : Bool) → (m || ((t && h) || (k && (h && l)))) ≡ true → (h || (m && not h)) ≡ true
       by m t k h l told = grind (arith, told)
   each p before later stamp more (Decided paper decision) whole is told same =
-      at paper p (λ n. has_key (λ page. page.decision) u n H || (is_number u stamp.maker && not (is_eligible u n H))) same
+      at paper p (λ n. has_key (λ page. page.decision) u n H || (is_number u stamp.maker && not (is_eligible u n H)))
+      same
       ((λ i. decision-key paper is.0 i || (is_number u stamp.maker && not (is_eligible u paper H)))
-      ∙ by (is_number u stamp.maker) (is_eligible u paper H) (is_past_reviewing (phase_of H)) (not (is_decided_again paper later)) (is_notified u paper H) (is_in_programme paper H)
+      ∙ by (is_number u stamp.maker) (is_eligible u paper H) (is_past_reviewing (phase_of H))
+      (not (is_decided_again paper later)) (is_notified u paper H) (is_in_programme paper H)
       told (sym (phase-words (phase_of H)).discussion ∙ is.1))
     where
-      by : (m h d x n g : Bool) → (((m || (h && d)) || (x && n)) || (x && g)) ≡ true → d ≡ true → ((((h && d) || n) || g) || (m && not h)) ≡ true
+      by : (m h d x n g : Bool) → (((m || (h && d)) || (x && n)) || (x && g)) ≡ true → d ≡ true
+          → ((((h && d) || n) || g) || (m && not h)) ≡ true
       by m h d x n g told hd = grind (arith, told, hd)
   each p before later stamp more e whole is told same = refl
 
 pub places_told : PlacesTold
 places_told u p H legal =
-    all-sightings u H (λ (s : Sighting). IsTrue (is_number s.paper p) → IsTrue (is_placed u p H s.kind s)) (λ (e : Stamped). IsSettled H e.stamp.maker e.entry)
+    all-sightings u H (λ (s : Sighting). IsTrue (is_number s.paper p) → IsTrue (is_placed u p H s.kind s))
+    (λ (e : Stamped). IsSettled H e.stamp.maker e.entry)
     (each u H legal p) (settled H (legal_invariants H legal))

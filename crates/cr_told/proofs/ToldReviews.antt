@@ -1,5 +1,6 @@
 -- The reviews that are answered are those that the view shows.
-use Rattle.std.proofs.Common.{◌≡◌, ℕ, Bool, true, false, List, [], ◌∷◌, ◌++◌, append-nil, refl, sym, ap, ◌∙◌, ◌||◌, ◌&&◌, Option, Some, None, eqb, arith}
+use Rattle.std.proofs.Common.{◌≡◌, ℕ, Bool, true, false, List, [], ◌∷◌, ◌++◌, append-nil, refl, sym, ap, ◌∙◌, ◌||◌}
+use Rattle.std.proofs.Common.{◌&&◌, Option, Some, None, eqb, arith}
 use Rattle.std.specs.Prelude.{All, not, map, unwrap_or, if◌then◌else◌}
 use Rattle.std.specs.List.{flat_map, list_any}
 use Rattle.std.proofs.lemmas.Bool.{and_parts, eqb-true, false≢true, true≢false}
@@ -16,12 +17,14 @@ use Rattle.cr_base.specs.declared.reply.Rule.TheVariants as rules
 use Rattle.cr_base.specs.declared.review.ReviewLine.{ReviewLine}
 use Rattle.cr_base.specs.declared.standing.Standing.{Standing}
 use Rattle.cr_base.specs.declared.words.Phase.{Phase}
-use Rattle.cr_base.specs.declared.words.Phase.TheVariants.{Setup, Submission, Bidding, Reviewing, Response, Discussion, Notification, Closed}
+use Rattle.cr_base.specs.declared.words.Phase.TheVariants.{Setup, Submission, Bidding, Reviewing, Response, Discussion}
+use Rattle.cr_base.specs.declared.words.Phase.TheVariants.{Notification, Closed}
 use Rattle.cr_base.specs.Drawn.{stamped}
 use Rattle.cr_base.specs.Answering.{reply_or_rule}
 use Rattle.cr_base.specs.Checks.{judged, ◌breaks◌, reads_all_forms, reads_own_forms}
 use Rattle.cr_base.specs.History.{History, FormTold}
-use Rattle.cr_base.specs.HistoryFacts.{standing_of, phase_of, role_of, is_author, is_conflict_on, is_conflicted, is_external, is_reviewer, assigned_under, had_response_of}
+use Rattle.cr_base.specs.HistoryFacts.{standing_of, phase_of, role_of, is_author, is_conflict_on, is_conflicted}
+use Rattle.cr_base.specs.HistoryFacts.{is_external, is_reviewer, assigned_under, had_response_of}
 use Rattle.cr_base.specs.Labels.{by_labels, most_labels}
 use Rattle.cr_base.specs.Lists.{listed, last, is_number, until, since}
 use Rattle.cr_base.specs.Rows.{kind_number}
@@ -32,13 +35,16 @@ use Rattle.cr_base.specs.Words.{is_member}
 use Rattle.cr_base.proofs.LastLaws.{last_from-map, listed-map}
 use Rattle.cr_history.specs.Invariants.{IsSubmitted, IsInOrder, InTurn}
 use Rattle.cr_policy.specs.Judge.{answer}
-use Rattle.cr_policy.specs.ShownTo.{is_on_committee, is_past_submission, is_past_reviewing, is_past_discussion, discusses, is_notified, is_author_since_response, is_responded_to, where_known}
+use Rattle.cr_policy.specs.ShownTo.{is_on_committee, is_past_submission, is_past_reviewing, is_past_discussion}
+use Rattle.cr_policy.specs.ShownTo.{discusses, is_notified, is_author_since_response, is_responded_to, where_known}
 use Rattle.cr_policy.specs.ShownTo.{is_told, visits}
 use Rattle.cr_policy.specs.Sighting.{Sighting}
 use Rattle.cr_policy.specs.View.{View, view}
-use Rattle.cr_policy.specs.ViewFacts.{only, is_kind, form_shown, form_seen, own_form_seen, discussion_seen, forms_in_view, own_forms_in_view, seats_in_view}
+use Rattle.cr_policy.specs.ViewFacts.{only, is_kind, form_shown, form_seen, own_form_seen, discussion_seen}
+use Rattle.cr_policy.specs.ViewFacts.{forms_in_view, own_forms_in_view, seats_in_view}
 use Rattle.cr_policy.specs.ViewBounds.{is_others}
-use Rattle.cr_policy.specs.ViewFacts.{facts_in_view, ordinal_in_view, had_response_in_view, opening_response_seen, shows_phase}
+use Rattle.cr_policy.specs.ViewFacts.{facts_in_view, ordinal_in_view, had_response_in_view, opening_response_seen}
+use Rattle.cr_policy.specs.ViewFacts.{shows_phase}
 use Rattle.cr_policy.proofs.BoundsWords.{phase-words, response-tests}
 use Rattle.cr_policy.proofs.BoundsWalk.{shown_to, each-view}
 use Rattle.cr_policy.proofs.BoundsWritten.{responded-opened}
@@ -49,7 +55,8 @@ use Rattle.cr_policy.proofs.StandingLaws.{standing_from_view, had_response-seen}
 use Rattle.cr_policy.proofs.Walk.{map-flat_map}
 use Rattle.cr_told.specs.ToldPages.{label_shown_of}
 use Rattle.cr_told.specs.ToldLists.{name_shown, knows_reviewers}
-use Rattle.cr_told.specs.ToldReviews.{reviews_answered, review_shown, forms_listed, reviews_listed, is_reviewing_now, was_asked_to_respond, reviews_now, reviews_visiting, ReviewsTold}
+use Rattle.cr_told.specs.ToldReviews.{reviews_answered, review_shown, forms_listed, reviews_listed, is_reviewing_now}
+use Rattle.cr_told.specs.ToldReviews.{was_asked_to_respond, reviews_now, reviews_visiting, ReviewsTold}
 use Rattle.cr_told.proofs.ToldWords.{member-committee, visits-same}
 use Rattle.cr_told.proofs.ToldEach.{all-sightings}
 use Rattle.cr_told.proofs.ToldLists.{is-there, knows}
@@ -111,11 +118,15 @@ reviewing-serves Closed = refl
 -- ---- what authors are shown before the notification
 
 -- to whom a form is shown because she responds to it, to her the response was opened
-pub heard-responds : (u : Option ℕ) (H : History) (paper ordinal : ℕ) (before later : History) (stamp : Stamp) (more : Bool) (e : Entry)
-    → before ++ stamped stamp more e ∷ later ≡ H → (not (is_author_since_response u paper H && is_responded_to paper ordinal before later) || was_asked_to_respond u paper H) ≡ true
+pub heard-responds : (u : Option ℕ) (H : History) (paper ordinal : ℕ) (before later : History) (stamp : Stamp)
+    (more : Bool) (e : Entry)
+    → before ++ stamped stamp more e ∷ later ≡ H
+    → (not (is_author_since_response u paper H && is_responded_to paper ordinal before later) || was_asked_to_respond u
+    paper H) ≡ true
 heard-responds u H paper ordinal before later stamp more e whole =
     by (is_author u paper H) _ (is_responded_to paper ordinal before later) refl
-    (λ responded. ap (λ (test : Stamped → Bool). list_any test H) response-tests ∙ responded-opened paper ordinal before later stamp more e H whole responded)
+    (λ responded. ap (λ (test : Stamped → Bool). list_any test H) response-tests
+    ∙ responded-opened paper ordinal before later stamp more e H whole responded)
   where
     so : (a w h : Bool) → h ≡ true → (not ((a && w) && true) || (a && h)) ≡ true
     so a w h is = grind (arith, is)
@@ -123,13 +134,15 @@ heard-responds u H paper ordinal before later stamp more e whole =
     not-so : (a w h : Bool) → (not ((a && w) && false) || (a && h)) ≡ true
     not-so a w h = grind arith
 
-    by : (a w responded : Bool) → is_responded_to paper ordinal before later ≡ responded → (is_responded_to paper ordinal before later ≡ true → had_response_of H ≡ true)
+    by : (a w responded : Bool) → is_responded_to paper ordinal before later ≡ responded
+        → (is_responded_to paper ordinal before later ≡ true → had_response_of H ≡ true)
         → (not ((a && w) && responded) || (a && had_response_of H)) ≡ true
     by a w true e opened = so a w (had_response_of H) (opened e)
     by a w false e opened = not-so a w (had_response_of H)
 
 -- what none of the sightings shows
-none-shown : {X A : Type 0} (P Q : X → Type 0) (f : X → List A) → ((x : X) → P x → Q x → f x ≡ []) → (xs : List X) → All P xs → All Q xs
+none-shown : {X A : Type 0} (P Q : X → Type 0) (f : X → List A) → ((x : X) → P x → Q x → f x ≡ []) → (xs : List X)
+    → All P xs → All Q xs
     → flat_map f xs ≡ []
 none-shown P Q f none [] all others = refl
 none-shown P Q f none (x ∷ xs) all others =
@@ -148,13 +161,18 @@ module _ (u : Option ℕ) (p : ℕ) (H : History) (order : InTurn IsInOrder [] H
       same-maker None maker h = absurd (false≢true h)
       same-maker (Some v) maker h = ap (λ (n : ℕ). Some n) (eqb-true v maker h)
 
-      each : (earlier later : History) (stamp : Stamp) (more : Bool) (e : Entry) → earlier ++ stamped stamp more e ∷ later ≡ H → IsByOther H stamp.maker e
+      each : (earlier later : History) (stamp : Stamp) (more : Bool) (e : Entry)
+          → earlier ++ stamped stamp more e ∷ later ≡ H → IsByOther H stamp.maker e
           → is_told u H earlier later stamp.maker e ≡ true → IsApart (shown_to u H earlier later stamp e)
-      each earlier later stamp more (Reviewed paper ordinal version form) whole other told = by (eqb paper p) refl (is_number u stamp.maker) refl
+      each earlier later stamp more (Reviewed paper ordinal version form) whole other told =
+          by (eqb paper p) refl (is_number u stamp.maker) refl
         where
-          by : (same : Bool) → eqb paper p ≡ same → (mine : Bool) → is_number u stamp.maker ≡ mine → (same && mine) ≡ false
+          by : (same : Bool) → eqb paper p ≡ same → (mine : Bool) → is_number u stamp.maker ≡ mine
+              → (same && mine) ≡ false
           by true same true mine =
-              absurd (true≢false (sym wrote ∙ ap (λ n. is_author u n H) (sym (eqb-true paper p same)) ∙ ap (λ v. is_author v paper H) (same-maker u stamp.maker mine) ∙ other))
+              absurd
+              (true≢false (sym wrote ∙ ap (λ n. is_author u n H) (sym (eqb-true paper p same))
+              ∙ ap (λ v. is_author v paper H) (same-maker u stamp.maker mine) ∙ other))
           by true same false mine = refl
           by false same mine is = refl
       each earlier later stamp more e whole other told = refl
@@ -163,10 +181,12 @@ module _ (u : Option ℕ) (p : ℕ) (H : History) (order : InTurn IsInOrder [] H
     none-behind : forms_in_view p o (since opening_response_seen (view u H)) ≡ []
     none-behind =
         none-shown IsApart (λ (s : Sighting). is_others kinds.Reviewed p s ≡ false) (form_seen p o)
-        (λ s. none (is_kind kinds.Reviewed s) (is_number s.paper p) s.mine (is_number s.ordinal o) _) (since opening_response_seen (view u H))
+        (λ s. none (is_kind kinds.Reviewed s) (is_number s.paper p) s.mine (is_number s.ordinal o) _)
+        (since opening_response_seen (view u H))
         (All-since IsApart opening_response_seen (view u H) none-own) (reviews-behind u p H wrote early)
       where
-        none : (kind same mine label : Bool) (forms : List FormTold) → (kind && (same && mine)) ≡ false → (kind && same && not mine) ≡ false
+        none : (kind same mine label : Bool) (forms : List FormTold) → (kind && (same && mine)) ≡ false
+            → (kind && same && not mine) ≡ false
             → only (same && label) (if kind then forms else []) ≡ []
         none true true true label forms own other = absurd (true≢false own)
         none true true false label forms own other = absurd (true≢false other)
@@ -175,7 +195,8 @@ module _ (u : Option ℕ) (p : ℕ) (H : History) (order : InTurn IsInOrder [] H
         none false same mine label forms own other = refl
 
     -- so all that she is shown stand before it
-    pub shown-early : last (forms_in_view p o (until opening_response_seen (view u H))) ≡ last (forms_in_view p o (view u H))
+    pub shown-early : last (forms_in_view p o (until opening_response_seen (view u H)))
+        ≡ last (forms_in_view p o (view u H))
     shown-early =
         ap last
         (sym (append-nil (forms_in_view p o (until opening_response_seen (view u H))))
@@ -187,7 +208,8 @@ module _ (u : Option ℕ) (p : ℕ) (H : History) (order : InTurn IsInOrder [] H
         silent s opens =
             let opened = (and_parts (is_kind kinds.PhaseSet s) (shows_phase Response s.phase) opens).0 in
             ap (λ n. only (is_number s.paper p && is_number s.ordinal o)
-            (if eqb n (kind_number kinds.Reviewed) then form_shown s.version s.score s.confidence s.to_authors s.to_pc else []))
+            (if eqb n (kind_number kinds.Reviewed) then form_shown s.version s.score s.confidence s.to_authors s.to_pc
+            else []))
             (eqb-true (kind_number s.kind) (kind_number kinds.PhaseSet) opened)
 
 module _ (u : Option ℕ) (p : ℕ) (H : History) where
@@ -210,8 +232,11 @@ module _ (u : Option ℕ) (p : ℕ) (H : History) where
   }
 
   -- what one sighting shows of a form
-  form-one : (named entire : Bool) (o : ℕ) (same known : Bool) (version : Option ℕ) (score confidence : ℕ) (to_authors : List ℕ) (to_pc : Option (List ℕ))
-      → map (told named entire o) (only same (form_shown version (where_known known score) (where_known known confidence) (where_known known to_authors) to_pc))
+  form-one : (named entire : Bool) (o : ℕ) (same known : Bool) (version : Option ℕ) (score confidence : ℕ)
+      (to_authors : List ℕ) (to_pc : Option (List ℕ))
+      → map (told named entire o)
+      (only same (form_shown version (where_known known score) (where_known known confidence)
+      (where_known known to_authors) to_pc))
       ≡ only same (map (λ (score : ℕ). record {
         confidence = unwrap_or (where_known known confidence) 0;
         label = o;
@@ -227,46 +252,61 @@ module _ (u : Option ℕ) (p : ℕ) (H : History) where
   form-one named entire o false false version score confidence to_authors to_pc = refl
 
   abbrev form : Bool → Bool → ℕ → Sighting → List ReviewLine
-  form named entire o s = only (is_kind kinds.Reviewed s && (is_number s.paper p && is_number s.ordinal o)) (review_shown named entire p V o s)
+  form named entire o s = only (is_kind kinds.Reviewed s && (is_number s.paper p && is_number s.ordinal o))
+      (review_shown named entire p V o s)
 
-  all-forms : (named entire : Bool) (o : ℕ) → All (λ (s : Sighting). map (told named entire o) (form_seen p o s) ≡ form named entire o s) V
-  all-forms named entire o = each-view u H (λ (s : Sighting). map (told named entire o) (form_seen p o s) ≡ form named entire o s) (λ before later stamp e seen. one before later stamp e)
+  all-forms : (named entire : Bool) (o : ℕ)
+      → All (λ (s : Sighting). map (told named entire o) (form_seen p o s) ≡ form named entire o s) V
+  all-forms named entire o =
+      each-view u H (λ (s : Sighting). map (told named entire o) (form_seen p o s) ≡ form named entire o s)
+      (λ before later stamp e seen. one before later stamp e)
     where
       one : (before later : History) (stamp : Stamp) (e : Entry)
-          → map (told named entire o) (form_seen p o (shown_to u H before later stamp e)) ≡ form named entire o (shown_to u H before later stamp e)
+          → map (told named entire o) (form_seen p o (shown_to u H before later stamp e))
+          ≡ form named entire o (shown_to u H before later stamp e)
       one before later stamp (Reviewed paper ordinal version f) =
           let s : Sighting = shown_to u H before later stamp (Reviewed paper ordinal version f) in
           form-one named entire o (eqb paper p && eqb ordinal o) _ s.version f.score f.confidence f.to_authors s.to_pc
       one before later stamp e = refl
 
-  forms-among : (named entire : Bool) (o : ℕ) (seen : View) → All (λ (s : Sighting). map (told named entire o) (form_seen p o s) ≡ form named entire o s) seen
+  forms-among : (named entire : Bool) (o : ℕ) (seen : View)
+      → All (λ (s : Sighting). map (told named entire o) (form_seen p o s) ≡ form named entire o s) seen
       → map (told named entire o) (flat_map (form_seen p o) seen) ≡ forms_listed named entire p V o seen
   forms-among named entire o seen all =
       map-flat_map (told named entire o) (form_seen p o) seen
       ∙ flat_map-same (λ (s : Sighting). map (told named entire o) (form_seen p o s)) (form named entire o) seen all
 
   -- the last of them
-  last-form : (named entire : Bool) (o : ℕ) (seen : View) → All (λ (s : Sighting). map (told named entire o) (form_seen p o s) ≡ form named entire o s) seen
-      → map (told named entire o) (listed (last (flat_map (form_seen p o) seen))) ≡ listed (last (forms_listed named entire p V o seen))
+  last-form : (named entire : Bool) (o : ℕ) (seen : View)
+      → All (λ (s : Sighting). map (told named entire o) (form_seen p o s) ≡ form named entire o s) seen
+      → map (told named entire o) (listed (last (flat_map (form_seen p o) seen)))
+      ≡ listed (last (forms_listed named entire p V o seen))
   last-form named entire o seen all =
       sym (listed-map (told named entire o) (last (flat_map (form_seen p o) seen)))
-      ∙ ap listed (sym (last_from-map (told named entire o) None (flat_map (form_seen p o) seen)) ∙ ap last (forms-among named entire o seen all))
+      ∙ ap listed (sym (last_from-map (told named entire o) None (flat_map (form_seen p o) seen))
+      ∙ ap last (forms-among named entire o seen all))
 
   pub discussed-forms : (named : Bool) (o : ℕ)
-      → map (told named true o) (listed (last (forms_in_view p o (until discussion_seen V))) ++ forms_in_view p o (since discussion_seen V))
-      ≡ listed (last (forms_listed named true p V o (until discussion_seen V))) ++ forms_listed named true p V o (since discussion_seen V)
+      → map (told named true o) (listed (last (forms_in_view p o (until discussion_seen V)))
+      ++ forms_in_view p o (since discussion_seen V))
+      ≡ listed (last (forms_listed named true p V o (until discussion_seen V))) ++ forms_listed named true p V o
+      (since discussion_seen V)
   discussed-forms named o =
       let P : Sighting → Type 0 = λ s. map (told named true o) (form_seen p o s) ≡ form named true o s in
-      map-append (told named true o) (listed (last (forms_in_view p o (until discussion_seen V)))) (forms_in_view p o (since discussion_seen V))
-      ∙ (λ i. last-form named true o (until discussion_seen V) (All-until P discussion_seen V (all-forms named true o)) i
+      map-append (told named true o) (listed (last (forms_in_view p o (until discussion_seen V))))
+      (forms_in_view p o (since discussion_seen V))
+      ∙ (λ i. last-form named true o (until discussion_seen V) (All-until P discussion_seen V (all-forms named true o))
+      i
       ++ forms-among named true o (since discussion_seen V) (All-since P discussion_seen V (all-forms named true o)) i)
 
   own-forms : (o : ℕ) → map (told false true o) (own_forms_in_view p V)
-      ≡ flat_map (λ (s : Sighting). only (is_kind kinds.Reviewed s && (is_number s.paper p && s.mine)) (review_shown false true p V o s)) V
+      ≡ flat_map (λ (s : Sighting). only (is_kind kinds.Reviewed s && (is_number s.paper p && s.mine))
+      (review_shown false true p V o s)) V
   own-forms o =
       map-flat_map (told false true o) (own_form_seen p) V
       ∙ readings u p H (λ (s : Sighting). map (told false true o) (own_form_seen p s))
-      (λ (s : Sighting). only (is_kind kinds.Reviewed s && (is_number s.paper p && s.mine)) (review_shown false true p V o s)) one
+      (λ (s : Sighting). only (is_kind kinds.Reviewed s && (is_number s.paper p && s.mine))
+      (review_shown false true p V o s)) one
     where
       one : (before later : History) (stamp : Stamp) (e : Entry)
           → map (told false true o) (own_form_seen p (shown_to u H before later stamp e))
@@ -282,7 +322,8 @@ module _ (u : Option ℕ) (p : ℕ) (H : History) where
 
     gate : (there author over member conflicted opened : Bool) (lines : List ReviewLine) → there ≡ true
         → reviews_answered (reply_or_rule
-        (judged (not there breaks rules.NoPaper ∷ (author && not over) breaks rules.WrongPhase ∷ not (author || member) breaks rules.NotMember
+        (judged (not there breaks rules.NoPaper ∷ (author && not over) breaks rules.WrongPhase ∷ not (author || member)
+        breaks rules.NotMember
         ∷ (not author && conflicted) breaks rules.Conflict ∷ not opened breaks rules.WrongPhase ∷ [])
         (replies.Reviews lines)))
         ≡ where_known (not (author && not over) && (author || member) && not (not author && conflicted) && opened) lines
@@ -305,28 +346,41 @@ module _ (u : Option ℕ) (p : ℕ) (H : History) where
     answered-to : (not (is_author u p H && not (told_over || told_opened)) && (is_author u p H || is_admitted stands)
         && not (not (is_author u p H) && is_conflicted u p H)
         && (is_author u p H || reads_all_forms stands || reads_own_forms stands))
-        ≡ (is_notified u p H || was_asked_to_respond u p H || discusses u p H || reviews_now u p H || reviews_visiting u p H)
+        ≡ (is_notified u p H || was_asked_to_respond u p H || discusses u p H || reviews_now u p H
+        || reviews_visiting u p H)
     answered-to =
-        to (is_member (role_of u H)) _ (is_external u p H) _ (is_past_submission (phase_of H)) (is_from Discussion (phase_of H)) _ (is_from Notification (phase_of H)) _ told_opened _
-        (reviewers_read_own (phase_of H)) _ (externals_read_own (phase_of H)) (is_author u p H) (is_conflict_on u p H) (is_reviewer u p H)
-        (member-committee (role_of u H)) (visits-same u p H) (phase-words (phase_of H)).discussion (phase-words (phase_of H)).notification (had_response-seen u H) (reviewing-now (phase_of H))
+        to (is_member (role_of u H)) _ (is_external u p H) _ (is_past_submission (phase_of H))
+        (is_from Discussion (phase_of H)) _ (is_from Notification (phase_of H)) _ told_opened _
+        (reviewers_read_own (phase_of H)) _ (externals_read_own (phase_of H)) (is_author u p H) (is_conflict_on u p H)
+        (is_reviewer u p H)
+        (member-committee (role_of u H)) (visits-same u p H) (phase-words (phase_of H)).discussion
+        (phase-words (phase_of H)).notification (had_response-seen u H) (reviewing-now (phase_of H))
         (visiting-now (phase_of H)) (phase-words (phase_of H)).discussion_later (reviewing-serves (phase_of H))
       where
-        to : (m m' e e' s d d' n n' h h' w w' x a y r : Bool) → m ≡ m' → e ≡ e' → d ≡ d' → n ≡ n' → h ≡ h' → w ≡ w' → x ≡ (w' || d') → (s && d') ≡ d' → (s && w') ≡ w'
-            → (not (a && not (n || h)) && (a || (m || e)) && not (not a && (a || y)) && (a || (m && d) || (r && (w || (e && x)))))
-            ≡ ((a && n') || (a && h') || (((m' && s) && not (a || y)) && d') || (((m' && s) && not (a || y)) && r && w') || (((e' && not (a || y)) && s) && r && (w' || d')))
-        to m m' e e' s d d' n n' h h' w w' x a y r hm he hd hn hh hw hx hs hsw = grind (arith, hm, he, hd, hn, hh, hw, hx, hs, hsw)
+        to : (m m' e e' s d d' n n' h h' w w' x a y r : Bool) → m ≡ m' → e ≡ e' → d ≡ d' → n ≡ n' → h ≡ h' → w ≡ w'
+            → x ≡ (w' || d') → (s && d') ≡ d' → (s && w') ≡ w'
+            → (not (a && not (n || h)) && (a || (m || e)) && not (not a && (a || y))
+            && (a || (m && d) || (r && (w || (e && x)))))
+            ≡ ((a && n') || (a && h') || (((m' && s) && not (a || y)) && d') || (((m' && s) && not (a || y)) && r && w')
+            || (((e' && not (a || y)) && s) && r && (w' || d')))
+        to m m' e e' s d d' n n' h h' w w' x a y r hm he hd hn hh hw hx hs hsw =
+            grind (arith, hm, he, hd, hn, hh, hw, hx, hs, hsw)
 
     -- to whom of the authors it is answered, she is notified, or the response was opened
-    of-author : (is_notified u p H || was_asked_to_respond u p H || discusses u p H || reviews_now u p H || reviews_visiting u p H) ≡ true → is_author u p H ≡ true
+    of-author : (is_notified u p H || was_asked_to_respond u p H || discusses u p H || reviews_now u p H
+        || reviews_visiting u p H) ≡ true → is_author u p H ≡ true
         → (told_over || told_opened) ≡ true
     of-author due wrote =
-        by (is_author u p H) (is_from Notification (phase_of H)) _ told_opened _ (is_on_committee (role_of u H) && is_past_submission (phase_of H)) (is_conflict_on u p H)
-        (is_past_reviewing (phase_of H)) (is_reviewer u p H) (is_reviewing_now (phase_of H)) (is_reviewing_now (phase_of H) || is_past_reviewing (phase_of H))
-        (visits u p H) (is_past_submission (phase_of H)) (phase-words (phase_of H)).notification (had_response-seen u H) wrote due
+        by (is_author u p H) (is_from Notification (phase_of H)) _ told_opened _
+        (is_on_committee (role_of u H) && is_past_submission (phase_of H)) (is_conflict_on u p H)
+        (is_past_reviewing (phase_of H)) (is_reviewer u p H) (is_reviewing_now (phase_of H))
+        (is_reviewing_now (phase_of H) || is_past_reviewing (phase_of H))
+        (visits u p H) (is_past_submission (phase_of H)) (phase-words (phase_of H)).notification (had_response-seen u H)
+        wrote due
       where
         by : (a n n' h h' s y d r w x v b : Bool) → n ≡ n' → h ≡ h' → a ≡ true
-            → ((a && n') || (a && h') || ((s && not (a || y)) && d) || ((s && not (a || y)) && r && w) || (((v && not (a || y)) && b) && r && x)) ≡ true
+            → ((a && n') || (a && h') || ((s && not (a || y)) && d) || ((s && not (a || y)) && r && w)
+            || (((v && not (a || y)) && b) && r && x)) ≡ true
             → (n || h) ≡ true
         by a n n' h h' s y d r w x v b hn hh ha due = grind (arith, hn, hh, ha, due)
 
@@ -337,11 +391,14 @@ module _ (u : Option ℕ) (p : ℕ) (H : History) where
         else (if told_opened then last (forms_in_view p o (until opening_response_seen V)) else None)
 
     -- it is the last that they are shown
-    authors-told : is_author u p H ≡ true → (told_over || told_opened) ≡ true → (o : ℕ) → authors_told o ≡ last (forms_in_view p o V)
+    authors-told : is_author u p H ≡ true → (told_over || told_opened) ≡ true → (o : ℕ)
+        → authors_told o ≡ last (forms_in_view p o V)
     authors-told wrote due o = by told_over refl told_opened due
       where
         by : (over : Bool) → told_over ≡ over → (opened : Bool) → (over || opened) ≡ true
-            → (if over then last (forms_in_view p o V) else (if opened then last (forms_in_view p o (until opening_response_seen V)) else None)) ≡ last (forms_in_view p o V)
+            → (if over then last (forms_in_view p o V) else
+            (if opened then last (forms_in_view p o (until opening_response_seen V)) else None))
+            ≡ last (forms_in_view p o V)
         by true e opened due = refl
         by false e true due = shown-early u p H order wrote (sym (phase-words (phase_of H)).notification ∙ e) o
         by false e false due = absurd (false≢true due)
@@ -352,32 +409,42 @@ module _ (u : Option ℕ) (p : ℕ) (H : History) where
         if author
         then by_labels (λ (o : ℕ). map (told named entire o) (listed (authors_told o))) most_labels
         else (if begun
-        then by_labels (λ (o : ℕ). map (told named entire o) (listed (last (forms_in_view p o (until discussion_seen V))) ++ forms_in_view p o (since discussion_seen V))) most_labels
+        then by_labels (λ (o : ℕ). map (told named entire o)
+        (listed (last (forms_in_view p o (until discussion_seen V)))
+        ++ forms_in_view p o (since discussion_seen V))) most_labels
         else map (told false entire (unwrap_or seat 0)) (own_forms_in_view p V))
 
-    lines-same : (author begun named : Bool) (seat label : Option ℕ) → (author ≡ true → (o : ℕ) → authors_told o ≡ last (forms_in_view p o V)) → seat ≡ label
+    lines-same : (author begun named : Bool) (seat label : Option ℕ)
+        → (author ≡ true → (o : ℕ) → authors_told o ≡ last (forms_in_view p o V)) → seat ≡ label
         → lines_by author begun named (not author) seat
         ≡ (if author
         then by_labels (λ (o : ℕ). listed (last (forms_listed named false p V o V))) most_labels
         else (if begun
         then by_labels
-        (λ (o : ℕ). listed (last (forms_listed named true p V o (until discussion_seen V))) ++ forms_listed named true p V o (since discussion_seen V)) most_labels
-        else flat_map (λ (s : Sighting). only (is_kind kinds.Reviewed s && (is_number s.paper p && s.mine)) (review_shown false true p V (unwrap_or label 0) s)) V))
+        (λ (o : ℕ). listed (last (forms_listed named true p V o (until discussion_seen V))) ++ forms_listed named true p
+        V o (since discussion_seen V)) most_labels
+        else flat_map (λ (s : Sighting). only (is_kind kinds.Reviewed s && (is_number s.paper p && s.mine))
+        (review_shown false true p V (unwrap_or label 0) s)) V))
     lines-same true begun named seat label theirs is =
         (λ i. by_labels (λ (o : ℕ). map (told named false o) (listed (theirs refl o i))) most_labels)
         ∙ (λ i. by_labels (λ (o : ℕ). last-form named false o V (all-forms named false o) i) most_labels)
     lines-same false true named seat label theirs is = λ i. by_labels (λ (o : ℕ). discussed-forms named o i) most_labels
     lines-same false false named seat label theirs is =
         own-forms (unwrap_or seat 0)
-        ∙ ap (λ (o : Option ℕ). flat_map (λ (s : Sighting). only (is_kind kinds.Reviewed s && (is_number s.paper p && s.mine)) (review_shown false true p V (unwrap_or o 0) s)) V) is
+        ∙ ap
+        (λ (o : Option ℕ). flat_map (λ (s : Sighting).
+        only (is_kind kinds.Reviewed s && (is_number s.paper p && s.mine))
+        (review_shown false true p V (unwrap_or o 0) s)) V) is
 
     -- what is answered where it is
-    answered-same : (due : Bool) (lines shown : List ReviewLine) → (due ≡ true → lines ≡ shown) → where_known due lines ≡ where_known due shown
+    answered-same : (due : Bool) (lines shown : List ReviewLine) → (due ≡ true → lines ≡ shown)
+        → where_known due lines ≡ where_known due shown
     answered-same true lines shown h = ap (where_known true) (h refl)
     answered-same false lines shown h = refl
 
     reviews-told : reviews_answered (answer u V (queries.Reviews (Some p)))
-        ≡ where_known (is_notified u p H || was_asked_to_respond u p H || discusses u p H || reviews_now u p H || reviews_visiting u p H) (reviews_listed u p H)
+        ≡ where_known (is_notified u p H || was_asked_to_respond u p H || discusses u p H || reviews_now u p H
+        || reviews_visiting u p H) (reviews_listed u p H)
     reviews-told =
         ap (λ (by : Standing). reviews_answered (reply_or_rule
         (judged (not (has_paper (facts_in_view u V) (Some p)) breaks rules.NoPaper
@@ -396,18 +463,24 @@ module _ (u : Option ℕ) (p : ℕ) (H : History) where
         else (if reads_all_forms by
         then by_labels
         (λ (o : ℕ). map (told (shows_reviewer by) (not by.author) o)
-        (listed (last (forms_in_view p o (until discussion_seen V))) ++ forms_in_view p o (since discussion_seen V))) most_labels
+        (listed (last (forms_in_view p o (until discussion_seen V))) ++ forms_in_view p o (since discussion_seen V)))
+        most_labels
         else map (told false (not by.author) (unwrap_or (ordinal_in_view u p V) 0)) (own_forms_in_view p V)))))))
         (standing_from_view u (Some p) H)
-        ∙ gate (has_paper (facts_in_view u V) (Some p)) (is_author u p H) (told_over || told_opened) (is_admitted stands) (is_conflicted u p H)
+        ∙ gate (has_paper (facts_in_view u V) (Some p)) (is_author u p H) (told_over || told_opened)
+        (is_admitted stands) (is_conflicted u p H)
         (is_author u p H || reads_all_forms stands || reads_own_forms stands)
-        (lines_by (is_author u p H) (reads_all_forms stands) (shows_reviewer stands) (not (is_author u p H)) (ordinal_in_view u p V)) (is-there u p H there order)
+        (lines_by (is_author u p H) (reads_all_forms stands) (shows_reviewer stands) (not (is_author u p H))
+        (ordinal_in_view u p V)) (is-there u p H there order)
         ∙ (λ i. where_known (answered-to i)
-        (lines_by (is_author u p H) (member-committee (role_of u H) i && (phase-words (phase_of H)).discussion i) (knows u p H there order i) (not (is_author u p H))
+        (lines_by (is_author u p H) (member-committee (role_of u H) i && (phase-words (phase_of H)).discussion i)
+        (knows u p H there order i) (not (is_author u p H))
         (ordinal_in_view u p V)))
-        ∙ answered-same (is_notified u p H || was_asked_to_respond u p H || discusses u p H || reviews_now u p H || reviews_visiting u p H) _ (reviews_listed u p H)
+        ∙ answered-same (is_notified u p H || was_asked_to_respond u p H || discusses u p H || reviews_now u p H
+        || reviews_visiting u p H) _ (reviews_listed u p H)
         (λ due.
-        lines-same (is_author u p H) (is_on_committee (role_of u H) && is_past_reviewing (phase_of H)) (knows_reviewers u p H) (ordinal_in_view u p V)
+        lines-same (is_author u p H) (is_on_committee (role_of u H) && is_past_reviewing (phase_of H))
+        (knows_reviewers u p H) (ordinal_in_view u p V)
         (label_shown_of u p V) (λ wrote. authors-told wrote (of-author due wrote)) (reads.labels u p H u))
 
 pub reviews_told : ReviewsTold

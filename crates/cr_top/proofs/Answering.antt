@@ -1,6 +1,6 @@
 -- Where nothing fails, everything that the bytes spell is answered.
-use Rattle.std.proofs.Common.{◌≡◌, ◌∙◌, ◌⊎◌, ◌+◌, ℕ, List, [], ◌∷◌, ◌++◌, Bool, true, false, cond, Some, None, refl, sym, ap, subst, inl, inr, append-nil}
-use Rattle.std.proofs.Common.{arith}
+use Rattle.std.proofs.Common.{◌≡◌, ◌∙◌, ◌⊎◌, ◌+◌, ℕ, List, [], ◌∷◌, ◌++◌, Bool, true, false, cond, Some, None, refl}
+use Rattle.std.proofs.Common.{sym, ap, subst, inl, inr, append-nil, arith}
 use Rattle.std.specs.Prelude.{◌<◌, ◌-◌, ◌^◌, Option, nat_lt}
 use Rattle.cr_base.specs.Lists.{listed}
 use Rattle.cr_base.specs.declared.row.Row.{Row}
@@ -15,7 +15,8 @@ use Rattle.cr_session.specs.declared.serve.Ending.TheVariants as endings
 use Rattle.cr_session.specs.declared.serve.Why.TheVariants as whys
 use Rattle.cr_session.specs.Answering.{Answer, Desk, GivesAnswers}
 use Rattle.cr_session.specs.Told.{told, after_wish}
-use Rattle.cr_session.specs.Replay.{JudgedWish, Ledger, Turned, Replays, wishes_of, answers, answer_to, history_after, lost_count}
+use Rattle.cr_session.specs.Replay.{JudgedWish, Ledger, Turned, Replays, wishes_of, answers, answer_to, history_after}
+use Rattle.cr_session.specs.Replay.{lost_count}
 use Rattle.cr_session.specs.Wishes.{Spells}
 use Rattle.cr_wire.specs.Wishes.{closes}
 use Rattle.cr_session.specs.Serving.{EndsAs, CountsReads, StaysInVain}
@@ -53,7 +54,8 @@ answers-told n b b' (j ∷ js) r none =
     ap (λ (text : List ℕ). record { text = text; at = j.wish.at } ∷ answers (n + 1) js)
     (answer_to-told n j zero.0 ∙ ap (λ (h : History). told h j.wish (closes n j.wish)) r.1.seen)
     ∙ ap (λ (more : List Answer). record { text = told b.history j.wish (closes n j.wish); at = j.wish.at } ∷ more)
-    (answers-told (n + 1) r.0 b' js r.2 zero.1 ∙ ap (λ (h : History). told_along (n + 1) h (wishes_of js)) (stepped j b r.0 r.1 zero.0))
+    (answers-told (n + 1) r.0 b' js r.2 zero.1
+    ∙ ap (λ (h : History). told_along (n + 1) h (wishes_of js)) (stepped j b r.0 r.1 zero.0))
 
 pub leads-steps : (b b' : Ledger) (judged : List JudgedWish) → Replays judged b b' → lost_count judged ≡ 0
     → b'.history ≡ steps_along b.history (wishes_of judged)
@@ -80,18 +82,22 @@ bare : (texts : List Answer) (d d' : Desk) → GivesAnswers texts d d' → Gives
 bare texts d d' w = subst (λ (t : List Answer). GivesAnswers t d d') (sym (append-nil texts)) w
 
 -- it ended by no refusal
-unrefused : (exit : Exit) (end : End) (b : List ℕ) (judged : List JudgedWish) (d d' : Desk) → Spells 0 b (wishes_of judged) end → exit ≡ exit_at end
+unrefused : (exit : Exit) (end : End) (b : List ℕ) (judged : List JudgedWish) (d d' : Desk)
+    → Spells 0 b (wishes_of judged) end → exit ≡ exit_at end
     → last_words end 0 ≡ [] → GivesAnswers (answers 0 judged) d d' → Answered exit b judged d d'
 unrefused exit end b judged d d' spells is none told = record {
   end = end;
   spells = wishes b (wishes_of judged) end spells;
   exit_is = is;
   at = 0;
-  told = subst (λ (last : List Answer). GivesAnswers (answers 0 judged ++ last) d d') (sym none) (bare (answers 0 judged) d d' told);
+  told = subst (λ (last : List Answer). GivesAnswers (answers 0 judged ++ last) d d') (sym none)
+      (bare (answers 0 judged) d d' told);
 }
 
-ended : (ending : Ending) (came b : List ℕ) (answered : List JudgedWish) (failed : Option JudgedWish) (p q : Ledger) (d d' : Desk) (f g : ℕ)
-    → (Rises f g → ⊥) → (Rises d.sink.faults d'.sink.faults → ⊥) → (Rises d.clock.faults d'.clock.faults → ⊥) → CountsReads ending f g
+ended : (ending : Ending) (came b : List ℕ) (answered : List JudgedWish) (failed : Option JudgedWish) (p q : Ledger)
+    (d d' : Desk) (f g : ℕ)
+    → (Rises f g → ⊥) → (Rises d.sink.faults d'.sink.faults → ⊥) → (Rises d.clock.faults d'.clock.faults → ⊥)
+    → CountsReads ending f g
     → EndsAs Replays StaysInVain ending 0 came b answered failed p q d d'
     → (exit_of ending ≡ exits.OutOfMemory) ⊎ (Answered (exit_of ending) b answered d d' × (failed ≡ None))
 ended ending came b answered (Some j) p q d d' f g read written timed counts e = absurd (written e.2.broken.rises)
@@ -102,14 +108,25 @@ ended endings.Cut came b answered None p q d d' f g read written timed counts e 
 ended (endings.Closed whys.Asked) came b answered None p q d d' f g read written timed counts e =
     inr (unrefused exits.Done asked b answered d d' e.0 refl refl e.1, refl)
 ended (endings.Closed (whys.Refused why)) came b answered None p q d d' f g read written timed counts e =
-    inr (record { end = closed why e.0; spells = wishes b (wishes_of answered) (closed why e.0) e.2; exit_is = refl; at = e.1; told = e.3 }, refl)
+    inr (
+      record {
+        end = closed why e.0;
+        spells = wishes b (wishes_of answered) (closed why e.0) e.2;
+        exit_is = refl;
+        at = e.1;
+        told = e.3;
+      },
+      refl,
+    )
 ended endings.ReadFault came b answered None p q d d' f g read written timed counts e = absurd (read counts.1)
-ended endings.WriteFault came b answered None p q d d' f g read written timed counts e = absurd (written e.4.broken.rises)
+ended endings.WriteFault came b answered None p q d d' f g read written timed counts e =
+    absurd (written e.4.broken.rises)
 ended endings.ClockFault came b answered None p q d d' f g read written timed counts e = absurd (timed e.3.failed.rises)
 ended endings.OutOfMemory came b answered None p q d d' f g read written timed counts e = inl refl
 
 module _ {I : Type 0} (opening : History) where
-  answered : (exit : Exit) (b : List ℕ) (judged : List JudgedWish) (o o' : Outside I) (b0 b1 : Ledger) → b0.history ≡ opening → Legal b1.history
+  answered : (exit : Exit) (b : List ℕ) (judged : List JudgedWish) (o o' : Outside I) (b0 b1 : Ledger)
+      → b0.history ≡ opening → Legal b1.history
       → Replays judged b0 b1 → lost_count judged ≡ 0
       → Answered exit b judged (desk o) (desk o') → AnswersAll opening exit b o o'
   answered exit b judged o o' b0 b1 opens legal r none a = record {
@@ -117,7 +134,8 @@ module _ {I : Type 0} (opening : History) where
     end = a.end;
     spells = a.spells;
     exit_is = a.exit_is;
-    legal = subst Legal (leads-steps b0 b1 judged r none ∙ ap (λ (h : History). steps_along h (wishes_of judged)) opens) legal;
+    legal = subst Legal (leads-steps b0 b1 judged r none ∙ ap (λ (h : History). steps_along h (wishes_of judged)) opens)
+        legal;
     at = a.at;
     told = subst (λ (texts : List Answer). GivesAnswers (texts ++ last_words a.end a.at) (desk o) (desk o'))
         (answers-told 0 b0 b1 judged r none ∙ ap (λ (h : History). told_along 0 h (wishes_of judged)) opens) a.told;
@@ -135,7 +153,8 @@ below : (m n : ℕ) → nat_lt m n ≡ true → m < n
 below m n e = grind arith
 
 -- where the keeper's count didn't rise, nothing was lost
-pub nothing_lost : (judged : List JudgedWish) (b b' : Ledger) → Replays judged b b' → (Rises b.faults b'.faults → ⊥) → lost_count judged ≡ 0
+pub nothing_lost : (judged : List JudgedWish) (b b' : Ledger) → Replays judged b b' → (Rises b.faults b'.faults → ⊥)
+    → lost_count judged ≡ 0
 nothing_lost judged b b' r idle = last (nat_lt b'.faults (2 ^ 64 - 1)) refl
   where
     count : b'.faults < 2 ^ 64 - 1 → (t : Bool) → nat_lt b.faults b'.faults ≡ t → lost_count judged ≡ 0
@@ -149,14 +168,18 @@ nothing_lost judged b b' r idle = last (nat_lt b'.faults (2 ^ 64 - 1)) refl
     last true e = count (below_last b'.faults e) (nat_lt b.faults b'.faults) refl
     last false e = absurd (idle (λ lt. absurd (not_below b'.faults (2 ^ 64 - 1) e lt)))
 
-pub pipe_answers : {K I : Type 0} (rows : K → Option (List Row)) (keeps : Keeps) (faults : K → ℕ) (left : I → Option (List ℕ)) (gives : I → I → List ℕ → Type 0)
+pub pipe_answers : {K I : Type 0} (rows : K → Option (List Row)) (keeps : Keeps) (faults : K → ℕ)
+    (left : I → Option (List ℕ)) (gives : I → I → List ℕ → Type 0)
     (opening : History) (ending : Ending) (keeper keeper' : K) (b : List ℕ) (o o' : Outside I)
-    → Pipes rows keeps faults left gives opening ending keeper keeper' o o' → left o.input ≡ Some b → IsFaultless o o' → (Rises (faults keeper) (faults keeper') → ⊥)
+    → Pipes rows keeps faults left gives opening ending keeper keeper' o o' → left o.input ≡ Some b → IsFaultless o o'
+    → (Rises (faults keeper) (faults keeper') → ⊥)
     → (exit_of ending ≡ exits.OutOfMemory) ⊎ AnswersAll opening (exit_of ending) b o o'
 pipe_answers rows keeps faults left gives opening ending keeper keeper' b o o' p told faultless idle =
     let text = p.whole b told in
-    by text.answered text.failed (replayed_whole left ending b (world o opening (faults keeper)) (world o' p.history (faults keeper')) text)
-    (ended ending text.came b text.answered text.failed text.judged b1 (desk o) (desk o') o.read_faults o'.read_faults faultless.read
+    by text.answered text.failed (replayed_whole left ending b (world o opening (faults keeper))
+    (world o' p.history (faults keeper')) text)
+    (ended ending text.came b text.answered text.failed text.judged b1 (desk o) (desk o') o.read_faults o'.read_faults
+    faultless.read
     faultless.written faultless.timed
     p.connection.counts text.ends)
   where

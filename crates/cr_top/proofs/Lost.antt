@@ -1,6 +1,7 @@
--- No more wishes were lost than turns are marked, so no more than the keeper's count rose by, unless that ends at its last value.
-use Rattle.std.proofs.Common.{◌≡◌, ◌∙◌, ℕ, ◌+◌, ◌-◌, ◌^◌, ◌<◌, ◌≤◌, ◌⊎◌, inl, inr, ⊎_elim, List, [], ◌∷◌, ◌++◌, length, drop, ap}
-use Rattle.std.proofs.Common.{if◌then◌else◌, arith}
+-- No more wishes were lost than turns are marked, so no more than the keeper's count rose by, unless that ends at its
+-- last value.
+use Rattle.std.proofs.Common.{◌≡◌, ◌∙◌, ℕ, ◌+◌, ◌-◌, ◌^◌, ◌<◌, ◌≤◌, ◌⊎◌, inl, inr, ⊎_elim, List, [], ◌∷◌, ◌++◌, length}
+use Rattle.std.proofs.Common.{drop, ap, if◌then◌else◌, arith}
 use Rattle.cr_base.specs.declared.entry.Stamped.{Stamped}
 use Rattle.cr_base.specs.History.{History}
 use Rattle.cr_base.specs.Lists.{listed}
@@ -34,17 +35,22 @@ module _ {K : Type 0} (tries : Tries K) where
 -- ---- connections
 
 module _ {K I O C : Type 0} (streams : Streams K I O C) where
-  lost-one : (c : ServedConnection K I O C) (x : IsServed streams c) → lost_count (x.connection.answered ++ listed x.connection.failed) ≤ marks c.turns
+  lost-one : (c : ServedConnection K I O C) (x : IsServed streams c)
+      → lost_count (x.connection.answered ++ listed x.connection.failed) ≤ marks c.turns
   lost-one c x =
       let k = x.connection in
       let most = marked_losses streams.tries (k.answered ++ listed k.failed) c.before k.judged k.turns in
       let more : marks k.judged.mine ≤ marks c.after.mine =
-      ⊎_elim (λ same. marks-same streams.tries k.judged c.after same) (λ turn. marks-vain streams.tries turn.0 k.judged c.after turn.1)
-      (behind_judged (TakesTurns streams.tries) (TurnsInVain streams.tries) c.ending 0 k.got k.got k.answered k.failed k.judged c.after _ _ k.settled k.ends) in
-      let sum = ap marks x.mine ∙ total_append (λ (t : Turn Stamped). if t.marked then 1 else 0) c.before.mine c.turns in
+      ⊎_elim (λ same. marks-same streams.tries k.judged c.after same)
+      (λ turn. marks-vain streams.tries turn.0 k.judged c.after turn.1)
+      (behind_judged (TakesTurns streams.tries) (TurnsInVain streams.tries) c.ending 0 k.got k.got k.answered k.failed
+      k.judged c.after _ _ k.settled k.ends) in
+      let sum =
+      ap marks x.mine ∙ total_append (λ (t : Turn Stamped). if t.marked then 1 else 0) c.before.mine c.turns in
       omega (arith, most, more, sum)
 
-  lost-all : (first last : History) (cs : List (ServedConnection K I O C)) (each : Every (IsServedWithin streams first last) cs)
+  lost-all : (first last : History) (cs : List (ServedConnection K I O C))
+      (each : Every (IsServedWithin streams first last) cs)
       → lost_in streams first last cs each ≤ total (λ (c : ServedConnection K I O C). marks c.turns) cs
   lost-all first last [] each = omega arith
   lost-all first last (c ∷ cs) each = (
@@ -53,15 +59,19 @@ module _ {K I O C : Type 0} (streams : Streams K I O C) where
       omega (arith, one, more))
 
   -- the shelf's count rose by as many at least as were lost
-  pub lost-count : (first last : History) (cs : List (ServedConnection K I O C)) (each : Every (IsServedWithin streams first last) cs) (faults n n' : ℕ)
-      → (0 + total (λ (c : ServedConnection K I O C). marks c.turns) cs ≤ faults) ⊎ (last_count ≤ faults) → Gains n faults n'
+  pub lost-count : (first last : History) (cs : List (ServedConnection K I O C))
+      (each : Every (IsServedWithin streams first last) cs) (faults n n' : ℕ)
+      → (0 + total (λ (c : ServedConnection K I O C). marks c.turns) cs ≤ faults) ⊎ (last_count ≤ faults)
+      → Gains n faults n'
       → Gains n (lost_in streams first last cs each) n'
   lost-count first last cs each faults n n' marked gains = (
     gains.0,
-    λ below. by (lost_in streams first last cs each) (total (λ (c : ServedConnection K I O C). marks c.turns) cs) faults n n'
+    λ below. by (lost_in streams first last cs each) (total (λ (c : ServedConnection K I O C). marks c.turns) cs) faults
+        n n'
         (lost-all first last cs each) marked below (gains.1 below),
   )
     where
-      by : (lost t f n n' : ℕ) → lost ≤ t → (0 + t ≤ f) ⊎ (last_count ≤ f) → n' < 2 ^ 64 - 1 → n + f ≤ n' → n + lost ≤ n'
+      by : (lost t f n n' : ℕ) → lost ≤ t → (0 + t ≤ f) ⊎ (last_count ≤ f) → n' < 2 ^ 64 - 1 → n + f ≤ n'
+          → n + lost ≤ n'
       by lost t f n n' few (inl le) below up = omega (arith, few, le, up)
       by lost t f n n' few (inr last) below up = absurd (omega (arith, last, below, up))

@@ -1,6 +1,6 @@
 -- ShelfState that open, and stores that don't.
-use Rattle.std.proofs.Common.{◌≡◌, ◌∙◌, ◌≤◌, ◌<◌, ◌++◌, ◌⊎◌, inl, inr, ℕ, List, [], ◌∷◌, length, Bool, true, false, Option, Some, None, Result, Ok, Err, IfSome, refl}
-use Rattle.std.proofs.Common.{sym, ap, ap₂, subst, arith}
+use Rattle.std.proofs.Common.{◌≡◌, ◌∙◌, ◌≤◌, ◌<◌, ◌++◌, ◌⊎◌, inl, inr, ℕ, List, [], ◌∷◌, length, Bool, true, false}
+use Rattle.std.proofs.Common.{Option, Some, None, Result, Ok, Err, IfSome, refl, sym, ap, ap₂, subst, arith}
 use Rattle.std.specs.Prelude.{IsTrue, is_some}
 use Rattle.std.proofs.lemmas.Bool.{false≢true}
 use Rattle.std.proofs.Math.Path.{fun_ext}
@@ -39,8 +39,9 @@ use Rattle.cr_top.specs.declared.exit.Exit.TheVariants as exits
 use Rattle.cr_top.specs.Exits.{exit_of, exit_of_rows}
 use Rattle.cr_top.specs.Runs.{Keeps, Outside, Pipes, world}
 use Rattle.cr_book.specs.Stopping.{AddsOne, KeepsTold, OpensAmid}
-use Rattle.cr_top.specs.Stores.{AnswersView, BeginsAt, CrashKeepsGroups, CrashKeepsWishes, IsBadStore, Keeping, KeepsOthers, KeepsRows, KeepsStore, LeavesRows}
-use Rattle.cr_top.specs.Stores.{OpensStore, RowsByPath, ServesStore, ShelfState, StaysShut, TellsRows, TellsView, ViewsStore}
+use Rattle.cr_top.specs.Stores.{AnswersView, BeginsAt, CrashKeepsGroups, CrashKeepsWishes, IsBadStore, Keeping}
+use Rattle.cr_top.specs.Stores.{KeepsOthers, KeepsRows, KeepsStore, LeavesRows, OpensStore, RowsByPath, ServesStore}
+use Rattle.cr_top.specs.Stores.{ShelfState, StaysShut, TellsRows, TellsView, ViewsStore}
 
 -- ---- what stands at the paths
 
@@ -51,13 +52,15 @@ told-still (Some there) = refl
 -- a keeper of the rows that stood at a path was taken back, with which nothing had been tried in vain
 shut-rows : (tells : Bool) (s s' : ShelfState) (path : List ℕ) (told : Option (List Row)) (tried : List (List Row))
     → (IsTrue tells → tried ≡ []) → IfSome (s.rows path) (λ there. told ≡ Some there)
-    → IfSome told (λ kept. StandsAfter tells kept tried (s.rows path) (s'.rows path)) → KeepsOthers path s s' → KeepsRows s s'
+    → IfSome told (λ kept. StandsAfter tells kept tried (s.rows path) (s'.rows path)) → KeepsOthers path s s'
+    → KeepsRows s s'
 shut-rows tells s s' path told tried none found kept others other = at (bytes_eq path other) refl
   where
     none-tried : (group : List Row) → IsTrue tells → IsAmong tried group → ⊥
     none-tried group is among = subst (λ (groups : List (List Row)). IsAmong groups group) (none is) among
 
-    stands : (before there : Option (List Row)) (rows : List Row) → before ≡ Some rows → StandsAfter tells rows tried before there
+    stands : (before there : Option (List Row)) (rows : List Row) → before ≡ Some rows
+        → StandsAfter tells rows tried before there
         → IfSome before (λ r. there ≡ Some r)
     stands None there rows is after = tt
     stands (Some r) there rows is (inl same) = same ∙ sym is
@@ -67,15 +70,20 @@ shut-rows tells s s' path told tried none found kept others other = at (bytes_eq
         → IfSome told (λ k. StandsAfter tells k tried before there) → IfSome before (λ r. there ≡ Some r)
     told-there None there told found kept = tt
     told-there (Some r) there told found kept =
-        stands (Some r) there r refl (subst (λ (t : Option (List Row)). IfSome t (λ k. StandsAfter tells k tried (Some r) there)) found kept)
+        stands (Some r) there r refl
+        (subst (λ (t : Option (List Row)). IfSome t (λ k. StandsAfter tells k tried (Some r) there)) found kept)
 
     at : (b : Bool) → bytes_eq path other ≡ b → IfSome (s.rows other) (λ there. s'.rows other ≡ Some there)
-    at true is = subst (λ (p : List ℕ). IfSome (s.rows p) (λ there. s'.rows p ≡ Some there)) ((bytes_eq-Decides path other).0 is)
+    at true is =
+        subst (λ (p : List ℕ). IfSome (s.rows p) (λ there. s'.rows p ≡ Some there)) ((bytes_eq-Decides path other).0 is)
         (told-there (s.rows path) (s'.rows path) told found kept)
-    at false is = same-rows-at (others other (λ (e : other ≡ path). absurd (false≢true (sym is ∙ (bytes_eq-Decides path other).1 (sym e)))))
+    at false is =
+        same-rows-at
+        (others other (λ (e : other ≡ path). absurd (false≢true (sym is ∙ (bytes_eq-Decides path other).1 (sym e)))))
       where
         same-rows-at : s'.rows other ≡ s.rows other → IfSome (s.rows other) (λ there. s'.rows other ≡ Some there)
-        same-rows-at e = subst (λ (o : Option (List Row)). IfSome (s.rows other) (λ there. o ≡ Some there)) (sym e) (told-still (s.rows other))
+        same-rows-at e = subst (λ (o : Option (List Row)). IfSome (s.rows other) (λ there. o ≡ Some there)) (sym e)
+            (told-still (s.rows other))
 
 -- ---- a store that opens, or doesn't
 
@@ -93,7 +101,8 @@ mapped None f a = tt
 mapped (Some r) f a = f r a
 
 -- a book was opened over a keeper of the rows at a path
-pub opens-store : {K : Type 0} (rows : K → Option (List Row)) (faults : K → ℕ) (path : List ℕ) (keeper : K) (book : SeenBook K)
+pub opens-store : {K : Type 0} (rows : K → Option (List Row)) (faults : K → ℕ) (path : List ℕ) (keeper : K)
+    (book : SeenBook K)
     (s s' : ShelfState) → Legal book.log → IfSome (s.rows path) (λ there. rows keeper ≡ Some there)
     → IfSome (rows keeper) (λ r. Opens r (Ok book)) → rows book.keeper ≡ rows keeper → faults book.keeper ≡ 0
     → s'.rows ≡ s.rows → s'.faults ≡ s.faults → OpensStore rows faults path book s s'
@@ -111,22 +120,29 @@ opens-store {K} rows faults path keeper book s s' legal found exact same fresh r
 
 -- a count rises where it gains what another rose by, from 0 on
 pub risen : (f faults f' : ℕ) → Rises 0 faults → Gains f faults f' → Rises f f'
-risen f faults f' rises gains below = let up = gains.1 below in let some = rises (omega (arith, below, up)) in omega (arith, up, some)
+risen f faults f' rises gains below = let up = gains.1 below in let some =
+    rises (omega (arith, below, up)) in omega (arith, up, some)
 
 -- what is told of rows that don't open, by the rows that stand there
 explained : {K : Type 0} (there : Option (List Row)) (told : Option (List Row)) (row : ℕ) (found : Row) (keeper : K)
     → IfSome there (λ r. told ≡ Some r)
-    → IfSome told (λ rows. Opens rows (Err (errors.BadStore row found, keeper))) → IfSome there (λ r. IsBadStore r row found.kind)
+    → IfSome told (λ rows. Opens rows (Err (errors.BadStore row found, keeper)))
+    → IfSome there (λ r. IsBadStore r row found.kind)
 explained None told row found keeper is opens = tt
 explained {K} (Some there) told row found keeper is opens =
-    let bad = subst (λ (t : Option (List Row)). IfSome t (λ rows. Opens {K = K} rows (Err (errors.BadStore row found, keeper)))) is opens in
+    let bad =
+    subst (λ (t : Option (List Row)). IfSome t (λ rows. Opens {K = K} rows (Err (errors.BadStore row found, keeper))))
+    is opens in
     record { found = found; kind_is = refl; bad = bad.0; none = bad.1 }
 
-module _ {K : Type 0} (tells : Bool) (rows : K → Option (List Row)) (tried : K → List (List Row)) (faults : K → ℕ) (path : List ℕ)
+module _ {K : Type 0} (tells : Bool) (rows : K → Option (List Row)) (tried : K → List (List Row)) (faults : K → ℕ)
+    (path : List ℕ)
     (s s' : ShelfState) (opened given : K)
-    (found : IfSome (s.rows path) (λ there. rows opened ≡ Some there)) (fresh : faults opened ≡ 0) (same : rows given ≡ rows opened)
+    (found : IfSome (s.rows path) (λ there. rows opened ≡ Some there)) (fresh : faults opened ≡ 0)
+    (same : rows given ≡ rows opened)
     (none : IsTrue tells → tried given ≡ [])
-    (kept : IfSome (rows given) (λ k. StandsAfter tells k (tried given) (s.rows path) (s'.rows path))) (others : KeepsOthers path s s')
+    (kept : IfSome (rows given) (λ k. StandsAfter tells k (tried given) (s.rows path) (s'.rows path)))
+    (others : KeepsOthers path s s')
     (gains : Gains s.faults (faults given) s'.faults) where
   shut : KeepsRows s s'
   shut = shut-rows tells s s' path (rows given) (tried given) none
@@ -142,7 +158,8 @@ module _ {K : Type 0} (tells : Bool) (rows : K → Option (List Row)) (tried : K
   }
   rows-refuse errors.KeeperFault opens cause =
       record {
-        refused = risen s.faults (faults given) s'.faults (subst (λ (n : ℕ). Rises n (faults given)) fresh (cause.failed refl)) gains;
+        refused = risen s.faults (faults given) s'.faults
+            (subst (λ (n : ℕ). Rises n (faults given)) fresh (cause.failed refl)) gains;
         rows = inl shut;
         count = gains.0;
       }
@@ -151,12 +168,15 @@ module _ {K : Type 0} (tells : Bool) (rows : K → Option (List Row)) (tried : K
 -- ---- a store that was served or read
 
 -- the keeper of a book that was opened and worked on was taken back
-module _ {K : Type 0} (tells : Bool) (rows : K → Option (List Row)) (tried : K → List (List Row)) (faults : K → ℕ) (path : List ℕ)
+module _ {K : Type 0} (tells : Bool) (rows : K → Option (List Row)) (tried : K → List (List Row)) (faults : K → ℕ)
+    (path : List ℕ)
     (book : SeenBook K) (keeper' : K) (s m s' : ShelfState) (opens : OpensStore rows faults path book s m)
     (kept : IfSome (rows keeper') (λ k. StandsAfter tells k (tried keeper') (m.rows path) (s'.rows path)))
     (others : KeepsOthers path m s') (gains : Gains m.faults (faults keeper') s'.faults) where
   rows-now : IfSome (rows keeper') (λ k. StandsAfter tells k (tried keeper') (s.rows path) (s'.rows path))
-  rows-now = subst (λ (x : ShelfState). IfSome (rows keeper') (λ k. StandsAfter tells k (tried keeper') (x.rows path) (s'.rows path))) opens.same kept
+  rows-now =
+      subst (λ (x : ShelfState). IfSome (rows keeper')
+      (λ k. StandsAfter tells k (tried keeper') (x.rows path) (s'.rows path))) opens.same kept
 
   others-now : KeepsOthers path s s'
   others-now = subst (λ (x : ShelfState). KeepsOthers path x s') opens.same others
@@ -172,14 +192,23 @@ module _ {K : Type 0} (tells : Bool) (rows : K → Option (List Row)) (tried : K
   leaves-rows H is follows all =
       record { there = told-there (rows keeper') is rows-now (all keeper'); others = others-now }
     where
-      there-after : (before there : Option (List Row)) (r : List Row) → r ≡ rows_of H → StandsAfter tells r (tried keeper') before there
+      there-after : (before there : Option (List Row)) (r : List Row) → r ≡ rows_of H
+          → StandsAfter tells r (tried keeper') before there
           → IfSome before (λ _. (there ≡ Some (rows_of H))
           ⊎ (IsTrue tells × ((group : History) × AddsOne H group × (there ≡ Some (rows_of (H ++ group))))))
       there-after None there r is after = tt
       there-after (Some before) there r is (inl same) = inl (same ∙ ap Some is)
       there-after (Some before) there r is (inr more) =
           let f = follows more.0 more.1.0 more.1.1 in
-          inr (more.0, (f.0, f.1, more.1.2 ∙ ap Some (ap₂ (λ (xs ys : List Row). xs ++ ys) is f.2 ∙ sym (map-append row_of H f.0))))
+          inr (
+            more.0,
+            (
+              f.0,
+              f.1,
+              more.1.2
+                  ∙ ap Some (ap₂ (λ (xs ys : List Row). xs ++ ys) is f.2 ∙ sym (map-append row_of H f.0)),
+            ),
+          )
 
       told-there : (told : Option (List Row)) → IfSome told (λ t. t ≡ rows_of H)
           → IfSome told (λ k. StandsAfter tells k (tried keeper') (s.rows path) (s'.rows path)) → IsTrue (is_some told)
@@ -195,34 +224,45 @@ module _ {K : Type 0} (tells : Bool) (rows : K → Option (List Row)) (tried : K
 
   -- where the shelf's count didn't rise, the keeper's didn't
   pub no_fault : (Rises s.faults s'.faults → ⊥) → Rises (faults book.keeper) (faults keeper') → ⊥
-  no_fault idle rises = idle (risen s.faults (faults keeper') s'.faults (subst (λ (n : ℕ). Rises n (faults keeper')) opens.fresh rises) count-now)
+  no_fault idle rises =
+      idle (risen s.faults (faults keeper') s'.faults (subst (λ (n : ℕ). Rises n (faults keeper')) opens.fresh rises)
+      count-now)
 
-pub serves-store : {K I : Type 0} (tells : Bool) (rows : K → Option (List Row)) (tried : K → List (List Row)) (kept-so : Keeps)
+pub serves-store : {K I : Type 0} (tells : Bool) (rows : K → Option (List Row)) (tried : K → List (List Row))
+    (kept-so : Keeps)
     (keeps : Keeping) (faults : K → ℕ) (path : List ℕ) (left : I → Option (List ℕ)) (gives : I → I → List ℕ → Type 0)
-    (exit : Exit) (ending : Ending) → exit ≡ exit_of ending → (book : SeenBook K) (keeper' : K) (o o' : Outside I) (s m s' : ShelfState)
-    → OpensStore rows faults path book s m → Pipes rows kept-so faults left gives book.log ending book.keeper keeper' o o'
-    → IfSome (rows keeper') (λ k. StandsAfter tells k (tried keeper') (m.rows path) (s'.rows path)) → KeepsOthers path m s'
+    (exit : Exit) (ending : Ending) → exit ≡ exit_of ending
+    → (book : SeenBook K) (keeper' : K) (o o' : Outside I) (s m s' : ShelfState)
+    → OpensStore rows faults path book s m → Pipes rows kept-so faults left gives book.log ending book.keeper keeper' o
+    o'
+    → IfSome (rows keeper') (λ k. StandsAfter tells k (tried keeper') (m.rows path) (s'.rows path))
+    → KeepsOthers path m s'
     → Gains m.faults (faults keeper') s'.faults
     → ((history : History) → IsKept rows keeper' history → (judged : List JudgedWish) → kept-so history judged
     → keeps.store book.log history s s' × keeps.wishes book.log judged)
     → ServesStore keeps path left gives exit o o' s s'
-serves-store {K} {I} tells rows tried kept-so keeps faults path left gives exit ending is book keeper' o o' s m s' opens p kept others gains so = record {
-  opening = book.log;
-  opens = opens.legal;
-  found = opens.found;
-  ending = ending;
-  exit_is = is;
-  history = p.history;
-  legal = p.legal;
-  faults = faults keeper';
-  connection = from.0;
-  whole = λ b told. subst (λ (n : ℕ). WholeBytes left ending b (world o book.log n) (world o' p.history (faults keeper'))) opens.fresh (p.whole b told);
-  leaves = held.0;
-  stops = from.1;
-  counted = count-now tells rows tried faults path book keeper' s m s' opens kept others gains;
-}
+serves-store {K} {I} tells rows tried kept-so keeps faults path left gives exit ending is book keeper' o o' s m s' opens
+    p kept others gains so = record {
+      opening = book.log;
+      opens = opens.legal;
+      found = opens.found;
+      ending = ending;
+      exit_is = is;
+      history = p.history;
+      legal = p.legal;
+      faults = faults keeper';
+      connection = from.0;
+      whole =
+          λ b told. subst (λ (n : ℕ). WholeBytes left ending b (world o book.log n)
+          (world o' p.history (faults keeper')))
+          opens.fresh (p.whole b told);
+      leaves = held.0;
+      stops = from.1;
+      counted = count-now tells rows tried faults path book keeper' s m s' opens kept others gains;
+    }
   where
-    held : keeps.store book.log p.history s s' × keeps.wishes book.log (p.connection.answered ++ listed p.connection.failed)
+    held : keeps.store book.log p.history s s'
+        × keeps.wishes book.log (p.connection.answered ++ listed p.connection.failed)
     held = so p.history p.kept (p.connection.answered ++ listed p.connection.failed) p.besides
 
     -- the keeper had counted no fault at first
@@ -235,11 +275,14 @@ serves-store {K} {I} tells rows tried kept-so keeps faults path left gives exit 
     from = subst (λ (n : ℕ). Begun n) opens.fresh (p.connection, held.1)
 
 -- the book's history is the one that has the rows
-pub the-history : {K : Type 0} (rows : K → Option (List Row)) (faults : K → ℕ) (path : List ℕ) (book : SeenBook K) (s m : ShelfState)
+pub the-history : {K : Type 0} (rows : K → Option (List Row)) (faults : K → ℕ) (path : List ℕ) (book : SeenBook K)
+    (s m : ShelfState)
     → OpensStore rows faults path book s m → (H : History) → Legal H → s.rows path ≡ Some (rows_of H)
     → book.log ≡ H
 the-history rows faults path book s m opens H legal told =
-    sym (subst (λ (o : Option (List Row)). IfSome o (λ there. (H : History) → Legal H → rows_of H ≡ there → H ≡ book.log)) told opens.only
+    sym
+    (subst (λ (o : Option (List Row)). IfSome o (λ there. (H : History) → Legal H → rows_of H ≡ there → H ≡ book.log))
+    told opens.only
     H legal refl)
 
 -- a store of a legal history's rows opens where nothing fails, or memory runs out
@@ -249,7 +292,8 @@ pub opens-or-memory : (tells : Bool) (path : List ℕ) (exit : Exit) (s s' : She
 opens-or-memory tells path exits.OutOfMemory s s' shut idle H legal told = refl
 opens-or-memory tells path exits.KeeperFault s s' shut idle H legal told = absurd (idle shut.refused)
 opens-or-memory tells path (exits.BadStore row kind) s s' shut idle H legal told =
-    absurd ((subst (λ (o : Option (List Row)). IfSome o (λ there. IsBadStore there row kind)) told shut.refused).none H legal refl)
+    absurd ((subst (λ (o : Option (List Row)). IfSome o (λ there. IsBadStore there row kind)) told shut.refused).none H
+    legal refl)
 opens-or-memory tells path exits.Done s s' shut idle H legal told = absurd shut.refused
 opens-or-memory tells path exits.Cut s s' shut idle H legal told = absurd shut.refused
 opens-or-memory tells path exits.Usage s s' shut idle H legal told = absurd shut.refused
@@ -260,30 +304,37 @@ opens-or-memory tells path exits.ListenFault s s' shut idle H legal told = absur
 opens-or-memory tells path exits.ClockFault s s' shut idle H legal told = absurd shut.refused
 
 -- the keeper of a book that was read alone was taken back
-pub views-store : {K : Type 0} (tells : Bool) (rows : K → Option (List Row)) (tried : K → List (List Row)) (faults : K → ℕ)
+pub views-store : {K : Type 0} (tells : Bool) (rows : K → Option (List Row)) (tried : K → List (List Row))
+    (faults : K → ℕ)
     (path name : List ℕ) (exit : Exit) (book : SeenBook K) (keeper' : K) (o o' : Outlet) (s m s' : ShelfState)
-    → OpensStore rows faults path book s m → keeper' ≡ book.keeper → (IsTrue tells → tried keeper' ≡ []) → TellsView book.log name exit o o'
-    → IfSome (rows keeper') (λ k. StandsAfter tells k (tried keeper') (m.rows path) (s'.rows path)) → KeepsOthers path m s'
+    → OpensStore rows faults path book s m → keeper' ≡ book.keeper → (IsTrue tells → tried keeper' ≡ [])
+    → TellsView book.log name exit o o'
+    → IfSome (rows keeper') (λ k. StandsAfter tells k (tried keeper') (m.rows path) (s'.rows path))
+    → KeepsOthers path m s'
     → Gains m.faults (faults keeper') s'.faults → ViewsStore path name exit o o' s s'
-views-store tells rows tried faults path name exit book keeper' o o' s m s' opens same none shown kept others gains = record {
-  opening = book.log;
-  opens = opens.legal;
-  found = opens.found;
-  tells = shown;
-  rows = same-rows tells rows tried faults path book keeper' s m s' opens kept others gains same none;
-  count = (count-now tells rows tried faults path book keeper' s m s' opens kept others gains).0;
-}
+views-store tells rows tried faults path name exit book keeper' o o' s m s' opens same none shown kept others gains =
+    record {
+      opening = book.log;
+      opens = opens.legal;
+      found = opens.found;
+      tells = shown;
+      rows = same-rows tells rows tried faults path book keeper' s m s' opens kept others gains same none;
+      count = (count-now tells rows tried faults path book keeper' s m s' opens kept others gains).0;
+    }
 
 -- nothing was tried in vain with a keeper that is as it was opened
-pub none-tried : {K : Type 0} (tells : Bool) (rows : K → Option (List Row)) (tried : K → List (List Row)) (moment : K → ℕ)
+pub none-tried : {K : Type 0} (tells : Bool) (rows : K → Option (List Row)) (tried : K → List (List Row))
+    (moment : K → ℕ)
     (left_since : K → ℕ → List ℕ → Type 0) (opens : List ℕ → List Row → Type 0) (at : ℕ)
-    (book : SeenBook K) (keeper' : K) → (IsTrue tells → BeginsAt rows tried moment left_since opens at book) → keeper' ≡ book.keeper
+    (book : SeenBook K) (keeper' : K) → (IsTrue tells → BeginsAt rows tried moment left_since opens at book)
+    → keeper' ≡ book.keeper
     → IsTrue tells → tried keeper' ≡ []
 none-tried tells rows tried moment left_since opens at book keeper' begins same told =
     let b = begins told in ap tried (same ∙ b.still) ∙ b.none
 
 -- what a view is answered where nothing fails
-pub answers-view : (H : History) (name : List ℕ) (exit : Exit) (o o' : Outlet) → TellsView H name exit o o' → (Rises o.faults o'.faults → ⊥)
+pub answers-view : (H : History) (name : List ℕ) (exit : Exit) (o o' : Outlet) → TellsView H name exit o o'
+    → (Rises o.faults o'.faults → ⊥)
     → (exit ≡ exits.OutOfMemory) ⊎ AnswersView H name exit o o'
 answers-view H name exits.Done o o' tells idle = inr (tells, inl refl)
 answers-view H name exits.NoUser o o' tells idle = inr (tells, inr refl)
@@ -300,18 +351,23 @@ answers-view H name exits.ClockFault o o' tells idle = absurd tells
 -- ---- names
 
 -- another name than one that is longer than any may be
-not-named : (name other : List ℕ) (user : ℕ) → length other ≤ 32 → 34 < length name → (b : Bool) → bytes_eq other name ≡ b → given b user ≡ []
-not-named name other user few long true is = absurd (let e = ap length ((bytes_eq-Decides other name).0 is) in omega (arith, few, long, e))
+not-named : (name other : List ℕ) (user : ℕ) → length other ≤ 32 → 34 < length name → (b : Bool)
+    → bytes_eq other name ≡ b → given b user ≡ []
+not-named name other user few long true is =
+    absurd (let e = ap length ((bytes_eq-Decides other name).0 is) in omega (arith, few, long, e))
 not-named name other user few long false is = refl
 
 registers-another : (name : List ℕ) (stamp : Stamp) (more : Bool) (e : Entry) → 34 < length name
     → IsBoundedEntry (stamped stamp more e) → number_told name e ≡ []
-registers-another name stamp more (Registered user other digest) long b = not-named name other user b.b1.few long (bytes_eq other name) refl
+registers-another name stamp more (Registered user other digest) long b =
+    not-named name other user b.b1.few long (bytes_eq other name) refl
 registers-another name stamp more e long b = refl
 
-none-named : (name : List ℕ) (H : History) → 34 < length name → AllByRecursion IsBoundedEntry H → all_told (number_told name) H ≡ []
+none-named : (name : List ℕ) (H : History) → 34 < length name → AllByRecursion IsBoundedEntry H
+    → all_told (number_told name) H ≡ []
 none-named name [] long bounded = refl
-none-named name (s ∷ H) long bounded = ap₂ (λ (xs ys : List ℕ). xs ++ ys) (registers-another name s.stamp s.more s.entry long bounded.0)
+none-named name (s ∷ H) long bounded =
+    ap₂ (λ (xs ys : List ℕ). xs ++ ys) (registers-another name s.stamp s.more s.entry long bounded.0)
     (none-named name H long bounded.1)
 
 -- nobody has registered a name of more bytes than any may have
@@ -321,14 +377,17 @@ nobody-has name H legal long = ap last (none-named name H long (legal-bounded H 
 -- ---- what a stop may have left
 
 -- what a book's keeper keeps since it was opened, its shelf tells once the keeper was shut
-pub groups-kept : {K : Type 0} (tells : Bool) (rows : K → Option (List Row)) (tried : K → List (List Row)) (moment : K → ℕ)
-    (left_since : K → ℕ → List ℕ → Type 0) (opens : List ℕ → List Row → Type 0) (left : List ℕ → Type 0) (at : ℕ) (book : SeenBook K) (keeper' : K)
+pub groups-kept : {K : Type 0} (tells : Bool) (rows : K → Option (List Row)) (tried : K → List (List Row))
+    (moment : K → ℕ)
+    (left_since : K → ℕ → List ℕ → Type 0) (opens : List ℕ → List Row → Type 0) (left : List ℕ → Type 0) (at : ℕ)
+    (book : SeenBook K) (keeper' : K)
     → (IsTrue tells → (k : K) → IsTrue (is_some (rows k)))
     → (IsTrue tells → BeginsAt rows tried moment left_since opens at book)
     → (IsTrue tells → (image : List ℕ) → left image → left_since keeper' at image)
     → (history : History) → KeepsTold rows tried moment left_since opens tells book.opened keeper' history
     → CrashKeepsGroups tells opens left book.log history
-groups-kept {K} tells rows tried moment left_since opens left at book keeper' there begins shut history kept told image may =
+groups-kept {K} tells rows tried moment left_since opens left at book keeper' there begins shut history kept told image
+    may =
     let b = begins told in
     opened-rows (rows book.opened) (there told book.opened) b.first
     ((kept told b.none).since image (subst (λ (t : ℕ). left_since keeper' t image) b.at (shut told image may)))
@@ -339,27 +398,36 @@ groups-kept {K} tells rows tried moment left_since opens left at book keeper' th
     opened-rows (Some r) some is a = subst (λ (x : List Row). OpensAmid opens (Some x) history image) (sym is) a
 
 -- what a book's keeper keeps, its shelf tells once the keeper was shut
-pub keeps-store : {K : Type 0} (tells : Bool) (rows : K → Option (List Row)) (tried : K → List (List Row)) (moment : K → ℕ)
-    (left_since : K → ℕ → List ℕ → Type 0) (opens : List ℕ → List Row → Type 0) (left : List ℕ → List ℕ → Type 0) (at : ℕ)
+pub keeps-store : {K : Type 0} (tells : Bool) (rows : K → Option (List Row)) (tried : K → List (List Row))
+    (moment : K → ℕ)
+    (left_since : K → ℕ → List ℕ → Type 0) (opens : List ℕ → List Row → Type 0) (left : List ℕ → List ℕ → Type 0)
+    (at : ℕ)
     (faults : K → ℕ) (path : List ℕ) (book : SeenBook K) (keeper' : K) (s m s' : ShelfState)
     → (IsTrue tells → (k : K) → IsTrue (is_some (rows k)))
     → (IsTrue tells → BeginsAt rows tried moment left_since opens at book)
     → (IsTrue tells → (image : List ℕ) → left path image → left_since keeper' at image)
     → OpensStore rows faults path book s m
-    → IfSome (rows keeper') (λ k. StandsAfter tells k (tried keeper') (m.rows path) (s'.rows path)) → KeepsOthers path m s'
+    → IfSome (rows keeper') (λ k. StandsAfter tells k (tried keeper') (m.rows path) (s'.rows path))
+    → KeepsOthers path m s'
     → Gains m.faults (faults keeper') s'.faults
-    → (history : History) → IsKept rows keeper' history → KeepsTold rows tried moment left_since opens tells book.opened keeper' history
+    → (history : History) → IsKept rows keeper' history
+    → KeepsTold rows tried moment left_since opens tells book.opened keeper' history
     → KeepsStore rows tells opens left path book.log history s s'
-keeps-store tells rows tried moment left_since opens left at faults path book keeper' s m s' there begins shut opened stands others gains
+keeps-store tells rows tried moment left_since opens left at faults path book keeper' s m s' there begins shut opened
+    stands others gains
     history is kept = record {
       kept = leaves-rows tells rows tried faults path book keeper' s m s' opened stands others gains history is
           (λ told. (kept told (begins told).none).tried_follow);
-      stops = groups-kept tells rows tried moment left_since opens (left path) at book keeper' there begins shut history kept;
+      stops =
+          groups-kept tells rows tried moment left_since opens (left path) at book keeper' there begins shut history
+          kept;
     }
 
 -- and by the wishes of one connection
-pub wishes-kept : {K : Type 0} (tells : Bool) (rows : K → Option (List Row)) (tried : K → List (List Row)) (moment : K → ℕ)
-    (left_since : K → ℕ → List ℕ → Type 0) (opens : List ℕ → List Row → Type 0) (left : List ℕ → Type 0) (at : ℕ) (book : SeenBook K) (keeper' : K)
+pub wishes-kept : {K : Type 0} (tells : Bool) (rows : K → Option (List Row)) (tried : K → List (List Row))
+    (moment : K → ℕ)
+    (left_since : K → ℕ → List ℕ → Type 0) (opens : List ℕ → List Row → Type 0) (left : List ℕ → Type 0) (at : ℕ)
+    (book : SeenBook K) (keeper' : K)
     → (IsTrue tells → BeginsAt rows tried moment left_since opens at book)
     → (IsTrue tells → (image : List ℕ) → left image → left_since keeper' at image)
     → (judged : List JudgedWish) → KeepsWishes tells tried moment left_since opens book.keeper keeper' book.log judged

@@ -1,5 +1,6 @@
 -- A walk over the papers that tells of those that pass a test: which are accepted, or which a search finds.
-use Rattle.std.proofs.Common.{ℕ, Bool, true, false, cond, ◌≡◌, ◌≤◌, ◌<◌, ◌+◌, List, [], ◌∷◌, ◌++◌, length, drop, get_or, refl, sym, ap, subst, ◌∙◌, arith, zero, suc, map, filter}
+use Rattle.std.proofs.Common.{ℕ, Bool, true, false, cond, ◌≡◌, ◌≤◌, ◌<◌, ◌+◌, List, [], ◌∷◌, ◌++◌, length, drop, get_or}
+use Rattle.std.proofs.Common.{refl, sym, ap, subst, ◌∙◌, arith, zero, suc, map, filter}
 use Rattle.std.proofs.Math.ListN.{drop_of_length-le}
 use Rattle.std.proofs.lemmas.List.{append-nil}
 use Rattle.cr_base.specs.Lists.{given, numbers_from}
@@ -7,7 +8,8 @@ use Rattle.cr_base.proofs.ListLaws.{length-numbers_from}
 use Rattle.cr_view.proofs.AnswerLaws.{walk-step}
 
 -- the number of the element at an index
-pub get_or-numbers_from : {A : Type 0} (n i other : ℕ) (xs : List A) → i < length xs → get_or (numbers_from n xs) i other ≡ n + i
+pub get_or-numbers_from : {A : Type 0} (n i other : ℕ) (xs : List A) → i < length xs
+    → get_or (numbers_from n xs) i other ≡ n + i
 get_or-numbers_from n i other [] h = omega (arith, h)
 get_or-numbers_from n zero other (x ∷ xs) h = let e : n ≡ n + 0 = omega arith in e
 get_or-numbers_from n (suc i) other (x ∷ xs) h = get_or-numbers_from (n + 1) i other xs (omega (arith, h)) ∙ behind n i
@@ -29,7 +31,8 @@ module _ {A B : Type 0} (test : ℕ → Bool) (told : ℕ → A) (papers : List 
       by false = refl
 
   -- one more paper
-  pub papers-step : (i n : ℕ) (before after wanted : List A) → i < length papers → n ≡ i + 1 → after ≡ before ++ given (test n) (told n)
+  pub papers-step : (i n : ℕ) (before after wanted : List A) → i < length papers → n ≡ i + 1
+      → after ≡ before ++ given (test n) (told n)
       → before ++ those (drop i (numbers_from 1 papers)) ≡ wanted
       → after ++ those (drop (i + 1) (numbers_from 1 papers)) ≡ wanted
   papers-step i n before after wanted within is pushed h =
@@ -42,7 +45,9 @@ module _ {A B : Type 0} (test : ℕ → Bool) (told : ℕ → A) (papers : List 
       from_one i n is = omega (arith, is)
 
   -- and none is left
-  pub papers-all : (i : ℕ) (before wanted : List A) → length papers ≤ i → before ++ those (drop i (numbers_from 1 papers)) ≡ wanted → before ≡ wanted
+  pub papers-all : (i : ℕ) (before wanted : List A) → length papers ≤ i
+      → before ++ those (drop i (numbers_from 1 papers)) ≡ wanted → before ≡ wanted
   papers-all i before wanted past h =
-      let gone = drop_of_length-le (numbers_from 1 papers) (subst (λ (k : ℕ). k ≤ i) (sym (length-numbers_from 1 papers)) past) in
+      let gone = drop_of_length-le (numbers_from 1 papers)
+      (subst (λ (k : ℕ). k ≤ i) (sym (length-numbers_from 1 papers)) past) in
       sym (append-nil before) ∙ sym (ap (λ (ps : List ℕ). before ++ those ps) gone) ∙ h

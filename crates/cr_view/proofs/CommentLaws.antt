@@ -11,10 +11,13 @@ use Rattle.cr_view.specs.Comments.{lines_told}
 use Rattle.cr_view.proofs.AnswerLaws.{walk-step}
 
 -- one more comment
-pub comments-step : (t : Tables) (by : Standing) (comments : List Comment) (i : ℕ) (other : Comment) (before after wanted : List CommentLine)
-    → i < length comments → after ≡ before ++ comment_line by (lines_of t.accounts) (comment_as_told (get_or comments i other)) ∷ []
+pub comments-step : (t : Tables) (by : Standing) (comments : List Comment) (i : ℕ) (other : Comment)
+    (before after wanted : List CommentLine)
+    → i < length comments → after ≡ before ++ comment_line by (lines_of t.accounts)
+    (comment_as_told (get_or comments i other)) ∷ []
     → before ++ lines_told t by (drop i comments) ≡ wanted
     → after ++ lines_told t by (drop (i + 1) comments) ≡ wanted
 comments-step t by comments i other before after wanted within pushed told =
-    let first : List CommentLine = comment_line by (lines_of t.accounts) (comment_as_told (get_or comments i other)) ∷ [] in
+    let first : List CommentLine =
+    comment_line by (lines_of t.accounts) (comment_as_told (get_or comments i other)) ∷ [] in
     walk-step (lines_told t by) first comments i other before after wanted within (λ rest. refl) pushed told

@@ -5,12 +5,14 @@ use Rattle.cr_base.specs.Checks.{Check, judged}
 use Rattle.cr_base.proofs.CheckLaws.{judged-Ok, judged-none, judged-Err}
 
 -- a broken rule is told whatever would be drawn
-pub refused : {A B : Type 0} (checks : List Check) (x : A) (y : B) (rule : Rule) → ◌≡◌ {A = Result A Rule} (Err rule) (judged checks x)
+pub refused : {A B : Type 0} (checks : List Check) (x : A) (y : B) (rule : Rule)
+    → ◌≡◌ {A = Result A Rule} (Err rule) (judged checks x)
     → ◌≡◌ {A = Result B Rule} (Err rule) (judged checks y)
 refused checks x y rule h = sym (judged-Err checks x y rule (sym h))
 
 -- where none is broken, what is made of what was given is drawn
-pub passed : {A B : Type 0} (checks : List Check) (made : A → B) (x given : A) → ◌≡◌ {A = Result A Rule} (Ok given) (judged checks x)
+pub passed : {A B : Type 0} (checks : List Check) (made : A → B) (x given : A)
+    → ◌≡◌ {A = Result A Rule} (Ok given) (judged checks x)
     → ◌≡◌ {A = Result B Rule} (Ok (made given)) (judged checks (made x))
 passed {A} {B} checks made x given h =
     let k = judged-Ok checks x given (sym h) in

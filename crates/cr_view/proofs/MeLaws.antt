@@ -23,7 +23,8 @@ use Rattle.cr_base.specs.Papers.{paper_count, paper_numbers, own_bytes}
 use Rattle.cr_base.specs.Seats.{SeatsState, ordinal_in}
 use Rattle.cr_base.specs.Tables.{Tables}
 use Rattle.cr_base.specs.Talk.{own_comments_in}
-use Rattle.cr_base.specs.Ties.{BareTies, pair_of, bare_tie, is_author_in, is_conflict_on_in, is_conflicted_in, are_within, AreWithin}
+use Rattle.cr_base.specs.Ties.{BareTies, pair_of, bare_tie, is_author_in, is_conflict_on_in, is_conflicted_in}
+use Rattle.cr_base.specs.Ties.{are_within, AreWithin}
 use Rattle.cr_base.specs.Words.{is_member}
 use Rattle.cr_base.proofs.PairLaws.{list_any-others_of}
 use Rattle.cr_base.proofs.RisingLists.{has_number, numbers-others_of}
@@ -37,7 +38,8 @@ only_declared true false = refl
 only_declared false declared = refl
 
 -- a paper on which a user has a seat is one of those that have seats
-seat-within : (n p : ℕ) (u : Option ℕ) (ts : SeatsState) → are_within n ts ≡ true → is_some (ordinal_in ts u p) ≡ true → (1 ≤ p) × (p ≤ n)
+seat-within : (n p : ℕ) (u : Option ℕ) (ts : SeatsState) → are_within n ts ≡ true → is_some (ordinal_in ts u p) ≡ true
+    → (1 ≤ p) × (p ≤ n)
 seat-within n p u [] all there = absurd (true≢false (sym there))
 seat-within n p u (s ∷ ts) all there = by (eqb p s.pair.paper) refl there (seat-within n p u ts parts.1)
   where
@@ -54,7 +56,8 @@ seat-within n p u (s ∷ ts) all there = by (eqb p s.pair.paper) refl there (sea
     hers seats = find (λ (x : Tie Seat). is_number u x.pair.user) (filter (λ (x : Tie Seat). not x.value.vacated) seats)
 
     by : (b : Bool) → eqb p s.pair.paper ≡ b
-        → is_some (option_map (λ (x : Tie Seat). x.value.ordinal) (hers (cond b (s ∷ ties_of ByPaper p ts) (ties_of ByPaper p ts)))) ≡ true
+        → is_some (option_map (λ (x : Tie Seat). x.value.ordinal)
+        (hers (cond b (s ∷ ties_of ByPaper p ts) (ties_of ByPaper p ts)))) ≡ true
         → (is_some (ordinal_in ts u p) ≡ true → (1 ≤ p) × (p ≤ n)) → (1 ≤ p) × (p ≤ n)
     by true same h rest =
         let e : s.pair.paper ≡ p = sym (eqb-true p s.pair.paper same) in
@@ -69,11 +72,13 @@ papers-tied : (user : ℕ) (papers : List ℕ) → papers_tied_to user (tied use
 papers-tied user [] = refl
 papers-tied user (p ∷ papers) =
     let hers : BareTies = ties_of ByUser user (tied user papers) in
-    ap (λ (b : Bool). map (λ (x : Tie (Unit {0})). x.pair.paper) (cond b (bare_tie p user ∷ hers) hers)) (eq-eqb user user refl)
+    ap (λ (b : Bool). map (λ (x : Tie (Unit {0})). x.pair.paper) (cond b (bare_tie p user ∷ hers) hers))
+    (eq-eqb user user refl)
     ∙ ap (λ (ps : List ℕ). p ∷ ps) (papers-tied user papers)
 
 -- the papers that she reviews
-pub own-seats : (t : Tables) (user : ℕ) (papers : List ℕ) → are_within (paper_count t.papers) t.seats ≡ true → IsRising papers
+pub own-seats : (t : Tables) (user : ℕ) (papers : List ℕ) → are_within (paper_count t.papers) t.seats ≡ true
+    → IsRising papers
     → ((p : ℕ) → has_number p papers ≡ is_some (ordinal_in t.seats (Some user) p))
     → papers ≡ filter (λ p. is_some (ordinal_in t.seats (Some user) p)) (paper_numbers t.papers)
 own-seats t user papers within rising same =
@@ -81,7 +86,8 @@ own-seats t user papers within rising same =
     let found : (p : ℕ) → is_some (ordinal_in t.seats (Some user) p) ≡ has_pair (pair_of p user) ties = λ p.
     sym (same p) ∙ ap (has_number p) (sym (papers-tied user papers)) ∙ list_any-others_of ByUser user p ties in
     sym
-    (numbers-others_of (λ p. is_some (ordinal_in t.seats (Some user) p)) ByUser user t.papers.papers ties (subst IsRising (sym (papers-tied user papers)) rising)
+    (numbers-others_of (λ p. is_some (ordinal_in t.seats (Some user) p)) ByUser user t.papers.papers ties
+    (subst IsRising (sym (papers-tied user papers)) rising)
     (λ p there. seat-within (paper_count t.papers) p (Some user) t.seats within (found p ∙ there)) found
     ∙ papers-tied user papers)
 
@@ -97,17 +103,22 @@ module _ (t : Tables) (user : ℕ) (within : AreWithin (paper_count t.papers) t.
   -- the papers with which she is declared in conflict, and whose author she isn't
   pub own-conflicts : IsRising (papers_tied_to user t.ties.conflicts)
       → filter (λ p. not (is_author_in t.ties (Some user) p)) (papers_tied_to user t.ties.conflicts)
-      ≡ filter (λ p. is_conflicted_in t.ties (Some user) p && not (is_author_in t.ties (Some user) p)) (paper_numbers t.papers)
+      ≡ filter (λ p. is_conflicted_in t.ties (Some user) p && not (is_author_in t.ties (Some user) p))
+      (paper_numbers t.papers)
   own-conflicts rising =
       ap (filter (λ p. not (is_author_in t.ties (Some user) p)))
-      (sym (numbers-others_of (λ p. is_conflict_on_in t.ties (Some user) p) ByUser user t.papers.papers t.ties.conflicts rising
+      (sym (numbers-others_of (λ p. is_conflict_on_in t.ties (Some user) p) ByUser user t.papers.papers t.ties.conflicts
+      rising
       (λ p there. within-pair (paper_count t.papers) (pair_of p user) t.ties.conflicts within.conflicts there)
       (λ p. refl)))
-      ∙ sym (filter-filter (λ p. is_conflict_on_in t.ties (Some user) p) (λ p. not (is_author_in t.ties (Some user) p)) (paper_numbers t.papers))
-      ∙ ap (λ (test : ℕ → Bool). filter test (paper_numbers t.papers)) (λ i p. only_declared (is_author_in t.ties (Some user) p) (is_conflict_on_in t.ties (Some user) p) i)
+      ∙ sym (filter-filter (λ p. is_conflict_on_in t.ties (Some user) p) (λ p. not (is_author_in t.ties (Some user) p))
+      (paper_numbers t.papers))
+      ∙ ap (λ (test : ℕ → Bool). filter test (paper_numbers t.papers))
+      (λ i p. only_declared (is_author_in t.ties (Some user) p) (is_conflict_on_in t.ties (Some user) p) i)
 
 -- the papers to which she is invited
-own-invites : (t : Tables) (user : ℕ) → are_within (paper_count t.papers) t.invites ≡ true → IsRising (papers_tied_to user t.invites)
+own-invites : (t : Tables) (user : ℕ) → are_within (paper_count t.papers) t.invites ≡ true
+    → IsRising (papers_tied_to user t.invites)
     → papers_tied_to user t.invites ≡ filter (λ p. is_invited_in t.invites (Some user) p) (paper_numbers t.papers)
 own-invites t user within rising =
     sym (numbers-others_of (λ p. is_invited_in t.invites (Some user) p) ByUser user t.papers.papers t.invites rising
@@ -123,10 +134,13 @@ filter-none (n ∷ ns) = filter-none ns
 pub external-none : (t : Tables) (user : ℕ) → is_member (role_in t.accounts (Some user)) ≡ true
     → [] ≡ filter (λ p. is_external_in t (Some user) p) (paper_numbers t.papers)
 external-none t user is =
-    sym (ap (λ (b : Bool). filter (λ p. not b && is_invited_in t.invites (Some user) p) (paper_numbers t.papers)) is ∙ filter-none (paper_numbers t.papers))
+    sym (ap (λ (b : Bool). filter (λ p. not b && is_invited_in t.invites (Some user) p) (paper_numbers t.papers)) is
+    ∙ filter-none (paper_numbers t.papers))
 
-pub external-some : (t : Tables) (user : ℕ) → is_member (role_in t.accounts (Some user)) ≡ false → are_within (paper_count t.papers) t.invites ≡ true
-    → IsRising (papers_tied_to user t.invites) → papers_tied_to user t.invites ≡ filter (λ p. is_external_in t (Some user) p) (paper_numbers t.papers)
+pub external-some : (t : Tables) (user : ℕ) → is_member (role_in t.accounts (Some user)) ≡ false
+    → are_within (paper_count t.papers) t.invites ≡ true
+    → IsRising (papers_tied_to user t.invites)
+    → papers_tied_to user t.invites ≡ filter (λ p. is_external_in t (Some user) p) (paper_numbers t.papers)
 external-some t user is within rising =
     own-invites t user within rising
     ∙ sym (ap (λ (b : Bool). filter (λ p. not b && is_invited_in t.invites (Some user) p) (paper_numbers t.papers)) is)
@@ -138,7 +152,8 @@ pub me-told : (t : Tables) (user bytes comments : ℕ) (assigned papers conflict
     → assigned ≡ filter (λ p. is_some (ordinal_in t.seats (Some user) p)) (paper_numbers t.papers)
     → bytes ≡ own_bytes t.papers (Some user) → comments ≡ own_comments_in t.talk (Some user)
     → papers ≡ filter (λ p. is_author_in t.ties (Some user) p) (paper_numbers t.papers)
-    → conflicts ≡ filter (λ p. is_conflicted_in t.ties (Some user) p && not (is_author_in t.ties (Some user) p)) (paper_numbers t.papers)
+    → conflicts ≡ filter (λ p. is_conflicted_in t.ties (Some user) p && not (is_author_in t.ties (Some user) p))
+    (paper_numbers t.papers)
     → invited ≡ filter (λ p. is_external_in t (Some user) p) (paper_numbers t.papers)
     → name ≡ unwrap_or (option_map (λ (a : Account). a.name) (account_at t.accounts user)) []
     → role ≡ role_in t.accounts (Some user)
@@ -154,19 +169,34 @@ pub me-told : (t : Tables) (user bytes comments : ℕ) (assigned papers conflict
       user = user;
     })
     (me_by (facts_of_tables t (Some user)) user)
-me-told t user bytes comments assigned papers conflicts invited name role reviewed uploaded wrote hers others asked named has =
+me-told t user bytes comments assigned papers conflicts invited name role reviewed uploaded wrote hers others asked
+    named has =
     let wanted : Me = me_by (facts_of_tables t (Some user)) user in
-    let known : name ≡ wanted.name = named ∙ sym (ap (λ (o : Option (List ℕ)). unwrap_or o []) (name_in-lines_of t.accounts user)) in
+    let known : name ≡ wanted.name =
+    named ∙ sym (ap (λ (o : Option (List ℕ)). unwrap_or o []) (name_in-lines_of t.accounts user)) in
     let told : List ℕ → ℕ → ℕ → List ℕ → List ℕ → List ℕ → List ℕ → Role → Me =
-    λ a b k c i n p r. record { assigned = a; bytes = b; comments = k; conflicts = c; invited = i; name = n; papers = p; role = r; user = user } in
+    λ a b k c i n p r. record {
+      assigned = a;
+      bytes = b;
+      comments = k;
+      conflicts = c;
+      invited = i;
+      name = n;
+      papers = p;
+      role = r;
+      user = user;
+    } in
     ap (λ (a : List ℕ). told a bytes comments conflicts invited name papers role) reviewed
     ∙ ap (λ (b : ℕ). told wanted.assigned b comments conflicts invited name papers role) uploaded
     ∙ ap (λ (k : ℕ). told wanted.assigned wanted.bytes k conflicts invited name papers role) wrote
     ∙ ap (λ (c : List ℕ). told wanted.assigned wanted.bytes wanted.comments c invited name papers role) others
     ∙ ap (λ (i : List ℕ). told wanted.assigned wanted.bytes wanted.comments wanted.conflicts i name papers role) asked
-    ∙ ap (λ (n : List ℕ). told wanted.assigned wanted.bytes wanted.comments wanted.conflicts wanted.invited n papers role) known
-    ∙ ap (λ (p : List ℕ). told wanted.assigned wanted.bytes wanted.comments wanted.conflicts wanted.invited wanted.name p role) hers
-    ∙ ap (λ (r : Role). told wanted.assigned wanted.bytes wanted.comments wanted.conflicts wanted.invited wanted.name wanted.papers r) has
+    ∙ ap (λ (n : List ℕ). told wanted.assigned wanted.bytes wanted.comments wanted.conflicts wanted.invited n papers
+    role) known
+    ∙ ap (λ (p : List ℕ). told wanted.assigned wanted.bytes wanted.comments wanted.conflicts wanted.invited wanted.name
+    p role) hers
+    ∙ ap (λ (r : Role). told wanted.assigned wanted.bytes wanted.comments wanted.conflicts wanted.invited wanted.name
+    wanted.papers r) has
 
 -- ---- walks
 
@@ -177,7 +207,8 @@ pub papers-step : {V : Type 0} (ties : List (Tie V)) (i : ℕ) (other : Tie V) (
     → after ++ map (λ (t : Tie V). t.pair.paper) (drop (i + 1) ties) ≡ wanted
 papers-step {V} ties i other before after wanted within pushed told =
     let first : List ℕ = (get_or ties i other).pair.paper ∷ [] in
-    walk-step (λ (ts : List (Tie V)). map (λ (t : Tie V). t.pair.paper) ts) first ties i other before after wanted within (λ rest. refl) pushed told
+    walk-step (λ (ts : List (Tie V)). map (λ (t : Tie V). t.pair.paper) ts) first ties i other before after wanted
+    within (λ rest. refl) pushed told
 
 -- the same of those that pass a test
 pub kept-step : (test : ℕ → Bool) (ties : BareTies) (i : ℕ) (other : Tie (Unit {0})) (before after wanted : List ℕ)
@@ -186,7 +217,8 @@ pub kept-step : (test : ℕ → Bool) (ties : BareTies) (i : ℕ) (other : Tie (
     → after ++ filter test (map (λ (t : Tie (Unit {0})). t.pair.paper) (drop (i + 1) ties)) ≡ wanted
 kept-step test ties i other before after wanted within pushed told =
     let n : ℕ = (get_or ties i other).pair.paper in
-    walk-step (λ (ts : BareTies). filter test (map (λ (t : Tie (Unit {0})). t.pair.paper) ts)) (given (test n) n) ties i other before after wanted within
+    walk-step (λ (ts : BareTies). filter test (map (λ (t : Tie (Unit {0})). t.pair.paper) ts)) (given (test n) n) ties i
+    other before after wanted within
     (λ rest. by (test n) n (filter test (map (λ (t : Tie (Unit {0})). t.pair.paper) rest))) pushed told
   where
     by : (b : Bool) (n : ℕ) (rest : List ℕ) → cond b (n ∷ rest) rest ≡ given b n ++ rest

@@ -9,7 +9,8 @@ use Rattle.cr_base.specs.Accounts.{lines_of}
 use Rattle.cr_base.specs.Answering.{query_checks}
 use Rattle.cr_base.specs.Checks.{Check, judged}
 use Rattle.cr_base.specs.Page.{gets_abstract, gets_bids, gets_conflict, gets_conflicts, gets_decision, gets_declared}
-use Rattle.cr_base.specs.Page.{gets_label, gets_tags, gets_title, gets_versions, gets_withdrawn, shows_author, where_told}
+use Rattle.cr_base.specs.Page.{gets_label, gets_tags, gets_title, gets_versions, gets_withdrawn, shows_author}
+use Rattle.cr_base.specs.Page.{where_told}
 use Rattle.cr_base.specs.Pairs.{users_tied_to}
 use Rattle.cr_base.specs.Sources.{facts_of_tables, names_in, shown_in_tables}
 use Rattle.cr_base.specs.Tables.{Tables}
@@ -19,18 +20,22 @@ use Rattle.cr_base.specs.Words.{is_chair}
 use Rattle.cr_view.specs.declared.queries.AnswerError.{AnswerError}
 use Rattle.cr_view.specs.declared.queries.AnswerError.TheVariants as errors
 use Rattle.cr_view.specs.PaperSeen.{PaperSeen, ListsSeen, paper_seen_at, lists_seen_at, page_seen, page_listed}
-use Rattle.cr_view.specs.PaperSeen.{reviewers_read, reviewers_told, accepted_seen, title_seen, abstract_seen, decision_seen, withdrawn_seen}
+use Rattle.cr_view.specs.PaperSeen.{reviewers_read, reviewers_told, accepted_seen, title_seen, abstract_seen}
+use Rattle.cr_view.specs.PaperSeen.{decision_seen, withdrawn_seen}
 use Rattle.cr_view.specs.Replies.{ShowsAsDue, bidders_of, page_due, versions_at}
 use Rattle.cr_view.proofs.JudgeLaws.{refused, passed}
 
 -- what is made of a value, where it is told
-told-map : {A B : Type 0} (make : A → B) (told : Bool) (x : A) → option_map make (where_told told (Some x)) ≡ where_told told (Some (make x))
+told-map : {A B : Type 0} (make : A → B) (told : Bool) (x : A)
+    → option_map make (where_told told (Some x)) ≡ where_told told (Some (make x))
 told-map make true x = refl
 told-map make false x = refl
 
 -- the page of these lists, versions and tags
-pub page-is : (t : Tables) (user : Option ℕ) (s : PaperSeen) (lists : ListsSeen) (versions : Option (List ℕ)) (tags : Option (List (List ℕ)))
-    → lists ≡ lists_seen_at t user s lists.reviewers → option_map (reviewers_read t s.by) lists.reviewers ≡ reviewers_told t s
+pub page-is : (t : Tables) (user : Option ℕ) (s : PaperSeen) (lists : ListsSeen) (versions : Option (List ℕ))
+    (tags : Option (List (List ℕ)))
+    → lists ≡ lists_seen_at t user s lists.reviewers
+    → option_map (reviewers_read t s.by) lists.reviewers ≡ reviewers_told t s
     → versions ≡ where_told (gets_versions s.by (accepted_seen s)) (Some (versions_at t s.by.author s.paper))
     → tags ≡ where_told (gets_tags s.by) (Some (tags_in t.tags user (is_chair s.by.role) s.paper))
     → page_listed t s lists versions tags ≡ page_seen t user s
@@ -65,16 +70,19 @@ module _ (t : Tables) (user paper : Option ℕ) where
   asked = paper_seen_at t user (unwrap_or paper 0)
 
   -- the first broken rule
-  pub page-refused : (rule : Rule) → ◌≡◌ {A = Result PaperSeen Rule} (Err rule) (judged checks asked) → page_due t user paper ≡ Err rule
+  pub page-refused : (rule : Rule) → ◌≡◌ {A = Result PaperSeen Rule} (Err rule) (judged checks asked)
+      → page_due t user paper ≡ Err rule
   page-refused rule h = sym (refused checks asked (page_seen t user asked) rule h)
 
   -- the page of what was asked
-  pub page-told : (s : PaperSeen) → ◌≡◌ {A = Result PaperSeen Rule} (Ok s) (judged checks asked) → (page : Page) → page ≡ page_seen t user s
+  pub page-told : (s : PaperSeen) → ◌≡◌ {A = Result PaperSeen Rule} (Ok s) (judged checks asked) → (page : Page)
+      → page ≡ page_seen t user s
       → page_due t user paper ≡ Ok page
   page-told s h page is = sym (ap (λ (p : Page). Ok p) is ∙ passed checks (page_seen t user) asked s h)
 
   -- and where memory runs out, no rule is broken
-  pub page-unserved : (s : PaperSeen) → ◌≡◌ {A = Result PaperSeen Rule} (Ok s) (judged checks asked) → (r : Result Page AnswerError)
+  pub page-unserved : (s : PaperSeen) → ◌≡◌ {A = Result PaperSeen Rule} (Ok s) (judged checks asked)
+      → (r : Result Page AnswerError)
       → IsErrAnd r (λ (e : AnswerError). e ≡ errors.OutOfMemory) → ShowsAsDue r (page_due t user paper)
   page-unserved s h (Ok page) out = absurd out
   page-unserved s h (Err error) out =

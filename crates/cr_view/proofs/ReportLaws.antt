@@ -1,5 +1,6 @@
 -- What reports read, by reads of the tables.
-use Rattle.std.proofs.Common.{ℕ, ◌≡◌, ◌+◌, List, [], ◌∷◌, ◌++◌, length, length-append, map, refl, sym, ap, ◌∙◌, arith, Option, Some, None, suc}
+use Rattle.std.proofs.Common.{ℕ, ◌≡◌, ◌+◌, List, [], ◌∷◌, ◌++◌, length, length-append, map, refl, sym, ap, ◌∙◌, arith}
+use Rattle.std.proofs.Common.{Option, Some, None, suc}
 use Rattle.std.specs.Option.{option_map}
 use Rattle.cr_base.specs.declared.review.WrittenForm.{WrittenForm}
 use Rattle.cr_base.specs.declared.words.Phase.TheVariants.{Discussion}
@@ -25,9 +26,11 @@ last-told : (forms : List WrittenForm) → last (map written_told forms) ≡ opt
 last-told forms = last_from-told None forms
 
 -- the last of the later ones is the last that is discussed
-pub discussed-late : (t : Tables) (p o : ℕ) (form : WrittenForm) → Some form ≡ last (forms_from t.reviews p o Discussion)
+pub discussed-late : (t : Tables) (p o : ℕ) (form : WrittenForm)
+    → Some form ≡ last (forms_from t.reviews p o Discussion)
     → option_map written_told (Some form) ≡ last_discussed t p o
-discussed-late t p o form is = split (forms_from t.reviews p o Discussion) (last_form_before t.reviews p o Discussion) is
+discussed-late t p o form is =
+    split (forms_from t.reviews p o Discussion) (last_form_before t.reviews p o Discussion) is
   where
     split : (late : List WrittenForm) (early : Option WrittenForm) → Some form ≡ last late
         → option_map written_told (Some form) ≡ last (map written_told (listed early ++ late))
@@ -37,7 +40,8 @@ discussed-late t p o form is = split (forms_from t.reviews p o Discussion) (last
         ∙ sym (last-told (listed early ++ w ∷ late))
 
 -- and where there are none, the last of the earlier ones
-pub discussed-early : (t : Tables) (p o : ℕ) (form : Option WrittenForm) → None ≡ last (forms_from t.reviews p o Discussion)
+pub discussed-early : (t : Tables) (p o : ℕ) (form : Option WrittenForm)
+    → None ≡ last (forms_from t.reviews p o Discussion)
     → form ≡ last_form_before t.reviews p o Discussion → option_map written_told form ≡ last_discussed t p o
 discussed-early t p o form none is = split (forms_from t.reviews p o Discussion) none
   where
@@ -46,9 +50,11 @@ discussed-early t p o form none is = split (forms_from t.reviews p o Discussion)
     some-from x (y ∷ xs) h = some-from y xs h
 
     split : (late : List WrittenForm) → None ≡ last late
-        → option_map written_told form ≡ last (map written_told (listed (last_form_before t.reviews p o Discussion) ++ late))
+        → option_map written_told form
+        ≡ last (map written_told (listed (last_form_before t.reviews p o Discussion) ++ late))
     split [] h =
-        ap (λ (q : Option WrittenForm). option_map written_told q) (is ∙ sym (last_from-listed (last_form_before t.reviews p o Discussion) []))
+        ap (λ (q : Option WrittenForm). option_map written_told q)
+        (is ∙ sym (last_from-listed (last_form_before t.reviews p o Discussion) []))
         ∙ sym (last-told (listed (last_form_before t.reviews p o Discussion) ++ []))
     split (w ∷ late) h = let odd : 0 ≡ suc 0 = some-from w late h 0 in cc
 
@@ -65,13 +71,18 @@ total-append (x ∷ xs) ys = more x (total (xs ++ ys)) (total xs) (total ys) (to
     more x n a b h = omega (arith, h)
 
 -- with more scores
-pub sum-step : (old new : ScoreSum) (before more : List ℕ) → old ≡ score_sum before → new.count ≡ old.count + length more → new.sum ≡ old.sum + total more
+pub sum-step : (old new : ScoreSum) (before more : List ℕ) → old ≡ score_sum before
+    → new.count ≡ old.count + length more → new.sum ≡ old.sum + total more
     → new ≡ score_sum (before ++ more)
 sum-step old new before more is counted summed =
-    let count : new.count ≡ length (before ++ more) = counted ∙ ap (λ (s : ScoreSum). s.count + length more) is ∙ sym (length-append before more) in
-    let sum : new.sum ≡ total (before ++ more) = summed ∙ ap (λ (s : ScoreSum). s.sum + total more) is ∙ sym (total-append before more) in
-    let first : ◌≡◌ {A = ScoreSum} (record { count = new.count; sum = new.sum }) (record { count = length (before ++ more); sum = new.sum }) =
+    let count : new.count ≡ length (before ++ more) =
+    counted ∙ ap (λ (s : ScoreSum). s.count + length more) is ∙ sym (length-append before more) in
+    let sum : new.sum ≡ total (before ++ more) =
+    summed ∙ ap (λ (s : ScoreSum). s.sum + total more) is ∙ sym (total-append before more) in
+    let first : ◌≡◌ {A = ScoreSum} (record { count = new.count; sum = new.sum })
+    (record { count = length (before ++ more); sum = new.sum }) =
     ap {B = ScoreSum} (λ (n : ℕ). record { count = n; sum = new.sum }) count in
-    let second : ◌≡◌ {A = ScoreSum} (record { count = length (before ++ more); sum = new.sum }) (score_sum (before ++ more)) =
+    let second : ◌≡◌ {A = ScoreSum} (record { count = length (before ++ more); sum = new.sum })
+    (score_sum (before ++ more)) =
     ap {B = ScoreSum} (λ (n : ℕ). record { count = length (before ++ more); sum = n }) sum in
     first ∙ second

@@ -11,10 +11,14 @@ use Rattle.cr_talk.specs.Room.{TalkHasRoom}
 use Rattle.cr_view.specs.Room.{Rooms, RoomFor}
 
 -- where each table has room as before, there is room as before
-pub room-kept : (any : History) (old new : Rooms) → old.accounts ≤ new.accounts → (PapersHaveRoom any old.papers → PapersHaveRoom any new.papers)
-    → (TiesHaveRoom any old.ties → TiesHaveRoom any new.ties) → (SeatsHaveRoom any old.seats → SeatsHaveRoom any new.seats)
-    → (ReviewsHaveRoom any old.reviews → ReviewsHaveRoom any new.reviews) → (TalkHasRoom any old.talk → TalkHasRoom any new.talk)
-    → (TagsHaveRoom any old.tags → TagsHaveRoom any new.tags) → (DecisionsHaveRoom any old.decisions → DecisionsHaveRoom any new.decisions)
+pub room-kept : (any : History) (old new : Rooms) → old.accounts ≤ new.accounts
+    → (PapersHaveRoom any old.papers → PapersHaveRoom any new.papers)
+    → (TiesHaveRoom any old.ties → TiesHaveRoom any new.ties)
+    → (SeatsHaveRoom any old.seats → SeatsHaveRoom any new.seats)
+    → (ReviewsHaveRoom any old.reviews → ReviewsHaveRoom any new.reviews)
+    → (TalkHasRoom any old.talk → TalkHasRoom any new.talk)
+    → (TagsHaveRoom any old.tags → TagsHaveRoom any new.tags)
+    → (DecisionsHaveRoom any old.decisions → DecisionsHaveRoom any new.decisions)
     → RoomFor any old → RoomFor any new
 room-kept any old new accounts papers ties seats reviews talk tags decisions has = record {
   accounts = let enough = has.accounts in omega (arith, accounts, enough);

@@ -1,5 +1,6 @@
 -- How many records of a paper are read for its page.
-use Rattle.std.proofs.Common.{ℕ, Bool, true, false, cond, ◌≡◌, ◌≤◌, ◌+◌, ◌-◌, ◌*◌, ◌&&◌, List, length, sym, subst, arith, Option, Some, Result, Ok}
+use Rattle.std.proofs.Common.{ℕ, Bool, true, false, cond, ◌≡◌, ◌≤◌, ◌+◌, ◌-◌, ◌*◌, ◌&&◌, List, length, sym, subst}
+use Rattle.std.proofs.Common.{arith, Option, Some, Result, Ok}
 use Rattle.std.specs.Prelude.{not, unwrap_or, ◌||◌}
 use Rattle.cr_base.specs.declared.pairs.Order.TheVariants.{ByPaper}
 use Rattle.cr_base.specs.declared.reply.Rule.{Rule}
@@ -24,10 +25,12 @@ use Rattle.cr_view.specs.PaperSeen.{PaperSeen, TakesFew, facts_reads, page_reads
 
 -- ---- one after another
 
-pub three : (a b c : ℕ) (s t u v : Option ℕ) → TakesAtMost a s t → TakesAtMost b t u → TakesAtMost c u v → TakesAtMost (a + b + c) s v
+pub three : (a b c : ℕ) (s t u v : Option ℕ) → TakesAtMost a s t → TakesAtMost b t u → TakesAtMost c u v
+    → TakesAtMost (a + b + c) s v
 three a b c s t u v h k l = at_most-at_most (a + b) c s u v (at_most-at_most a b s t u h k) l
 
-pub four : (a b c d : ℕ) (s t u v w : Option ℕ) → TakesAtMost a s t → TakesAtMost b t u → TakesAtMost c u v → TakesAtMost d v w
+pub four : (a b c d : ℕ) (s t u v w : Option ℕ) → TakesAtMost a s t → TakesAtMost b t u → TakesAtMost c u v
+    → TakesAtMost d v w
     → TakesAtMost (a + b + c + d) s w
 four a b c d s t u v w h k l m = at_most-at_most (a + b + c) d s v w (three a b c s t u v h k l) m
 
@@ -80,9 +83,12 @@ module _ (t : Tables) (user : Option ℕ) (p : ℕ) (H : History) (is : t ≡ ta
       let x : ℕ = cond (gets_conflicts by) c 0 in
       let y : ℕ = cond (gets_declared by) d 0 in
       sums a c d s i b f v g x y n kept named
-      (either (is_author_in t.ties user p) (is_conflict_on_in t.ties user p) (is_chair by.role) (chairs_see_conflicts by.phase) c d (n - (a + s + i + b + f + v + g)) (omega (arith, kept)) (omega (arith, named)))
+      (either (is_author_in t.ties user p) (is_conflict_on_in t.ties user p) (is_chair by.role)
+      (chairs_see_conflicts by.phase) c d (n - (a + s + i + b + f + v + g)) (omega (arith, kept))
+      (omega (arith, named)))
 
-pub few-read : (t : Tables) (user : Option ℕ) (p : ℕ) (s u : Option ℕ) → TakesAtMost (facts_reads t p) s u → TakesFew t p s u
+pub few-read : (t : Tables) (user : Option ℕ) (p : ℕ) (s u : Option ℕ) → TakesAtMost (facts_reads t p) s u
+    → TakesFew t p s u
 few-read t user p s u h H is = at_most-more (facts_reads t p) (2 * entries_on p H + 16) s u (few-facts t user p H is) h
 
 module _ (t : Tables) (user paper : Option ℕ) where
@@ -90,11 +96,14 @@ module _ (t : Tables) (user paper : Option ℕ) where
   asked = paper_seen_at t user (unwrap_or paper 0)
 
   -- the page of what was asked takes few steps
-  pub few-shown : (checks : List Check) (s : PaperSeen) → ◌≡◌ {A = Result PaperSeen Rule} (Ok s) (judged checks asked) → (x y z : Option ℕ)
-      → TakesAtMost (facts_reads t (unwrap_or paper 0)) x y → TakesAtMost (page_reads t s.by s.paper) y z → TakesFew t (unwrap_or paper 0) x z
+  pub few-shown : (checks : List Check) (s : PaperSeen) → ◌≡◌ {A = Result PaperSeen Rule} (Ok s) (judged checks asked)
+      → (x y z : Option ℕ)
+      → TakesAtMost (facts_reads t (unwrap_or paper 0)) x y → TakesAtMost (page_reads t s.by s.paper) y z
+      → TakesFew t (unwrap_or paper 0) x z
   few-shown checks s h x y z first then H is =
       let p : ℕ = unwrap_or paper 0 in
       let same : s ≡ asked = sym (judged-Ok checks asked s (sym h)).1 in
       let page = subst (λ (r : PaperSeen). TakesAtMost (page_reads t r.by r.paper) y z) same then in
-      at_most-more (facts_reads t p + page_reads t (standing_at t user (Some p)) p) (2 * entries_on p H + 16) x z (few-page t user p H is)
+      at_most-more (facts_reads t p + page_reads t (standing_at t user (Some p)) p) (2 * entries_on p H + 16) x z
+      (few-page t user p H is)
       (at_most-at_most (facts_reads t p) (page_reads t (standing_at t user (Some p)) p) x y z first page)

@@ -1,5 +1,6 @@
 -- What a wish asks for is what its request does, whatever the body and the number tell.
-use Rattle.std.proofs.Common.{◌≡◌, ℕ, List, Bool, true, false, Option, Some, None, option_map, Result, Ok, Err, IsTrue, refl, ap, subst, sym}
+use Rattle.std.proofs.Common.{◌≡◌, ℕ, List, Bool, true, false, Option, Some, None, option_map, Result, Ok, Err, IsTrue}
+use Rattle.std.proofs.Common.{refl, ap, subst, sym}
 use Rattle.std.specs.Prelude.{codes}
 use Rattle.cr_base.specs.Logins.{ask_wants_login, command_ask, command_wants_login}
 use Rattle.cr_base.specs.declared.ask.Ask.{Ask}
@@ -10,14 +11,16 @@ use Rattle.cr_base.specs.declared.command.Command.TheVariants as commands
 use Rattle.cr_base.specs.declared.retry.RetryKey.{RetryKey}
 use Rattle.cr_base.specs.declared.search.Step.{Step}
 use Rattle.cr_bodies.specs.Bodies.{command_in, command_read}
-use Rattle.cr_bodies.specs.Field.{◌>>=◌, abstract_under, bid_under, comment_under, decision_under, digest_under, flag_under, grade_under, kind_under}
-use Rattle.cr_bodies.specs.Field.{mode_under, name_under, names_under, phase_under, review_text_under, role_under, title_under, user_under}
+use Rattle.cr_bodies.specs.Field.{◌>>=◌, abstract_under, bid_under, comment_under, decision_under, digest_under}
+use Rattle.cr_bodies.specs.Field.{flag_under, grade_under, kind_under, mode_under, name_under, names_under, phase_under}
+use Rattle.cr_bodies.specs.Field.{review_text_under, role_under, title_under, user_under}
 use Rattle.cr_bodies.specs.Json.{json_of}
 use Rattle.cr_bodies.specs.Until.{deadline_phase_under, until_under}
 use Rattle.cr_bulk.specs.Rows.{parse_rows}
 use Rattle.cr_http.specs.Requests.{RequestText}
 use Rattle.cr_routes.specs.Parts.{FoundPath}
-use Rattle.cr_wire.specs.Asked.{LooksBehindPath, ask_has_body, asked, bulk_of, command_of, commanded, tagged, with_number}
+use Rattle.cr_wire.specs.Asked.{LooksBehindPath, ask_has_body, asked, bulk_of, command_of, commanded, tagged}
+use Rattle.cr_wire.specs.Asked.{with_number}
 use Rattle.cr_wire.specs.Bounds.{IsKeyFor}
 use Rattle.cr_wire.specs.Caller.{ask_of}
 use Rattle.cr_wire.specs.Number.{key_of}
@@ -32,7 +35,8 @@ GivenBy ask None = Unit {0}
 GivenBy ask (Some command) = command_ask command ≡ ask
 
 -- what is made of a value that may be there
-of_each : {A : Type 0} (ask : Ask) (found : Option A) (made : A → Option Command) → ((x : A) → GivenBy ask (made x)) → GivenBy ask (found >>= made)
+of_each : {A : Type 0} (ask : Ask) (found : Option A) (made : A → Option Command) → ((x : A) → GivenBy ask (made x))
+    → GivenBy ask (found >>= made)
 of_each ask None made each = tt
 of_each ask (Some x) made each = each x
 
@@ -95,19 +99,23 @@ given asks.Decide paper body =
     of_each asks.Decide (decision_under (codes "decision") d) _ (λ decision. refl))
 given ask paper body = of_each ask (json_of body) (command_in ask paper) (λ d. tt)
 
-asks_for : (ask : Ask) (key : Option RetryKey) (told : Option Command) → GivenBy ask told → ask_of (command_of ask key told) ≡ Some ask
+asks_for : (ask : Ask) (key : Option RetryKey) (told : Option Command) → GivenBy ask told
+    → ask_of (command_of ask key told) ≡ Some ask
 asks_for ask key None given = refl
 asks_for ask key (Some command) given = ap (λ (a : Ask). Some a) given
 
-by_body : (ask : Ask) (found : FoundPath) (key : Option RetryKey) (body : List ℕ) → ask_of (commanded ask found key body) ≡ Some ask
+by_body : (ask : Ask) (found : FoundPath) (key : Option RetryKey) (body : List ℕ)
+    → ask_of (commanded ask found key body) ≡ Some ask
 by_body ask found key body = asks_for ask key _ (given ask (paper_of found) body)
 
 -- what a path tells of a tag is given by this request, also where it tells none
-by_tag : (ask : Ask) (found : FoundPath) (key : Option RetryKey) (on : Bool) → ((tag : List ℕ) → command_ask (commands.Tag (paper_of found) tag on) ≡ ask)
+by_tag : (ask : Ask) (found : FoundPath) (key : Option RetryKey) (on : Bool)
+    → ((tag : List ℕ) → command_ask (commands.Tag (paper_of found) tag on) ≡ ask)
     → ask_of (tagged ask found key on) ≡ Some ask
 by_tag ask found key on each = by (tag_of found)
   where
-    by : (told : Option (List ℕ)) → ask_of (command_of ask key (option_map (λ tag. commands.Tag (paper_of found) tag on) told)) ≡ Some ask
+    by : (told : Option (List ℕ))
+        → ask_of (command_of ask key (option_map (λ tag. commands.Tag (paper_of found) tag on) told)) ≡ Some ask
     by None = refl
     by (Some tag) = ap (λ (a : Ask). Some a) (each tag)
 
@@ -126,7 +134,8 @@ by_rows : (key : Option RetryKey) (rows : Option (List BulkRow)) → ask_of (bul
 by_rows key None = refl
 by_rows key (Some rows) = refl
 
-ask_by_ask : (ask : Ask) (found : FoundPath) (key : Option RetryKey) (query body : List ℕ) → ask_of (asked ask found key query body) ≡ Some ask
+ask_by_ask : (ask : Ask) (found : FoundPath) (key : Option RetryKey) (query body : List ℕ)
+    → ask_of (asked ask found key query body) ≡ Some ask
 ask_by_ask asks.Register found key query body = by_body asks.Register found key body
 ask_by_ask asks.Name found key query body = by_body asks.Name found key body
 ask_by_ask asks.SetMode found key query body = by_body asks.SetMode found key body
@@ -146,16 +155,19 @@ ask_by_ask asks.Tag found key query body = by_tag asks.Tag found key true (λ ta
 ask_by_ask asks.Untag found key query body = by_tag asks.Untag found key false (λ tag. refl)
 ask_by_ask asks.Search found key query body = by_query (asks_count query) (search_read (search_text query))
 ask_by_ask asks.Bulk found key query body = by_rows key (parse_rows body)
-ask_by_ask asks.Plan found key query body = by_numbers (number_in (codes "per_paper") 26 query) (number_in (codes "load") 512 query)
+ask_by_ask asks.Plan found key query body =
+    by_numbers (number_in (codes "per_paper") 26 query) (number_in (codes "load") 512 query)
 ask_by_ask ask found key query body = refl
 
 -- and none of it changes by what the number is told to be
-pub ask_by_number : (ask : Ask) (found : FoundPath) (told : Result (Option ℕ) BadCommandNumber) (r : RequestText) → ask_of (with_number ask found told r) ≡ Some ask
+pub ask_by_number : (ask : Ask) (found : FoundPath) (told : Result (Option ℕ) BadCommandNumber) (r : RequestText)
+    → ask_of (with_number ask found told r) ≡ Some ask
 ask_by_number ask found (Err bad) r = refl
 ask_by_number ask found (Ok number) r = ask_by_ask ask found (key_of number r) (query_of r.head.target) r.body
 
 -- what is told by a body looks at it, whatever it tells
-pub looked : (ask : Ask) (found : FoundPath) (key : Option RetryKey) (body : List ℕ) → IsTrue (ask_has_body ask) → LooksBehindPath (commanded ask found key body)
+pub looked : (ask : Ask) (found : FoundPath) (key : Option RetryKey) (body : List ℕ) → IsTrue (ask_has_body ask)
+    → LooksBehindPath (commanded ask found key body)
 looked ask found key body has = by (command_read ask (paper_of found) body) (given ask (paper_of found) body)
   where
     by : (told : Option Command) → GivenBy ask told → LooksBehindPath (command_of ask key told)
@@ -168,7 +180,8 @@ looked_rows key None = refl
 looked_rows key (Some rows) = refl
 
 -- a key that is one of this request's is one of the command's that it gives
-pub key-given : (ask : Ask) (paper : Option ℕ) (body : List ℕ) (command : Command) (key : Option RetryKey) → command_read ask paper body ≡ Some command
+pub key-given : (ask : Ask) (paper : Option ℕ) (body : List ℕ) (command : Command) (key : Option RetryKey)
+    → command_read ask paper body ≡ Some command
     → IsKeyFor (ask_wants_login ask) key → IsKeyFor (command_wants_login command) key
 key-given ask paper body command key told fits =
     let by : GivenBy ask (Some command) = subst (λ (t : Option Command). GivenBy ask t) told (given ask paper body) in

@@ -1,5 +1,7 @@
 -- The numbers that a path and the field Command-Number may tell.
-use Rattle.std.proofs.Common.{◌≡◌, ℕ, ◌<◌, ◌≤◌, ◌^◌, List, [], ◌∷◌, length, Bool, true, false, ◌&&◌, ◌==◌, not, if◌then◌else◌, cond, Option, Some, None, Result, Ok, Err, IsTrue, refl, ap, subst, ◌∙◌, arith, nat_le, nat_lt}
+use Rattle.std.proofs.Common.{◌≡◌, ℕ, ◌<◌, ◌≤◌, ◌^◌, List, [], ◌∷◌, length, Bool, true, false, ◌&&◌, ◌==◌, not}
+use Rattle.std.proofs.Common.{if◌then◌else◌, cond, Option, Some, None, Result, Ok, Err, IsTrue, refl, ap, subst, ◌∙◌}
+use Rattle.std.proofs.Common.{arith, nat_le, nat_lt}
 use Rattle.std.specs.Prelude.{codes, slice_index}
 use Rattle.std.specs.Char.{is_ascii_digit}
 use Rattle.std.specs.List.{list_all}
@@ -25,9 +27,12 @@ use Rattle.cr_wire.specs.declared.number.BadCommandNumber.{BadCommandNumber}
 pub unread : (k : ℕ) (text : List ℕ) → IsTrue (is_number text) → ParsesUnsigned {E = Unit {0}} k 10 text (Err tt)
     → 0 ≡ (if is_number text && nat_lt (digits_value 10 text) (2 ^ k) then digits_value 10 text else 0)
 unread k text is fails =
-    let front = and_parts (nat_le 1 (length text) && not (slice_index text 0 == 48)) (list_all is_ascii_digit text) is in
-    let some : 1 ≤ length text = from_test 1 (length text) (and_parts (nat_le 1 (length text)) (not (slice_index text 0 == 48)) front.0).0 in
-    let never = parse_digits (numerals_by_value (AllDigits 10) tells_digits) {E = Unit {0}} k text (Err tt) fails (digits text front.1) in
+    let front =
+    and_parts (nat_le 1 (length text) && not (slice_index text 0 == 48)) (list_all is_ascii_digit text) is in
+    let some : 1 ≤ length text =
+    from_test 1 (length text) (and_parts (nat_le 1 (length text)) (not (slice_index text 0 == 48)) front.0).0 in
+    let never = parse_digits (numerals_by_value (AllDigits 10) tells_digits) {E = Unit {0}} k text (Err tt) fails
+    (digits text front.1) in
     by (is_number text) (nat_lt (digits_value 10 text) (2 ^ k)) is refl (λ below. never (some, below))
   where
     from_test : (n m : ℕ) → IsTrue (nat_le n m) → n ≤ m
@@ -43,10 +48,12 @@ unread k text is fails =
 
 -- its first digit isn't 0, all are digits, and there are at most 18
 number_parts : (value : List ℕ) → IsTrue (is_command_number value)
-    → IsTrue (nat_le 1 (length value)) × IsTrue (not (slice_index value 0 == 48)) × IsTrue (list_all is_ascii_digit value) × IsTrue (nat_le (length value) 18)
+    → IsTrue (nat_le 1 (length value)) × IsTrue (not (slice_index value 0 == 48))
+    × IsTrue (list_all is_ascii_digit value) × IsTrue (nat_le (length value) 18)
 number_parts value is =
     let all = and_parts (nat_le (length value) 18) (is_number value) is in
-    let digits = and_parts (nat_le 1 (length value) && not (slice_index value 0 == 48)) (list_all is_ascii_digit value) all.1 in
+    let digits =
+    and_parts (nat_le 1 (length value) && not (slice_index value 0 == 48)) (list_all is_ascii_digit value) all.1 in
     let front = and_parts (nat_le 1 (length value)) (not (slice_index value 0 == 48)) digits.0 in
     (front.0, front.1, digits.1, all.0)
 
@@ -54,7 +61,8 @@ at_most : (n m : ℕ) → IsTrue (nat_le n m) → n ≤ m
 at_most n m h = grind (arith, nat_tests)
 
 -- what its decimal value is read of
-pub number_digits : (value : List ℕ) → IsTrue (is_command_number value) → IsTrue (list_all is_ascii_digit value) × (length value ≤ 18)
+pub number_digits : (value : List ℕ) → IsTrue (is_command_number value) → IsTrue (list_all is_ascii_digit value)
+    × (length value ≤ 18)
 number_digits value is = let all = number_parts value is in (all.2, at_most (length value) 18 all.3)
 
 -- it is one of the numbers that commands may have
@@ -65,18 +73,24 @@ number_low (b ∷ rest) is = let all = number_parts (b ∷ rest) is in low_digit
 number_high : (value : List ℕ) → IsTrue (is_command_number value) → digits_value 10 value ≤ last_command_number
 number_high value is =
     let read = number_digits value is in
-    let below = digits_value_short (numerals_by_value (AllDigits 10) tells_digits) value 18 (digits value read.0) read.1 in
+    let below =
+    digits_value_short (numerals_by_value (AllDigits 10) tells_digits) value 18 (digits value read.0) read.1 in
     omega (arith, below)
 
 tested : (n m : ℕ) → n ≤ m → nat_le n m ≡ true
 tested n m h = grind (arith, nat_tests)
 
-number_there : (value : List ℕ) → IsTrue (is_command_number value) → command_number_of (digits_value 10 value) ≡ Some (digits_value 10 value)
+number_there : (value : List ℕ) → IsTrue (is_command_number value)
+    → command_number_of (digits_value 10 value) ≡ Some (digits_value 10 value)
 number_there value is =
-    rw (tested 1 (digits_value 10 value) (number_low value is), tested (digits_value 10 value) last_command_number (number_high value is)) refl
+    rw (
+      tested 1 (digits_value 10 value) (number_low value is),
+      tested (digits_value 10 value) last_command_number (number_high value is),
+    ) refl
 
 -- so reading it gives it
-pub number_told : (value : List ℕ) (n : ℕ) (read : Option ℕ) → IsTrue (is_command_number value) → n ≡ digits_value 10 value → read ≡ command_number_of n
+pub number_told : (value : List ℕ) (n : ℕ) (read : Option ℕ) → IsTrue (is_command_number value)
+    → n ≡ digits_value 10 value → read ≡ command_number_of n
     → ◌≡◌ {A = Result (Option ℕ) BadCommandNumber} (Ok read) (number_of value)
 number_told value n read is valued told = rw (is, told ∙ ap command_number_of valued ∙ number_there value is) refl
 
@@ -88,17 +102,23 @@ no-key false = refl
 no-key true = tt
 
 -- a number that is told makes a key
-told-key : (r : RequestText) (value : List ℕ) (number : Option ℕ) → number_of value ≡ Ok number → IsKeyOrNone (key_of number r)
+told-key : (r : RequestText) (value : List ℕ) (number : Option ℕ) → number_of value ≡ Ok number
+    → IsKeyOrNone (key_of number r)
 told-key r value number told = by (is_command_number value) refl told
   where
-    by : (b : Bool) → is_command_number value ≡ b → ◌≡◌ {A = Result (Option ℕ) BadCommandNumber} (cond b (Ok (Some (digits_value 10 value))) (Err (record {}))) (Ok number)
+    by : (b : Bool) → is_command_number value ≡ b
+        → ◌≡◌ {A = Result (Option ℕ) BadCommandNumber} (cond b (Ok (Some (digits_value 10 value))) (Err (record {})))
+        (Ok number)
         → IsKeyOrNone (key_of number r)
     by true is told = let same : Some (digits_value 10 value) ≡ number = cc (told) in
-        subst (λ (n : Option ℕ). IsKeyOrNone (key_of n r)) same (record { low = number_low value is; high = number_high value is; mark = mark-length _ _ _ })
+        subst (λ (n : Option ℕ). IsKeyOrNone (key_of n r)) same
+        (record { low = number_low value is; high = number_high value is; mark = mark-length _ _ _ })
     by false is told = cc
 
-by-values : (r : RequestText) (values : List (List ℕ)) (number : Option ℕ) → number_by values ≡ Ok number → IsKeyOrNone (key_of number r)
-by-values r [] number told = let same : ◌≡◌ {A = Option ℕ} None number = cc (told) in subst (λ (n : Option ℕ). IsKeyOrNone (key_of n r)) same tt
+by-values : (r : RequestText) (values : List (List ℕ)) (number : Option ℕ) → number_by values ≡ Ok number
+    → IsKeyOrNone (key_of number r)
+by-values r [] number told = let same : ◌≡◌ {A = Option ℕ} None number =
+    cc (told) in subst (λ (n : Option ℕ). IsKeyOrNone (key_of n r)) same tt
 by-values r (value ∷ []) number told = told-key r value number told
 by-values r (value ∷ other ∷ values) number told = cc
 
@@ -112,13 +132,15 @@ reads-wants asks.AcceptedPapers reads = reads
 reads-wants ask reads = refl
 
 -- so the key that a request tells is one that its command may have
-pub key-fits : (ask : Ask) (r : RequestText) (number : Option ℕ) → number_for ask r.head.fields ≡ Ok number → IsKeyFor (ask_wants_login ask) (key_of number r)
+pub key-fits : (ask : Ask) (r : RequestText) (number : Option ℕ) → number_for ask r.head.fields ≡ Ok number
+    → IsKeyFor (ask_wants_login ask) (key_of number r)
 key-fits ask r number told = by (ask_reads_number ask) refl told
   where
     values : List (List ℕ)
     values = values_of (codes "command-number") r.head.fields
 
-    by : (b : Bool) → ask_reads_number ask ≡ b → cond b (number_by values) (Ok None) ≡ Ok number → IsKeyFor (ask_wants_login ask) (key_of number r)
+    by : (b : Bool) → ask_reads_number ask ≡ b → cond b (number_by values) (Ok None) ≡ Ok number
+        → IsKeyFor (ask_wants_login ask) (key_of number r)
     by true reads told = rw (reads-wants ask reads) (by-values r values number told)
     by false reads told = let same : ◌≡◌ {A = Option ℕ} None number = cc (told) in
         subst (λ (n : Option ℕ). IsKeyFor (ask_wants_login ask) (key_of n r)) same (no-key (ask_wants_login ask))
@@ -126,10 +148,12 @@ key-fits ask r number told = by (ask_reads_number ask) refl told
 -- ---- the numbers of a plan
 
 -- what the value of one is read of
-pub short_digits : (text : List ℕ) → IsTrue (is_short_number text) → IsTrue (list_all is_ascii_digit text) × (length text ≤ 18)
+pub short_digits : (text : List ℕ) → IsTrue (is_short_number text) → IsTrue (list_all is_ascii_digit text)
+    × (length text ≤ 18)
 short_digits text is =
     let all = and_parts (is_number text) (nat_le (length text) 3) is in
-    let digits = and_parts (nat_le 1 (length text) && not (slice_index text 0 == 48)) (list_all is_ascii_digit text) all.0 in
+    let digits =
+    and_parts (nat_le 1 (length text) && not (slice_index text 0 == 48)) (list_all is_ascii_digit text) all.0 in
     (digits.1, omega (arith, at_most (length text) 3 all.1))
 
 -- it is at least 1

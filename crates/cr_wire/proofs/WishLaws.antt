@@ -11,13 +11,15 @@ as_many [] (w ∷ ws) h = absurd h
 as_many (r ∷ rs) [] h = absurd h
 as_many (r ∷ rs) (w ∷ ws) h = ap suc (as_many rs ws h.1)
 
-pub joined : (rs qs : List RequestText) (ws vs : List Wish) → AreWishes rs ws → AreWishes qs vs → AreWishes (rs ++ qs) (ws ++ vs)
+pub joined : (rs qs : List RequestText) (ws vs : List Wish) → AreWishes rs ws → AreWishes qs vs
+    → AreWishes (rs ++ qs) (ws ++ vs)
 joined [] qs [] vs h k = k
 joined [] qs (w ∷ ws) vs h k = absurd h
 joined (r ∷ rs) qs [] vs h k = absurd h
 joined (r ∷ rs) qs (w ∷ ws) vs h k = (h.0, joined rs qs ws vs h.1 k)
 
-pub same_wishes : (rs : List RequestText) (ws vs : List Wish) → AreWishes rs ws → AreWishes rs vs → moments_of ws ≡ moments_of vs → ws ≡ vs
+pub same_wishes : (rs : List RequestText) (ws vs : List Wish) → AreWishes rs ws → AreWishes rs vs
+    → moments_of ws ≡ moments_of vs → ws ≡ vs
 same_wishes [] [] [] h k same = refl
 same_wishes [] (w ∷ ws) vs h k same = absurd h
 same_wishes [] [] (v ∷ vs) h k same = absurd k

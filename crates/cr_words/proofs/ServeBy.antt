@@ -7,7 +7,8 @@ use Rattle.clap.specs.declared.builder.value_parser.ValueParser.{ValueParser}
 use Rattle.clap.specs.declared.builder.value_parser.ValueParser.TheVariants.{Unsigned}
 use Rattle.clap.specs.declared.error.kind.ErrorKind.{ErrorKind}
 use Rattle.clap.specs.declared.error.kind.ErrorKind.TheVariants.{ValueValidation}
-use Rattle.cr_words.specs.Words.{pipe, serve, view, drill, confd_words, required, text_option, with_rules, most_workers, most_connections}
+use Rattle.cr_words.specs.Words.{pipe, serve, view, drill, confd_words, required, text_option, with_rules, most_workers}
+use Rattle.cr_words.specs.Words.{most_connections}
 use Rattle.cr_words.specs.Numbers.{parse_number, number_of, are_workers, are_connections}
 use Rattle.cr_words.specs.Job.{NamedJob, job_named, job_of, serve_job, with_all}
 use Rattle.cr_words.proofs.Numbers.{is_number}
@@ -21,7 +22,10 @@ serve_by p q = with_rules (new_app (codes "serve")) (text_option (codes "listen"
     ∷ option_by (codes "connections") q ∷ text_option (codes "store") true ∷ [])
 
 abbrev pub words_by : ValueParser → ValueParser → App
-words_by p q = with_subcommand (with_subcommand (with_subcommand (with_subcommand (required (new_app (codes "confd"))) pipe.top) (serve_by p q).top)
+words_by p q =
+    with_subcommand
+    (with_subcommand (with_subcommand (with_subcommand (required (new_app (codes "confd"))) pipe.top)
+    (serve_by p q).top)
     view.top) drill.top
 
 abbrev pub job_by : ValueParser → ValueParser → List Text → Option NamedJob
@@ -61,23 +65,30 @@ passes_by b c = (walk_passes_by b c && true) && true
 
 -- ---- back to the two ranges
 
-pub faults_are : (words : List Text) (workers connections : Text) (b c : Bool) → are_workers workers ≡ b → are_connections connections ≡ c
-    → fault_of (words_by first_range second_range) words ≡ faults_by ValueValidation ValueValidation (are_workers workers) (are_connections connections)
+pub faults_are : (words : List Text) (workers connections : Text) (b c : Bool) → are_workers workers ≡ b
+    → are_connections connections ≡ c
+    → fault_of (words_by first_range second_range) words ≡ faults_by ValueValidation ValueValidation
+    (are_workers workers) (are_connections connections)
     → fault_of confd_words words ≡ faults_by ValueValidation ValueValidation b c
 faults_are words workers connections b c few some is =
     subst (λ (a : App). fault_of a words ≡ faults_by ValueValidation ValueValidation b c) by_ranges
     (is ∙ (λ i. faults_by ValueValidation ValueValidation (few i) (some i)))
 
-pub both_pass : (words : List Text) (workers connections : Text) → are_workers workers ≡ true → are_connections connections ≡ true
+pub both_pass : (words : List Text) (workers connections : Text) → are_workers workers ≡ true
+    → are_connections connections ≡ true
     → takes (words_by first_range second_range) words ≡ passes_by (are_workers workers) (are_connections connections)
     → takes confd_words words ≡ true
-both_pass words workers connections few some is = subst (λ (a : App). takes a words ≡ true) by_ranges (is ∙ (λ i. passes_by (few i) (some i)))
+both_pass words workers connections few some is =
+    subst (λ (a : App). takes a words ≡ true) by_ranges (is ∙ (λ i. passes_by (few i) (some i)))
 
-pub job_is : (words : List Text) (listen workers connections file : Text) → are_workers workers ≡ true → are_connections connections ≡ true
-    → job_by first_range second_range words ≡ with_all (Some listen) (number_of workers) (number_of connections) (Some file)
+pub job_is : (words : List Text) (listen workers connections file : Text) → are_workers workers ≡ true
+    → are_connections connections ≡ true
+    → job_by first_range second_range words ≡ with_all (Some listen) (number_of workers) (number_of connections)
+    (Some file)
     → job_of words ≡ Some (serve_job listen (parse_number workers) (parse_number connections) file)
 unfolding confd_words serve
 job_is words listen workers connections file few some is =
     let first = is_number 1 most_workers workers (omega arith) few in
     let second = is_number 1 most_connections connections (omega arith) some in
-    is ∙ all_there _ _ _ _ listen (parse_number workers) (parse_number connections) file refl first.read second.read refl
+    is ∙ all_there _ _ _ _ listen (parse_number workers) (parse_number connections) file refl first.read second.read
+    refl

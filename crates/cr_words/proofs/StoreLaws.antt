@@ -5,7 +5,8 @@ use Rattle.std.specs.Str.{bytes_eq}
 use Rattle.clap.specs.Lexer.{strip_byte}
 use Rattle.clap.specs.Words.{Text}
 use Rattle.clap.proofs.OnLiterals.{clap_on_literals}
-use Rattle.cr_words.specs.Words.{pipe, serve, view, drill, confd_words, is_plain_text, store_word, user_word, store_words, user_words}
+use Rattle.cr_words.specs.Words.{pipe, serve, view, drill, confd_words, is_plain_text, store_word, user_word}
+use Rattle.cr_words.specs.Words.{store_words, user_words}
 use Rattle.cr_words.specs.Job.{AreTakenFor, pipe_job, view_job}
 
 -- ---- what clap tests of a word that may be an option
@@ -24,7 +25,8 @@ not_stripped (b ∷ rest) plain = ap (λ t. cond t (Some rest) None) (no_hyphen 
 
 -- ---- options as two words
 
-pub pipe_store_taken : (name file : Text) → is_plain_text file ≡ true → AreTakenFor (name ∷ codes "pipe" ∷ store_words file) (pipe_job (Some file))
+pub pipe_store_taken : (name file : Text) → is_plain_text file ≡ true
+    → AreTakenFor (name ∷ codes "pipe" ∷ store_words file) (pipe_job (Some file))
 unfolding clap_on_literals confd_words pipe serve view drill
 pipe_store_taken name file file_plain =
     let d = not_dashes file file_plain in
@@ -39,7 +41,11 @@ view_taken name file user file_plain user_plain =
     let s = not_stripped file file_plain in
     let e = not_dashes user user_plain in
     let t = not_stripped user user_plain in
-    record { taken = rw (d, s, s, e, t, t) refl; passes = rw (d, s, s, e, t, t) refl; named = rw (d, s, s, e, t, t) refl }
+    record {
+      taken = rw (d, s, s, e, t, t) refl;
+      passes = rw (d, s, s, e, t, t) refl;
+      named = rw (d, s, s, e, t, t) refl;
+    }
 
 pub user_first_taken : (name file user : Text) → is_plain_text file ≡ true → is_plain_text user ≡ true
     → AreTakenFor (name ∷ codes "view" ∷ user_words user ++ store_words file) (view_job file user)
@@ -49,14 +55,20 @@ user_first_taken name file user file_plain user_plain =
     let s = not_stripped file file_plain in
     let e = not_dashes user user_plain in
     let t = not_stripped user user_plain in
-    record { taken = rw (e, t, t, d, s, s) refl; passes = rw (e, t, t, d, s, s) refl; named = rw (e, t, t, d, s, s) refl }
+    record {
+      taken = rw (e, t, t, d, s, s) refl;
+      passes = rw (e, t, t, d, s, s) refl;
+      named = rw (e, t, t, d, s, s) refl;
+    }
 
 -- ---- options as one word
 
-pub pipe_attached_taken : (name file : Text) → AreTakenFor (name ∷ codes "pipe" ∷ store_word file ∷ []) (pipe_job (Some file))
+pub pipe_attached_taken : (name file : Text)
+    → AreTakenFor (name ∷ codes "pipe" ∷ store_word file ∷ []) (pipe_job (Some file))
 unfolding clap_on_literals confd_words pipe serve view drill
 pipe_attached_taken name file = record { taken = refl; passes = refl; named = refl }
 
-pub view_attached_taken : (name file user : Text) → AreTakenFor (name ∷ codes "view" ∷ store_word file ∷ user_word user ∷ []) (view_job file user)
+pub view_attached_taken : (name file user : Text)
+    → AreTakenFor (name ∷ codes "view" ∷ store_word file ∷ user_word user ∷ []) (view_job file user)
 unfolding clap_on_literals confd_words pipe serve view drill
 view_attached_taken name file user = record { taken = refl; passes = refl; named = refl }

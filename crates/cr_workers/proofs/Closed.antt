@@ -20,7 +20,8 @@ use Rattle.cr_workers.specs.declared.worked.Worked.TheVariants as worked
 use Rattle.cr_workers.proofs.Halves.{unasked, unasked-before, unasked-after, unasked-each, unasked-connections}
 
 none-within : (n k : ℕ) → within n n k ≡ 0
-none-within n k = dite (dec_le n k) (λ le. within_out n n k (inl le)) (λ more. within_out n n k (inr (omega (arith, more))))
+none-within n k =
+    dite (dec_le n k) (λ le. within_out n n k (inl le)) (λ more. within_out n n k (inr (omega (arith, more))))
 
 -- without a lock no door was asked
 pub history-unasked : {K I O C : Type 0} (streams : Streams K I O C) (doors : List (SeenDoor I O C)) (b : Ledger)
@@ -33,7 +34,8 @@ history-unasked {K} {I} {O} {C} streams doors b = record {
   cause = tt;
   served = subst (λ cs. Every (IsServedWithin streams b.history b.history) cs) none tt;
   begins = prefix_self b.history;
-  once = λ k. sym (ap (λ cs. total (λ (c : ServedConnection K I O C). groups_with k c.turns) cs) none) ∙ sym (none-within (length b.history) k);
+  once = λ k. sym (ap (λ cs. total (λ (c : ServedConnection K I O C). groups_with k c.turns) cs) none)
+      ∙ sym (none-within (length b.history) k);
   counted = (let z = ap (λ cs. total (λ (c : ServedConnection K I O C). rises c.turns) cs) none in omega (arith, z));
   marked = inl (let z = ap (λ cs. total (λ (c : ServedConnection K I O C). marks c.turns) cs) none in omega (arith, z));
 }
@@ -42,24 +44,32 @@ history-unasked {K} {I} {O} {C} streams doors b = record {
     none = unasked-connections K doors
 
 -- the one pass of a closed lock has the turns of all connections, and the closed value stands for what it has seen
-pub history-closed : {K I O C Root : Type 0} (list : SeenBook K → History) (faults : SeenBook K → ℕ) (root : SeenBook K → Root) (streams : Streams K I O C) (ended : Worked) (doors doors' : List (SeenDoor I O C))
-    (first last : SeenBook K) (p₀ p : KnownPass K) → p₀.seen ≡ list first → p₀.mine ≡ [] → ServesDoors streams ended doors doors' p₀ p → Closes list faults root first p last
-    → ServesHistory streams ended doors doors' (record { history = list first; faults = faults first }) (record { history = list last; faults = faults last })
-history-closed {K} {I} {O} {C} {Root} list faults root streams ended doors doors' first last p₀ p saw none x closes = record {
-  works = x.works;
-  before = x.before;
-  after = x.after;
-  each = x.each;
-  cause = x.cause;
-  served = subst (λ (H : History). Every (IsServedWithin streams (list first) H) (connections_of x.works)) (sym closes.stands)
-      (subst (λ (H : History). Every (IsServedWithin streams H p.seen) (connections_of x.works)) saw x.served.each);
-  begins = subst (λ (H : History). IsPrefix (list first) H) (sym closes.stands) closes.begins;
-  once = λ k. (
-      let g = x.served.groups k in
-      let z = ap (groups_with k) none in
-      let w = closes.groups k in
-      let n = ap (λ (H : History). within (length (list first)) (length H) k) closes.stands in
-      omega (arith, g, z, w, n));
-  counted = (let r = x.served.rose in let z = ap rises none in let c = closes.count in omega (arith, r, z, c));
-  marked = ⊎_elim (λ few. inl (let m = x.served.marked in let z = ap marks none in omega (arith, m, z, few))) inr closes.marks;
-}
+pub history-closed : {K I O C Root : Type 0} (list : SeenBook K → History) (faults : SeenBook K → ℕ)
+    (root : SeenBook K → Root) (streams : Streams K I O C) (ended : Worked) (doors doors' : List (SeenDoor I O C))
+    (first last : SeenBook K) (p₀ p : KnownPass K) → p₀.seen ≡ list first → p₀.mine ≡ []
+    → ServesDoors streams ended doors doors' p₀ p → Closes list faults root first p last
+    → ServesHistory streams ended doors doors' (record { history = list first; faults = faults first })
+    (record { history = list last; faults = faults last })
+history-closed {K} {I} {O} {C} {Root} list faults root streams ended doors doors' first last p₀ p saw none x closes =
+    record {
+      works = x.works;
+      before = x.before;
+      after = x.after;
+      each = x.each;
+      cause = x.cause;
+      served =
+          subst (λ (H : History). Every (IsServedWithin streams (list first) H) (connections_of x.works))
+          (sym closes.stands)
+          (subst (λ (H : History). Every (IsServedWithin streams H p.seen) (connections_of x.works)) saw x.served.each);
+      begins = subst (λ (H : History). IsPrefix (list first) H) (sym closes.stands) closes.begins;
+      once = λ k. (
+          let g = x.served.groups k in
+          let z = ap (groups_with k) none in
+          let w = closes.groups k in
+          let n = ap (λ (H : History). within (length (list first)) (length H) k) closes.stands in
+          omega (arith, g, z, w, n));
+      counted = (let r = x.served.rose in let z = ap rises none in let c = closes.count in omega (arith, r, z, c));
+      marked =
+          ⊎_elim (λ few. inl (let m = x.served.marked in let z = ap marks none in omega (arith, m, z, few))) inr
+          closes.marks;
+    }

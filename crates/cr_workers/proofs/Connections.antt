@@ -1,6 +1,6 @@
 -- Connections that were served one after another, or side by side.
-use Rattle.std.proofs.Common.{◌≡◌, ◌∙◌, ◌<◌, ◌≤◌, ◌⊎◌, inl, inr, List, [], ◌∷◌, ◌++◌, length, Bool, true, false, nat_lt, if◌then◌else◌, refl, sym, ap, subst}
-use Rattle.std.proofs.Common.{arith}
+use Rattle.std.proofs.Common.{◌≡◌, ◌∙◌, ◌<◌, ◌≤◌, ◌⊎◌, inl, inr, List, [], ◌∷◌, ◌++◌, length, Bool, true, false, nat_lt}
+use Rattle.std.proofs.Common.{if◌then◌else◌, refl, sym, ap, subst, arith}
 use Rattle.std.proofs.lemmas.Bool.Decides.{nat_tests}
 use mathlib.Core.List.{IsPrefix}
 use Rattle.cr_base.specs.declared.entry.Stamped.{Stamped}
@@ -17,21 +17,27 @@ use Rattle.cr_workers.proofs.Grown.{every-append}
 
 -- ---- the longer of two lists, of which one begins the other
 
-longer-is : {A : Type 0} (xs ys : List A) (b : Bool) → (b ≡ true → length xs < length ys) → (b ≡ false → length ys ≤ length xs)
+longer-is : {A : Type 0} (xs ys : List A) (b : Bool) → (b ≡ true → length xs < length ys)
+    → (b ≡ false → length ys ≤ length xs)
     → IsPrefix xs ys ⊎ IsPrefix ys xs
     → IsPrefix xs (if b then ys else xs) × IsPrefix ys (if b then ys else xs)
 longer-is xs ys true up down (inl p) = (p, prefix_self ys)
-longer-is xs ys true up down (inr p) = absurd (let le = prefix_length ys xs p in let lt = up refl in omega (arith, le, lt))
-longer-is xs ys false up down (inl p) = (prefix_self xs, subst (λ zs. IsPrefix ys zs) (sym (prefix_whole xs ys p (down refl))) (prefix_self ys))
+longer-is xs ys true up down (inr p) =
+    absurd (let le = prefix_length ys xs p in let lt = up refl in omega (arith, le, lt))
+longer-is xs ys false up down (inl p) =
+    (prefix_self xs, subst (λ zs. IsPrefix ys zs) (sym (prefix_whole xs ys p (down refl))) (prefix_self ys))
 longer-is xs ys false up down (inr p) = (prefix_self xs, p)
 
-longer-begins : {A : Type 0} (xs ys : List A) → IsPrefix xs ys ⊎ IsPrefix ys xs → IsPrefix xs (longer xs ys) × IsPrefix ys (longer xs ys)
-longer-begins xs ys either = longer-is xs ys (nat_lt (length xs) (length ys)) (λ e. grind (arith, nat_tests)) (λ e. grind (arith, nat_tests)) either
+longer-begins : {A : Type 0} (xs ys : List A) → IsPrefix xs ys ⊎ IsPrefix ys xs → IsPrefix xs (longer xs ys)
+    × IsPrefix ys (longer xs ys)
+longer-begins xs ys either = longer-is xs ys (nat_lt (length xs) (length ys)) (λ e. grind (arith, nat_tests))
+    (λ e. grind (arith, nat_tests)) either
 
 module _ {K I O C : Type 0} (streams : Streams K I O C) where
   -- ---- between earlier and later moments
 
-  widened : (first first' last last' : History) → IsPrefix first' first → IsPrefix last last' → (cs : List (ServedConnection K I O C))
+  widened : (first first' last last' : History) → IsPrefix first' first → IsPrefix last last'
+      → (cs : List (ServedConnection K I O C))
       → Every (IsServedWithin streams first last) cs → Every (IsServedWithin streams first' last') cs
   widened first first' last last' a b [] each = tt
   widened first first' last last' a b (c ∷ cs) each = (
@@ -46,19 +52,33 @@ module _ {K I O C : Type 0} (streams : Streams K I O C) where
   -- ---- none, one, one after another, side by side
 
   pub serve-none : (p : KnownPass K) → ServeAll streams [] p p
-  serve-none p = record { each = tt; seen = prefix_self p.seen; groups = λ k. omega arith; marked = omega arith; rose = omega arith }
+  serve-none p =
+      record {
+        each = tt;
+        seen = prefix_self p.seen;
+        groups = λ k. omega arith;
+        marked = omega arith;
+        rose = omega arith;
+      }
 
   pub serve-one : (c : ServedConnection K I O C) → IsServed streams c → ServeAll streams (c ∷ []) c.before c.after
   serve-one c is = record {
     each = (record { served = is; begins = prefix_self c.before.seen; ends = prefix_self c.after.seen }, tt);
     seen = is.seen;
-    groups = λ k. (let e = ap (groups_with k) is.mine ∙ total_append (λ (t : Turn Stamped). within t.place (end_of t) k) c.before.mine c.turns in
+    groups =
+        λ k. (let e = ap (groups_with k) is.mine ∙ total_append (λ (t : Turn Stamped). within t.place (end_of t) k)
+        c.before.mine c.turns in
         omega (arith, e));
-    marked = (let e = ap marks is.mine ∙ total_append (λ (t : Turn Stamped). if t.marked then 1 else 0) c.before.mine c.turns in omega (arith, e));
-    rose = (let e = ap rises is.mine ∙ total_append (λ (t : Turn Stamped). t.rise) c.before.mine c.turns in omega (arith, e));
+    marked =
+        (let e = ap marks is.mine ∙ total_append (λ (t : Turn Stamped). if t.marked then 1 else 0) c.before.mine
+        c.turns in omega (arith, e));
+    rose =
+        (let e = ap rises is.mine ∙ total_append (λ (t : Turn Stamped). t.rise) c.before.mine c.turns in omega
+        (arith, e));
   }
 
-  pub serve-then : (cs ds : List (ServedConnection K I O C)) (p q r : KnownPass K) → ServeAll streams cs p q → ServeAll streams ds q r
+  pub serve-then : (cs ds : List (ServedConnection K I O C)) (p q r : KnownPass K) → ServeAll streams cs p q
+      → ServeAll streams ds q r
       → ServeAll streams (cs ++ ds) p r
   serve-then cs ds p q r a b = record {
     each = every-append (IsServedWithin streams p.seen r.seen) cs ds
@@ -66,12 +86,19 @@ module _ {K I O C : Type 0} (streams : Streams K I O C) where
         (widened q.seen p.seen r.seen r.seen a.seen (prefix_self r.seen) ds b.each);
     seen = prefix_trans p.seen q.seen r.seen a.seen b.seen;
     groups = λ k. (
-        let x = a.groups k in let y = b.groups k in let z = total_append (λ (c : ServedConnection K I O C). groups_with k c.turns) cs ds in omega (arith, x, y, z));
-    marked = (let x = a.marked in let y = b.marked in let z = total_append (λ (c : ServedConnection K I O C). marks c.turns) cs ds in omega (arith, x, y, z));
-    rose = (let x = a.rose in let y = b.rose in let z = total_append (λ (c : ServedConnection K I O C). rises c.turns) cs ds in omega (arith, x, y, z));
+        let x = a.groups k in let y = b.groups k in let z =
+        total_append (λ (c : ServedConnection K I O C). groups_with k c.turns) cs ds in omega (arith, x, y, z));
+    marked =
+        (let x = a.marked in let y = b.marked in let z =
+        total_append (λ (c : ServedConnection K I O C). marks c.turns) cs
+        ds in omega (arith, x, y, z));
+    rose =
+        (let x = a.rose in let y = b.rose in let z = total_append (λ (c : ServedConnection K I O C). rises c.turns) cs
+        ds in omega (arith, x, y, z));
   }
 
-  pub serve-both : (cs ds : List (ServedConnection K I O C)) (p q r : KnownPass K) → ServeAll streams cs (larger_half p) q → ServeAll streams ds (smaller_half p) r
+  pub serve-both : (cs ds : List (ServedConnection K I O C)) (p q r : KnownPass K)
+      → ServeAll streams cs (larger_half p) q → ServeAll streams ds (smaller_half p) r
       → Agree q r
       → ServeAll streams (cs ++ ds) p (united q r)
   serve-both cs ds p q r a b agree =
@@ -83,7 +110,8 @@ module _ {K I O C : Type 0} (streams : Streams K I O C) where
         groups = λ k. (
             let x = a.groups k in let y = b.groups k in
             let m = total_merged (λ (t : Turn Stamped). within t.place (end_of t) k) q.mine r.mine in
-            let z = total_append (λ (c : ServedConnection K I O C). groups_with k c.turns) cs ds in omega (arith, x, y, z, m));
+            let z = total_append (λ (c : ServedConnection K I O C). groups_with k c.turns) cs ds in omega
+            (arith, x, y, z, m));
         marked = (
             let x = a.marked in let y = b.marked in
             let m = total_merged (λ (t : Turn Stamped). if t.marked then 1 else 0) q.mine r.mine in

@@ -1,5 +1,6 @@
 -- Lists of doors that are cut, and one door that was taken out and put back.
-use Rattle.std.proofs.Common.{◌≡◌, ◌∙◌, ℕ, zero, suc, ◌+◌, ◌≤◌, List, [], ◌∷◌, ◌++◌, length, take, drop, refl, ap, arith, length-append}
+use Rattle.std.proofs.Common.{◌≡◌, ◌∙◌, ℕ, zero, suc, ◌+◌, ◌≤◌, List, [], ◌∷◌, ◌++◌, length, take, drop, refl, ap}
+use Rattle.std.proofs.Common.{arith, length-append}
 use Rattle.cr_lock.specs.Counts.{Every, total}
 use Rattle.cr_lock.proofs.Sums.{total_append}
 
@@ -23,7 +24,8 @@ pub alone : {A : Type 0} (xs ys : List A) (y : A) → xs ≡ ys ++ y ∷ [] → 
 alone xs [] y is few = refl
 alone xs (z ∷ zs) y is few = absurd (let n = ap length is ∙ length-append (z ∷ zs) (y ∷ []) in omega (arith, n, few))
 
-pub total-cut : {A : Type 0} (f : A → ℕ) (n : ℕ) (xs ys zs : List A) → ys ≡ take n xs → zs ≡ drop n xs → total f ys + total f zs ≡ total f xs
+pub total-cut : {A : Type 0} (f : A → ℕ) (n : ℕ) (xs ys zs : List A) → ys ≡ take n xs → zs ≡ drop n xs
+    → total f ys + total f zs ≡ total f xs
 total-cut f n xs ys zs front back =
     let a = ap (total f) front in
     let b = ap (total f) back in

@@ -1,5 +1,5 @@
-//! What a stop may leave of a disk in memory, by the model that disks have: until a sync any bytes may stand in the range
-//! of a write, and the file may end anywhere behind its old end.
+//! What a stop may leave of a disk in memory, by the model that disks have: until a sync any bytes may stand in the
+//! range of a write, and the file may end anywhere behind its old end.
 use cr_disks::{DiskCall, MemDisk};
 use std::alloc::{AllocError, Global};
 

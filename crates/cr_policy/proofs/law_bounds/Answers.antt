@@ -1,11 +1,14 @@
-use Rattle.cr_policy.proofs.BoundsWalk.{entries-shown, marks-shown, moments-shown, keys-shown, papers-shown, users-shown, names-shown, digests-shown, roles-shown}
-use Rattle.cr_policy.proofs.BoundsWalk.{phases-shown, deadlines-shown, modes-shown, makers-shown, titles-shown, abstracts-shown, versions-shown}
-use Rattle.cr_policy.proofs.BoundsWalk.{contents-shown, switches-shown, values-shown, seats-shown, ordinals-shown}
-use Rattle.cr_policy.proofs.BoundsWalk.{scores-shown, confidences-shown, texts-to-authors-shown, texts-to-pc-shown, done-shown, numbers-shown}
-use Rattle.cr_policy.proofs.BoundsWalk.{comments-shown, tags-shown, decisions-shown, outcomes-shown, accepted-shown}
+use Rattle.cr_policy.proofs.BoundsWalk.{entries-shown, marks-shown, moments-shown, keys-shown, papers-shown}
+use Rattle.cr_policy.proofs.BoundsWalk.{users-shown, names-shown, digests-shown, roles-shown, phases-shown}
+use Rattle.cr_policy.proofs.BoundsWalk.{deadlines-shown, modes-shown, makers-shown, titles-shown, abstracts-shown}
+use Rattle.cr_policy.proofs.BoundsWalk.{versions-shown, contents-shown, switches-shown, values-shown, seats-shown}
+use Rattle.cr_policy.proofs.BoundsWalk.{ordinals-shown, scores-shown, confidences-shown, texts-to-authors-shown}
+use Rattle.cr_policy.proofs.BoundsWalk.{texts-to-pc-shown, done-shown, numbers-shown, comments-shown, tags-shown}
+use Rattle.cr_policy.proofs.BoundsWalk.{decisions-shown, outcomes-shown, accepted-shown}
 use Rattle.cr_policy.proofs.BoundsSeats.{own-bids, reviewers-from-authors, reviewers-early, reviewers-unnamed}
-use Rattle.cr_policy.proofs.BoundsWritten.{forms-early, forms-from-authors, comments-from-authors, responses-shown, writers-unnamed, private-tags, chairs-tags}
-use Rattle.cr_policy.proofs.BoundsWritten.{decisions-early, decisions-untold}
+use Rattle.cr_policy.proofs.BoundsWritten.{forms-early, forms-from-authors, comments-from-authors, responses-shown}
+use Rattle.cr_policy.proofs.BoundsWritten.{writers-unnamed, private-tags, chairs-tags, decisions-early}
+use Rattle.cr_policy.proofs.BoundsWritten.{decisions-untold}
 use Rattle.cr_policy.proofs.BoundsTexts.{one-title, one-abstract, one-content, one-decision}
 use Rattle.cr_policy.proofs.BoundsLeft.{outsiders-shown}
 use Rattle.cr_policy.proofs.BoundsPublic.{accounts-shown, strangers-shown, nobody-shown}

@@ -1,14 +1,18 @@
-use Rattle.cr_policy.proofs.HiddenPairProofs.{digest-hidden, namer-hidden, mode_setter-hidden, phase_setter-hidden, deadline_setter-hidden, moment-hidden, key-hidden, title-hidden, abstract-hidden}
-use Rattle.cr_policy.proofs.HiddenPairProofs.{submitter-hidden, coauthor-hidden, revision-hidden, reviser-hidden, content-hidden, uploader-hidden}
-use Rattle.cr_policy.proofs.HiddenPairProofs.{withdrawer-hidden, declared-hidden, switch-hidden, declarer-hidden, bid-hidden, bidder-hidden}
-use Rattle.cr_policy.proofs.HiddenPairProofs.{tag-hidden, tagger-hidden, assigned-hidden, seat-hidden, assigner-hidden, unassigned-hidden}
-use Rattle.cr_policy.proofs.HiddenPairProofs.{unassigner-hidden, form-hidden, form-hidden_from_members, to_pc-hidden, reviewer-hidden, comment-hidden}
-use Rattle.cr_policy.proofs.HiddenPairProofs.{writer-hidden, decision-hidden, decider-hidden}
-use Rattle.cr_policy.proofs.HiddenPairProofs.{comment-removable, version-removable}
-use Rattle.cr_policy.proofs.HiddenPairProofs.{dismisser-hidden, invited-hidden, inviter-hidden, uninvited-hidden, uninviter-hidden}
-use Rattle.cr_policy.proofs.HiddenPairProofs.{seat-hidden_from_external, bid-hidden_from_external, tag-hidden_from_external, comment-hidden_from_external}
-use Rattle.cr_policy.proofs.HiddenPairProofs.{early_to_pc-hidden, early_reviewer-hidden, late_form-hidden}
-use Rattle.cr_policy.proofs.HiddenPairProofs.{response-hidden, response-hidden_from_accounts, responder-hidden}
+use Rattle.cr_policy.proofs.HiddenPairProofs.{digest-hidden, namer-hidden, mode_setter-hidden, phase_setter-hidden}
+use Rattle.cr_policy.proofs.HiddenPairProofs.{deadline_setter-hidden, moment-hidden, key-hidden, title-hidden}
+use Rattle.cr_policy.proofs.HiddenPairProofs.{abstract-hidden, submitter-hidden, coauthor-hidden, revision-hidden}
+use Rattle.cr_policy.proofs.HiddenPairProofs.{reviser-hidden, content-hidden, uploader-hidden, withdrawer-hidden}
+use Rattle.cr_policy.proofs.HiddenPairProofs.{declared-hidden, switch-hidden, declarer-hidden, bid-hidden}
+use Rattle.cr_policy.proofs.HiddenPairProofs.{bidder-hidden, tag-hidden, tagger-hidden, assigned-hidden, seat-hidden}
+use Rattle.cr_policy.proofs.HiddenPairProofs.{assigner-hidden, unassigned-hidden, unassigner-hidden, form-hidden}
+use Rattle.cr_policy.proofs.HiddenPairProofs.{form-hidden_from_members, to_pc-hidden, reviewer-hidden, comment-hidden}
+use Rattle.cr_policy.proofs.HiddenPairProofs.{writer-hidden, decision-hidden, decider-hidden, comment-removable}
+use Rattle.cr_policy.proofs.HiddenPairProofs.{version-removable, dismisser-hidden, invited-hidden, inviter-hidden}
+use Rattle.cr_policy.proofs.HiddenPairProofs.{uninvited-hidden, uninviter-hidden, seat-hidden_from_external}
+use Rattle.cr_policy.proofs.HiddenPairProofs.{bid-hidden_from_external, tag-hidden_from_external}
+use Rattle.cr_policy.proofs.HiddenPairProofs.{comment-hidden_from_external, early_to_pc-hidden, early_reviewer-hidden}
+use Rattle.cr_policy.proofs.HiddenPairProofs.{late_form-hidden, response-hidden, response-hidden_from_accounts}
+use Rattle.cr_policy.proofs.HiddenPairProofs.{responder-hidden}
 use Rattle.cr_policy.proofs.law_hidden_pairs.Goals as goal
 
 pub returns : goal.returns

@@ -5,4 +5,10 @@ use Rattle.cr_policy.proofs.MayReadLaws.{reading_as_said}
 use Rattle.cr_policy.proofs.law_permissions.Goals as goal
 
 pub returns : goal.returns
-returns c = record { commands = permissions_as_said; reading = reading_as_said; adds = adds_as_said; rows = rows_as_said; bulks = bulks_as_said }
+returns c = record {
+  commands = permissions_as_said;
+  reading = reading_as_said;
+  adds = adds_as_said;
+  rows = rows_as_said;
+  bulks = bulks_as_said;
+}

@@ -1,4 +1,5 @@
-use Rattle.cr_policy.proofs.ResponseBoundLaws.{reviews-awaited, reviews-for-authors, one-review, reviews-behind, unheard-forms, later-forms}
+use Rattle.cr_policy.proofs.ResponseBoundLaws.{reviews-awaited, reviews-for-authors, one-review, reviews-behind}
+use Rattle.cr_policy.proofs.ResponseBoundLaws.{unheard-forms, later-forms}
 use Rattle.cr_policy.proofs.law_response_bound.Goals as goal
 
 pub returns : goal.returns

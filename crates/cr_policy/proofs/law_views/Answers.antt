@@ -1,6 +1,7 @@
 use Rattle.cr_policy.proofs.ConferenceProofs.{conference-legal}
-use Rattle.cr_policy.proofs.ConferenceSeen.{views-before, views-bidding, views-reviewing, views-discussion, views-notification, views-close}
-use Rattle.cr_policy.proofs.ConferenceSeen.{views-reversed, views-response, views-behind, views-told, twins-alike, responded-alike, asides-hidden}
+use Rattle.cr_policy.proofs.ConferenceSeen.{views-before, views-bidding, views-reviewing, views-discussion}
+use Rattle.cr_policy.proofs.ConferenceSeen.{views-notification, views-close, views-reversed, views-response}
+use Rattle.cr_policy.proofs.ConferenceSeen.{views-behind, views-told, twins-alike, responded-alike, asides-hidden}
 use Rattle.cr_policy.proofs.ConferenceVerdicts.{verdicts-hidden}
 use Rattle.cr_policy.proofs.law_views.Goals as goal
 

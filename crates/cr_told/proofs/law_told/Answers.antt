@@ -1,4 +1,5 @@
-use Rattle.cr_told.proofs.ToldLists.{page_lists_told, contents_told, comments_told, responses_told, accepted_told, me_told}
+use Rattle.cr_told.proofs.ToldLists.{page_lists_told, contents_told, comments_told, responses_told, accepted_told}
+use Rattle.cr_told.proofs.ToldLists.{me_told}
 use Rattle.cr_told.proofs.ToldPages.{pages_told}
 use Rattle.cr_told.proofs.ToldPartsAll.{parts_told}
 use Rattle.cr_told.proofs.ToldPlaces.{places_told}

@@ -8,5 +8,6 @@ use Rattle.cr_assign.proofs.judging.invite.Goals as goal
 pub returns-in-Err : goal.returns-in-Err
 returns-in-Err c =
     sym (judged-front (chair_checks c.args.by.now c.args.withdrawn)
-    (is_member c.args.role breaks rules.IsMember ∷ c.args.conflicted breaks rules.TargetConflict ∷ c.args.invited breaks rules.AlreadyInvited ∷ [])
+    (is_member c.args.role breaks rules.IsMember ∷ c.args.conflicted breaks rules.TargetConflict
+    ∷ c.args.invited breaks rules.AlreadyInvited ∷ [])
     tt tt c.in-Err.rule (sym c.may_chair.ensures ∙ c.in-Err.is))

@@ -7,4 +7,5 @@ use Rattle.cr_assign.proofs.told.invited_pairs.Goals as goal
 pub returns : goal.returns
 returns c =
     items_from_collect _ c.collect.ensures.ran
-    (YieldsList-from_filter_map _ invited_pair (YieldsList-from_slice c.args.group.now cc) c.filter_map.ensures.closure (λ x r q k. search (rules, tests)))
+    (YieldsList-from_filter_map _ invited_pair (YieldsList-from_slice c.args.group.now cc) c.filter_map.ensures.closure
+    (λ x r q k. search (rules, tests)))

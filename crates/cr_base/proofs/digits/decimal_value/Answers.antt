@@ -10,11 +10,13 @@ small number index len lt at le =
 
 pub overflow_mul-number : goal.overflow_mul-number
 overflow_mul-number c =
-    let s = small c.digits.number c.digits.digit-index (length c.args.digits.now) c.digits.invariant.small c.digits-test.true c.requires.short in
+    let s = small c.digits.number c.digits.digit-index (length c.args.digits.now) c.digits.invariant.small
+    c.digits-test.true c.requires.short in
     omega (arith, s)
 
 pub overflow_add-number : goal.overflow_add-number
 overflow_add-number c =
-    let s = small c.digits.number c.digits.digit-index (length c.args.digits.now) c.digits.invariant.small c.digits-test.true c.requires.short in
+    let s = small c.digits.number c.digits.digit-index (length c.args.digits.now) c.digits.invariant.small
+    c.digits-test.true c.requires.short in
     let r = c.type_inv.digits c.digits.digit-index in
     omega (arith, s, r)

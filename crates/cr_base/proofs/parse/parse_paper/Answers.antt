@@ -10,4 +10,7 @@ decimal_value-requires c =
 pub new-requires : goal.new-requires
 new-requires c =
     let is = sym c.is_paper_number.ensures ∙ c.if-is_paper_number.true in
-    record { low = rw c.decimal_value.ensures (low c.args.text.now is); high = rw c.decimal_value.ensures (high c.args.text.now is) }
+    record {
+      low = rw c.decimal_value.ensures (low c.args.text.now is);
+      high = rw c.decimal_value.ensures (high c.args.text.now is);
+    }

@@ -12,6 +12,7 @@ users-preserved c =
       low = omega (arith, low);
       high = omega (arith, within);
       same = c.users.invariant.same
-          ∙ free-next t c.args.maker c.args.behind.now c.users.number c.args.many c.in-Some.name (omega (arith, within)) (ap (name_told t) (sym c.new.ensures) ∙ sym c.in-Some.ensures)
+          ∙ free-next t c.args.maker c.args.behind.now c.users.number c.args.many c.in-Some.name (omega (arith, within))
+          (ap (name_told t) (sym c.new.ensures) ∙ sym c.in-Some.ensures)
           (sym c.is_taken.ensures ∙ c.if-not-is_taken.false);
     }

@@ -6,7 +6,8 @@ abbrev pub invariant-users : goal.invariant-users
 invariant-users l = record {
   low : 1 ≤ l.number;
   high : l.number ≤ l.many + 1;
-  same : first_free l.live.tables l.maker l.behind 1 l.many ≡ first_free l.live.tables l.maker l.behind l.number (l.many + 1 - l.number);
+  same : first_free l.live.tables l.maker l.behind 1 l.many ≡ first_free l.live.tables l.maker l.behind l.number
+      (l.many + 1 - l.number);
 }
 
 abbrev pub decreases-users : goal.decreases-users

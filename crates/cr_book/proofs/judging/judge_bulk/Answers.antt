@@ -11,5 +11,6 @@ returns-clause-accepted c =
     let stamp = c.args.stamp.now in
     IfOk-weaker c.judge_rows.result _ _
     (λ group is. bulk-accepted t stamp c.args.rows group.items c.in-Ok.field-0 (sym c.may_bulk.ensures ∙ c.in-Ok.is)
-    (subst (λ (rows : List BulkRow). rows_judged (tables_basis stamp.maker) stamp t 1 rows ≡ Ok (entries_of group.items)) (c.deref.ensures.value ∙ c.into_parts-rows.ensures.rows) is))
+    (subst (λ (rows : List BulkRow). rows_judged (tables_basis stamp.maker) stamp t 1 rows
+    ≡ Ok (entries_of group.items)) (c.deref.ensures.value ∙ c.into_parts-rows.ensures.rows) is))
     c.judge_rows.ensures.accepted

@@ -3,7 +3,9 @@ use Rattle.cr_book.proofs.JudgingLaws.{judged-command, judged-untold}
 use Rattle.cr_book.proofs.judging.judge_row.Goals as goal
 
 pub returns-in-Ok-clause-judged : goal.returns-in-Ok-clause-judged
-returns-in-Ok-clause-judged c = judged-command c.args.live.now.tables c.args.earlier.now c.args.stamp.now c.args.row.now (command_of_row c.in-Ok.command) c.judge_row.result c.in-Ok.ensures c.judge_row.ensures.judged
+returns-in-Ok-clause-judged c = judged-command c.args.live.now.tables c.args.earlier.now c.args.stamp.now c.args.row.now
+    (command_of_row c.in-Ok.command) c.judge_row.result c.in-Ok.ensures c.judge_row.ensures.judged
 
 pub returns-in-Err-clause-judged : goal.returns-in-Err-clause-judged
-returns-in-Err-clause-judged c = judged-untold c.args.live.now.tables c.args.earlier.now c.args.stamp.now c.args.row.now c.in-Err.rule c.in-Err.ensures
+returns-in-Err-clause-judged c = judged-untold c.args.live.now.tables c.args.earlier.now c.args.stamp.now c.args.row.now
+    c.in-Err.rule c.in-Err.ensures

@@ -4,15 +4,19 @@ use Rattle.cr_book.proofs.StoreLaws.{untold-explains, untold-counted, answered-s
 use Rattle.cr_book.proofs.opening.read_rows.Goals as goal
 
 pub returns-in-Err-clause-bad : goal.returns-in-Err-clause-bad
-returns-in-Err-clause-bad g c = untold-explains (g.K.Keeper.rows c.args.keeper.now) c.in-Err.error c.untold.result c.untold.ensures
+returns-in-Err-clause-bad g c =
+    untold-explains (g.K.Keeper.rows c.args.keeper.now) c.in-Err.error c.untold.result c.untold.ensures
 
 pub returns-in-Err-clause-cause : goal.returns-in-Err-clause-cause
 returns-in-Err-clause-cause g c =
-    untold-counted (g.K.Keeper.faults c.args.keeper.now) (g.K.Keeper.faults c.loop-i.keeper) (g.K.Keeper.faults c.row.new.self) c.in-Err.error c.untold.result c.loop-i.invariant.steady c.in-Err.ensures.cause c.untold.ensures
+    untold-counted (g.K.Keeper.faults c.args.keeper.now) (g.K.Keeper.faults c.loop-i.keeper)
+    (g.K.Keeper.faults c.row.new.self) c.in-Err.error c.untold.result c.loop-i.invariant.steady c.in-Err.ensures.cause
+    c.untold.ensures
 
 pub returns-in-Err-read-clause-bad : goal.returns-in-Err-read-clause-bad
 returns-in-Err-read-clause-bad g c =
-    bad-row (g.K.Keeper.rows c.args.keeper.now) (g.K.Keeper.rows c.loop-i.keeper) c.loop-i.i c.in-Ok.row (rows_of c.loop-i.reading.log ++ c.loop-i.reading.pending) c.in-Err-read.error c.refusal.result
+    bad-row (g.K.Keeper.rows c.args.keeper.now) (g.K.Keeper.rows c.loop-i.keeper) c.loop-i.i c.in-Ok.row
+    (rows_of c.loop-i.reading.log ++ c.loop-i.reading.pending) c.in-Err-read.error c.refusal.result
     c.loop-i.invariant.same c.loop-i.invariant.read c.in-Ok.ensures.told c.in-Err-read.ensures.refused c.refusal.ensures
 
 pub loop-i-preserved : goal.loop-i-preserved
@@ -20,12 +24,16 @@ loop-i-preserved g c =
     record {
       same = c.in-Ok.ensures.same ∙ c.loop-i.invariant.same;
       still = λ told. c.in-Ok.ensures.still told ∙ c.loop-i.invariant.still told;
-      steady = answered-steady (g.K.Keeper.faults c.loop-i.keeper) (g.K.Keeper.faults c.row.new.self) (Ok c.in-Ok.row) c.in-Ok.row c.in-Ok.ensures.cause refl ∙ c.loop-i.invariant.steady;
-      read = read-more (g.K.Keeper.rows c.args.keeper.now) (g.K.Keeper.rows c.loop-i.keeper) c.loop-i.i c.in-Ok.row (rows_of c.loop-i.reading.log ++ c.loop-i.reading.pending) (rows_of c.in-Ok-read.after.log ++ c.in-Ok-read.after.pending)
+      steady = answered-steady (g.K.Keeper.faults c.loop-i.keeper) (g.K.Keeper.faults c.row.new.self) (Ok c.in-Ok.row)
+          c.in-Ok.row c.in-Ok.ensures.cause refl ∙ c.loop-i.invariant.steady;
+      read = read-more (g.K.Keeper.rows c.args.keeper.now) (g.K.Keeper.rows c.loop-i.keeper) c.loop-i.i c.in-Ok.row
+          (rows_of c.loop-i.reading.log ++ c.loop-i.reading.pending)
+          (rows_of c.in-Ok-read.after.log ++ c.in-Ok-read.after.pending)
           c.loop-i.invariant.same c.loop-i.invariant.read c.in-Ok.ensures.told c.in-Ok-read.ensures.ok;
     }
 
 pub returns-clause-spelled : goal.returns-clause-spelled
 returns-clause-spelled g c =
-    all-read (g.K.Keeper.rows c.args.keeper.now) (rows_of c.loop-i.reading.log ++ c.loop-i.reading.pending) c.loop-i.i c.args.count c.requires c.loop-i.invariant.read
+    all-read (g.K.Keeper.rows c.args.keeper.now) (rows_of c.loop-i.reading.log ++ c.loop-i.reading.pending) c.loop-i.i
+    c.args.count c.requires c.loop-i.invariant.read
     (let end = c.loop-i.auto.i-end in let test = c.loop-i-test.false in omega (arith, end, test))

@@ -9,19 +9,23 @@ use Rattle.cr_book.proofs.reading.with_group.Goals as goal
 
 pub append-requires-clause-room : goal.append-requires-clause-room
 append-requires-clause-room c =
-    subst (λ (group : History). HasRoom c.room-2.new.self group) (c.deref-3.ensures.value ∙ sym (c.in-Ok.ensures ∙ c.deref.ensures.value)) c.in-Ok-room-2.ensures.ok
+    subst (λ (group : History). HasRoom c.room-2.new.self group)
+    (c.deref-3.ensures.value ∙ sym (c.in-Ok.ensures ∙ c.deref.ensures.value)) c.in-Ok-room-2.ensures.ok
 
 pub append-requires-clause-follows : goal.append-requires-clause-follows
 append-requires-clause-follows c =
     subst (λ (log : History). MayFollow log c.in-Ok.entries.items) (sym c.room-2.ensures.same)
-    (subst (λ (group : History). MayFollow c.args.log.entries group) (sym (c.in-Ok.ensures ∙ c.deref.ensures.value)) c.requires.going.follows)
+    (subst (λ (group : History). MayFollow c.args.log.entries group) (sym (c.in-Ok.ensures ∙ c.deref.ensures.value))
+    c.requires.going.follows)
 
 pub apply_all-requires-clause-room : goal.apply_all-requires-clause-room
-apply_all-requires-clause-room c = subst (λ (group : History). RoomFor group c.room.new.self.rooms) c.deref-2.ensures.value c.in-Ok-room.ensures.ok
+apply_all-requires-clause-room c =
+    subst (λ (group : History). RoomFor group c.room.new.self.rooms) c.deref-2.ensures.value c.in-Ok-room.ensures.ok
 
 pub invariant_of-result : goal.invariant_of-result
 invariant_of-result c =
     going-whole c.args.log.entries _ c.args.live.tables _ c.args.pending.items _ c.args.group.items _ c.requires.going
-    (c.append.ensures ∙ ap (λ (h : History). h ++ c.in-Ok.entries.items) c.room-2.ensures.same ∙ ap (λ (h : History). c.args.log.entries ++ h) (c.in-Ok.ensures ∙ c.deref.ensures.value))
+    (c.append.ensures ∙ ap (λ (h : History). h ++ c.in-Ok.entries.items) c.room-2.ensures.same
+    ∙ ap (λ (h : History). c.args.log.entries ++ h) (c.in-Ok.ensures ∙ c.deref.ensures.value))
     (c.apply_all.ensures.after ∙ ap (λ (t : Tables). tables_from t c.args.group.items) c.room.ensures.same)
     c.clear.ensures.items c.new.ensures.items

@@ -10,7 +10,8 @@ pub invariant_of-result : goal.invariant_of-result
 invariant_of-result c =
     subst (λ (rows : List Row). IsReading c.args.log.entries c.args.live.tables rows c.add_both.new.entries.items)
     (sym c.in-Ok.ensures.rows)
-    (subst (λ (begun : History). IsReading c.args.log.entries c.args.live.tables (c.args.pending.items ++ c.args.row ∷ []) begun)
+    (subst (λ (begun : History). IsReading c.args.log.entries c.args.live.tables
+    (c.args.pending.items ++ c.args.row ∷ []) begun)
     (sym c.in-Ok.ensures.entries)
     (c.requires.more c.if-more.true))
 
@@ -18,7 +19,8 @@ pub with_group-requires-clause-going : goal.with_group-requires-clause-going
 with_group-requires-clause-going c =
     subst (λ (rows : List Row). IsGoing c.args.log.entries c.args.live.tables rows c.add_both.new.entries.items)
     (sym c.in-Ok.ensures.rows)
-    (subst (λ (begun : History). IsGoing c.args.log.entries c.args.live.tables (c.args.pending.items ++ c.args.row ∷ []) begun)
+    (subst (λ (begun : History). IsGoing c.args.log.entries c.args.live.tables (c.args.pending.items ++ c.args.row ∷ [])
+    begun)
     (sym c.in-Ok.ensures.entries)
     (c.requires.last c.if-more.false))
 

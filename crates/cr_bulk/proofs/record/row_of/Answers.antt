@@ -7,4 +7,5 @@ use Rattle.cr_bulk.proofs.record.row_of.Goals as goal
 pub returns : goal.returns
 returns c =
     let four : length (fields_of c.args.fields.now) ≡ 4 = grind (arith, nat_tests, c.len.ensures, c.if-len-ne4.false) in
-    rw (c.in_ok-paper.ensures, c.in_ok-action.ensures, c.in_ok-user.ensures, c.in_ok-tag.ensures) (four_fields (fields_of c.args.fields.now) four)
+    rw (c.in_ok-paper.ensures, c.in_ok-action.ensures, c.in_ok-user.ensures, c.in_ok-tag.ensures)
+    (four_fields (fields_of c.args.fields.now) four)

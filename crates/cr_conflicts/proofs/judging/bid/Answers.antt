@@ -11,4 +11,5 @@ returns-in-Err c =
     let by = c.args.by.now in
     sym
     (judged-front (member_checks by (of_there true))
-    (not (bids_are_taken by.phase) breaks rules.WrongPhase ∷ c.args.late breaks rules.Late ∷ c.args.withdrawn breaks rules.Withdrawn ∷ []) tt tt c.in-Err.rule (sym c.in-Err.ensures))
+    (not (bids_are_taken by.phase) breaks rules.WrongPhase ∷ c.args.late breaks rules.Late ∷ c.args.withdrawn breaks
+    rules.Withdrawn ∷ []) tt tt c.in-Err.rule (sym c.in-Err.ensures))

@@ -7,5 +7,6 @@ use Rattle.cr_decisions.proofs.decisions.papers_decided.Goals as goal
 pub returns : goal.returns
 returns c =
     items_from_collect c.collect.result c.collect.ensures.ran
-    (YieldsList-from_filter_map _ paper_decided (YieldsList-at c.filter_map.ensures.source (YieldsList-from_slice c.args.group.now c.iter.ensures.rest))
+    (YieldsList-from_filter_map _ paper_decided
+    (YieldsList-at c.filter_map.ensures.source (YieldsList-from_slice c.args.group.now c.iter.ensures.rest))
     c.filter_map.ensures.closure (λ x r q k. search rules))

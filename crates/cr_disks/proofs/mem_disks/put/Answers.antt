@@ -12,5 +12,7 @@ returns-in-Some c =
     let path = c.args.path.now in
     let old = c.args.files.now in
     let new = c.get_mut.follows.lender c.args.bytes in
-    fun_ext (λ q. put_bytes (bytes_eq path q) c.args.bytes (lookup (is_path q) old.entries) (lookup (is_path q) new.entries)
-    (btree_map_updates_text path old new (Some c.args.bytes) ((c.get_mut.follows.holds c.args.bytes).3 (search rules)) q))
+    fun_ext (λ q. put_bytes (bytes_eq path q) c.args.bytes (lookup (is_path q) old.entries)
+    (lookup (is_path q) new.entries)
+    (btree_map_updates_text path old new (Some c.args.bytes) ((c.get_mut.follows.holds c.args.bytes).3 (search rules))
+    q))

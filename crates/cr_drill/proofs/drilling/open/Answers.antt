@@ -12,5 +12,6 @@ unfolding opened
 returns-clause-opened c =
     subst (λ (H : History). OnOk c.move_to.result (c.move_to.new.book.log ≡ moved_to Submission H))
     (c.in_ok-name_all.ensures.named
-    ∙ ap (λ (H : History). members_named member_count (named Chair second_chair H)) c.in_ok-register_all.ensures.registered)
+    ∙ ap (λ (H : History). members_named member_count (named Chair second_chair H))
+    c.in_ok-register_all.ensures.registered)
     c.move_to.ensures.moved

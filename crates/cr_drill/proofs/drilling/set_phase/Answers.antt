@@ -6,4 +6,5 @@ use Rattle.cr_drill.proofs.drilling.set_phase.Goals as goal
 
 pub returns-clause-set : goal.returns-clause-set
 returns-clause-set c =
-    c.in_ok-ask_as.ensures.stepped ∙ (λ i. step c.args.book.now.log (drill_call (Some (c.first_chair.ensures i)) (SetPhase c.args.phase)))
+    c.in_ok-ask_as.ensures.stepped
+    ∙ (λ i. step c.args.book.now.log (drill_call (Some (c.first_chair.ensures i)) (SetPhase c.args.phase)))

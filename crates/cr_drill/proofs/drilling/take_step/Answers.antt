@@ -15,8 +15,11 @@ ask_as-requires-clause-bounded c =
 pub returns-clause-stepped : goal.returns-clause-stepped
 returns-clause-stepped c =
     ap (λ (p : Progress). drilled_of p c.ask_as.new.book.log) c.count.ensures
-    ∙ step-taken c.args.phase c.args.step (drilled_of c.args.progress.now c.args.book.now.log) c.move_to.new.book.log c.ask_as.new.book.log
-    c.conference.result.papers c.roll-roll.new.self.seed c.actor_of.result c.roll-roll.result c.operation_in-operation.result c.in_ok-command.command
+    ∙ step-taken c.args.phase c.args.step (drilled_of c.args.progress.now c.args.book.now.log) c.move_to.new.book.log
+    c.ask_as.new.book.log
+    c.conference.result.papers c.roll-roll.new.self.seed c.actor_of.result c.roll-roll.result
+    c.operation_in-operation.result c.in_ok-command.command
     c.in_ok-is_accepted.is_accepted
-    c.in_ok-move_to.ensures.moved c.conference.ensures.papers c.roll-roll.ensures.value c.roll-roll.ensures.left c.operation_in-operation.ensures
+    c.in_ok-move_to.ensures.moved c.conference.ensures.papers c.roll-roll.ensures.value c.roll-roll.ensures.left
+    c.operation_in-operation.ensures
     c.in_ok-command.ensures c.actor_of.ensures c.in_ok-is_accepted.ensures.stepped c.in_ok-is_accepted.ensures.accepted

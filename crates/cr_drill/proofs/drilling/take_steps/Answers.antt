@@ -17,8 +17,10 @@ loop-step-preserved c =
     let d : Drilled = drilled_of c.loop-step.progress c.loop-step.book.log in
     let told = c.in_ok-take_step.ensures in
     record {
-      drilled = drilled-next c.args.seed c.args.steps c.loop-step.step d (drilled_of c.take_step.new.progress c.take_step.new.book.log)
-          c.loop-step.invariant.drilled (told.stepped ∙ stepped-in c.args.steps c.loop-step.step c.phase_at.result d c.phase_at.ensures);
+      drilled = drilled-next c.args.seed c.args.steps c.loop-step.step d
+          (drilled_of c.take_step.new.progress c.take_step.new.book.log)
+          c.loop-step.invariant.drilled (told.stepped ∙ stepped-in c.args.steps c.loop-step.step c.phase_at.result d
+          c.phase_at.ensures);
       cast = told.cast;
       seed = told.seed;
       counts = told.counts;

@@ -20,12 +20,16 @@ pub reading-preserved : goal.reading-preserved
 reading-preserved g c =
     let seen = rw (c.window.ensures, c.as_slice.ensures) at c.in-NotYet.ensures in
     let moves = c.in-Grew.ensures.moves in
-    let none : head_at (text_of c.reading.buffer) ≡ None = found_there (text_of c.reading.buffer) c.reading.search c.reading.invariant.there ∙ seen.0 in
+    let none : head_at (text_of c.reading.buffer) ≡ None =
+    found_there (text_of c.reading.buffer) c.reading.search c.reading.invariant.there ∙ seen.0 in
     let needs : NeedsHead (text_of c.reading.buffer) = (none, omega arith) in
     record {
       moves = moves_on _ _ _ _ _ _ c.reading.invariant.moves moves;
-      needed = reads_once _ _ NeedsHead _ _ _ _ _ _ c.reading.invariant.moves needs c.reading.invariant.needed c.in-Grew.ensures.once;
-      there = rw moves.kept (stands_on (text_of c.reading.buffer) moves.got c.reading.search c.in-NotYet.next c.reading.invariant.there seen.1);
+      needed = reads_once _ _ NeedsHead _ _ _ _ _ _ c.reading.invariant.moves needs c.reading.invariant.needed
+          c.in-Grew.ensures.once;
+      there =
+          rw moves.kept (stands_on (text_of c.reading.buffer) moves.got c.reading.search c.in-NotYet.next
+          c.reading.invariant.there seen.1);
       count = omega arith;
       steady = c.in-Grew.ensures.steady (λ is. cc) ∙ c.reading.invariant.steady;
     }
@@ -42,17 +46,23 @@ returns-in-OutOfMemory-clause-moves g c = moves_on _ _ _ _ _ _ c.reading.invaria
 pub returns-in-Ended-clause-needed : goal.returns-in-Ended-clause-needed
 returns-in-Ended-clause-needed g c =
     let seen = rw (c.window.ensures, c.as_slice.ensures) at c.in-NotYet.ensures in
-    let none : head_at (text_of c.reading.buffer) ≡ None = found_there (text_of c.reading.buffer) c.reading.search c.reading.invariant.there ∙ seen.0 in
-    reads_once _ _ NeedsHead _ _ _ _ _ _ c.reading.invariant.moves (none, omega arith) c.reading.invariant.needed c.in-Ended.ensures.once
+    let none : head_at (text_of c.reading.buffer) ≡ None =
+    found_there (text_of c.reading.buffer) c.reading.search c.reading.invariant.there ∙ seen.0 in
+    reads_once _ _ NeedsHead _ _ _ _ _ _ c.reading.invariant.moves (none, omega arith) c.reading.invariant.needed
+    c.in-Ended.ensures.once
 
 pub returns-in-Failed-clause-needed : goal.returns-in-Failed-clause-needed
 returns-in-Failed-clause-needed g c =
     let seen = rw (c.window.ensures, c.as_slice.ensures) at c.in-NotYet.ensures in
-    let none : head_at (text_of c.reading.buffer) ≡ None = found_there (text_of c.reading.buffer) c.reading.search c.reading.invariant.there ∙ seen.0 in
-    reads_once _ _ NeedsHead _ _ _ _ _ _ c.reading.invariant.moves (none, omega arith) c.reading.invariant.needed c.in-Failed.ensures.once
+    let none : head_at (text_of c.reading.buffer) ≡ None =
+    found_there (text_of c.reading.buffer) c.reading.search c.reading.invariant.there ∙ seen.0 in
+    reads_once _ _ NeedsHead _ _ _ _ _ _ c.reading.invariant.moves (none, omega arith) c.reading.invariant.needed
+    c.in-Failed.ensures.once
 
 pub returns-in-OutOfMemory-clause-needed : goal.returns-in-OutOfMemory-clause-needed
 returns-in-OutOfMemory-clause-needed g c =
     let seen = rw (c.window.ensures, c.as_slice.ensures) at c.in-NotYet.ensures in
-    let none : head_at (text_of c.reading.buffer) ≡ None = found_there (text_of c.reading.buffer) c.reading.search c.reading.invariant.there ∙ seen.0 in
-    reads_once _ _ NeedsHead _ _ _ _ _ _ c.reading.invariant.moves (none, omega arith) c.reading.invariant.needed c.in-OutOfMemory.ensures.once
+    let none : head_at (text_of c.reading.buffer) ≡ None =
+    found_there (text_of c.reading.buffer) c.reading.search c.reading.invariant.there ∙ seen.0 in
+    reads_once _ _ NeedsHead _ _ _ _ _ _ c.reading.invariant.moves (none, omega arith) c.reading.invariant.needed
+    c.in-OutOfMemory.ensures.once

@@ -6,10 +6,12 @@ use Rattle.cr_http.proofs.Windows.{head_at_bounds}
 use Rattle.cr_http.proofs.judge.judge_head.Goals as goal
 
 pub between-bytes-requires-clause-ordered : goal.between-bytes-requires-clause-ordered
-between-bytes-requires-clause-ordered c = let b = head_at_bounds c.args.text.now (c.args.range.start, c.args.range.end) c.requires.range in omega (arith, b)
+between-bytes-requires-clause-ordered c = let b =
+    head_at_bounds c.args.text.now (c.args.range.start, c.args.range.end) c.requires.range in omega (arith, b)
 
 pub between-bytes-requires-clause-within : goal.between-bytes-requires-clause-within
-between-bytes-requires-clause-within c = (head_at_bounds c.args.text.now (c.args.range.start, c.args.range.end) c.requires.range).1
+between-bytes-requires-clause-within c =
+    (head_at_bounds c.args.text.now (c.args.range.start, c.args.range.end) c.requires.range).1
 
 pub returns-in_default : goal.returns-in_default
 returns-in_default c =

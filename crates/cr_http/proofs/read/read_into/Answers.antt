@@ -29,7 +29,8 @@ returns-in-Failed-clause-reads g c =
 
 pub returns-in-OutOfMemory-clause-reads : goal.returns-in-OutOfMemory-clause-reads
 returns-in-OutOfMemory-clause-reads g c =
-    reads_all _ _ _ _ _ _ _ _ _ _ c.in-OutOfMemory.ensures.moves (head_needed _ _ _ _ _ _ c.in-OutOfMemory.ensures.needed) (
+    reads_all _ _ _ _ _ _ _ _ _ _ c.in-OutOfMemory.ensures.moves
+    (head_needed _ _ _ _ _ _ c.in-OutOfMemory.ensures.needed) (
       c.requires.none.0,
       refl,
       short_stands (text_of c.fill_head.new.buffer) c.in-OutOfMemory.ensures.finds.0

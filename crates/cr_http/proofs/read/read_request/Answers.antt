@@ -10,8 +10,10 @@ pub returns-clause-reads : goal.returns-clause-reads
 returns-clause-reads g c =
     let rest : c.args.inbox.now.rest ≡ text_of c.match-inbox.inbox-inside.buffer =
     elim c.match-inbox.branch [ in-Some w ↦ search rules | in_default w ↦ search rules ] in
-    reads_lying g.S.Source.left g.S.Source.read_gives c.args.source.now c.read_into.new.source c.args.inbox.now (text_of c.match-inbox.inbox-inside.buffer)
-    (text_of c.read_into.new.buffer) c.read_into.new.headers c.read_into.new.block c.read_into.new.request c.read_into.result
+    reads_lying g.S.Source.left g.S.Source.read_gives c.args.source.now c.read_into.new.source c.args.inbox.now
+    (text_of c.match-inbox.inbox-inside.buffer)
+    (text_of c.read_into.new.buffer) c.read_into.new.headers c.read_into.new.block c.read_into.new.request
+    c.read_into.result
     rest c.read_into.ensures.reads c.read_into.ensures.ended
 
 pub returns-clause-still : goal.returns-clause-still

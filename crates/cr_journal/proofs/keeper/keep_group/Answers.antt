@@ -57,5 +57,6 @@ returns-in-Ok-clause-any_moment g c = λ told.
     (OpensTo rows (group ∷ [])) (OpensTo rows (group ∷ doubted b doubt))
     (λ f o. opens_wider rows (group ∷ []) (group ∷ doubted b doubt) f (among_first group (doubted b doubt)) o)
     (c.keep_ready.ensures.any_moment told) in
-    and_then g.D.Disk.moment g.D.Disk.left_since c.args.journal.now.disk c.make_ready.new.self.disk c.keep_ready.new.journal.disk
+    and_then g.D.Disk.moment g.D.Disk.left_since c.args.journal.now.disk c.make_ready.new.self.disk
+    c.keep_ready.new.journal.disk
     (OpensTo rows (group ∷ doubted b doubt)) first second

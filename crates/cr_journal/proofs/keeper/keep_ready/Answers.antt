@@ -22,7 +22,8 @@ returns-in-Ok-clause-keeps g c = λ told.
     let doubt = c.args.doubt.now.items in
     let is = c.deref.ensures.value ∙ c.requires.block in
     rw (c.add_all.ensures.rows, c.add_all.ensures.rest)
-    (kept_more g.D.Disk.seen g.D.Disk.may_leave c.args.journal.now c.append.new.self c.args.rows.now.items doubt group [] k
+    (kept_more g.D.Disk.seen g.D.Disk.may_leave c.args.journal.now c.append.new.self c.args.rows.now.items doubt group
+    [] k
     c.in-Ok.ensures.ready c.requires.fits.0 tt
     (c.in-Ok.ensures.kept told (map payload k.groups) (payload doubt) (payload group) k.stands c.requires.fits.1 is))
 
@@ -32,8 +33,10 @@ returns-clause-keeps g c = λ told.
     let group = c.args.prepared.copies.items in
     let doubt = c.args.doubt.now.items in
     let is = c.deref.ensures.value ∙ c.requires.block in
-    kept_same g.D.Disk.seen g.D.Disk.may_leave c.args.journal.now c.append.new.self c.args.rows.now.items doubt group k c.requires.fits.0
-    (c.in-Err.ensures.not_kept told (map payload k.groups) (payload doubt) (payload group) k.stands c.requires.fits.1 is)
+    kept_same g.D.Disk.seen g.D.Disk.may_leave c.args.journal.now c.append.new.self c.args.rows.now.items doubt group k
+    c.requires.fits.0
+    (c.in-Err.ensures.not_kept told (map payload k.groups) (payload doubt) (payload group) k.stands c.requires.fits.1
+    is)
 
 pub returns-in-Ok-clause-doubt : goal.returns-in-Ok-clause-doubt
 returns-in-Ok-clause-doubt g c = λ old. ap (λ (b : Bool). doubted b c.add_all.new.copies.items) c.in-Ok.ensures.ready
@@ -50,7 +53,8 @@ returns-in-Ok-clause-any_moment g c = λ told.
     weaken g.D.Disk.moment g.D.Disk.left_since c.args.journal.now.disk c.append.new.self.disk
     (IsKeptOrOneMore (map payload k.groups) (payload group ∷ [])) (OpensTo rows (group ∷ []))
     (λ f o. opens_one k.groups rows group f k.fit c.requires.fits.0 k.rows_are o)
-    (c.append.ensures.any_moment told (map payload k.groups) (payload c.args.doubt.now.items) (payload group) k.stands c.requires.fits.1 is)
+    (c.append.ensures.any_moment told (map payload k.groups) (payload c.args.doubt.now.items) (payload group) k.stands
+    c.requires.fits.1 is)
 
 pub returns-clause-any_moment : goal.returns-clause-any_moment
 returns-clause-any_moment g c = λ told.
@@ -61,7 +65,8 @@ returns-clause-any_moment g c = λ told.
     weaken g.D.Disk.moment g.D.Disk.left_since c.args.journal.now.disk c.append.new.self.disk
     (IsKeptOrOneMore (map payload k.groups) (payload group ∷ [])) (OpensTo rows (group ∷ []))
     (λ f o. opens_one k.groups rows group f k.fit c.requires.fits.0 k.rows_are o)
-    (c.append.ensures.any_moment told (map payload k.groups) (payload c.args.doubt.now.items) (payload group) k.stands c.requires.fits.1 is)
+    (c.append.ensures.any_moment told (map payload k.groups) (payload c.args.doubt.now.items) (payload group) k.stands
+    c.requires.fits.1 is)
 
 pub returns-in-Ok-clause-cause : goal.returns-in-Ok-clause-cause
 returns-in-Ok-clause-cause g c = record {

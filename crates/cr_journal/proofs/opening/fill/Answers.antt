@@ -23,11 +23,13 @@ reading-preserved g c =
       few = omega (arith, c.in-Got.ensures.size.1, c.read_behind.ensures.len, c.reading-test.true);
       told = λ tells.
           let bytes = drop c.args.at (g.D.Disk.seen c.args.disk.now) in
-          let r = subst (λ (l : List ℕ). ReadsOn (reads.Got n) filled old new (drop c.args.at l)) (so_far.seen tells) (c.in-Got.ensures.told tells) in
+          let r = subst (λ (l : List ℕ). ReadsOn (reads.Got n) filled old new (drop c.args.at l)) (so_far.seen tells)
+          (c.in-Got.ensures.told tells) in
           let long : filled + n ≤ length new = omega (arith, r.1, c.read_behind.ensures.len) in
           filled-more filled n old new bytes long r.4 (so_far.told tells) r.2 r.3;
       near = λ tells.
-          let r = subst (λ (l : List ℕ). ReadsOn (reads.Got n) filled old new (drop c.args.at l)) (so_far.seen tells) (c.in-Got.ensures.told tells) in
+          let r = subst (λ (l : List ℕ). ReadsOn (reads.Got n) filled old new (drop c.args.at l)) (so_far.seen tells)
+          (c.in-Got.ensures.told tells) in
           r.4;
       seen = λ tells. c.read_behind.ensures.seen tells ∙ so_far.seen tells;
       crash = λ tells image left. so_far.crash tells image (c.read_behind.ensures.crash tells image left);
@@ -36,14 +38,17 @@ reading-preserved g c =
 
 pub returns-in-End-clause-cause : goal.returns-in-End-clause-cause
 returns-in-End-clause-cause g c = record {
-  later = subst (λ (n : ℕ). n ≤ g.D.Disk.faults c.read_behind.new.disk) c.reading.invariant.steady c.in-End.ensures.cause.later;
+  later = subst (λ (n : ℕ). n ≤ g.D.Disk.faults c.read_behind.new.disk) c.reading.invariant.steady
+      c.in-End.ensures.cause.later;
   failed = tt;
   steady = c.in-End.ensures.cause.steady (λ e. absurd (cc e)) ∙ c.reading.invariant.steady;
 }
 
 pub returns-in-Failed-clause-cause : goal.returns-in-Failed-clause-cause
 returns-in-Failed-clause-cause g c = record {
-  later = subst (λ (n : ℕ). n ≤ g.D.Disk.faults c.read_behind.new.disk) c.reading.invariant.steady c.in-Failed.ensures.cause.later;
-  failed = subst (λ (n : ℕ). Rises n (g.D.Disk.faults c.read_behind.new.disk)) c.reading.invariant.steady (c.in-Failed.ensures.cause.failed refl);
+  later = subst (λ (n : ℕ). n ≤ g.D.Disk.faults c.read_behind.new.disk) c.reading.invariant.steady
+      c.in-Failed.ensures.cause.later;
+  failed = subst (λ (n : ℕ). Rises n (g.D.Disk.faults c.read_behind.new.disk)) c.reading.invariant.steady
+      (c.in-Failed.ensures.cause.failed refl);
   steady = tt;
 }

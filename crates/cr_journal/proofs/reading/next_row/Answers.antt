@@ -10,4 +10,5 @@ returns-clause-found c =
 
 pub returns-clause-none : goal.returns-clause-none
 returns-clause-none c =
-    none_of (λ p. row_of p.numbers p.mark.now p.b1.now p.b2.now) (λ p. p.rest.now) c.args.bytes.now c.parts_at.result c.parts_at.ensures
+    none_of (λ p. row_of p.numbers p.mark.now p.b1.now p.b2.now) (λ p. p.rest.now) c.args.bytes.now c.parts_at.result
+    c.parts_at.ensures

@@ -21,9 +21,13 @@ returns-clause-any_moment g c = λ told.
     let inside : gate < length t.0 = omega (arith, was.long, c.requires.inside told) in
     but_after gate file t.0 f was (torn_but gate t.0 f inside t.2) in
     let seen_now : P (g.D.Disk.seen mid) =
-    holds_but gate c.args.value file (g.D.Disk.seen mid) (c.requires.inside told) (c.in_ok-write_at.ensures.written told) in
+    holds_but gate c.args.value file (g.D.Disk.seen mid) (c.requires.inside told)
+    (c.in_ok-write_at.ensures.written told) in
     let third : (f : List ℕ) → g.D.Disk.may_leave new f → P f =
     λ f left. ⊎_elim (second f) (λ is. subst P (sym is) seen_now) (c.sync.ensures.crash told f left) in
-    let zero = started g.D.Disk.moment g.D.Disk.left_since old P (λ f left. first f (g.met.D.Disk.only_now old f left)) in
-    let one = goes_on g.D.Disk.moment g.D.Disk.left_since old old mid P (g.D.Disk.may_leave mid) zero (c.write_at.ensures.time told) second in
-    goes_on g.D.Disk.moment g.D.Disk.left_since old mid new P (g.D.Disk.may_leave new) one (c.sync.ensures.time told) third
+    let zero =
+    started g.D.Disk.moment g.D.Disk.left_since old P (λ f left. first f (g.met.D.Disk.only_now old f left)) in
+    let one = goes_on g.D.Disk.moment g.D.Disk.left_since old old mid P (g.D.Disk.may_leave mid) zero
+    (c.write_at.ensures.time told) second in
+    goes_on g.D.Disk.moment g.D.Disk.left_since old mid new P (g.D.Disk.may_leave new) one (c.sync.ensures.time told)
+    third

@@ -7,4 +7,5 @@ pub returns : goal.returns
 unfolding number
 returns c =
     ap (λ (l : List ℕ). l ++ drop 8 c.args.bytes.now)
-    (c.copy_from_slice.ensures.after ∙ c.to_be_bytes.ensures ∙ ap (to_be_bytes w64) (sym (length-drop 8 c.args.bytes.now)))
+    (c.copy_from_slice.ensures.after ∙ c.to_be_bytes.ensures
+    ∙ ap (to_be_bytes w64) (sym (length-drop 8 c.args.bytes.now)))

@@ -3,7 +3,8 @@ use Rattle.json.specs.Written.{PlainBetween}
 use Rattle.cr_json.proofs.runs.run_end.Given as goal
 
 abbrev pub invariant-bytes : goal.invariant-bytes
-invariant-bytes l = record { after : l.start ≤ l.end; within : l.end ≤ length l.text; plain : PlainBetween l.text l.start l.end }
+invariant-bytes l =
+    record { after : l.start ≤ l.end; within : l.end ≤ length l.text; plain : PlainBetween l.text l.start l.end }
 
 abbrev pub decreases-bytes : goal.decreases-bytes
 decreases-bytes l = length l.text - l.end

@@ -8,5 +8,6 @@ pub returns : goal.returns
 returns c =
     let instant = rw c.unwrap-instant.ensures at c.from_second.ensures.value in
     let seconds = to_z_pos w64 c.seconds.result (omega (arith, c.seconds.ensures.high)) in
-    civil-of-moment c.args.deadline (omega (arith, c.seconds.ensures.value, c.seconds.ensures.high)) c.to_datetime.result
+    civil-of-moment c.args.deadline (omega (arith, c.seconds.ensures.value, c.seconds.ensures.high))
+    c.to_datetime.result
     (omega (arith, signed_arith, c.to_datetime.ensures, instant, seconds, c.seconds.ensures.value))

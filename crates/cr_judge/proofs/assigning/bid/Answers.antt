@@ -13,7 +13,8 @@ use Rattle.cr_judge.proofs.assigning.bid.Goals as goal
 pub held-paper-requires : goal.held-paper-requires
 held-paper-requires c =
     let named = c.named_paper-named.result in
-    is-there (λ (p : NamedPaper). bid_checks named.by p c.is_late-late.result) (λ (w : Bool) (x : Unit {0}). refl) named.paper named.withdrawn tt tt c.in_ok-judge_bid.ensures
+    is-there (λ (p : NamedPaper). bid_checks named.by p c.is_late-late.result) (λ (w : Bool) (x : Unit {0}). refl)
+    named.paper named.withdrawn tt tt c.in_ok-judge_bid.ensures
 
 pub returns : goal.returns
 returns c =
@@ -22,7 +23,8 @@ returns c =
     let named = c.named_paper-named.result in
     one-entry t.accounts stamp (entries.Bid c.held-paper.result c.args.value) c.alone.result _ c.alone.ensures
     (ap (λ (o : Option ℕ). Ok (bid_drawn stamp (unwrap_or o 0) c.args.value)) (sym c.held-paper.ensures)
-    ∙ late-drawn t stamp.maker c.args.paper.now named c.named_paper-named.ensures c.is_late-late.result (is_late_in t.stage stamp.at) c.is_late-late.ensures
+    ∙ late-drawn t stamp.maker c.args.paper.now named c.named_paper-named.ensures c.is_late-late.result
+    (is_late_in t.stage stamp.at) c.is_late-late.ensures
     bid_checks (λ (s : Standing) (w late : Bool) (x : Drawn). refl)
     (λ (p : ℕ). bid_drawn stamp p c.args.value) (Ok tt) c.in_ok-judge_bid.ensures)
 
@@ -32,6 +34,7 @@ returns-in_err-judge_bid c =
     let stamp : Stamp = c.args.stamp.now in
     let named = c.named_paper-named.result in
     passed-up t.accounts c.from_residual.result c.in_err-judge_bid.field-0.0 _ c.from_residual.ensures.1
-    (late-drawn t stamp.maker c.args.paper.now named c.named_paper-named.ensures c.is_late-late.result (is_late_in t.stage stamp.at) c.is_late-late.ensures
+    (late-drawn t stamp.maker c.args.paper.now named c.named_paper-named.ensures c.is_late-late.result
+    (is_late_in t.stage stamp.at) c.is_late-late.ensures
     bid_checks (λ (s : Standing) (w late : Bool) (x : Drawn). refl)
     (λ (p : ℕ). bid_drawn stamp p c.args.value) (Err c.in_err-judge_bid.field-0.0) c.in_err-judge_bid.ensures)

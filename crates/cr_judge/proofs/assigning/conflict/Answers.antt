@@ -19,7 +19,9 @@ pub held-paper-requires : goal.held-paper-requires
 held-paper-requires c =
     let named = c.named_paper-named.result in
     let ties = ties_from c.tie_table.result.now.ties c.args.earlier.now in
-    is-there (λ (p : NamedPaper). conflict_checks named.by p (target_of ties c.args.stamp.now.maker named.paper c.target_of-target.result c.is_external_target.result) c.args.on c.is_late-late.result)
+    is-there (λ (p : NamedPaper). conflict_checks named.by p
+    (target_of ties c.args.stamp.now.maker named.paper c.target_of-target.result c.is_external_target.result)
+    c.args.on c.is_late-late.result)
     (λ (w : Bool) (x : Unit {0}). refl) named.paper named.withdrawn tt tt c.in_ok-judge_conflict.ensures
 
 pub held-user-requires : goal.held-user-requires
@@ -29,7 +31,8 @@ held-user-requires c =
     let ties = ties_from c.tie_table.result.now.ties c.args.earlier.now in
     target-there c.args.live.now.tables.accounts c.args.user.now c.target_of-target.result c.target_of-target.ensures
     (λ (t : ℕ × Role). target_in ties stamp.maker named.paper c.is_external_target.result t.0 t.1)
-    (λ (o : Option Target). conflict_checks named.by (record { there = is_some named.paper; withdrawn = named.withdrawn }) o c.args.on c.is_late-late.result)
+    (λ (o : Option Target). conflict_checks named.by
+    (record { there = is_some named.paper; withdrawn = named.withdrawn }) o c.args.on c.is_late-late.result)
     (λ none. true≢false none.1.0) tt tt c.in_ok-judge_conflict.ensures
 
 pub returns : goal.returns
@@ -38,12 +41,18 @@ returns c =
     let stamp : Stamp = c.args.stamp.now in
     let named = c.named_paper-named.result in
     let seen = c.tie_table.result.now.ties in
-    ap (λ (o : Option ℕ). Ok (conflict_drawn stamp (unwrap_or o 0) c.held-user.result c.args.on)) (sym c.held-paper.ensures)
-    ∙ ap (λ (o : Option ℕ). Ok (conflict_drawn stamp (unwrap_or named.paper 0) (unwrap_or o 0) c.args.on)) (sym c.held-user.ensures)
-    ∙ conflict-drawn t stamp c.args.paper.now c.args.user.now named c.named_paper-named.ensures c.target_of-target.result
-    (target-behind c.args.live.now.tables c.args.earlier.now c.requires.rows c.args.user.now c.target_of-target.result c.target_of-target.ensures)
-    c.args.on c.is_late-late.result (late-behind c.args.live.now.tables c.args.earlier.now c.requires.rows stamp c.is_late-late.result c.is_late-late.ensures)
-    (ties_from seen c.args.earlier.now) (ties-seen c.args.live.now.tables c.args.earlier.now c.requires.rows seen c.tie_table.ensures)
+    ap (λ (o : Option ℕ). Ok (conflict_drawn stamp (unwrap_or o 0) c.held-user.result c.args.on))
+    (sym c.held-paper.ensures)
+    ∙ ap (λ (o : Option ℕ). Ok (conflict_drawn stamp (unwrap_or named.paper 0) (unwrap_or o 0) c.args.on))
+    (sym c.held-user.ensures)
+    ∙ conflict-drawn t stamp c.args.paper.now c.args.user.now named c.named_paper-named.ensures
+    c.target_of-target.result
+    (target-behind c.args.live.now.tables c.args.earlier.now c.requires.rows c.args.user.now c.target_of-target.result
+    c.target_of-target.ensures)
+    c.args.on c.is_late-late.result (late-behind c.args.live.now.tables c.args.earlier.now c.requires.rows stamp
+    c.is_late-late.result c.is_late-late.ensures)
+    (ties_from seen c.args.earlier.now) (ties-seen c.args.live.now.tables c.args.earlier.now c.requires.rows seen
+    c.tie_table.ensures)
     c.is_external_target.result c.is_external_target.ensures
     (Ok tt) c.in_ok-judge_conflict.ensures
 
@@ -53,10 +62,14 @@ returns-in_err-judge_conflict c =
     let stamp : Stamp = c.args.stamp.now in
     let named = c.named_paper-named.result in
     let seen = c.tie_table.result.now.ties in
-    entry-passed-up c.args.live.now.tables.accounts stamp c.from_residual.result c.in_err-judge_conflict.field-0.0 _ c.from_residual.ensures.1
+    entry-passed-up c.args.live.now.tables.accounts stamp c.from_residual.result c.in_err-judge_conflict.field-0.0 _
+    c.from_residual.ensures.1
     (conflict-drawn t stamp c.args.paper.now c.args.user.now named c.named_paper-named.ensures c.target_of-target.result
-    (target-behind c.args.live.now.tables c.args.earlier.now c.requires.rows c.args.user.now c.target_of-target.result c.target_of-target.ensures)
-    c.args.on c.is_late-late.result (late-behind c.args.live.now.tables c.args.earlier.now c.requires.rows stamp c.is_late-late.result c.is_late-late.ensures)
-    (ties_from seen c.args.earlier.now) (ties-seen c.args.live.now.tables c.args.earlier.now c.requires.rows seen c.tie_table.ensures)
+    (target-behind c.args.live.now.tables c.args.earlier.now c.requires.rows c.args.user.now c.target_of-target.result
+    c.target_of-target.ensures)
+    c.args.on c.is_late-late.result (late-behind c.args.live.now.tables c.args.earlier.now c.requires.rows stamp
+    c.is_late-late.result c.is_late-late.ensures)
+    (ties_from seen c.args.earlier.now) (ties-seen c.args.live.now.tables c.args.earlier.now c.requires.rows seen
+    c.tie_table.ensures)
     c.is_external_target.result c.is_external_target.ensures
     (Err c.in_err-judge_conflict.field-0.0) c.in_err-judge_conflict.ensures)

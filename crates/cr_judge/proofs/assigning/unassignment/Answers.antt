@@ -17,14 +17,17 @@ use Rattle.cr_judge.proofs.RowLaws.{invites-kept, seats-fit, seats-seen, target-
 use Rattle.cr_judge.proofs.assigning.unassignment.Goals as goal
 
 pub judge_unassign-requires : goal.judge_unassign-requires
-judge_unassign-requires c = seats-fit c.args.live.now.tables c.args.earlier.now c.requires.rows c.seat_table.result.now.seats c.seat_table.ensures.seats c.requires.fits
+judge_unassign-requires c = seats-fit c.args.live.now.tables c.args.earlier.now c.requires.rows
+    c.seat_table.result.now.seats c.seat_table.ensures.seats c.requires.fits
 
 pub held-paper-requires : goal.held-paper-requires
 held-paper-requires c =
     let named = c.named_paper-named.result in
     let seats = seats_from c.seat_table.result.now.seats c.args.earlier.now in
     let invites = c.seat_table.result.now.invites in
-    is-there (λ (p : NamedPaper). unassign_checks named.by p (target_of seats invites false named.paper c.target_of.result) c.has_written.result) (λ (w : Bool) (x : ℕ). refl) named.paper named.withdrawn _ c.in_ok-ordinal.ordinal c.in_ok-ordinal.ensures
+    is-there (λ (p : NamedPaper). unassign_checks named.by p
+    (target_of seats invites false named.paper c.target_of.result) c.has_written.result)
+    (λ (w : Bool) (x : ℕ). refl) named.paper named.withdrawn _ c.in_ok-ordinal.ordinal c.in_ok-ordinal.ensures
 
 pub held-user-requires : goal.held-user-requires
 held-user-requires c =
@@ -32,9 +35,12 @@ held-user-requires c =
     let seats = seats_from c.seat_table.result.now.seats c.args.earlier.now in
     let invites = c.seat_table.result.now.invites in
     target-there c.args.live.now.tables.accounts c.user_of-user.result c.target_of.result c.target_of.ensures
-    (λ (t : ℕ × Role). target_with t.1 false (ordinal_at seats (Some t.0) named.paper) (external_at invites t.1 (Some t.0) named.paper))
-    (λ (o : Option Target). unassign_checks named.by (record { there = is_some named.paper; withdrawn = named.withdrawn }) o c.has_written.result)
-    (λ none. true≢false none.1.0) (held_at seats named.paper c.target_of.result) c.in_ok-ordinal.ordinal c.in_ok-ordinal.ensures
+    (λ (t : ℕ × Role). target_with t.1 false (ordinal_at seats (Some t.0) named.paper)
+    (external_at invites t.1 (Some t.0) named.paper))
+    (λ (o : Option Target). unassign_checks named.by
+    (record { there = is_some named.paper; withdrawn = named.withdrawn }) o c.has_written.result)
+    (λ none. true≢false none.1.0) (held_at seats named.paper c.target_of.result) c.in_ok-ordinal.ordinal
+    c.in_ok-ordinal.ensures
 
 pub returns : goal.returns
 returns c =
@@ -44,13 +50,19 @@ returns c =
     let stamp : Stamp = c.args.stamp.now in
     let named = c.named_paper-named.result in
     let seen = c.seat_table.result.now.seats in
-    let user = user-behind before earlier c.requires.rows c.args.name.now c.user_of-user.result c.user_of-user.ensures in
-    ap (λ (o : Option ℕ). Ok (unassignment_drawn stamp (unwrap_or o 0) c.held-user.result c.in_ok-ordinal.ordinal)) (sym c.held-paper.ensures)
-    ∙ ap (λ (o : Option ℕ). Ok (unassignment_drawn stamp (unwrap_or named.paper 0) (unwrap_or o 0) c.in_ok-ordinal.ordinal)) (sym c.held-user.ensures)
-    ∙ unassignment-drawn t stamp c.args.paper.now c.user_of-user.result named c.named_paper-named.ensures c.target_of.result
+    let user =
+    user-behind before earlier c.requires.rows c.args.name.now c.user_of-user.result c.user_of-user.ensures in
+    ap (λ (o : Option ℕ). Ok (unassignment_drawn stamp (unwrap_or o 0) c.held-user.result c.in_ok-ordinal.ordinal))
+    (sym c.held-paper.ensures)
+    ∙ ap
+    (λ (o : Option ℕ). Ok (unassignment_drawn stamp (unwrap_or named.paper 0) (unwrap_or o 0)
+    c.in_ok-ordinal.ordinal)) (sym c.held-user.ensures)
+    ∙ unassignment-drawn t stamp c.args.paper.now c.user_of-user.result named c.named_paper-named.ensures
+    c.target_of.result
     (target-behind before earlier c.requires.rows c.user_of-user.result c.target_of.result c.target_of.ensures)
     (seats_from seen earlier) (seats-seen before earlier c.requires.rows seen c.seat_table.ensures.seats)
-    c.seat_table.result.now.invites (invites-kept before earlier c.requires.rows c.seat_table.result.now.invites c.seat_table.ensures.invites)
+    c.seat_table.result.now.invites (invites-kept before earlier c.requires.rows c.seat_table.result.now.invites
+    c.seat_table.ensures.invites)
     c.has_written.result c.has_written.ensures
     (Ok c.in_ok-ordinal.ordinal) c.in_ok-ordinal.ensures
     ∙ ap (λ (u : Option ℕ). unassignment_at t stamp c.args.paper.now u) user
@@ -63,12 +75,15 @@ returns-in_err-ordinal c =
     let stamp : Stamp = c.args.stamp.now in
     let named = c.named_paper-named.result in
     let seen = c.seat_table.result.now.seats in
-    let user = user-behind before earlier c.requires.rows c.args.name.now c.user_of-user.result c.user_of-user.ensures in
+    let user =
+    user-behind before earlier c.requires.rows c.args.name.now c.user_of-user.result c.user_of-user.ensures in
     entry-passed-up before.accounts stamp c.from_residual.result c.in_err-ordinal.field-0.0 _ c.from_residual.ensures.1
-    (unassignment-drawn t stamp c.args.paper.now c.user_of-user.result named c.named_paper-named.ensures c.target_of.result
+    (unassignment-drawn t stamp c.args.paper.now c.user_of-user.result named c.named_paper-named.ensures
+    c.target_of.result
     (target-behind before earlier c.requires.rows c.user_of-user.result c.target_of.result c.target_of.ensures)
     (seats_from seen earlier) (seats-seen before earlier c.requires.rows seen c.seat_table.ensures.seats)
-    c.seat_table.result.now.invites (invites-kept before earlier c.requires.rows c.seat_table.result.now.invites c.seat_table.ensures.invites)
+    c.seat_table.result.now.invites (invites-kept before earlier c.requires.rows c.seat_table.result.now.invites
+    c.seat_table.ensures.invites)
     c.has_written.result c.has_written.ensures
     (Err c.in_err-ordinal.field-0.0) c.in_err-ordinal.ensures
     ∙ ap (λ (u : Option ℕ). unassignment_at t stamp c.args.paper.now u) user)

@@ -19,7 +19,9 @@ pub held-paper-requires : goal.held-paper-requires
 held-paper-requires c =
     let named = c.named_paper-named.result in
     let seats = c.seat_table.result.now in
-    is-there (λ (p : NamedPaper). uninvite_checks named.by p (target_of seats.seats seats.invites false named.paper c.target_of.result) (invited_at seats.invites named.paper c.target_of.result))
+    is-there (λ (p : NamedPaper). uninvite_checks named.by p
+    (target_of seats.seats seats.invites false named.paper c.target_of.result)
+    (invited_at seats.invites named.paper c.target_of.result))
     (λ w (x : Unit {0}). refl) named.paper named.withdrawn tt tt c.in_ok-judge_uninvite.ensures
 
 pub held-user-requires : goal.held-user-requires
@@ -27,8 +29,11 @@ held-user-requires c =
     let named = c.named_paper-named.result in
     let seats = c.seat_table.result.now in
     target-there c.args.live.now.tables.accounts c.user_of-user.result c.target_of.result c.target_of.ensures
-    (λ (t : ℕ × Role). target_with t.1 false (ordinal_at seats.seats (Some t.0) named.paper) (external_at seats.invites t.1 (Some t.0) named.paper))
-    (λ (o : Option Target). uninvite_checks named.by (record { there = is_some named.paper; withdrawn = named.withdrawn }) o (invited_at seats.invites named.paper c.target_of.result))
+    (λ (t : ℕ × Role). target_with t.1 false (ordinal_at seats.seats (Some t.0) named.paper)
+    (external_at seats.invites t.1 (Some t.0) named.paper))
+    (λ (o : Option Target). uninvite_checks named.by
+    (record { there = is_some named.paper; withdrawn = named.withdrawn }) o
+    (invited_at seats.invites named.paper c.target_of.result))
     (λ none. true≢false none.1.0) tt tt c.in_ok-judge_uninvite.ensures
 
 pub returns : goal.returns
@@ -37,12 +42,17 @@ returns c =
     let stamp : Stamp = c.args.stamp.now in
     let named = c.named_paper-named.result in
     let seats = c.seat_table.result.now in
-    one-entry t.accounts stamp (entries.Uninvited c.held-paper.result c.held-user.result) c.alone.result _ c.alone.ensures
+    one-entry t.accounts stamp (entries.Uninvited c.held-paper.result c.held-user.result) c.alone.result _
+    c.alone.ensures
     (ap (λ (o : Option ℕ). Ok (uninvitation_drawn stamp (unwrap_or o 0) c.held-user.result)) (sym c.held-paper.ensures)
-    ∙ ap (λ (o : Option ℕ). Ok (uninvitation_drawn stamp (unwrap_or named.paper 0) (unwrap_or o 0))) (sym c.held-user.ensures)
-    ∙ uninvitation-drawn t stamp c.args.paper.now c.user_of-user.result named c.named_paper-named.ensures c.target_of.result c.target_of.ensures
-    seats.seats c.seat_table.ensures.seats seats.invites c.seat_table.ensures.invites (Ok tt) c.in_ok-judge_uninvite.ensures
-    ∙ ap (λ (u : Option ℕ). uninvitation_at t stamp c.args.paper.now u) (user-behind t [] tt c.args.name.now c.user_of-user.result c.user_of-user.ensures))
+    ∙ ap (λ (o : Option ℕ). Ok (uninvitation_drawn stamp (unwrap_or named.paper 0) (unwrap_or o 0)))
+    (sym c.held-user.ensures)
+    ∙ uninvitation-drawn t stamp c.args.paper.now c.user_of-user.result named c.named_paper-named.ensures
+    c.target_of.result c.target_of.ensures
+    seats.seats c.seat_table.ensures.seats seats.invites c.seat_table.ensures.invites (Ok tt)
+    c.in_ok-judge_uninvite.ensures
+    ∙ ap (λ (u : Option ℕ). uninvitation_at t stamp c.args.paper.now u)
+    (user-behind t [] tt c.args.name.now c.user_of-user.result c.user_of-user.ensures))
 
 pub returns-in_err-judge_uninvite : goal.returns-in_err-judge_uninvite
 returns-in_err-judge_uninvite c =
@@ -51,7 +61,9 @@ returns-in_err-judge_uninvite c =
     let named = c.named_paper-named.result in
     let seats = c.seat_table.result.now in
     passed-up t.accounts c.from_residual.result c.in_err-judge_uninvite.field-0.0 _ c.from_residual.ensures.1
-    (uninvitation-drawn t stamp c.args.paper.now c.user_of-user.result named c.named_paper-named.ensures c.target_of.result c.target_of.ensures
+    (uninvitation-drawn t stamp c.args.paper.now c.user_of-user.result named c.named_paper-named.ensures
+    c.target_of.result c.target_of.ensures
     seats.seats c.seat_table.ensures.seats seats.invites c.seat_table.ensures.invites
     (Err c.in_err-judge_uninvite.field-0.0) c.in_err-judge_uninvite.ensures
-    ∙ ap (λ (u : Option ℕ). uninvitation_at t stamp c.args.paper.now u) (user-behind t [] tt c.args.name.now c.user_of-user.result c.user_of-user.ensures))
+    ∙ ap (λ (u : Option ℕ). uninvitation_at t stamp c.args.paper.now u)
+    (user-behind t [] tt c.args.name.now c.user_of-user.result c.user_of-user.ensures))

@@ -8,7 +8,8 @@ use Rattle.cr_judge.proofs.commands.dismissal.Goals as goal
 pub held-user-requires : goal.held-user-requires
 held-user-requires c =
     is-dismissed c.args.live.now.tables c.args.stamp.now c.args.name.now c.user_of-user.result c.user_of-user.ensures
-    c.standing-by.result c.standing-by.ensures c.account_table.result.now.accounts c.account_table.ensures (Ok tt) c.in_ok-judge_dismiss.ensures refl
+    c.standing-by.result c.standing-by.ensures c.account_table.result.now.accounts c.account_table.ensures (Ok tt)
+    c.in_ok-judge_dismiss.ensures refl
 
 pub returns : goal.returns
 returns c =
@@ -16,7 +17,8 @@ returns c =
     let stamp : Stamp = c.args.stamp.now in
     one-entry t.accounts stamp (entries.Dismissed c.held-user.result) c.alone.result _ c.alone.ensures
     (dismissal-drawn t stamp c.args.name.now c.user_of-user.result c.user_of-user.ensures
-    c.standing-by.result c.standing-by.ensures c.account_table.result.now.accounts c.account_table.ensures (Ok tt) c.in_ok-judge_dismiss.ensures refl
+    c.standing-by.result c.standing-by.ensures c.account_table.result.now.accounts c.account_table.ensures (Ok tt)
+    c.in_ok-judge_dismiss.ensures refl
     c.held-user.result c.held-user.ensures)
 
 pub returns-in_err-judge_dismiss : goal.returns-in_err-judge_dismiss

@@ -7,8 +7,10 @@ use Rattle.cr_judge.proofs.commands.naming.Goals as goal
 
 pub held-user-requires : goal.held-user-requires
 held-user-requires c =
-    is-named c.args.live.now.tables c.args.stamp.now c.args.name.now c.args.role c.user_of-user.result c.user_of-user.ensures
-    c.standing-by.result c.standing-by.ensures c.account_table.result.now.accounts c.account_table.ensures (Ok tt) c.in_ok-judge_name.ensures refl
+    is-named c.args.live.now.tables c.args.stamp.now c.args.name.now c.args.role c.user_of-user.result
+    c.user_of-user.ensures
+    c.standing-by.result c.standing-by.ensures c.account_table.result.now.accounts c.account_table.ensures (Ok tt)
+    c.in_ok-judge_name.ensures refl
 
 pub returns : goal.returns
 returns c =
@@ -16,7 +18,8 @@ returns c =
     let stamp : Stamp = c.args.stamp.now in
     one-entry t.accounts stamp (entries.Named c.held-user.result c.args.role) c.alone.result _ c.alone.ensures
     (naming-drawn t stamp c.args.name.now c.args.role c.user_of-user.result c.user_of-user.ensures
-    c.standing-by.result c.standing-by.ensures c.account_table.result.now.accounts c.account_table.ensures (Ok tt) c.in_ok-judge_name.ensures refl
+    c.standing-by.result c.standing-by.ensures c.account_table.result.now.accounts c.account_table.ensures (Ok tt)
+    c.in_ok-judge_name.ensures refl
     c.held-user.result c.held-user.ensures)
 
 pub returns-in_err-judge_name : goal.returns-in_err-judge_name

@@ -10,11 +10,13 @@ returns c =
     let t = c.args.live.now.tables in
     let stamp : Stamp = c.args.stamp.now in
     one-entry t.accounts stamp (entries.PhaseSet c.args.to) c.alone.result _ c.alone.ensures
-    (phase-drawn t stamp c.standing-by.result c.standing-by.ensures c.stage_table.result.now c.stage_table.ensures (Ok tt) c.args.to c.in_ok-judge_phase.ensures)
+    (phase-drawn t stamp c.standing-by.result c.standing-by.ensures c.stage_table.result.now c.stage_table.ensures
+    (Ok tt) c.args.to c.in_ok-judge_phase.ensures)
 
 pub returns-in_err-judge_phase : goal.returns-in_err-judge_phase
 returns-in_err-judge_phase c =
     let t = c.args.live.now.tables in
     passed-up t.accounts c.from_residual.result c.in_err-judge_phase.field-0.0 _ c.from_residual.ensures.1
-    (phase-drawn t c.args.stamp.now c.standing-by.result c.standing-by.ensures c.stage_table.result.now c.stage_table.ensures
+    (phase-drawn t c.args.stamp.now c.standing-by.result c.standing-by.ensures c.stage_table.result.now
+    c.stage_table.ensures
     (Err c.in_err-judge_phase.field-0.0) c.args.to c.in_err-judge_phase.ensures)

@@ -14,21 +14,32 @@ unwrap-requires c =
     let stamp : Stamp = c.args.stamp.now in
     let papers = c.paper_table.result.now.papers in
     are-found t stamp (users_at t.accounts c.args.authors.now) c.args.title c.args.abstract_ c.coauthors-users.result
-    (c.coauthors-users.ensures ∙ ap (λ (names : List (Option (List ℕ))). coauthors_of stamp.maker (users_at t.accounts names)) c.as_slice.ensures)
-    c.standing-by.result (paper_count papers) (own_count papers (Some stamp.maker)) c.is_late-late.result _ c.in_ok-paper.paper
+    (c.coauthors-users.ensures
+    ∙ ap (λ (names : List (Option (List ℕ))). coauthors_of stamp.maker (users_at t.accounts names))
+    c.as_slice.ensures)
+    c.standing-by.result (paper_count papers) (own_count papers (Some stamp.maker)) c.is_late-late.result _
+    c.in_ok-paper.paper
     (c.in_ok-paper.ensures
-    ∙ ap (λ (b : Bool). judged (submit_checks (not b) c.standing-by.result (paper_count papers) (own_count papers (Some stamp.maker)) c.is_late-late.result) (paper_count papers + 1)) c.is_some.ensures)
+    ∙ ap
+    (λ (b : Bool). judged (submit_checks (not b) c.standing-by.result (paper_count papers)
+    (own_count papers (Some stamp.maker)) c.is_late-late.result) (paper_count papers + 1)) c.is_some.ensures)
 
 pub returns : goal.returns
 returns c =
     let t = c.args.live.now.tables in
     let stamp : Stamp = c.args.stamp.now in
     let papers = c.paper_table.result.now.papers in
-    submission-drawn t stamp (users_at t.accounts c.args.authors.now) c.args.title c.args.abstract_ c.coauthors-users.result
-    (c.coauthors-users.ensures ∙ ap (λ (names : List (Option (List ℕ))). coauthors_of stamp.maker (users_at t.accounts names)) c.as_slice.ensures)
-    c.standing-by.result c.standing-by.ensures papers c.paper_table.ensures c.is_late-late.result c.is_late-late.ensures c.in_ok-paper.paper
+    submission-drawn t stamp (users_at t.accounts c.args.authors.now) c.args.title c.args.abstract_
+    c.coauthors-users.result
+    (c.coauthors-users.ensures
+    ∙ ap (λ (names : List (Option (List ℕ))). coauthors_of stamp.maker (users_at t.accounts names))
+    c.as_slice.ensures)
+    c.standing-by.result c.standing-by.ensures papers c.paper_table.ensures c.is_late-late.result c.is_late-late.ensures
+    c.in_ok-paper.paper
     (c.in_ok-paper.ensures
-    ∙ ap (λ (b : Bool). judged (submit_checks (not b) c.standing-by.result (paper_count papers) (own_count papers (Some stamp.maker)) c.is_late-late.result) (paper_count papers + 1)) c.is_some.ensures)
+    ∙ ap
+    (λ (b : Bool). judged (submit_checks (not b) c.standing-by.result (paper_count papers)
+    (own_count papers (Some stamp.maker)) c.is_late-late.result) (paper_count papers + 1)) c.is_some.ensures)
     c.unwrap.result c.unwrap.ensures
 
 pub returns-in_err-paper : goal.returns-in_err-paper
@@ -37,8 +48,14 @@ returns-in_err-paper c =
     let stamp : Stamp = c.args.stamp.now in
     let papers = c.paper_table.result.now.papers in
     passed-up t.accounts c.from_residual.result c.in_err-paper.field-0.0 _ c.from_residual.ensures.1
-    (submission-refused t stamp (users_at t.accounts c.args.authors.now) c.args.title c.args.abstract_ c.coauthors-users.result
-    (c.coauthors-users.ensures ∙ ap (λ (names : List (Option (List ℕ))). coauthors_of stamp.maker (users_at t.accounts names)) c.as_slice.ensures)
-    c.standing-by.result c.standing-by.ensures papers c.paper_table.ensures c.is_late-late.result c.is_late-late.ensures c.in_err-paper.field-0.0
+    (submission-refused t stamp (users_at t.accounts c.args.authors.now) c.args.title c.args.abstract_
+    c.coauthors-users.result
+    (c.coauthors-users.ensures
+    ∙ ap (λ (names : List (Option (List ℕ))). coauthors_of stamp.maker (users_at t.accounts names))
+    c.as_slice.ensures)
+    c.standing-by.result c.standing-by.ensures papers c.paper_table.ensures c.is_late-late.result c.is_late-late.ensures
+    c.in_err-paper.field-0.0
     (c.in_err-paper.ensures
-    ∙ ap (λ (b : Bool). judged (submit_checks (not b) c.standing-by.result (paper_count papers) (own_count papers (Some stamp.maker)) c.is_late-late.result) (paper_count papers + 1)) c.is_some.ensures))
+    ∙ ap
+    (λ (b : Bool). judged (submit_checks (not b) c.standing-by.result (paper_count papers)
+    (own_count papers (Some stamp.maker)) c.is_late-late.result) (paper_count papers + 1)) c.is_some.ensures))

@@ -33,4 +33,5 @@ returns-in-SetConflict c =
     let told = c.in-SetConflict in
     command-told t stamp c.args.command (commands.SetConflict told.paper told.user told.on) _ told.is
     (of-entry t.accounts stamp c.conflict.result c.alone_or_rule.result _ c.alone_or_rule.ensures
-    (c.conflict.ensures ∙ ap (λ (user : Option ℕ). conflict_at t stamp told.paper user told.on) (c.user_of-user.ensures ∙ sym (target-among t.accounts told.user))))
+    (c.conflict.ensures ∙ ap (λ (user : Option ℕ). conflict_at t stamp told.paper user told.on)
+    (c.user_of-user.ensures ∙ sym (target-among t.accounts told.user))))

@@ -11,7 +11,8 @@ use Rattle.cr_judge.proofs.commands.withdrawal.Goals as goal
 
 pub held-paper-requires : goal.held-paper-requires
 held-paper-requires c =
-    is-told c.paper_table.result.now.papers (λ (p : NamedPaper). revise_checks c.standing-by.result p c.is_late-late.result) (λ (w : Bool) (x : Unit {0}). refl)
+    is-told c.paper_table.result.now.papers (λ (p : NamedPaper). revise_checks c.standing-by.result p
+    c.is_late-late.result) (λ (w : Bool) (x : Unit {0}). refl)
     c.args.paper.now tt tt c.in_ok-judge_withdraw.ensures
 
 pub returns : goal.returns
@@ -20,13 +21,17 @@ returns c =
     let stamp : Stamp = c.args.stamp.now in
     one-entry t.accounts stamp (entries.Withdrawn c.held-paper.result) c.alone.result _ c.alone.ensures
     (ap (λ (o : Option ℕ). Ok (withdrawal_drawn stamp (unwrap_or o 0))) (sym c.held-paper.ensures)
-    ∙ revision-drawn t stamp c.args.paper.now c.standing-by.result c.standing-by.ensures c.paper_table.result.now.papers c.paper_table.ensures
-    c.is_late-late.result c.is_late-late.ensures (λ (p : ℕ). withdrawal_drawn stamp p) (Ok tt) c.in_ok-judge_withdraw.ensures)
+    ∙ revision-drawn t stamp c.args.paper.now c.standing-by.result c.standing-by.ensures c.paper_table.result.now.papers
+    c.paper_table.ensures
+    c.is_late-late.result c.is_late-late.ensures (λ (p : ℕ). withdrawal_drawn stamp p) (Ok tt)
+    c.in_ok-judge_withdraw.ensures)
 
 pub returns-in_err-judge_withdraw : goal.returns-in_err-judge_withdraw
 returns-in_err-judge_withdraw c =
     let t = c.args.live.now.tables in
     let stamp : Stamp = c.args.stamp.now in
     passed-up t.accounts c.from_residual.result c.in_err-judge_withdraw.field-0.0 _ c.from_residual.ensures.1
-    (revision-drawn t stamp c.args.paper.now c.standing-by.result c.standing-by.ensures c.paper_table.result.now.papers c.paper_table.ensures
-    c.is_late-late.result c.is_late-late.ensures (λ (p : ℕ). withdrawal_drawn stamp p) (Err c.in_err-judge_withdraw.field-0.0) c.in_err-judge_withdraw.ensures)
+    (revision-drawn t stamp c.args.paper.now c.standing-by.result c.standing-by.ensures c.paper_table.result.now.papers
+    c.paper_table.ensures
+    c.is_late-late.result c.is_late-late.ensures (λ (p : ℕ). withdrawal_drawn stamp p)
+    (Err c.in_err-judge_withdraw.field-0.0) c.in_err-judge_withdraw.ensures)

@@ -7,5 +7,6 @@ use Rattle.cr_judge.proofs.named.target_of.Goals as goal
 pub returns-in-Some-role_given : goal.returns-in-Some-role_given
 returns-in-Some-role_given c =
     ap (option_map (λ (r : Role). (c.in-Some.user, r))) (sym c.in-Some-role_given.is)
-    ∙ target-some c.args.live.now.tables.accounts c.account_table.result.now.accounts c.account_table.ensures c.args.user.now c.in-Some.user
+    ∙ target-some c.args.live.now.tables.accounts c.account_table.result.now.accounts c.account_table.ensures
+    c.args.user.now c.in-Some.user
     c.role_given.result c.in-Some.is c.role_given.ensures

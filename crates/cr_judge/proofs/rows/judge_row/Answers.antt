@@ -11,9 +11,11 @@ returns-clause-judged c =
 pub returns-clause-fits : goal.returns-clause-fits
 returns-clause-fits c =
     row-fits c.args.live.now.tables c.args.earlier.now c.requires c.args.stamp.now (command_of_row c.args.command)
-    (of-row c.args.command) c.args.live.now.tables.accounts c.row_entry.result c.row_entry.ensures c.law_within.ensures.ties
+    (of-row c.args.command) c.args.live.now.tables.accounts c.row_entry.result c.row_entry.ensures
+    c.law_within.ensures.ties
 
 pub returns-clause-next : goal.returns-clause-next
 returns-clause-next c =
     row-next c.args.live.now.tables c.args.earlier.now c.requires c.args.stamp.now (command_of_row c.args.command)
-    (of-row c.args.command) c.args.live.now.tables.accounts c.row_entry.result c.row_entry.ensures c.law_within.ensures.ties
+    (of-row c.args.command) c.args.live.now.tables.accounts c.row_entry.result c.row_entry.ensures
+    c.law_within.ensures.ties

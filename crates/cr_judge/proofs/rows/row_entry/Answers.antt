@@ -7,12 +7,21 @@ use Rattle.cr_judge.proofs.rows.row_entry.Goals as goal
 
 pub returns-in-Assign : goal.returns-in-Assign
 returns-in-Assign c =
-    c.assignment.ensures ∙ sym (ap (λ (x : RowCommand). row_judged_at (tables_from c.args.live.now.tables c.args.earlier.now) c.args.stamp.now (command_of_row x)) c.in-Assign.is)
+    c.assignment.ensures
+    ∙ sym
+    (ap (λ (x : RowCommand). row_judged_at (tables_from c.args.live.now.tables c.args.earlier.now) c.args.stamp.now
+    (command_of_row x)) c.in-Assign.is)
 
 pub returns-in-Unassign : goal.returns-in-Unassign
 returns-in-Unassign c =
-    c.unassignment.ensures ∙ sym (ap (λ (x : RowCommand). row_judged_at (tables_from c.args.live.now.tables c.args.earlier.now) c.args.stamp.now (command_of_row x)) c.in-Unassign.is)
+    c.unassignment.ensures
+    ∙ sym
+    (ap (λ (x : RowCommand). row_judged_at (tables_from c.args.live.now.tables c.args.earlier.now) c.args.stamp.now
+    (command_of_row x)) c.in-Unassign.is)
 
 pub returns-in-Tag : goal.returns-in-Tag
 returns-in-Tag c =
-    c.tag.ensures ∙ sym (ap (λ (x : RowCommand). row_judged_at (tables_from c.args.live.now.tables c.args.earlier.now) c.args.stamp.now (command_of_row x)) c.in-Tag.is)
+    c.tag.ensures
+    ∙ sym
+    (ap (λ (x : RowCommand). row_judged_at (tables_from c.args.live.now.tables c.args.earlier.now) c.args.stamp.now
+    (command_of_row x)) c.in-Tag.is)

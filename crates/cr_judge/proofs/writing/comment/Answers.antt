@@ -13,7 +13,8 @@ use Rattle.cr_judge.proofs.writing.comment.Goals as goal
 pub held-paper-requires : goal.held-paper-requires
 held-paper-requires c =
     let named = c.named_paper-named.result in
-    is-there (λ (p : NamedPaper). comment_checks named.by p (own_comments_in c.comment_table.result.now.talk (Some c.args.stamp.now.maker)) c.is_late-late.result)
+    is-there (λ (p : NamedPaper). comment_checks named.by p
+    (own_comments_in c.comment_table.result.now.talk (Some c.args.stamp.now.maker)) c.is_late-late.result)
     (λ (w : Bool) (x : ℕ). refl) named.paper named.withdrawn _ c.in_ok-n.n c.in_ok-n.ensures
 
 pub returns : goal.returns
@@ -22,14 +23,19 @@ returns c =
     let stamp : Stamp = c.args.stamp.now in
     let named = c.named_paper-named.result in
     let n : ℕ = c.in_ok-n.n in
-    one-entry t.accounts stamp (entries.Commented c.held-paper.result n c.ordinal_of-ordinal.result c.args.text) c.alone.result _ c.alone.ensures
-    (ap (λ (o : Option ℕ). Ok (comment_drawn stamp (unwrap_or o 0) n c.ordinal_of-ordinal.result c.args.text)) (sym c.held-paper.ensures)
-    ∙ comment-drawn t stamp c.args.paper.now named c.named_paper-named.ensures c.ordinal_of-ordinal.result c.ordinal_of-ordinal.ensures
-    c.args.text c.is_late-late.result c.is_late-late.ensures c.comment_table.result.now.talk c.comment_table.ensures (Ok n) c.in_ok-n.ensures)
+    one-entry t.accounts stamp (entries.Commented c.held-paper.result n c.ordinal_of-ordinal.result c.args.text)
+    c.alone.result _ c.alone.ensures
+    (ap (λ (o : Option ℕ). Ok (comment_drawn stamp (unwrap_or o 0) n c.ordinal_of-ordinal.result c.args.text))
+    (sym c.held-paper.ensures)
+    ∙ comment-drawn t stamp c.args.paper.now named c.named_paper-named.ensures c.ordinal_of-ordinal.result
+    c.ordinal_of-ordinal.ensures
+    c.args.text c.is_late-late.result c.is_late-late.ensures c.comment_table.result.now.talk c.comment_table.ensures
+    (Ok n) c.in_ok-n.ensures)
 
 pub returns-in_err-n : goal.returns-in_err-n
 returns-in_err-n c =
     let t = c.args.live.now.tables in
     passed-up t.accounts c.from_residual.result c.in_err-n.field-0.0 _ c.from_residual.ensures.1
     (comment-drawn t c.args.stamp.now c.args.paper.now c.named_paper-named.result c.named_paper-named.ensures _ refl
-    c.args.text c.is_late-late.result c.is_late-late.ensures c.comment_table.result.now.talk c.comment_table.ensures (Err c.in_err-n.field-0.0) c.in_err-n.ensures)
+    c.args.text c.is_late-late.result c.is_late-late.ensures c.comment_table.result.now.talk c.comment_table.ensures
+    (Err c.in_err-n.field-0.0) c.in_err-n.ensures)

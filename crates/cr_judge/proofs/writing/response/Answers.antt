@@ -13,7 +13,8 @@ use Rattle.cr_judge.proofs.writing.response.Goals as goal
 pub held-paper-requires : goal.held-paper-requires
 held-paper-requires c =
     let named = c.named_paper-named.result in
-    is-there (λ (p : NamedPaper). respond_checks named.by p (is_some (response_in c.comment_table.result.now.talk (unwrap_or named.paper 0))) c.is_late-late.result)
+    is-there (λ (p : NamedPaper). respond_checks named.by p
+    (is_some (response_in c.comment_table.result.now.talk (unwrap_or named.paper 0))) c.is_late-late.result)
     (λ (w : Bool) (x : Unit {0}). refl) named.paper named.withdrawn tt tt c.in_ok-judge_respond.ensures
 
 pub returns : goal.returns
@@ -23,7 +24,8 @@ returns c =
     one-entry t.accounts stamp (entries.Responded c.held-paper.result c.args.text) c.alone.result _ c.alone.ensures
     (ap (λ (o : Option ℕ). Ok (response_drawn stamp (unwrap_or o 0) c.args.text)) (sym c.held-paper.ensures)
     ∙ response-drawn t stamp c.args.paper.now c.named_paper-named.result c.named_paper-named.ensures
-    c.args.text c.is_late-late.result c.is_late-late.ensures c.comment_table.result.now.talk c.comment_table.ensures (Ok tt) c.in_ok-judge_respond.ensures)
+    c.args.text c.is_late-late.result c.is_late-late.ensures c.comment_table.result.now.talk c.comment_table.ensures
+    (Ok tt) c.in_ok-judge_respond.ensures)
 
 pub returns-in_err-judge_respond : goal.returns-in_err-judge_respond
 returns-in_err-judge_respond c =

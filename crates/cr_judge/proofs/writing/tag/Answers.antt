@@ -23,7 +23,8 @@ returns c =
     let named = c.named_paper-named.result in
     ap (λ (o : Option ℕ). Ok (tag_drawn stamp (unwrap_or o 0) c.args.tag c.args.on)) (sym c.held-paper.ensures)
     ∙ paper-drawn t stamp.maker c.args.paper.now named c.named_paper-named.ensures
-    (λ (s : Standing) (p : NamedPaper). tag_checks s p (is_for_chairs c.args.tag)) (λ (s : Standing) (w : Bool) (x : Drawn). refl)
+    (λ (s : Standing) (p : NamedPaper). tag_checks s p (is_for_chairs c.args.tag))
+    (λ (s : Standing) (w : Bool) (x : Drawn). refl)
     (λ (p : ℕ). tag_drawn stamp p c.args.tag c.args.on) (Ok tt) c.in_ok-judge_tag.ensures
 
 pub returns-in_err-judge_tag : goal.returns-in_err-judge_tag
@@ -31,7 +32,9 @@ returns-in_err-judge_tag c =
     let t = tables_from c.args.live.now.tables c.args.earlier.now in
     let stamp : Stamp = c.args.stamp.now in
     let named = c.named_paper-named.result in
-    entry-passed-up c.args.live.now.tables.accounts stamp c.from_residual.result c.in_err-judge_tag.field-0.0 _ c.from_residual.ensures.1
+    entry-passed-up c.args.live.now.tables.accounts stamp c.from_residual.result c.in_err-judge_tag.field-0.0 _
+    c.from_residual.ensures.1
     (paper-drawn t stamp.maker c.args.paper.now named c.named_paper-named.ensures
-    (λ (s : Standing) (p : NamedPaper). tag_checks s p (is_for_chairs c.args.tag)) (λ (s : Standing) (w : Bool) (x : Drawn). refl)
+    (λ (s : Standing) (p : NamedPaper). tag_checks s p (is_for_chairs c.args.tag))
+    (λ (s : Standing) (w : Bool) (x : Drawn). refl)
     (λ (p : ℕ). tag_drawn stamp p c.args.tag c.args.on) (Err c.in_err-judge_tag.field-0.0) c.in_err-judge_tag.ensures)

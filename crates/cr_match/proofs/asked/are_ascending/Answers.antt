@@ -13,8 +13,10 @@ loop-i-preserved c =
     let es : List Pair = c.args.pairs.now in
     let e : c.loop-i.i + 1 - 1 ≡ c.loop-i.i = omega arith in
     let before : Pair = get_or c.args.pairs.now (c.loop-i.i - 1) zero_pair in
-    let comes : ComesAfter (get_or c.args.pairs.now (c.loop-i.i - 1) zero_pair) (get_or c.args.pairs.now c.loop-i.i zero_pair) = c.comes_after.ensures.0 c.if-not-comes_after.false in
-    subst (λ k. (IsAscending es → Ascends (get_or es k zero_pair) (drop (c.loop-i.i + 1) es)) × (Ascends (get_or es k zero_pair) (drop (c.loop-i.i + 1) es) → IsAscending es)) (sym e) (
+    let comes : ComesAfter (get_or c.args.pairs.now (c.loop-i.i - 1) zero_pair)
+    (get_or c.args.pairs.now c.loop-i.i zero_pair) = c.comes_after.ensures.0 c.if-not-comes_after.false in
+    subst (λ k. (IsAscending es → Ascends (get_or es k zero_pair) (drop (c.loop-i.i + 1) es))
+    × (Ascends (get_or es k zero_pair) (drop (c.loop-i.i + 1) es) → IsAscending es)) (sym e) (
       (λ h. (ascends_on before es c.loop-i.i c.loop-i-test.true (c.loop-i.invariant.0 h)).1),
       (λ h. c.loop-i.invariant.1 (ascends_back before es c.loop-i.i c.loop-i-test.true comes h)),
     )

@@ -25,7 +25,8 @@ fill_paper-requires-clause-least c x y lx ly =
 pub fill_paper-requires-clause-shape : goal.fill_paper-requires-clause-shape
 fill_paper-requires-clause-shape c =
     let h : InShape (length c.args.labels.now) (length c.args.member_labels.now) c.loop-p.slots =
-    alike_shape (length c.args.labels.now) (length c.args.member_labels.now) c.args.slots.now c.loop-p.slots c.loop-p.invariant.2 c.requires.shape.0 in
+    alike_shape (length c.args.labels.now) (length c.args.member_labels.now) c.args.slots.now c.loop-p.slots
+    c.loop-p.invariant.2 c.requires.shape.0 in
     let l0 : length c.loop-p.labels ≡ length c.args.labels.now = search rules in
     let l1 : length c.loop-p.member_labels ≡ length c.args.member_labels.now = search rules in
     let la : length c.loop-p.a ≡ length c.args.a.now = search rules in

@@ -10,16 +10,19 @@ pub loop-p-preserved : goal.loop-p-preserved
 loop-p-preserved c = (
   c.fit_paper-given.ensures.filled c.if-not-given.false,
   c.fit_paper-given.ensures.suits,
-  alike_trans c.args.slots.now c.loop-p.slots c.fit_paper-given.new.slots c.loop-p.invariant.2 c.fit_paper-given.ensures.alike,
+  alike_trans c.args.slots.now c.loop-p.slots c.fit_paper-given.new.slots c.loop-p.invariant.2
+      c.fit_paper-given.ensures.alike,
 )
 
 pub fit_paper-given-requires-clause-tight : goal.fit_paper-given-requires-clause-tight
-fit_paper-given-requires-clause-tight c = alike_tight c.args.a.now c.args.b.now c.args.slots.now c.loop-p.slots c.loop-p.invariant.2 c.requires.tight
+fit_paper-given-requires-clause-tight c =
+    alike_tight c.args.a.now c.args.b.now c.args.slots.now c.loop-p.slots c.loop-p.invariant.2 c.requires.tight
 
 pub fit_paper-given-requires-clause-shape : goal.fit_paper-given-requires-clause-shape
 fit_paper-given-requires-clause-shape c =
     let h : InShape (length c.args.labels.now) (length c.args.member_labels.now) c.loop-p.slots =
-    alike_shape (length c.args.labels.now) (length c.args.member_labels.now) c.args.slots.now c.loop-p.slots c.loop-p.invariant.2 c.requires.shape.0 in
+    alike_shape (length c.args.labels.now) (length c.args.member_labels.now) c.args.slots.now c.loop-p.slots
+    c.loop-p.invariant.2 c.requires.shape.0 in
     let l0 : length c.loop-p.labels ≡ length c.args.labels.now = search rules in
     let l1 : length c.loop-p.member_labels ≡ length c.args.member_labels.now = search rules in (
       subst (λ n. InShape n (length c.loop-p.member_labels) c.loop-p.slots) (sym l0)
@@ -30,4 +33,5 @@ fit_paper-given-requires-clause-shape c =
 
 pub returns-then-not-given-clause-alike : goal.returns-then-not-given-clause-alike
 returns-then-not-given-clause-alike c =
-    alike_trans c.args.slots.now c.loop-p.slots c.fit_paper-given.new.slots c.loop-p.invariant.2 c.fit_paper-given.ensures.alike
+    alike_trans c.args.slots.now c.loop-p.slots c.fit_paper-given.new.slots c.loop-p.invariant.2
+    c.fit_paper-given.ensures.alike

@@ -13,13 +13,15 @@ use Rattle.cr_match.proofs.greatest.answer.Goals as goal
 pub returns-then-not-found : goal.returns-then-not-found
 returns-then-not-found c =
     let none : HasNoPlan c.args.problem.now c.in_ok-papers.papers.items =
-    has_no_plan c.args.problem.now c.choose-found.new.labels c.in_ok-papers.papers.items c.requires.problem (c.choose-found.ensures.refuted c.if-not-found.true)
+    has_no_plan c.args.problem.now c.choose-found.new.labels c.in_ok-papers.papers.items c.requires.problem
+    (c.choose-found.ensures.refuted c.if-not-found.true)
     c.in_ok-papers.ensures in
     (none, λ _. none)
 
 pub chosen_pairs-requires : goal.chosen_pairs-requires
 chosen_pairs-requires c =
-    let chosen : IsChosen c.args.problem.now c.choose-found.new.a c.choose-found.new.b c.order_if.new.slots = c.in_ok-order_if.ensures.chosen in
+    let chosen : IsChosen c.args.problem.now c.choose-found.new.a c.choose-found.new.b c.order_if.new.slots =
+    c.in_ok-order_if.ensures.chosen in
     ap (λ (x : List Pair). length x) c.deref.ensures.value
     ∙ sym (are_length IsFor c.args.problem.now.pairs.items c.order_if.new.slots chosen.are)
 
@@ -37,15 +39,20 @@ weight_of-sum-requires c = record {
 
 pub returns : goal.returns
 returns c =
-    let chosen : IsChosen c.args.problem.now c.choose-found.new.a c.choose-found.new.b c.order_if.new.slots = c.in_ok-order_if.ensures.chosen in
+    let chosen : IsChosen c.args.problem.now c.choose-found.new.a c.choose-found.new.b c.order_if.new.slots =
+    c.in_ok-order_if.ensures.chosen in
     let is_pairs : c.in_ok-pairs.pairs.items ≡ kept (marks c.order_if.new.slots) c.args.problem.now.pairs.items =
     c.in_ok-pairs.ensures ∙ ap (λ (x : List Pair). kept (marks c.order_if.new.slots) x) c.deref.ensures.value in
-    let weighs : c.weight_of-sum.result ≡ total_weight c.in_ok-pairs.pairs.items = c.weight_of-sum.ensures ∙ ap (λ (x : List Pair). total_weight x) c.deref-2.ensures.value in (
-      is_greatest c.args.problem.now c.order_if.new.slots c.choose-found.new.a c.choose-found.new.b c.in_ok-pairs.pairs.items _ _ c.requires.problem chosen
+    let weighs : c.weight_of-sum.result ≡ total_weight c.in_ok-pairs.pairs.items =
+    c.weight_of-sum.ensures ∙ ap (λ (x : List Pair). total_weight x) c.deref-2.ensures.value in (
+      is_greatest c.args.problem.now c.order_if.new.slots c.choose-found.new.a c.choose-found.new.b
+          c.in_ok-pairs.pairs.items _ _ c.requires.problem chosen
           is_pairs (omega (arith, ints, weighs)) c.in_ok-papers-2.ensures c.in_ok-members.ensures.items,
       λ first. (
-        is_greatest c.args.problem.now c.order_if.new.slots c.choose-found.new.a c.choose-found.new.b c.in_ok-pairs.pairs.items _ _ c.requires.problem chosen
+        is_greatest c.args.problem.now c.order_if.new.slots c.choose-found.new.a c.choose-found.new.b
+            c.in_ok-pairs.pairs.items _ _ c.requires.problem chosen
             is_pairs (omega (arith, ints, weighs)) c.in_ok-papers-2.ensures c.in_ok-members.ensures.items,
-        is_first c.args.problem.now c.choose-found.new.a c.choose-found.new.b c.order_if.new.slots c.in_ok-pairs.pairs.items c.requires.problem chosen (c.in_ok-order_if.ensures.first first) is_pairs,
+        is_first c.args.problem.now c.choose-found.new.a c.choose-found.new.b c.order_if.new.slots
+            c.in_ok-pairs.pairs.items c.requires.problem chosen (c.in_ok-order_if.ensures.first first) is_pairs,
       ),
     )

@@ -14,4 +14,5 @@ invariant-search l =
     × (l.slots ≡ l.initial.slots)
 
 abbrev pub decreases-search : goal.decreases-search
-decreases-search l = dual l.want l.load l.a l.b l.slots * (length l.a + length l.b + 1) + (unlabelled l.labels + unlabelled l.member_labels)
+decreases-search l = dual l.want l.load l.a l.b l.slots * (length l.a + length l.b + 1)
+    + (unlabelled l.labels + unlabelled l.member_labels)

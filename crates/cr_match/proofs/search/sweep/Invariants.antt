@@ -6,7 +6,10 @@ abbrev pub invariant-loop-i : goal.invariant-loop-i
 invariant-loop-i l =
     AllFit l.load l.a l.b l.labels l.member_labels l.next l.member_next l.slots
     × (UpTo (l.round + 1) l.labels × UpTo (l.round + 1) l.member_labels)
-    × (l.changed ≡ false → (l.labels ≡ l.initial.labels) × (l.member_labels ≡ l.initial.member_labels) × ((k : ℕ) → k < l.i → ClosedAt l.a l.b l.initial.labels l.initial.member_labels l.slots k))
-    × (l.changed ≡ true → unlabelled l.labels + unlabelled l.member_labels < unlabelled l.initial.labels + unlabelled l.initial.member_labels)
-    × (unlabelled l.labels + unlabelled l.member_labels ≤ unlabelled l.initial.labels + unlabelled l.initial.member_labels)
+    × (l.changed ≡ false → (l.labels ≡ l.initial.labels) × (l.member_labels ≡ l.initial.member_labels)
+    × ((k : ℕ) → k < l.i → ClosedAt l.a l.b l.initial.labels l.initial.member_labels l.slots k))
+    × (l.changed ≡ true → unlabelled l.labels + unlabelled l.member_labels < unlabelled l.initial.labels
+    + unlabelled l.initial.member_labels)
+    × (unlabelled l.labels + unlabelled l.member_labels ≤ unlabelled l.initial.labels
+    + unlabelled l.initial.member_labels)
     × ((k : ℕ) → 0 < get_or l.initial.member_labels k 0 → 0 < get_or l.member_labels k 0)

@@ -10,6 +10,9 @@ invariant-loop-i l =
     × Alike l.initial.slots l.slots
     × NoneBefore l.want l.load l.papers l.i l.slots
     × (length l.used ≡ length l.initial.used)
-    × ((length l.given ≡ l.papers) × ((q : ℕ) → q < l.papers → get_or l.given q 0 ≡ count_by (has_paper q) (take l.i l.slots)))
-    × ((length l.taken ≡ length l.used) × ((m : ℕ) → m < length l.used → get_or l.taken m 0 ≡ count_by (has_member m) (take l.i l.slots)))
+    ×
+    ((length l.given ≡ l.papers)
+    × ((q : ℕ) → q < l.papers → get_or l.given q 0 ≡ count_by (has_paper q) (take l.i l.slots)))
+    × ((length l.taken ≡ length l.used) × ((m : ℕ) → m < length l.used → get_or l.taken m 0 ≡ count_by (has_member m)
+    (take l.i l.slots)))
     × AreWide l.papers (length l.used) l.a l.b l.labels l.member_labels l.next l.member_next

@@ -8,7 +8,8 @@ loop-pair-preserved c = (
   omega (
     arith,
     ints,
-    weight_at c.args.pairs.now c.loop-pair.pair-index zero_pair (get_or c.args.pairs.now c.loop-pair.pair-index zero_pair) c.loop-pair-test.true refl,
+    weight_at c.args.pairs.now c.loop-pair.pair-index zero_pair
+        (get_or c.args.pairs.now c.loop-pair.pair-index zero_pair) c.loop-pair-test.true refl,
   ),
   omega (arith, ints),
   omega (arith, ints),

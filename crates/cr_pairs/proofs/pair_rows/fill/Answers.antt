@@ -12,8 +12,12 @@ loop-alloc-preserved g c =
     let before = c.loop-alloc.rows.items in
     let row = c.new.result in
     let more = c.in_ok-push.ensures.items in (
-      subst (λ (rs : List (SeenPairs V)). AreRows c.args.order 0 rs) (sym more) (rows-behind c.args.order 0 before row c.new.ensures.order c.new.ensures.ties c.loop-alloc.invariant.0),
-      ap (λ (rs : List (SeenPairs V)). ties_in rs) more ∙ ties-behind before row c.new.ensures.ties ∙ c.loop-alloc.invariant.1,
-      λ p. let kept = subst {A = List (SeenPairs V)} (λ (rs : List (SeenPairs V)). IsNoLess (rooms_of before) (rooms_of rs)) (sym more) (no-less-behind (λ (r : SeenPairs V). r.room) before row) p in
+      subst (λ (rs : List (SeenPairs V)). AreRows c.args.order 0 rs) (sym more)
+          (rows-behind c.args.order 0 before row c.new.ensures.order c.new.ensures.ties c.loop-alloc.invariant.0),
+      ap (λ (rs : List (SeenPairs V)). ties_in rs) more ∙ ties-behind before row c.new.ensures.ties
+          ∙ c.loop-alloc.invariant.1,
+      λ p. let kept = subst {A = List (SeenPairs V)}
+          (λ (rs : List (SeenPairs V)). IsNoLess (rooms_of before) (rooms_of rs)) (sym more)
+          (no-less-behind (λ (r : SeenPairs V). r.room) before row) p in
           omega (arith, kept, c.loop-alloc.invariant.2 p),
     )

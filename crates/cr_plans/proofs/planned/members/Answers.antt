@@ -12,12 +12,14 @@ serves a = is_member a.role
 
 pub loop-line-preserved : goal.loop-line-preserved
 loop-line-preserved c =
-    kept-step serves c.as_slice-lines.result.now c.loop-line.line-index c.line-item.result c.line-item.result c.loop-line.members.items _ _
+    kept-step serves c.as_slice-lines.result.now c.loop-line.line-index c.line-item.result c.line-item.result
+    c.loop-line.members.items _ _
     c.loop-line-test.true c.line-item.is c.in_ok-push_member.ensures c.loop-line.invariant
 
 pub returns-clause-members : goal.returns-clause-members
 returns-clause-members c =
-    kept-all serves c.as_slice-lines.result.now c.loop-line.line-index c.loop-line.members.items _ (omega (arith, c.loop-line-test.false)) c.loop-line.invariant
+    kept-all serves c.as_slice-lines.result.now c.loop-line.line-index c.loop-line.members.items _
+    (omega (arith, c.loop-line-test.false)) c.loop-line.invariant
     ∙ ap (filter serves) (c.as_slice-lines.ensures ∙ c.in_ok-accounts.ensures)
 
 pub returns-clause-few : goal.returns-clause-few

@@ -6,4 +6,5 @@ use Rattle.cr_plans.proofs.planned.members.Given as goal
 
 abbrev pub invariant-loop-line : goal.invariant-loop-line
 invariant-loop-line l =
-    l.members.items ++ filter (λ (a : AccountLine). is_member a.role) (drop l.line-index l.lines) ≡ filter (λ (a : AccountLine). is_member a.role) l.lines
+    l.members.items ++ filter (λ (a : AccountLine). is_member a.role) (drop l.line-index l.lines)
+    ≡ filter (λ (a : AccountLine). is_member a.role) l.lines

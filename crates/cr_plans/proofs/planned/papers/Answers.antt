@@ -14,7 +14,8 @@ loop-before-preserved c =
     let before : List ℕ = c.loop-before.papers.items in
     papers-step test (λ (p : ℕ). p) t.papers.papers i c.new-paper.result before _ _
     (subst (λ (k : ℕ). i < k) c.paper_count-before-end.ensures.count c.loop-before-test.true) c.new-paper.ensures
-    (c.in_ok-push_paper.ensures ∙ ap (λ (b : Bool). before ++ given b c.new-paper.result) c.is_planned.ensures) c.loop-before.invariant
+    (c.in_ok-push_paper.ensures ∙ ap (λ (b : Bool). before ++ given b c.new-paper.result) c.is_planned.ensures)
+    c.loop-before.invariant
 
 pub returns : goal.returns
 returns c =
@@ -22,6 +23,7 @@ returns c =
     let test : ℕ → Bool = is_planned_in t c.args.user.now c.args.per_paper in
     let i : ℕ = c.loop-before.before in
     papers-all test (λ (p : ℕ). p) t.papers.papers i c.loop-before.papers.items _
-    (subst (λ (k : ℕ). k ≤ i) c.paper_count-before-end.ensures.count (omega (arith, c.loop-before-test.false))) c.loop-before.invariant
+    (subst (λ (k : ℕ). k ≤ i) c.paper_count-before-end.ensures.count (omega (arith, c.loop-before-test.false)))
+    c.loop-before.invariant
     ∙ map-same _
     ∙ planned-are t c.args.user.now c.args.per_paper

@@ -6,5 +6,7 @@ use Rattle.cr_plans.proofs.planned.papers.Given as goal
 
 abbrev pub invariant-loop-before : goal.invariant-loop-before
 invariant-loop-before l =
-    l.papers.items ++ map (λ (p : ℕ). p) (filter (is_planned_in l.live.tables l.user l.fn.per_paper) (drop l.before (paper_numbers l.live.tables.papers)))
-    ≡ map (λ (p : ℕ). p) (filter (is_planned_in l.live.tables l.user l.fn.per_paper) (paper_numbers l.live.tables.papers))
+    l.papers.items ++ map (λ (p : ℕ). p) (filter (is_planned_in l.live.tables l.user l.fn.per_paper)
+    (drop l.before (paper_numbers l.live.tables.papers)))
+    ≡ map (λ (p : ℕ). p) (filter (is_planned_in l.live.tables l.user l.fn.per_paper)
+    (paper_numbers l.live.tables.papers))

@@ -15,10 +15,13 @@ loop-i-preserved c =
     let members : List AccountLine = c.args.members.now in
     let d : AccountLine = c.index-members-i.result in
     record {
-      pairs = place-step t place paper members i d c.loop-i.pairs.items _ _ c.loop-i-test.true c.in_ok-push_pair.ensures.pairs c.loop-i.invariant.pairs;
+      pairs = place-step t place paper members i d c.loop-i.pairs.items _ _ c.loop-i-test.true
+          c.in_ok-push_pair.ensures.pairs c.loop-i.invariant.pairs;
       weights = λ h.
           c.loop-i.invariant.weights
-          (subst (λ (ms : List AccountLine). AllWeigh (pairs_of_place t place paper i ms)) (sym (drop_more members i d c.loop-i-test.true))
-          (weigh-append (pair_at t place paper i (get_or members i d).user) (pairs_of_place t place paper (i + 1) (drop (i + 1) members))
+          (subst (λ (ms : List AccountLine). AllWeigh (pairs_of_place t place paper i ms))
+          (sym (drop_more members i d c.loop-i-test.true))
+          (weigh-append (pair_at t place paper i (get_or members i d).user)
+          (pairs_of_place t place paper (i + 1) (drop (i + 1) members))
           c.in_ok-push_pair.ensures.weights h));
     }

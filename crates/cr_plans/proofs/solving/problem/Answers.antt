@@ -21,7 +21,8 @@ unreachable-requires c =
     (subst (λ (k : ℕ). k * length c.args.papers.now ≤ 512) (sym c.number-places.ensures.value) c.requires.places) in
     c.in-None.ensures.none
     (parts-asked c.args.live.now.tables c.args.papers.now c.args.members.now c.args.per_paper c.args.load _ _ _ _ _
-    c.narrow-paper_count.ensures c.narrow-member_count.ensures (c.narrow.ensures ∙ c.number-places.ensures.value) (c.narrow-2.ensures ∙ c.number-most.ensures.value)
+    c.narrow-paper_count.ensures c.narrow-member_count.ensures (c.narrow.ensures ∙ c.number-places.ensures.value)
+    (c.narrow-2.ensures ∙ c.number-most.ensures.value)
     c.in_ok-pairs.ensures.pairs
     (asked-of c.args.live.now.tables c.args.papers.now c.args.members.now c.args.per_paper few c.requires.members
     (subst (λ (k : ℕ). k ≤ 26) c.number-places.ensures.value c.number-places.ensures.high)
@@ -31,5 +32,6 @@ unreachable-requires c =
 pub returns : goal.returns
 returns c =
     problem-is c.args.live.now.tables c.args.papers.now c.args.members.now c.args.per_paper c.args.load _ _ _ _ _
-    c.narrow-paper_count.ensures c.narrow-member_count.ensures (c.narrow.ensures ∙ c.number-places.ensures.value) (c.narrow-2.ensures ∙ c.number-most.ensures.value)
+    c.narrow-paper_count.ensures c.narrow-member_count.ensures (c.narrow.ensures ∙ c.number-places.ensures.value)
+    (c.narrow-2.ensures ∙ c.number-most.ensures.value)
     c.in_ok-pairs.ensures.pairs c.in-Some.problem c.in-Some.ensures.some

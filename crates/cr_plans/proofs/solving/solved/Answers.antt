@@ -19,22 +19,29 @@ problem-requires-clause-grid c =
     let fits = may-fit c.args.live.now.tables c.args.user.now c.args.per_paper c.requires.may in
     subst (λ (ps : List ℕ). length ps * length c.args.members.now ≤ 4096) (sym c.requires.papers)
     (subst
-    (λ (ms : List AccountLine). length (planned_papers (facts_of_tables c.args.live.now.tables c.args.user.now) (shown_in_tables c.args.live.now.tables) c.args.per_paper) * length ms ≤ 4096)
+    (λ (ms : List AccountLine). length (planned_papers (facts_of_tables c.args.live.now.tables c.args.user.now)
+    (shown_in_tables c.args.live.now.tables) c.args.per_paper) * length ms ≤ 4096)
     (sym c.requires.members) fits.1)
 
 pub text-requires : goal.text-requires
 text-requires c =
-    subst (λ (es : List Pair). AreInside (length c.args.papers.now) (length c.args.members.now) es) (sym c.deref.ensures.value)
-    (due-inside c.args.live.now.tables c.args.user.now c.args.per_paper c.args.load c.args.papers.now c.args.members.now c.in_ok-problem.problem
+    subst (λ (es : List Pair). AreInside (length c.args.papers.now) (length c.args.members.now) es)
+    (sym c.deref.ensures.value)
+    (due-inside c.args.live.now.tables c.args.user.now c.args.per_paper c.args.load c.args.papers.now c.args.members.now
+    c.in_ok-problem.problem
     c.requires.papers c.requires.members c.in_ok-problem.ensures _ _ _ c.in-Best.ensures.0)
 
 pub returns-in-Best : goal.returns-in-Best
 returns-in-Best c =
-    ap (λ (l : List ℕ). Some l) (c.in_ok-text-in-Best.ensures ∙ ap (λ (es : List Pair). plan_header ++ flat_map (row_at c.args.papers.now c.args.members.now) es) c.deref.ensures.value)
-    ∙ due-best c.args.live.now.tables c.args.user.now c.args.per_paper c.args.load c.args.papers.now c.args.members.now c.in_ok-problem.problem
+    ap (λ (l : List ℕ). Some l) (c.in_ok-text-in-Best.ensures
+    ∙ ap (λ (es : List Pair). plan_header ++ flat_map (row_at c.args.papers.now c.args.members.now) es)
+    c.deref.ensures.value)
+    ∙ due-best c.args.live.now.tables c.args.user.now c.args.per_paper c.args.load c.args.papers.now c.args.members.now
+    c.in_ok-problem.problem
     c.requires.papers c.requires.members c.in_ok-problem.ensures _ _ _ c.in-Best.ensures.0 c.in-Best.ensures.1
 
 pub returns-in-NoPlan : goal.returns-in-NoPlan
 returns-in-NoPlan c =
-    due-none c.args.live.now.tables c.args.user.now c.args.per_paper c.args.load c.args.papers.now c.args.members.now c.in_ok-problem.problem
+    due-none c.args.live.now.tables c.args.user.now c.args.per_paper c.args.load c.args.papers.now c.args.members.now
+    c.in_ok-problem.problem
     c.requires.papers c.requires.members c.in_ok-problem.ensures _ c.in-NoPlan.ensures

@@ -12,11 +12,13 @@ no_pair = record { paper = 0; member = 0; weight = pos 0 }
 
 pub append_pair-requires-clause-paper : goal.append_pair-requires-clause-paper
 append_pair-requires-clause-paper c =
-    (inside-at (length c.args.papers.now) (length c.args.members.now) c.args.pairs.now c.loop-pair.pair-index no_pair c.requires c.loop-pair-test.true).0
+    (inside-at (length c.args.papers.now) (length c.args.members.now) c.args.pairs.now c.loop-pair.pair-index no_pair
+    c.requires c.loop-pair-test.true).0
 
 pub append_pair-requires-clause-member : goal.append_pair-requires-clause-member
 append_pair-requires-clause-member c =
-    (inside-at (length c.args.papers.now) (length c.args.members.now) c.args.pairs.now c.loop-pair.pair-index no_pair c.requires c.loop-pair-test.true).1
+    (inside-at (length c.args.papers.now) (length c.args.members.now) c.args.pairs.now c.loop-pair.pair-index no_pair
+    c.requires c.loop-pair-test.true).1
 
 pub loop-pair-preserved : goal.loop-pair-preserved
 loop-pair-preserved c =
@@ -27,5 +29,6 @@ loop-pair-preserved c =
 pub returns : goal.returns
 returns c =
     c.in_ok-from_vec.ensures.ok
-    ∙ rows-all (row_at c.args.papers.now c.args.members.now) c.args.pairs.now c.loop-pair.pair-index c.loop-pair.text.items _
+    ∙ rows-all (row_at c.args.papers.now c.args.members.now) c.args.pairs.now c.loop-pair.pair-index
+    c.loop-pair.text.items _
     (omega (arith, c.loop-pair-test.false)) c.loop-pair.invariant

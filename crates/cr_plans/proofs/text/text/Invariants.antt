@@ -6,4 +6,5 @@ use Rattle.cr_plans.proofs.text.text.Given as goal
 
 abbrev pub invariant-loop-pair : goal.invariant-loop-pair
 invariant-loop-pair l =
-    l.text.items ++ flat_map (row_at l.papers l.members) (drop l.pair-index l.pairs) ≡ plan_header ++ flat_map (row_at l.papers l.members) l.pairs
+    l.text.items ++ flat_map (row_at l.papers l.members) (drop l.pair-index l.pairs) ≡ plan_header
+    ++ flat_map (row_at l.papers l.members) l.pairs

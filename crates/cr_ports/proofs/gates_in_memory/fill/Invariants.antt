@@ -4,7 +4,8 @@ use Rattle.cr_ports.proofs.gates_in_memory.fill.Given as goal
 
 abbrev pub invariant-filling : goal.invariant-filling
 invariant-filling l = record {
-  items : l.coming.items ≡ l.initial.coming.items ++ replicate (length l.coming.items - length l.initial.coming.items) silent;
+  items : l.coming.items ≡ l.initial.coming.items ++ replicate (length l.coming.items - length l.initial.coming.items)
+      silent;
   later : length l.initial.coming.items ≤ length l.coming.items;
   within : length l.coming.items - length l.initial.coming.items ≤ l.connections - length l.initial.coming.items;
 }

@@ -25,19 +25,27 @@ making-preserved c =
     let first : door.coming ≡ take share coming = c.in_ok-new.ensures.coming ∙ c.in_ok-first.ensures.share in
     let enough = c.making.invariant.enough in
     let fits : share ≤ length coming =
-    (let below = share_fits i c.args.workers c.args.connections c.making-test.true in let is = c.share.ensures in omega (arith, enough, below, is)) in
+    (let below = share_fits i c.args.workers c.args.connections c.making-test.true in let is = c.share.ensures in omega
+    (arith, enough, below, is)) in
     record {
-      shares = map_pushed (λ (d : Doored). length d.coming) doors c.push.new.self.items door _ _ pushed c.making.invariant.shares
-          (ap length first ∙ length-take-le share coming fits ∙ c.share.ensures) ∙ sym (shares_below-next i c.args.workers c.args.connections);
-      logs = all_pushed (λ (d : Doored). d.log ≡ unasked) doors c.push.new.self.items door pushed c.making.invariant.logs c.in_ok-new.ensures.log;
-      faults = all_pushed (λ (d : Doored). d.faults ≡ 0) doors c.push.new.self.items door pushed c.making.invariant.faults c.in_ok-new.ensures.faults;
-      coming = flat_map_pushed (λ (d : Doored). d.coming) doors c.push.new.self.items door _ coming rest share pushed first c.in_ok-first.ensures.rest
+      shares = map_pushed (λ (d : Doored). length d.coming) doors c.push.new.self.items door _ _ pushed
+          c.making.invariant.shares
+          (ap length first ∙ length-take-le share coming fits ∙ c.share.ensures)
+          ∙ sym (shares_below-next i c.args.workers c.args.connections);
+      logs = all_pushed (λ (d : Doored). d.log ≡ unasked) doors c.push.new.self.items door pushed
+          c.making.invariant.logs c.in_ok-new.ensures.log;
+      faults = all_pushed (λ (d : Doored). d.faults ≡ 0) doors c.push.new.self.items door pushed
+          c.making.invariant.faults c.in_ok-new.ensures.faults;
+      coming = flat_map_pushed (λ (d : Doored). d.coming) doors c.push.new.self.items door _ coming rest share pushed
+          first c.in_ok-first.ensures.rest
           c.making.invariant.coming;
       calls = map_pushed (λ (d : Doored). d.calls) doors c.push.new.self.items door _ _ pushed c.making.invariant.calls
           (c.in_ok-new.ensures.calls ∙ c.in_ok-list.ensures) ∙ sym (calls_below-next i _);
       enough =
           let more = given_below-next i c.args.workers c.args.connections in
-          let left = enough_left c.args.connections (given_below i c.args.workers c.args.connections) share (length coming) enough fits in
+          let left = enough_left c.args.connections (given_below i c.args.workers c.args.connections) share
+          (length coming) enough fits in
           let len = ap length c.in_ok-first.ensures.rest ∙ length-drop share coming in
-          enough_behind i c.args.workers c.args.connections share (length coming) (length rest) more c.share.ensures left len;
+          enough_behind i c.args.workers c.args.connections share (length coming) (length rest) more c.share.ensures
+          left len;
     }

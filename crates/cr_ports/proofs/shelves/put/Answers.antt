@@ -12,5 +12,6 @@ returns-in-Some c =
     let path = c.args.path.now in
     let old = c.args.stores.now in
     let new = c.get_mut.follows.lender c.args.rows in
-    fun_ext (λ q. put_rows (bytes_eq path q) c.args.rows (lookup (is_path q) old.entries) (lookup (is_path q) new.entries)
+    fun_ext (λ q. put_rows (bytes_eq path q) c.args.rows (lookup (is_path q) old.entries)
+    (lookup (is_path q) new.entries)
     (btree_map_updates_text path old new (Some c.args.rows) ((c.get_mut.follows.holds c.args.rows).3 (search rules)) q))

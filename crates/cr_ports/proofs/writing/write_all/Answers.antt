@@ -12,13 +12,16 @@ writing-preserved g c = record {
       let d = length-drop c.writing.at c.args.bytes.now in
       let w = c.writing-test.true in
       omega (arith, size, l, d, w);
-  taken = wrote_on _ _ _ _ _ _ _ c.writing.invariant.taken (take_rest c.args.bytes.now c.writing.at) c.in-Took.ensures.bytes;
+  taken =
+      wrote_on _ _ _ _ _ _ _ c.writing.invariant.taken (take_rest c.args.bytes.now c.writing.at)
+      c.in-Took.ensures.bytes;
   steady = c.in-Took.ensures.steady (λ is. cc) ∙ c.writing.invariant.steady;
 }
 
 pub returns-in-Failed-clause-failed : goal.returns-in-Failed-clause-failed
 returns-in-Failed-clause-failed g c =
-    wrote_part _ (outlet_of g.O.Sink.taken g.O.Sink.faults c.writing.sink) _ c.args.bytes.now c.writing.at c.writing-test.true c.writing.invariant.taken
+    wrote_part _ (outlet_of g.O.Sink.taken g.O.Sink.faults c.writing.sink) _ c.args.bytes.now c.writing.at
+    c.writing-test.true c.writing.invariant.taken
     c.writing.invariant.steady
     c.in-Failed.ensures.bytes c.in-Failed.ensures.count (c.in-Failed.ensures.failed refl)
 

@@ -7,7 +7,8 @@ pub returns : goal.returns
 unfolding found_members found_content
 returns c =
     let all = c.in_ok-number.ensures.adds then c.in_ok-list.ensures in
-    let members : Added c.open.new.into c.list.new.into c.in_ok-object.object.is_first c.list.new.self.is_first (found_members c.args.papers.now) =
+    let members : Added c.open.new.into c.list.new.into c.in_ok-object.object.is_first c.list.new.self.is_first
+    (found_members c.args.papers.now) =
     rw c.as_slice-papers.ensures at all in
     closed c.close.result c.args.into.now c.open.new.into c.list.new.into c.close.new.into
     _ _ _ c.in_ok-object.ensures.text c.in_ok-object.ensures.first members c.close.ensures.text

@@ -6,5 +6,6 @@ use Rattle.cr_print.proofs.head.put_date.Goals as goal
 pub returns : goal.returns
 unfolding date_line
 returns c =
-    let whole = within 37 (c.put.ensures then c.put-2.ensures then c.put-3.ensures) (omega (arith, c.as_bytes.ensures.whole)) in
+    let whole =
+    within 37 (c.put.ensures then c.put-2.ensures then c.put-3.ensures) (omega (arith, c.as_bytes.ensures.whole)) in
     rw c.as_bytes.ensures.value at whole

@@ -6,5 +6,6 @@ use Rattle.cr_print.proofs.head.put_type.Goals as goal
 pub returns : goal.returns
 unfolding type_line
 returns c =
-    let whole = within 41 (c.put.ensures then c.put-2.ensures then c.put-3.ensures) (omega (arith, c.as_bytes.ensures.len)) in
+    let whole =
+    within 41 (c.put.ensures then c.put-2.ensures then c.put-3.ensures) (omega (arith, c.as_bytes.ensures.len)) in
     rw (c.as_bytes.ensures.value, c.name.ensures.value) at whole

@@ -22,5 +22,7 @@ returns c =
     then c.in_ok-told-11.ensures
     then c.in_ok-told-12.ensures
     then c.in_ok-truth-2.ensures in
-    let members : Added c.open.new.into c.truth-2.new.into c.in_ok-object.object.is_first c.truth-2.new.self.is_first (page_members c.args.page.now) = rw c.number.ensures.value at all in
-    closed c.close.result c.args.into.now c.open.new.into c.truth-2.new.into c.close.new.into _ _ _ c.in_ok-object.ensures.text c.in_ok-object.ensures.first members c.close.ensures.text
+    let members : Added c.open.new.into c.truth-2.new.into c.in_ok-object.object.is_first c.truth-2.new.self.is_first
+    (page_members c.args.page.now) = rw c.number.ensures.value at all in
+    closed c.close.result c.args.into.now c.open.new.into c.truth-2.new.into c.close.new.into _ _ _
+    c.in_ok-object.ensures.text c.in_ok-object.ensures.first members c.close.ensures.text

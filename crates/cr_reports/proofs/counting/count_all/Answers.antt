@@ -10,8 +10,11 @@ use Rattle.cr_reports.proofs.counting.count_all.Goals as goal
 
 pub loop-before-init : goal.loop-before-init
 loop-before-init c =
-    let loads : List Load = c.in_ok-loads.loads.items in
-    (filled-long 10000 loads c.in_ok-loads.ensures, filled-becomes loads c.in_ok-loads.ensures, filled-few loads c.in_ok-loads.ensures)
+    let loads : List Load = c.in_ok-loads.loads.items in (
+      filled-long 10000 loads c.in_ok-loads.ensures,
+      filled-becomes loads c.in_ok-loads.ensures,
+      filled-few loads c.in_ok-loads.ensures,
+    )
 
 pub loop-before-preserved : goal.loop-before-preserved
 loop-before-preserved c =
@@ -23,19 +26,23 @@ loop-before-preserved c =
     let new : List Load = c.count_clear.new.loads in
     let was = c.loop-before.invariant in
     let long : length new ≡ c.loop-before.loads.len =
-    c.count_clear.ensures.long ∙ sym (ap (λ (l : List Load). length l) c.deref_mut.ensures.value ∙ was.0) ∙ c.deref_mut.ensures.len in
+    c.count_clear.ensures.long ∙ sym (ap (λ (l : List Load). length l) c.deref_mut.ensures.value ∙ was.0)
+    ∙ c.deref_mut.ensures.len in
     let counted : Becomes old new (λ user load. with_clear t caller user load n) =
-    subst (λ (l : List Load). Becomes l new (λ user load. with_clear t caller user load n)) c.deref_mut.ensures.value c.count_clear.ensures.counted in
+    subst (λ (l : List Load). Becomes l new (λ user load. with_clear t caller user load n)) c.deref_mut.ensures.value
+    c.count_clear.ensures.counted in
     let few : AreFew (26 * i + 26) new =
     c.count_clear.ensures.few (26 * i) (subst (AreFew (26 * i)) (sym c.deref_mut.ensures.value) was.2) in
     let within = subst (λ (k : ℕ). i < k) c.paper_count-before-end.ensures.count c.loop-before-test.true in
     subst
     (λ (l : List Load). (length l ≡ 10000)
-    × Becomes (replicate 10000 no_load) l (λ user load. fold (with_clear t caller user) load (first t.papers.papers (i + 1)))
+    × Becomes (replicate 10000 no_load) l (λ user load. fold (with_clear t caller user) load
+    (first t.papers.papers (i + 1)))
     × AreFew (26 * (i + 1)) l)
     (sym (with_items_is c.loop-before.loads new long)) (
       c.count_clear.ensures.long,
-      papers-step (replicate 10000 no_load) old new (λ user. with_clear t caller user) (first t.papers.papers i) (first t.papers.papers (i + 1)) n
+      papers-step (replicate 10000 no_load) old new (λ user. with_clear t caller user) (first t.papers.papers i)
+          (first t.papers.papers (i + 1)) n
           (first-step t.papers.papers i n within c.new.ensures) was.1 counted,
       few-next i new few,
     )
@@ -44,6 +51,8 @@ pub returns-clause-counted : goal.returns-clause-counted
 returns-clause-counted c =
     let t = c.args.live.now.tables in
     let i : ℕ = c.loop-before.before in
-    papers-all c.loop-before.loads.items (λ user. with_clear t c.args.caller user) (first t.papers.papers i) (paper_numbers t.papers)
-    (first-all t.papers.papers i (subst (λ (k : ℕ). k ≤ i) c.paper_count-before-end.ensures.count (omega (arith, c.loop-before-test.false))))
+    papers-all c.loop-before.loads.items (λ user. with_clear t c.args.caller user) (first t.papers.papers i)
+    (paper_numbers t.papers)
+    (first-all t.papers.papers i (subst (λ (k : ℕ). k ≤ i) c.paper_count-before-end.ensures.count
+    (omega (arith, c.loop-before-test.false))))
     c.loop-before.invariant.1

@@ -21,7 +21,8 @@ loop-before-preserved c =
     let ok = c.in_ok-append_paper.ensures in
     let was = c.loop-before.invariant in
     record {
-      text = lines-step t.papers.papers (where_so (is_open_to t user) (decision_line_at t)) c.args.into.now.items i n c.loop-before.into.items _
+      text = lines-step t.papers.papers (where_so (is_open_to t user) (decision_line_at t)) c.args.into.now.items i n
+          c.loop-before.into.items _
           within c.new.ensures ok.text was.text;
       accepted = count-step t.papers.papers (told is_accepting) i n _ _ next ok.accepted was.accepted;
       rejected = count-step t.papers.papers (told is_rejecting) i n _ _ next ok.rejected was.rejected;
@@ -38,15 +39,19 @@ returns c =
     let t = c.args.live.now.tables in
     let user : ℕ = c.args.user in
     let i : ℕ = c.loop-before.before in
-    let past = subst (λ (k : ℕ). k ≤ i) c.paper_count-before-end.ensures.count (omega (arith, c.loop-before-test.false)) in
+    let past =
+    subst (λ (k : ℕ). k ≤ i) c.paper_count-before-end.ensures.count (omega (arith, c.loop-before-test.false)) in
     let was = c.loop-before.invariant in
     let start : List ℕ = c.args.into.now.items in
     let tally = c.loop-before.tally in
     let lines : List ℕ = flat_map (where_so (is_open_to t user) (decision_line_at t)) (paper_numbers t.papers) in
     subst (λ (l : List ℕ). OnOk c.append_end.result (c.append_end.new.into.items ≡ l))
     (ap (λ (l : List ℕ). l ++ decisions_end tally.accepted tally.rejected tally.undecided)
-    (lines-all t.papers.papers (where_so (is_open_to t user) (decision_line_at t)) start i c.loop-before.into.items past was.text)
+    (lines-all t.papers.papers (where_so (is_open_to t user) (decision_line_at t)) start i c.loop-before.into.items past
+    was.text)
     ∙ append_assoc start lines (decisions_end tally.accepted tally.rejected tally.undecided)
-    ∙ ap (λ (l : List ℕ). start ++ (l ++ decisions_end tally.accepted tally.rejected tally.undecided)) (open-told t user (decision_line_at t))
-    ∙ decided-all t user start tally.accepted tally.rejected tally.undecided i past was.accepted was.rejected was.undecided)
+    ∙ ap (λ (l : List ℕ). start ++ (l ++ decisions_end tally.accepted tally.rejected tally.undecided))
+    (open-told t user (decision_line_at t))
+    ∙ decided-all t user start tally.accepted tally.rejected tally.undecided i past was.accepted was.rejected
+    was.undecided)
     c.append_end.ensures

@@ -13,7 +13,8 @@ loop-before-preserved c =
     ∙ ap (λ (l : List ℕ). l ++ told c.new.result) c.loop-before.invariant
     ∙ append_assoc start (by_labels told i) (told c.new.result)
     ∙ ap (λ (l : List ℕ). start ++ l)
-    (ap (λ (n : ℕ). by_labels told i ++ told n) c.new.ensures ∙ labels-step told i (by_labels told i) (by_labels told i ++ told (i + 1)) refl refl)
+    (ap (λ (n : ℕ). by_labels told i ++ told n) c.new.ensures
+    ∙ labels-step told i (by_labels told i) (by_labels told i ++ told (i + 1)) refl refl)
 
 pub returns : goal.returns
 returns c =

@@ -4,4 +4,5 @@ use Rattle.cr_reports.specs.ReportLines.{forms_under}
 use Rattle.cr_reports.proofs.letter_lines.append_forms.Given as goal
 
 abbrev pub invariant-loop-before : goal.invariant-loop-before
-invariant-loop-before l = l.into.items ≡ l.initial.into.items ++ by_labels (forms_under l.live.tables l.by l.fn.paper) l.before
+invariant-loop-before l =
+    l.into.items ≡ l.initial.into.items ++ by_labels (forms_under l.live.tables l.by l.fn.paper) l.before

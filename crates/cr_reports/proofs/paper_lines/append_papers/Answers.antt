@@ -14,7 +14,8 @@ loop-before-preserved c =
     let i : ℕ = c.loop-before.before in
     let line : ℕ → List ℕ = paper_line (facts_of_tables t (Some c.args.user)) (shown_in_tables t) in
     lines-step t.papers.papers line c.args.into.now.items i c.new.result c.loop-before.into.items _
-    (subst (λ (k : ℕ). i < k) c.paper_count-before-end.ensures.count c.loop-before-test.true) c.new.ensures c.in_ok-append_paper.ensures c.loop-before.invariant
+    (subst (λ (k : ℕ). i < k) c.paper_count-before-end.ensures.count c.loop-before-test.true) c.new.ensures
+    c.in_ok-append_paper.ensures c.loop-before.invariant
 
 pub returns : goal.returns
 returns c =
@@ -27,7 +28,9 @@ returns c =
     subst (λ (l : List ℕ). OnOk c.append_end.result (c.append_end.new.into.items ≡ l))
     (ap (λ (l : List ℕ). l ++ papers_end count)
     (lines-all t.papers.papers line start i c.loop-before.into.items
-    (subst (λ (k : ℕ). k ≤ i) c.paper_count-before-end.ensures.count (omega (arith, c.loop-before-test.false))) c.loop-before.invariant)
+    (subst (λ (k : ℕ). k ≤ i) c.paper_count-before-end.ensures.count (omega (arith, c.loop-before-test.false)))
+    c.loop-before.invariant)
     ∙ append_assoc start told (papers_end count)
-    ∙ ap (λ (n : ℕ). start ++ (told ++ papers_end n)) (c.paper_count.ensures.count ∙ sym (length-numbers_from 1 t.papers.papers)))
+    ∙ ap (λ (n : ℕ). start ++ (told ++ papers_end n))
+    (c.paper_count.ensures.count ∙ sym (length-numbers_from 1 t.papers.papers)))
     c.append_end.ensures

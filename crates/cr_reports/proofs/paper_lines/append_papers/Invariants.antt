@@ -9,4 +9,5 @@ abbrev pub invariant-loop-before : goal.invariant-loop-before
 invariant-loop-before l =
     l.into.items
     ≡ l.initial.into.items
-    ++ flat_map (paper_line (facts_of_tables l.live.tables (Some l.fn.user)) (shown_in_tables l.live.tables)) (first l.live.tables.papers.papers l.before)
+    ++ flat_map (paper_line (facts_of_tables l.live.tables (Some l.fn.user)) (shown_in_tables l.live.tables))
+    (first l.live.tables.papers.papers l.before)

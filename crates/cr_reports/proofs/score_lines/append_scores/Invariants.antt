@@ -8,4 +8,5 @@ abbrev pub invariant-loop-before : goal.invariant-loop-before
 invariant-loop-before l =
     l.into.items
     ≡ l.initial.into.items
-    ++ flat_map (where_so (is_open_to l.live.tables l.fn.user) (scores_line_at l.live.tables)) (first l.live.tables.papers.papers l.before)
+    ++ flat_map (where_so (is_open_to l.live.tables l.fn.user) (scores_line_at l.live.tables))
+    (first l.live.tables.papers.papers l.before)

@@ -1,4 +1,5 @@
-use Rattle.std.proofs.Common.{ℕ, Bool, List, ◌≡◌, ◌<◌, ◌≤◌, ◌+◌, ◌++◌, ◌∙◌, length, length-append, ap, refl, subst, sym, arith}
+use Rattle.std.proofs.Common.{ℕ, Bool, List, ◌≡◌, ◌<◌, ◌≤◌, ◌+◌, ◌++◌, ◌∙◌, length, length-append, ap, refl, subst, sym}
+use Rattle.std.proofs.Common.{arith}
 use Rattle.cr_base.specs.declared.found.FoundPaper.{FoundPaper}
 use Rattle.cr_base.specs.Lists.{given}
 use Rattle.cr_base.specs.Searching.{found_paper, is_found}
@@ -19,12 +20,14 @@ loop-before-preserved c =
     let made : ℕ → FoundPaper = λ p. found_paper p (told_to t user p) in
     let more : List FoundPaper = given (test n) (made n) in
     let long : length (before ++ more) ≡ length before + length more = length-append before more in
-    let one : c.count_one-count.result ≡ length more = c.count_one-count.ensures.value ∙ found-length n (told_to t user n) search_steps in (
+    let one : c.count_one-count.result ≡ length more =
+    c.count_one-count.ensures.value ∙ found-length n (told_to t user n) search_steps in (
       before ++ more,
       omega (arith, long, one, c.loop-before.invariant.1),
       omega (arith, c.loop-before.invariant.2, c.count_one-count.ensures.few),
       papers-step test made t.papers.papers i n before (before ++ more) _
-          (subst (λ (k : ℕ). i < k) c.paper_count-before-end.ensures.count c.loop-before-test.true) c.new.ensures refl c.loop-before.invariant.3,
+          (subst (λ (k : ℕ). i < k) c.paper_count-before-end.ensures.count c.loop-before-test.true) c.new.ensures refl
+          c.loop-before.invariant.3,
     )
 
 pub returns : goal.returns
@@ -38,4 +41,5 @@ returns c =
     sym c.loop-before.invariant.1
     ∙ ap length
     (papers-all test made t.papers.papers i c.loop-before.invariant.0 _
-    (subst (λ (k : ℕ). k ≤ i) c.paper_count-before-end.ensures.count (omega (arith, c.loop-before-test.false))) c.loop-before.invariant.3)
+    (subst (λ (k : ℕ). k ≤ i) c.paper_count-before-end.ensures.count (omega (arith, c.loop-before-test.false)))
+    c.loop-before.invariant.3)

@@ -18,11 +18,14 @@ loop-before-preserved c =
     let before : List FoundPaper = c.loop-before.papers.items in
     let test : ℕ → Bool = λ p. is_found (told_to t user p) search_steps in
     let made : ℕ → FoundPaper = λ p. found_paper p (told_to t user p) in
-    let titled : Option (List ℕ) → List FoundPaper = λ o. before ++ listed (option_map (λ (title : List ℕ). record { paper = n; title = title }) o) in
+    let titled : Option (List ℕ) → List FoundPaper =
+    λ o. before ++ listed (option_map (λ (title : List ℕ). record { paper = n; title = title }) o) in
     let pushed =
-    c.in_ok-push_found.ensures ∙ ap titled c.title_found.ensures ∙ ap (λ (l : List FoundPaper). before ++ l) (found-given n (told_to t user n) search_steps) in
+    c.in_ok-push_found.ensures ∙ ap titled c.title_found.ensures
+    ∙ ap (λ (l : List FoundPaper). before ++ l) (found-given n (told_to t user n) search_steps) in
     papers-step test made t.papers.papers i n before _ _
-    (subst (λ (k : ℕ). i < k) c.paper_count-before-end.ensures.count c.loop-before-test.true) c.new-paper.ensures pushed c.loop-before.invariant
+    (subst (λ (k : ℕ). i < k) c.paper_count-before-end.ensures.count c.loop-before-test.true) c.new-paper.ensures pushed
+    c.loop-before.invariant
 
 pub returns : goal.returns
 returns c =
@@ -34,4 +37,5 @@ returns c =
     let made : ℕ → FoundPaper = λ p. found_paper p (told_to t user p) in
     c.from_vec.ensures
     ∙ papers-all test made t.papers.papers i c.loop-before.papers.items _
-    (subst (λ (k : ℕ). k ≤ i) c.paper_count-before-end.ensures.count (omega (arith, c.loop-before-test.false))) c.loop-before.invariant
+    (subst (λ (k : ℕ). k ≤ i) c.paper_count-before-end.ensures.count (omega (arith, c.loop-before-test.false)))
+    c.loop-before.invariant

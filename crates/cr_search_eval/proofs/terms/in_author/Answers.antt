@@ -17,4 +17,5 @@ returns c =
     c.some_tied_has.ensures
     ∙ tied-has t value c.authors_told-ties.result.now
     ∙ ap (list_any (contains value)) c.authors_told-ties.ensures
-    ∙ told-has value (shows_author facts.by (accepted_seen facts)) (names_in (lines_of t.accounts) (authors_in t.ties facts.paper))
+    ∙ told-has value (shows_author facts.by (accepted_seen facts))
+    (names_in (lines_of t.accounts) (authors_in t.ties facts.paper))

@@ -17,6 +17,7 @@ returns c =
     let facts = c.args.asked.now.facts in
     let value : List ℕ = c.args.value.now in
     c.some_seated_has.ensures
-    ∙ ap (λ (by : Standing). list_any (λ (seat : Tie Seat). text_has value (holder_name t by seat)) c.seats_told-seats.result.now) c.by.ensures
+    ∙ ap (λ (by : Standing). list_any (λ (seat : Tie Seat). text_has value (holder_name t by seat))
+    c.seats_told-seats.result.now) c.by.ensures
     ∙ ap (list_any (λ (seat : Tie Seat). text_has value (holder_name t facts.by seat))) c.seats_told-seats.ensures
     ∙ reviewers-have t facts.by (is_written_in t.reviews facts.paper) value (ties_of ByPaper facts.paper t.seats)

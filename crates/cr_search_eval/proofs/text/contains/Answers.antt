@@ -11,6 +11,7 @@ returns-then-is_empty c =
 pub loop-at-init : goal.loop-at-init
 loop-at-init c =
     let some : 0 < length c.args.value.now = grind (arith, common_steps, c.is_empty.ensures, c.if-is_empty.false) in
-    leads c.args.value.now c.args.text.now c.into_iter-at-iterator.result c.to_ascii_lowercase-lower.result c.to_ascii_uppercase-upper.result
+    leads c.args.value.now c.args.text.now c.into_iter-at-iterator.result c.to_ascii_lowercase-lower.result
+    c.to_ascii_uppercase-upper.result
     some c.to_ascii_lowercase-lower.ensures.value c.to_ascii_uppercase-upper.ensures.value
     (c.into_iter-at-iterator.ensures.into_iter_gives ∙ c.memchr2_iter-at-items.ensures.value)

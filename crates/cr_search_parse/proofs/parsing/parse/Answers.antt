@@ -3,16 +3,19 @@ use Rattle.std.proofs.lemmas.Bool.{lt-ltb}
 use Rattle.cr_search_parse.specs.Offsets.{most_bytes}
 use Rattle.cr_search_parse.specs.Reading.{start, runs_read}
 use Rattle.cr_search_parse.specs.Runs.{runs_of}
-use Rattle.cr_search_parse.proofs.ParseLaws.{gives-spelled, gives-spells, gives-only, not-found, told-bad, gives-exact, stops-exact}
+use Rattle.cr_search_parse.proofs.ParseLaws.{gives-spelled, gives-spells, gives-only, not-found, told-bad, gives-exact}
+use Rattle.cr_search_parse.proofs.ParseLaws.{stops-exact}
 use Rattle.cr_search_parse.proofs.parsing.parse.Goals as goal
 
 pub returns-then-text-gt-MOST_BYTES-clause-only : goal.returns-then-text-gt-MOST_BYTES-clause-only
 unfolding most_bytes
-returns-then-text-gt-MOST_BYTES-clause-only c tree spelled = absurd (omega (arith, spelled.0, c.if-text-gt-MOST_BYTES.true))
+returns-then-text-gt-MOST_BYTES-clause-only c tree spelled =
+    absurd (omega (arith, spelled.0, c.if-text-gt-MOST_BYTES.true))
 
 pub returns-then-text-gt-MOST_BYTES-clause-bad : goal.returns-then-text-gt-MOST_BYTES-clause-bad
 unfolding most_bytes
-returns-then-text-gt-MOST_BYTES-clause-bad c offset is = let same : 1024 ≡ offset = cc in inl (c.if-text-gt-MOST_BYTES.true, sym same)
+returns-then-text-gt-MOST_BYTES-clause-bad c offset is = let same : 1024 ≡ offset =
+    cc in inl (c.if-text-gt-MOST_BYTES.true, sym same)
 
 pub from_steps-requires : goal.from_steps-requires
 from_steps-requires c = gives-spelled (runs_of c.args.text.now) c.in-Ok.steps.items c.in-Ok.ensures
@@ -38,7 +41,9 @@ returns-in-Err-clause-bad c offset is =
 
 pub returns-then-text-gt-MOST_BYTES-clause-exact : goal.returns-then-text-gt-MOST_BYTES-clause-exact
 unfolding most_bytes
-returns-then-text-gt-MOST_BYTES-clause-exact c = ap (λ (b : Bool). if b then Err 1024 else runs_read (runs_of c.args.text.now) 0 start) (lt-ltb 1024 (length c.args.text.now) c.if-text-gt-MOST_BYTES.true)
+returns-then-text-gt-MOST_BYTES-clause-exact c =
+    ap (λ (b : Bool). if b then Err 1024 else runs_read (runs_of c.args.text.now) 0 start)
+    (lt-ltb 1024 (length c.args.text.now) c.if-text-gt-MOST_BYTES.true)
 
 pub returns-in-Ok-clause-exact : goal.returns-in-Ok-clause-exact
 unfolding most_bytes

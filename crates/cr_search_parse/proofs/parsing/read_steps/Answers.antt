@@ -26,5 +26,11 @@ loop-at-preserved c =
       read-run text c.loop-at.at so.0 taken.0 run c.len-at.result so.1 first c.len-at.ensures taken.1,
       taken.2,
       omega (arith, so.3, c.in-Ok.ensures.grows, c.len-at.ensures),
-      omega (arith, so.4, rw (take_rest text c.loop-at.at) at c.first_run-run.ensures.within, c.len-at.ensures, length-drop c.loop-at.at text),
+      omega (
+        arith,
+        so.4,
+        rw (take_rest text c.loop-at.at) at c.first_run-run.ensures.within,
+        c.len-at.ensures,
+        length-drop c.loop-at.at text,
+      ),
     )

@@ -6,7 +6,8 @@ use Rattle.cr_search_parse.proofs.StopLaws.{ReadTo}
 use Rattle.cr_search_parse.proofs.parsing.read_steps.Given as goal
 
 abbrev pub invariant-loop-at : goal.invariant-loop-at
-invariant-loop-at l = (s : State) × ReadTo l.text l.at s × Stands l.reader s × (weight l.reader ≤ 2 * l.at) × (l.at ≤ length l.text)
+invariant-loop-at l =
+    (s : State) × ReadTo l.text l.at s × Stands l.reader s × (weight l.reader ≤ 2 * l.at) × (l.at ≤ length l.text)
 
 abbrev pub decreases-loop-at : goal.decreases-loop-at
 decreases-loop-at l = length l.text - l.at

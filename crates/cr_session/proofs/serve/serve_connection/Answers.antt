@@ -14,26 +14,31 @@ use Rattle.cr_session.proofs.serve.serve_connection.Goals as goal
 
 -- what turns do with the keeper
 abbrev tries-here : (g : Over) → Tries g.row.K.Denot
-tries-here g = tries_of g.K.Keeper.tells_stops g.K.Keeper.rows g.K.Keeper.tried g.K.Keeper.moment g.K.Keeper.left_since g.K.Keeper.opens
+tries-here g = tries_of g.K.Keeper.tells_stops g.K.Keeper.rows g.K.Keeper.tried g.K.Keeper.moment g.K.Keeper.left_since
+    g.K.Keeper.opens
 
 pub returns-in_default-clause-connection : goal.returns-in_default-clause-connection
 returns-in_default-clause-connection g c =
     let world = world_of g.S.Source.faults g.O.Sink.taken g.O.Sink.faults g.C.Clock.coming g.C.Clock.faults in
     let w = world c.args.pass.now c.args.source.now c.args.sink.now c.args.clock.now in
     let w' = world c.args.pass.now c.args.source.now c.note_no_memory.new.sink c.note_no_memory.new.clock in
-    subst (λ (e : Ending). ConnectionInHistory (tries-here g) g.S.Source.left g.S.Source.read_gives e 0 [] w w') (sym c.note_no_memory.ensures.ending)
-    (round_unbegun (TakesTurns (tries-here g)) (TurnsInVain (tries-here g)) (λ p. refl) g.S.Source.left g.S.Source.read_gives 0 w w' refl refl c.note_no_memory.ensures.notes refl)
+    subst (λ (e : Ending). ConnectionInHistory (tries-here g) g.S.Source.left g.S.Source.read_gives e 0 [] w w')
+    (sym c.note_no_memory.ensures.ending)
+    (round_unbegun (TakesTurns (tries-here g)) (TurnsInVain (tries-here g)) (λ p. refl) g.S.Source.left
+    g.S.Source.read_gives 0 w w' refl refl c.note_no_memory.ensures.notes refl)
 
 pub returns-in_default-clause-whole : goal.returns-in_default-clause-whole
 returns-in_default-clause-whole g c b told =
-    whole_text (TakesTurns (tries-here g)) (TurnsInVain (tries-here g)) g.S.Source.left g.S.Source.read_gives _ b _ _ (returns-in_default-clause-connection g c) told
+    whole_text (TakesTurns (tries-here g)) (TurnsInVain (tries-here g)) g.S.Source.left g.S.Source.read_gives _ b _ _
+    (returns-in_default-clause-connection g c) told
 
 pub serving-init : goal.serving-init
 serving-init g c =
     let w = world_of g.S.Source.faults g.O.Sink.taken g.O.Sink.faults g.C.Clock.coming g.C.Clock.faults
     c.args.pass.now c.args.source.now c.args.sink.now c.args.clock.now in
     record {
-      goes_on = subst (λ i. GoesOnInHistory (tries-here g) g.S.Source.left g.S.Source.read_gives 0 0 [] i w w) (sym c.in-Ok.ensures.0)
+      goes_on = subst (λ i. GoesOnInHistory (tries-here g) g.S.Source.left g.S.Source.read_gives 0 0 [] i w w)
+          (sym c.in-Ok.ensures.0)
           (started (tries-here g) g.S.Source.left g.S.Source.read_gives w);
       few = omega arith;
       pass = stays-now c.args.pass.now;
@@ -42,45 +47,56 @@ serving-init g c =
 
 pub returns-in-Some-clause-connection : goal.returns-in-Some-clause-connection
 returns-in-Some-clause-connection g c =
-    ends_after (tries-here g) g.S.Source.left g.S.Source.read_gives _ _ _ _ _ _ _ c.serving.invariant.goes_on c.in-Some.ensures.round
+    ends_after (tries-here g) g.S.Source.left g.S.Source.read_gives _ _ _ _ _ _ _ c.serving.invariant.goes_on
+    c.in-Some.ensures.round
 
 pub returns-in-Some-clause-whole : goal.returns-in-Some-clause-whole
 returns-in-Some-clause-whole g c b told =
-    whole_text (TakesTurns (tries-here g)) (TurnsInVain (tries-here g)) g.S.Source.left g.S.Source.read_gives _ b _ _ (returns-in-Some-clause-connection g c) told
+    whole_text (TakesTurns (tries-here g)) (TurnsInVain (tries-here g)) g.S.Source.left g.S.Source.read_gives _ b _ _
+    (returns-in-Some-clause-connection g c) told
 
 pub returns-in-Some-clause-read_fault : goal.returns-in-Some-clause-read_fault
 returns-in-Some-clause-read_fault g c is =
-    read_rises (TakesTurns (tries-here g)) (TurnsInVain (tries-here g)) g.S.Source.left g.S.Source.read_gives _ _ _ _ _ (returns-in-Some-clause-connection g c) is
+    read_rises (TakesTurns (tries-here g)) (TurnsInVain (tries-here g)) g.S.Source.left g.S.Source.read_gives _ _ _ _ _
+    (returns-in-Some-clause-connection g c) is
 
 pub returns-in-Some-clause-write_fault : goal.returns-in-Some-clause-write_fault
 returns-in-Some-clause-write_fault g c is =
-    write_rises (TakesTurns (tries-here g)) (TurnsInVain (tries-here g)) g.S.Source.left g.S.Source.read_gives _ _ _ _ _ (returns-in-Some-clause-connection g c) is
+    write_rises (TakesTurns (tries-here g)) (TurnsInVain (tries-here g)) g.S.Source.left g.S.Source.read_gives _ _ _ _ _
+    (returns-in-Some-clause-connection g c) is
 
 pub returns-in-Some-clause-clock_fault : goal.returns-in-Some-clause-clock_fault
 returns-in-Some-clause-clock_fault g c is =
-    clock_rises (TakesTurns (tries-here g)) (TurnsInVain (tries-here g)) g.S.Source.left g.S.Source.read_gives _ _ _ _ _ (returns-in-Some-clause-connection g c) is
+    clock_rises (TakesTurns (tries-here g)) (TurnsInVain (tries-here g)) g.S.Source.left g.S.Source.read_gives _ _ _ _ _
+    (returns-in-Some-clause-connection g c) is
 
 pub serving-preserved : goal.serving-preserved
 serving-preserved g c =
     let next = c.serve_next_request.new in
-    let u = world_of g.S.Source.faults g.O.Sink.taken g.O.Sink.faults g.C.Clock.coming g.C.Clock.faults next.pass next.source next.sink next.clock in
-    let last = not_last (tries-here g) g.S.Source.left g.S.Source.read_gives c.serving.number _ _ _ u c.in_default-serve_next_request.ensures.round in
+    let u = world_of g.S.Source.faults g.O.Sink.taken g.O.Sink.faults g.C.Clock.coming g.C.Clock.faults next.pass
+    next.source next.sink next.clock in
+    let last = not_last (tries-here g) g.S.Source.left g.S.Source.read_gives c.serving.number _ _ _ u
+    c.in_default-serve_next_request.ensures.round in
     let few = c.serving.invariant.few in
     record {
-      goes_on = goes_after (tries-here g) g.S.Source.left g.S.Source.read_gives _ 1 _ _ _ _ _ u c.serving.invariant.goes_on c.in_default-serve_next_request.ensures.round;
+      goes_on = goes_after (tries-here g) g.S.Source.left g.S.Source.read_gives _ 1 _ _ _ _ _ u
+          c.serving.invariant.goes_on c.in_default-serve_next_request.ensures.round;
       few = omega (arith, last, few);
-      pass = stays-then c.serving.number 1 c.args.pass.now c.serving.pass c.serve_next_request.new.pass c.serving.invariant.pass c.serve_next_request.ensures.pass;
+      pass = stays-then c.serving.number 1 c.args.pass.now c.serving.pass c.serve_next_request.new.pass
+          c.serving.invariant.pass c.serve_next_request.ensures.pass;
       room = c.serve_next_request.ensures.room;
     }
 
 pub returns-in-Some-clause-own : goal.returns-in-Some-clause-own
 returns-in-Some-clause-own g c =
-    let now = stays-then c.serving.number 1 c.args.pass.now c.serving.pass c.serve_next_request.new.pass c.serving.invariant.pass c.in-Some.ensures.pass in
+    let now = stays-then c.serving.number 1 c.args.pass.now c.serving.pass c.serve_next_request.new.pass
+    c.serving.invariant.pass c.in-Some.ensures.pass in
     (now.lock, now.share)
 
 pub returns-in-Some-clause-turns : goal.returns-in-Some-clause-turns
 returns-in-Some-clause-turns g c =
     let few = c.serving.invariant.few in
-    let now = stays-then c.serving.number 1 c.args.pass.now c.serving.pass c.serve_next_request.new.pass c.serving.invariant.pass c.in-Some.ensures.pass in
+    let now = stays-then c.serving.number 1 c.args.pass.now c.serving.pass c.serve_next_request.new.pass
+    c.serving.invariant.pass c.in-Some.ensures.pass in
     let most = now.few in
     omega (arith, few, most)

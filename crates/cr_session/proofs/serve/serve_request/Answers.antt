@@ -17,11 +17,13 @@ returns-in-Ok-clause-serves g c =
     let sending = sending_of c.args.wish close in
     let same = c.sending-sending.ensures.sending in
     let block = c.block_of-block.result.now in
-    serves_sent tries c.args.wish (ledger_of K.faults t.0) (ledger_of K.faults t.1) t.0 t.1 c.args.pass.now c.in_turn-turn.new.pass t.2 t.3 t.6 turn c.send.result c.args.number close
+    serves_sent tries c.args.wish (ledger_of K.faults t.0) (ledger_of K.faults t.1) t.0 t.1 c.args.pass.now
+    c.in_turn-turn.new.pass t.2 t.3 t.6 turn c.send.result c.args.number close
     (c.print_turn.new.reply.items ++ block) _ _
     c.in_default.not-OutOfMemory t.4 t.5 c.closes-close.ensures
     (ap (λ f. f ++ block) (c.in-Ok.ensures.ok ∙ ap (turn_front turn) same)
-    ∙ ap (λ b. turn_front turn sending ++ b) (c.block_of-block.ensures ∙ ap (turn_block turn) same) ∙ turn_parts turn sending)
+    ∙ ap (λ b. turn_front turn sending ++ b) (c.block_of-block.ensures ∙ ap (turn_block turn) same)
+    ∙ turn_parts turn sending)
     (rw c.deref.ensures.value at c.send.ensures)
 
 pub returns-clause-serves : goal.returns-clause-serves
@@ -30,7 +32,8 @@ returns-clause-serves g c =
     let tries = tries_of K.tells_stops K.rows K.tried K.moment K.left_since K.opens in
     let t = c.in_turn-turn.ensures in (
       refl,
-      unprinted tries c.args.wish (ledger_of K.faults t.0) (ledger_of K.faults t.1) t.0 t.1 c.args.pass.now c.in_turn-turn.new.pass t.2 t.3 t.6
+      unprinted tries c.args.wish (ledger_of K.faults t.0) (ledger_of K.faults t.1) t.0 t.1 c.args.pass.now
+          c.in_turn-turn.new.pass t.2 t.3 t.6
           c.in_turn-turn.result t.4 t.5 c.in-Err.ensures.err,
     )
 
@@ -40,6 +43,7 @@ returns-in-OutOfMemory-clause-serves g c =
     let tries = tries_of K.tells_stops K.rows K.tried K.moment K.left_since K.opens in
     let t = c.in_turn-turn.ensures in (
       refl,
-      turned_in_vain tries c.args.wish (ledger_of K.faults t.0) (ledger_of K.faults t.1) t.0 t.1 c.args.pass.now c.in_turn-turn.new.pass t.2 t.3 t.6
+      turned_in_vain tries c.args.wish (ledger_of K.faults t.0) (ledger_of K.faults t.1) t.0 t.1 c.args.pass.now
+          c.in_turn-turn.new.pass t.2 t.3 t.6
           c.in_turn-turn.result c.in-OutOfMemory.is t.4 t.5,
     )

@@ -9,7 +9,8 @@ use Rattle.cr_session.proofs.turn.judge_bulk.Goals as goal
 
 pub returns-clause-changes : goal.returns-clause-changes
 returns-clause-changes g c =
-    subst (λ (u : Option ℕ). ChangesBook g.K.Keeper.faults c.judge_rows.result (decide_bulk (view u c.args.book.now.log) (bulk_by (maker_of u) c.args.at c.args.key c.args.rows))
+    subst (λ (u : Option ℕ). ChangesBook g.K.Keeper.faults c.judge_rows.result
+    (decide_bulk (view u c.args.book.now.log) (bulk_by (maker_of u) c.args.at c.args.key c.args.rows))
     c.args.book.now c.judge_rows.new.book)
     (sym c.in-Some.is) c.judge_rows.ensures.changes
 

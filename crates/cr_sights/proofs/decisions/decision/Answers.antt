@@ -12,10 +12,13 @@ returns c at last =
     let r = reader_in c.args.live.now.tables (Some c.args.reader) in
     let e = c.args.stamped.now in
     let x : Entry = Decided c.in-Decided.paper c.in-Decided.decision in
-    let here : none_alike x at.after ≡ c.args.is_last = sym (ap (λ (y : Entry). none_alike y at.after) c.in-Decided.is) ∙ last in
+    let here : none_alike x at.after ≡ c.args.is_last =
+    sym (ap (λ (y : Entry). none_alike y at.after) c.in-Decided.is) ∙ last in
     let mine = c.eq-mine.ensures in
     let mine' = mine ∙ last-row (user_named r e.stamp.maker) in
-    let seen = sym (rw (c.standing-by.ensures, c.is_accepted-accepted.ensures, mine', ← here) at c.if-not-tells_decision.ensures) in
+    let seen =
+    sym (rw (c.standing-by.ensures, c.is_accepted-accepted.ensures, mine', ← here) at
+    c.if-not-tells_decision.ensures) in
     let shown = rw (c.standing-by.ensures, mine', ← here) at c.shows_decision.ensures in
     let outcome = rw (c.standing-by.ensures, ← here) at (c.is_outcome.ensures ∙ last-row _) in
     let accepted = rw (c.is_accepted-accepted.ensures, ← here) at (c.is_announced.ensures ∙ last-row _) in
@@ -29,4 +32,5 @@ returns c at last =
     let decided = part-shown _ _ _ _ c.then_some-sighting-inside.ensures shown in
     let became = part-shown _ _ _ _ c.then_some-sighting-inside-2.ensures outcome in
     let told = part-shown _ _ _ _ c.then_some-sighting-inside-3.ensures accepted in
-    ap parts (c.sighting.view_is ∙ c.of_stamp-sighting.ensures) ∙ rw (decided, became, told) (seen-shown r at e x c.in-Decided.is seen)
+    ap parts (c.sighting.view_is ∙ c.of_stamp-sighting.ensures)
+    ∙ rw (decided, became, told) (seen-shown r at e x c.in-Decided.is seen)

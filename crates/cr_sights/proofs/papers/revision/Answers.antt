@@ -14,12 +14,14 @@ returns c at last =
     let r = reader_in c.args.live.now.tables (Some c.args.reader) in
     let e = c.args.stamped.now in
     let x : Entry = Revised c.in-Revised.paper c.in-Revised.title c.in-Revised.abstract_ in
-    let here : none_alike x at.after ≡ c.args.is_last = sym (ap (λ (y : Entry). none_alike y at.after) c.in-Revised.is) ∙ last in
+    let here : none_alike x at.after ≡ c.args.is_last =
+    sym (ap (λ (y : Entry). none_alike y at.after) c.in-Revised.is) ∙ last in
     let mine = c.eq-mine.ensures in
     let mine' = mine ∙ last-row (user_named r e.stamp.maker) in
     let seen = sym (rw (last-row (user_named r e.stamp.maker), ← here) at c.if-not-tells_revision.ensures) in
     let title = rw (c.standing-by.ensures, c.is_accepted-accepted.ensures, mine', ← here) at c.shows_title.ensures in
-    let abstract = rw (c.standing-by.ensures, c.is_accepted-accepted.ensures, mine', ← here) at c.shows_abstract.ensures in
+    let abstract =
+    rw (c.standing-by.ensures, c.is_accepted-accepted.ensures, mine', ← here) at c.shows_abstract.ensures in
     let titled = lent-shown (λ (text : Bor Text). text.now) _ _ _ _ c.then_some-sighting-inside.ensures title in
     let told = lent-shown (λ (text : Bor Text). text.now) _ _ _ _ c.then_some-sighting-inside-2.ensures abstract in
     let parts : Sighting → List Sighting = λ s.
@@ -28,4 +30,5 @@ returns c at last =
       title = option_map (λ (text : Bor Text). text.now) c.then_some-sighting-inside.result;
       abstract = option_map (λ (text : Bor Text). text.now) c.then_some-sighting-inside-2.result;
     } ∷ [] in
-    ap parts (c.sighting.view_is ∙ c.of_stamp-sighting.ensures) ∙ rw (titled, told) (seen-shown r at e x c.in-Revised.is seen)
+    ap parts (c.sighting.view_is ∙ c.of_stamp-sighting.ensures)
+    ∙ rw (titled, told) (seen-shown r at e x c.in-Revised.is seen)

@@ -14,13 +14,15 @@ returns c at last =
     let r = reader_in c.args.live.now.tables (Some c.args.reader) in
     let e = c.args.stamped.now in
     let x : Entry = Submitted c.in-Submitted.paper c.in-Submitted.title c.in-Submitted.abstract_ in
-    let here : none_alike x at.after ≡ c.args.is_last = sym (ap (λ (y : Entry). none_alike y at.after) c.in-Submitted.is) ∙ last in
+    let here : none_alike x at.after ≡ c.args.is_last =
+    sym (ap (λ (y : Entry). none_alike y at.after) c.in-Submitted.is) ∙ last in
     let mine = c.eq-mine.ensures in
     let mine' = mine ∙ last-row (user_named r e.stamp.maker) in
     let shown = c.shows_author.ensures ∙ author-shown c.standing-by.result c.is_accepted-accepted.result in
     let by = rw (c.standing-by.ensures, c.is_accepted-accepted.ensures ∙ last-row _) at shown in
     let title = rw (c.standing-by.ensures, c.is_accepted-accepted.ensures, mine', ← here) at c.shows_title.ensures in
-    let abstract = rw (c.standing-by.ensures, c.is_accepted-accepted.ensures, mine', ← here) at c.shows_abstract.ensures in
+    let abstract =
+    rw (c.standing-by.ensures, c.is_accepted-accepted.ensures, mine', ← here) at c.shows_abstract.ensures in
     let made = part-shown _ _ _ _ c.then_some-sighting-inside.ensures by in
     let titled = lent-shown (λ (text : Bor Text). text.now) _ _ _ _ c.then_some-sighting-inside-2.ensures title in
     let told = lent-shown (λ (text : Bor Text). text.now) _ _ _ _ c.then_some-sighting-inside-3.ensures abstract in
@@ -31,4 +33,5 @@ returns c at last =
       title = option_map (λ (text : Bor Text). text.now) c.then_some-sighting-inside-2.result;
       abstract = option_map (λ (text : Bor Text). text.now) c.then_some-sighting-inside-3.result;
     } ∷ [] in
-    ap parts (c.sighting.view_is ∙ c.of_stamp-sighting.ensures) ∙ rw (made, titled, told) (seen-shown r at e x c.in-Submitted.is refl)
+    ap parts (c.sighting.view_is ∙ c.of_stamp-sighting.ensures)
+    ∙ rw (made, titled, told) (seen-shown r at e x c.in-Submitted.is refl)

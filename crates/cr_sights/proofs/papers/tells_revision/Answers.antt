@@ -11,7 +11,11 @@ use Rattle.cr_sights.proofs.papers.tells_revision.Goals as goal
 -- who reads a paper is a member or a clear external, and what is published is accepted
 widen : (a l m c e s x p n : Bool)
     → (a || ((l && m && s) || ((l && (e && not c) && s) || ((l && x) || n))))
-    ≡ (a || ((l && m && s) || ((l && (e && not c) && s) || ((l && ((m && not c) || (e && not c)) && s) || ((l && x) || ((l && (x && p)) || n))))))
+    ≡
+    (a
+    ||
+    ((l && m && s) || ((l && (e && not c) && s)
+    || ((l && ((m && not c) || (e && not c)) && s) || ((l && x) || ((l && (x && p)) || n))))))
 widen true l m c e s x p n = refl
 widen false false m c e s x p n = refl
 widen false true m c e s true p n = grind arith
@@ -35,5 +39,6 @@ returns c =
     let mine = c.eq.ensures ∙ turned c.args.maker c.args.reader in
     c.shows_title.ensures
     ∙ (λ i. asked (standing i) c.args.is_last (accepted i) (mine i))
-    ∙ widen by.author c.args.is_last (is_member by.role) by.conflicted by.external (members_see_papers by.phase) (is_accepted_in t c.args.paper)
+    ∙ widen by.author c.args.is_last (is_member by.role) by.conflicted by.external (members_see_papers by.phase)
+    (is_accepted_in t c.args.paper)
     (papers_are_published by.phase) (c.args.reader == c.args.maker)

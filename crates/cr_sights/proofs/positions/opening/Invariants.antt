@@ -7,7 +7,8 @@ use Rattle.cr_sights.proofs.positions.opening.Given as goal
 abbrev pub invariant-entries : goal.invariant-entries
 invariant-entries l = record {
   within : l.at ≤ length l.log;
-  left : l.at + length (until (λ (s : Stamped). opens l.phase s.entry) (drop l.at l.log)) ≡ length (until (λ (s : Stamped). opens l.phase s.entry) l.log);
+  left : l.at + length (until (λ (s : Stamped). opens l.phase s.entry) (drop l.at l.log))
+      ≡ length (until (λ (s : Stamped). opens l.phase s.entry) l.log);
 }
 
 abbrev pub decreases-entries : goal.decreases-entries

@@ -15,7 +15,8 @@ returns c at placed =
     let r = reader_in c.args.live.now.tables (Some c.args.reader) in
     let e = c.args.stamped.now in
     let x : Entry = Reviewed c.in-Reviewed.paper c.in-Reviewed.ordinal c.in-Reviewed.version c.in-Reviewed.form in
-    let here : position_of at x ≡ c.args.position = sym (ap (λ (y : Entry). position_of at y) c.in-Reviewed.is) ∙ placed in
+    let here : position_of at x ≡ c.args.position =
+    sym (ap (λ (y : Entry). position_of at y) c.in-Reviewed.is) ∙ placed in
     let mine = c.eq-mine.ensures in
     let mine' = mine ∙ last-row (user_named r e.stamp.maker) in
     let opened = c.had_response-opened.ensures ∙ ap (λ (s : StageState). s.had_response) c.stage_table.ensures in

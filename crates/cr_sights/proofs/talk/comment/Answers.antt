@@ -15,7 +15,8 @@ returns c at =
     let x : Entry = Commented p c.in-Commented.n c.in-Commented.ordinal c.in-Commented.text in
     let mine = c.eq-mine.ensures in
     let seen = sym (rw (last-row (user_named r e.stamp.maker)) at c.if-not-tells_comment.ensures) in
-    let shared = told-shared (reads_comments r p) (names_writers r p) (user_named r e.stamp.maker) c.if-not-tells_comment.ensures in
+    let shared = told-shared (reads_comments r p) (names_writers r p) (user_named r e.stamp.maker)
+    c.if-not-tells_comment.ensures in
     let label = rw (last-row (user_named r e.stamp.maker)) at c.shows_label-label.ensures in
     let made = part-shown _ _ _ _ c.then_some-sighting-inside.ensures (c.shows_writer.ensures ∙ last-row _) in
     let under = part-shown _ _ _ _ (rw (c.label_number.ensures) at c.then_some-sighting-inside-2.ensures) label in

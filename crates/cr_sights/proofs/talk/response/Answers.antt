@@ -13,5 +13,7 @@ returns c at =
     let e = c.args.stamped.now in
     let x : Entry = Responded c.in-Responded.paper c.in-Responded.text in
     let seen = sym (rw (last-row (user_named r e.stamp.maker)) at c.if-not-tells_response.ensures) in
-    let parts : Sighting → List Sighting = λ s. record s { paper = Some c.in-Responded.paper; text = Some c.in-Responded.text } ∷ [] in
-    ap parts (c.sighting.view_is ∙ c.of_stamp-sighting.ensures) ∙ rw seen at (seen-shown r at e x c.in-Responded.is seen)
+    let parts : Sighting → List Sighting =
+    λ s. record s { paper = Some c.in-Responded.paper; text = Some c.in-Responded.text } ∷ [] in
+    ap parts (c.sighting.view_is ∙ c.of_stamp-sighting.ensures)
+    ∙ rw seen at (seen-shown r at e x c.in-Responded.is seen)

@@ -9,9 +9,12 @@ sightings-preserved c =
     let r = reader_in c.args.live.now.tables (Some c.args.reader) in
     let log = c.args.log.now in
     let seen = listed c.sight.result in
-    let is = seen_here r log c.sightings.at c.index-log-at.result c.sightings-test.true c.index-log-at.is seen c.in_ok-position.position c.in_ok-position.ensures.position c.sight.ensures in
+    let is = seen_here r log c.sightings.at c.index-log-at.result c.sightings-test.true c.index-log-at.is seen
+    c.in_ok-position.position c.in_ok-position.ensures.position c.sight.ensures in
     record {
       noted = c.in_ok-position.ensures.noted;
-      count = counted r log c.sightings.at c.index-log-at.result c.sightings-test.true c.sightings.count c.number_of-count.result seen c.number_of-count.ensures is c.sightings.invariant.count;
-      low = let n = c.number_of-count.ensures in let short = listed-short c.sight.result in let was = c.sightings.invariant.low in omega (arith, n, short, was);
+      count = counted r log c.sightings.at c.index-log-at.result c.sightings-test.true c.sightings.count
+          c.number_of-count.result seen c.number_of-count.ensures is c.sightings.invariant.count;
+      low = let n = c.number_of-count.ensures in let short = listed-short c.sight.result in let was =
+          c.sightings.invariant.low in omega (arith, n, short, was);
     }

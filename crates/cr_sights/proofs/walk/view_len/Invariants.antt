@@ -8,7 +8,8 @@ use Rattle.cr_sights.proofs.walk.view_len.Given as goal
 abbrev pub invariant-sightings : goal.invariant-sightings
 invariant-sightings l = record {
   noted : AreNoted l.positions l.log l.at;
-  count : l.count + length (sights_from (reader_in l.live.tables (Some l.reader)) l.log l.at) ≡ length (sights (reader_in l.live.tables (Some l.reader)) [] l.log);
+  count : l.count + length (sights_from (reader_in l.live.tables (Some l.reader)) l.log l.at)
+      ≡ length (sights (reader_in l.live.tables (Some l.reader)) [] l.log);
   low : l.count ≤ l.at;
 }
 

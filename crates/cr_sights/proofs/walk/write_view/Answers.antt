@@ -10,11 +10,16 @@ lines-preserved g c =
     let r = reader_in c.args.live.now.tables (Some c.args.reader) in
     let log = c.args.log.now in
     let seen = listed c.sight-sighting.result in
-    let is = seen_here r log c.lines.at c.index-log-at.result c.lines-test.true c.index-log-at.is seen c.in-Ok-pass.position c.in-Ok-pass.ensures.position c.sight-sighting.ensures in
+    let is = seen_here r log c.lines.at c.index-log-at.result c.lines-test.true c.index-log-at.is seen
+    c.in-Ok-pass.position c.in-Ok-pass.ensures.position c.sight-sighting.ensures in
     record {
       noted = c.in-Ok-pass.ensures.noted;
-      reached = wrote_line r log c.lines.at c.index-log-at.result c.lines-test.true c.deref.result.now seen is (c.deref.ensures.value ∙ c.in-Ok-fill.ensures)
-          (outlet_of g.O.Sink.taken g.O.Sink.faults c.args.sink.now) (outlet_of g.O.Sink.taken g.O.Sink.faults c.lines.sink) (outlet_of g.O.Sink.taken g.O.Sink.faults c.write_all.new.sink) c.lines.invariant.reached c.in-Ok-write_all.ensures.whole;
+      reached = wrote_line r log c.lines.at c.index-log-at.result c.lines-test.true c.deref.result.now seen is
+          (c.deref.ensures.value ∙ c.in-Ok-fill.ensures)
+          (outlet_of g.O.Sink.taken g.O.Sink.faults c.args.sink.now)
+          (outlet_of g.O.Sink.taken g.O.Sink.faults c.lines.sink)
+          (outlet_of g.O.Sink.taken g.O.Sink.faults c.write_all.new.sink) c.lines.invariant.reached
+          c.in-Ok-write_all.ensures.whole;
     }
 
 pub returns-in-Err : goal.returns-in-Err
@@ -22,6 +27,9 @@ returns-in-Err g c =
     let r = reader_in c.args.live.now.tables (Some c.args.reader) in
     let log = c.args.log.now in
     let seen = listed c.sight-sighting.result in
-    let is = seen_here r log c.lines.at c.index-log-at.result c.lines-test.true c.index-log-at.is seen c.in-Ok-pass.position c.in-Ok-pass.ensures.position c.sight-sighting.ensures in
-    broke_line r log c.lines.at c.index-log-at.result c.lines-test.true c.deref.result.now seen is (c.deref.ensures.value ∙ c.in-Ok-fill.ensures)
-    (outlet_of g.O.Sink.taken g.O.Sink.faults c.args.sink.now) (outlet_of g.O.Sink.taken g.O.Sink.faults c.lines.sink) (outlet_of g.O.Sink.taken g.O.Sink.faults c.write_all.new.sink) c.lines.invariant.reached c.in-Err.ensures.failed
+    let is = seen_here r log c.lines.at c.index-log-at.result c.lines-test.true c.index-log-at.is seen
+    c.in-Ok-pass.position c.in-Ok-pass.ensures.position c.sight-sighting.ensures in
+    broke_line r log c.lines.at c.index-log-at.result c.lines-test.true c.deref.result.now seen is
+    (c.deref.ensures.value ∙ c.in-Ok-fill.ensures)
+    (outlet_of g.O.Sink.taken g.O.Sink.faults c.args.sink.now) (outlet_of g.O.Sink.taken g.O.Sink.faults c.lines.sink)
+    (outlet_of g.O.Sink.taken g.O.Sink.faults c.write_all.new.sink) c.lines.invariant.reached c.in-Err.ensures.failed

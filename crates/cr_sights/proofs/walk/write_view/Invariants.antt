@@ -8,7 +8,8 @@ use Rattle.cr_sights.proofs.walk.write_view.Given as goal
 abbrev pub invariant-lines : goal.invariant-lines
 invariant-lines g l = record {
   noted : AreNoted l.positions l.log l.at;
-  reached : Reached (reader_in l.live.tables (Some l.reader)) l.log l.at (outlet_of g.O.Sink.taken g.O.Sink.faults l.initial.sink) (outlet_of g.O.Sink.taken g.O.Sink.faults l.sink);
+  reached : Reached (reader_in l.live.tables (Some l.reader)) l.log l.at
+      (outlet_of g.O.Sink.taken g.O.Sink.faults l.initial.sink) (outlet_of g.O.Sink.taken g.O.Sink.faults l.sink);
 }
 
 abbrev pub decreases-lines : goal.decreases-lines

@@ -24,6 +24,7 @@ returns g c =
     let end = c.commit.new.self.0 in
     let begun = c.transaction-transaction.ensures.begun in
     let before = survives_begin g.S.Store old (state g.S.Store last) _ (rw begun at c.move_tables.ensures.inside) in
-    let once = then_once (state g.S.Store old) (state g.S.Store last) (state g.S.Store end) _ before c.commit.ensures.survives in
+    let once =
+    then_once (state g.S.Store old) (state g.S.Store last) (state g.S.Store end) _ before c.commit.ensures.survives in
     let same : end ≡ c.conn-2-1.given.0 = search rules in
     record { one = subst (λ h. CommitsOnce (state g.S.Store old) (state g.S.Store h)) same once }

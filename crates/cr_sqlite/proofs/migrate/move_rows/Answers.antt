@@ -18,7 +18,8 @@ pub returns-in-None-clause-inside : goal.returns-in-None-clause-inside
 returns-in-None-clause-inside g c = nothing_more _ _ _ c.pages.invariant.1 c.move_from.ensures.inside
 
 pub pages-preserved : goal.pages-preserved
-pages-preserved g c = (c.move_from.ensures.same ∙ c.pages.invariant.0, nothing_more _ _ _ c.pages.invariant.1 c.move_from.ensures.inside)
+pages-preserved g c =
+    (c.move_from.ensures.same ∙ c.pages.invariant.0, nothing_more _ _ _ c.pages.invariant.1 c.move_from.ensures.inside)
 
 pub returns-clause-same : goal.returns-clause-same
 returns-clause-same g c = c.pages.invariant.0

@@ -12,7 +12,10 @@ pub returns-in_err-move_table-clause-inside : goal.returns-in_err-move_table-cla
 returns-in_err-move_table-clause-inside g c = nothing_more _ _ _ c.tables.invariant.1 c.move_table.ensures.inside
 
 pub tables-preserved : goal.tables-preserved
-tables-preserved g c = (c.move_table.ensures.same ∙ c.tables.invariant.0, nothing_more _ _ _ c.tables.invariant.1 c.move_table.ensures.inside)
+tables-preserved g c = (
+  c.move_table.ensures.same ∙ c.tables.invariant.0,
+  nothing_more _ _ _ c.tables.invariant.1 c.move_table.ensures.inside,
+)
 
 pub returns-clause-same : goal.returns-clause-same
 returns-clause-same g c = c.run.ensures.same ∙ c.tables.invariant.0

@@ -16,10 +16,13 @@ returns-in-Some-clause-does g c =
     let o = outside c.args.input.now c.args.out.now c.args.clock.now in
     let o' = outside c.pipe-ending.new.input c.pipe-ending.new.out c.pipe-ending.new.clock in
     let none : c.in-Pipe-None.store ≡ None = rw c.in-Pipe-None.is at c.in-Pipe-None.store-is in
-    let seen : job_seen c.args.job ≡ pipe_job None = ap job_seen c.in-Pipe-None.is ∙ ap (λ t. pipe_job (option_map (λ x. x.now) t)) none in
+    let seen : job_seen c.args.job ≡ pipe_job None =
+    ap job_seen c.in-Pipe-None.is ∙ ap (λ t. pipe_job (option_map (λ x. x.now) t)) none in
     does-named _ _ _ _ _ _ (pipe_job None) _ _ _ seen (
-      subst (λ (opening : History). ServesPipe g.I.Source.left g.I.Source.read_gives opening c.exit_of.result o o') c.in-Some.ensures
-          (serves-from _ _ g.I.Source.left g.I.Source.read_gives c.in-Some.book.log c.exit_of.result _ _ _ o o' c.exit_of.ensures c.pipe-ending.ensures.pipes),
+      subst (λ (opening : History). ServesPipe g.I.Source.left g.I.Source.read_gives opening c.exit_of.result o o')
+          c.in-Some.ensures
+          (serves-from _ _ g.I.Source.left g.I.Source.read_gives c.in-Some.book.log c.exit_of.result _ _ _ o o'
+          c.exit_of.ensures c.pipe-ending.ensures.pipes),
       refl,
       refl,
     )
@@ -29,8 +32,10 @@ stays : Rises 0 0 → ⊥
 stays rises = let up : 0 < 0 = rises (omega arith) in omega (arith, up)
 
 -- what is answered from a history that is the empty one
-from-nothing : {I : Type 0} (opening : History) (exit exit' : Exit) (b : List ℕ) (o o' : Outside I) → opening ≡ [] → exit ≡ exit'
-    → (exit' ≡ exits.OutOfMemory) ⊎ AnswersAll opening exit' b o o' → (exit ≡ exits.OutOfMemory) ⊎ AnswersAll [] exit b o o'
+from-nothing : {I : Type 0} (opening : History) (exit exit' : Exit) (b : List ℕ) (o o' : Outside I) → opening ≡ []
+    → exit ≡ exit'
+    → (exit' ≡ exits.OutOfMemory) ⊎ AnswersAll opening exit' b o o' → (exit ≡ exits.OutOfMemory)
+    ⊎ AnswersAll [] exit b o o'
 from-nothing {I} opening exit exit' b o o' none is answers =
     subst (λ (x : Exit). (x ≡ exits.OutOfMemory) ⊎ AnswersAll [] x b o o') (sym is)
     (subst (λ (H : History). (exit' ≡ exits.OutOfMemory) ⊎ AnswersAll H exit' b o o') none answers)
@@ -41,9 +46,11 @@ returns-in-Some-clause-answers g c =
     let o = outside c.args.input.now c.args.out.now c.args.clock.now in
     let o' = outside c.pipe-ending.new.input c.pipe-ending.new.out c.pipe-ending.new.clock in
     let none : c.in-Pipe-None.store ≡ None = rw c.in-Pipe-None.is at c.in-Pipe-None.store-is in
-    let seen : job_seen c.args.job ≡ pipe_job None = ap job_seen c.in-Pipe-None.is ∙ ap (λ t. pipe_job (option_map (λ x. x.now) t)) none in
+    let seen : job_seen c.args.job ≡ pipe_job None =
+    ap job_seen c.in-Pipe-None.is ∙ ap (λ t. pipe_job (option_map (λ x. x.now) t)) none in
     answers-named _ _ (pipe_job None) _ _ _ seen
-    (λ b left faultless. from-nothing _ _ _ b o o' c.in-Some.ensures c.exit_of.ensures (c.pipe-ending.ensures.answers b left faultless stays))
+    (λ b left faultless. from-nothing _ _ _ b o o' c.in-Some.ensures c.exit_of.ensures
+    (c.pipe-ending.ensures.answers b left faultless stays))
 
 pub returns-in-Pipe-Some-clause-answers : goal.returns-in-Pipe-Some-clause-answers
 returns-in-Pipe-Some-clause-answers g c =

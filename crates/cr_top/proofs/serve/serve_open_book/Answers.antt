@@ -18,11 +18,13 @@ serve_book-ended-requires-clause-few g c κs within = c.requires.few
 
 pub serve_book-ended-requires-clause-back : goal.serve_book-ended-requires-clause-back
 serve_book-ended-requires-clause-back g c κs within =
-    new-back g.G.Door.Door.left g.G.Door.Door.is_out g.G.Door.Door.faults g.G.Door.Door.log c.args.doors.items c.requires.new
+    new-back g.G.Door.Door.left g.G.Door.Door.is_out g.G.Door.Door.faults g.G.Door.Door.log c.args.doors.items
+    c.requires.new
 
 pub shut-requires : goal.shut-requires
 shut-requires g c =
-    back-seen g.G.Door.Door.left g.G.Door.Door.is_out g.G.Door.Door.faults g.G.Door.Door.log c.serve_book-ended.result.2.items
+    back-seen g.G.Door.Door.left g.G.Door.Door.is_out g.G.Door.Door.faults g.G.Door.Door.log
+    c.serve_book-ended.result.2.items
     (doors-back _ _ _ _ _ _ c.serve_book-ended.ensures.serves c.requires.new)
 
 pub shut-requires-2 : goal.shut-requires-2
@@ -43,18 +45,24 @@ returns g c s opens before listen at workers connections shared begins =
     let K = g.S.Keeper.Keeper in
     serves-many K.tells_stops K.rows K.tried _ K.faults c.args.path.now _ listen workers connections worked.0
     (is_ok c.tell_entries.result) c.exit_of_workers.result
-    (c.exit_of_workers.ensures ∙ ap (λ (b : Bool). exit_of_workers worked.0 b) c.is_ok.ensures.value) c.args.book worked.1 c.close.result
+    (c.exit_of_workers.ensures ∙ ap (λ (b : Bool). exit_of_workers worked.0 b) c.is_ok.ensures.value) c.args.book
+    worked.1 c.close.result
     (map (door_of left is_out faults log) c.args.doors.items) (map (door_of left is_out faults log) worked.2.items) o o'
     s (stores c.args.shelf.now) (stores c.shut-2.new.self) before (gates_at c.args.gates.now) (gates_at c.shut.new.self)
     at opens c.close.ensures.same c.close.ensures.legal
-    (keeps-store K.tells_stops K.rows K.tried K.moment K.left_since K.opens (g.S.Shelf.left c.shut-2.new.self) _ K.faults c.args.path.now c.args.book
+    (keeps-store K.tells_stops K.rows K.tried K.moment K.left_since K.opens (g.S.Shelf.left c.shut-2.new.self) _
+    K.faults c.args.path.now c.args.book
     c.close.result s (stores c.args.shelf.now) (stores c.shut-2.new.self) K.rows_told begins
-    (λ told image. (c.shut-2.ensures.stops told image).0) opens c.shut-2.ensures.kept c.shut-2.ensures.others c.shut-2.ensures.count
+    (λ told image. (c.shut-2.ensures.stops told image).0) opens c.shut-2.ensures.kept c.shut-2.ensures.others
+    c.shut-2.ensures.count
     worked.1.log c.close.ensures.kept
-    (subst (λ (k : g.row.S-Keeper.Denot). KeepsTold K.rows K.tried K.moment K.left_since K.opens K.tells_stops k c.close.result worked.1.log)
+    (subst (λ (k : g.row.S-Keeper.Denot). KeepsTold K.rows K.tried K.moment K.left_since K.opens K.tells_stops k
+    c.close.result worked.1.log)
     c.serve_book-ended.ensures.opened c.close.ensures.stops))
     c.shut-2.ensures.kept c.shut-2.ensures.others c.shut-2.ensures.count
     (shared-seen left is_out faults log c.args.doors.items _ shared) c.requires.new c.serve_book-ended.ensures.serves
-    (subst (λ (n : ℕ). TellsEntries (is_ok c.tell_entries.result) n o o') c.entries-entries.ensures.value c.tell_entries.ensures)
-    (told-seen left is_out faults log worked.2.items _ c.shut.ensures.told) (counted-seen left is_out faults log worked.2.items _ _ c.shut.ensures.count)
+    (subst (λ (n : ℕ). TellsEntries (is_ok c.tell_entries.result) n o o') c.entries-entries.ensures.value
+    c.tell_entries.ensures)
+    (told-seen left is_out faults log worked.2.items _ c.shut.ensures.told)
+    (counted-seen left is_out faults log worked.2.items _ _ c.shut.ensures.count)
     c.shut.ensures.same

@@ -18,17 +18,21 @@ returns-in-Err-open-clause-refused g c =
     rw c.exit_of_rows.ensures (rows-refuse K.tells_stops K.rows K.tried K.faults path s s' c.in-Ok.keeper keeper
     c.in-Ok.ensures.found c.in-Ok.ensures.fresh c.in-Err-open.ensures.given_back
     (λ told. ap K.tried (c.in-Err-open.ensures.still_back told) ∙ (c.in-Ok.ensures.begins told).1)
-    (subst (λ (r : RowsByPath). IfSome (K.rows keeper) (λ k. StandsAfter K.tells_stops k (K.tried keeper) (r path) (s'.rows path))) still
+    (subst (λ (r : RowsByPath). IfSome (K.rows keeper)
+    (λ k. StandsAfter K.tells_stops k (K.tried keeper) (r path) (s'.rows path))) still
     c.shut.ensures.kept)
     (λ other apart. c.shut.ensures.others other apart ∙ ap (λ (r : RowsByPath). r other) still)
-    (subst (λ (n : ℕ). Gains n (K.faults keeper) s'.faults) (c.in-Ok.ensures.cause.steady (λ e. cc (e))) c.shut.ensures.count)
+    (subst (λ (n : ℕ). Gains n (K.faults keeper) s'.faults) (c.in-Ok.ensures.cause.steady (λ e. cc (e)))
+    c.shut.ensures.count)
     c.in-Err-open.error c.in-Err-open.ensures.exact c.in-Err-open.ensures.cause)
 
 pub returns-in-Ok-open-clause-opened : goal.returns-in-Ok-open-clause-opened
 returns-in-Ok-open-clause-opened g c =
     let K = g.S.Keeper.Keeper in
     let seen = state_of g.S.Shelf.rows g.S.Shelf.faults in
-    opens-store K.rows K.faults c.args.path.now c.in-Ok.keeper c.in-Ok-open.book (seen c.args.shelf.now) (seen c.open.new.self)
+    opens-store K.rows K.faults c.args.path.now c.in-Ok.keeper c.in-Ok-open.book (seen c.args.shelf.now)
+    (seen c.open.new.self)
     c.in-Ok-open.ensures.legal c.in-Ok.ensures.found c.in-Ok-open.ensures.exact c.in-Ok-open.ensures.same
     (c.in-Ok-open.ensures.steady ∙ c.in-Ok.ensures.fresh)
-    (opened-still K.tells_stops c.args.path.now c.in-Ok.keeper _ _ c.in-Ok.ensures.same) (c.in-Ok.ensures.cause.steady (λ e. cc (e)))
+    (opened-still K.tells_stops c.args.path.now c.in-Ok.keeper _ _ c.in-Ok.ensures.same)
+    (c.in-Ok.ensures.cause.steady (λ e. cc (e)))

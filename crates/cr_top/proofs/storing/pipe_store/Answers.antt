@@ -12,17 +12,24 @@ returns-in-Ok-clause-pipes g c =
     let outside = outside_of g.I.Source.faults g.O.Sink.taken g.O.Sink.faults g.C.Clock.coming g.C.Clock.faults in
     let stores = state_of g.S.Shelf.rows g.S.Shelf.faults in
     let K = g.S.Keeper.Keeper in
-    inr (serves-store K.tells_stops K.rows K.tried _ _ K.faults c.args.path.now g.I.Source.left g.I.Source.read_gives c.exit_of.result _
+    inr (serves-store K.tells_stops K.rows K.tried _ _ K.faults c.args.path.now g.I.Source.left g.I.Source.read_gives
+    c.exit_of.result _
     c.exit_of.ensures c.in-Ok.book _
-    (outside c.args.input.now c.args.out.now c.args.clock.now) (outside c.pipe-ending.new.input c.pipe-ending.new.out c.pipe-ending.new.clock) (stores c.args.shelf.now) (stores c.open_store.new.shelf)
+    (outside c.args.input.now c.args.out.now c.args.clock.now)
+    (outside c.pipe-ending.new.input c.pipe-ending.new.out c.pipe-ending.new.clock) (stores c.args.shelf.now)
+    (stores c.open_store.new.shelf)
     (stores c.shut.new.self)
     c.in-Ok.ensures.opened c.pipe-ending.ensures.pipes c.shut.ensures.kept c.shut.ensures.others c.shut.ensures.count
     (λ history is judged so. (
-      keeps-store K.tells_stops K.rows K.tried K.moment K.left_since K.opens (g.S.Shelf.left c.shut.new.self) _ K.faults c.args.path.now c.in-Ok.book
-          c.pipe-ending.result.1 (stores c.args.shelf.now) (stores c.open_store.new.shelf) (stores c.shut.new.self) K.rows_told c.in-Ok.ensures.begins
-          (λ told image. (c.shut.ensures.stops told image).0) c.in-Ok.ensures.opened c.shut.ensures.kept c.shut.ensures.others c.shut.ensures.count
+      keeps-store K.tells_stops K.rows K.tried K.moment K.left_since K.opens (g.S.Shelf.left c.shut.new.self) _ K.faults
+          c.args.path.now c.in-Ok.book
+          c.pipe-ending.result.1 (stores c.args.shelf.now) (stores c.open_store.new.shelf) (stores c.shut.new.self)
+          K.rows_told c.in-Ok.ensures.begins
+          (λ told image. (c.shut.ensures.stops told image).0) c.in-Ok.ensures.opened c.shut.ensures.kept
+          c.shut.ensures.others c.shut.ensures.count
           history is so.0,
-      wishes-kept K.tells_stops K.rows K.tried K.moment K.left_since K.opens (g.S.Shelf.left c.shut.new.self c.args.path.now) _ c.in-Ok.book
+      wishes-kept K.tells_stops K.rows K.tried K.moment K.left_since K.opens
+          (g.S.Shelf.left c.shut.new.self c.args.path.now) _ c.in-Ok.book
           c.pipe-ending.result.1 c.in-Ok.ensures.begins (λ told image. (c.shut.ensures.stops told image).0) judged so.1,
     )))
 
@@ -37,8 +44,10 @@ returns-in-Ok-clause-answers g c b left faultless idle H legal told =
     let s' = stores c.shut.new.self in
     let K = g.S.Keeper.Keeper in
     let same = the-history K.rows K.faults c.args.path.now c.in-Ok.book s m c.in-Ok.ensures.opened H legal told in
-    subst (λ (opening : History). (c.exit_of.result ≡ exits.OutOfMemory) ⊎ AnswersAll opening c.exit_of.result b o o') same
+    subst (λ (opening : History). (c.exit_of.result ≡ exits.OutOfMemory) ⊎ AnswersAll opening c.exit_of.result b o o')
+    same
     (subst (λ (x : Exit). (x ≡ exits.OutOfMemory) ⊎ AnswersAll c.in-Ok.book.log x b o o') (sym c.exit_of.ensures)
     (c.pipe-ending.ensures.answers b left faultless
-    (no_fault K.tells_stops K.rows K.tried K.faults c.args.path.now c.in-Ok.book _ s m s' c.in-Ok.ensures.opened c.shut.ensures.kept
+    (no_fault K.tells_stops K.rows K.tried K.faults c.args.path.now c.in-Ok.book _ s m s' c.in-Ok.ensures.opened
+    c.shut.ensures.kept
     c.shut.ensures.others c.shut.ensures.count idle)))

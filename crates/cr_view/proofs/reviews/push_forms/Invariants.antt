@@ -6,5 +6,7 @@ use Rattle.cr_view.proofs.reviews.push_forms.Given as goal
 
 abbrev pub invariant-loop-written : goal.invariant-loop-written
 invariant-loop-written l =
-    l.lines.items ++ map (review_line l.heading) (map written_told (forms_under l.heading.label l.phase (drop l.written-index l.forms)))
-    ≡ l.initial.lines.items ++ map (review_line l.heading) (map written_told (forms_under l.heading.label l.phase l.forms))
+    l.lines.items ++ map (review_line l.heading)
+    (map written_told (forms_under l.heading.label l.phase (drop l.written-index l.forms)))
+    ≡ l.initial.lines.items ++ map (review_line l.heading)
+    (map written_told (forms_under l.heading.label l.phase l.forms))

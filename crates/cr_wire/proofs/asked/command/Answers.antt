@@ -4,7 +4,8 @@ use Rattle.cr_wire.specs.Number.{own_key}
 use Rattle.cr_wire.proofs.asked.command.Goals as goal
 
 pub giving-requires-clause-key : goal.giving-requires-clause-key
-giving-requires-clause-key c = key-given c.args.ask _ _ c.in-Ok.command (own_key c.args.request.now) c.in-Ok.ensures.told c.requires.key
+giving-requires-clause-key c =
+    key-given c.args.ask _ _ c.in-Ok.command (own_key c.args.request.now) c.in-Ok.ensures.told c.requires.key
 
 pub returns-in-Err-OutOfMemory-clause-sure : goal.returns-in-Err-OutOfMemory-clause-sure
 returns-in-Err-OutOfMemory-clause-sure c =

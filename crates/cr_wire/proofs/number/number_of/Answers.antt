@@ -9,4 +9,5 @@ decimal_value-requires c =
 
 pub returns : goal.returns
 returns c =
-    number_told c.args.value.now _ _ (sym c.is_command_number.ensures ∙ c.if-not-is_command_number.false) c.decimal_value.ensures c.new.ensures
+    number_told c.args.value.now _ _ (sym c.is_command_number.ensures ∙ c.if-not-is_command_number.false)
+    c.decimal_value.ensures c.new.ensures

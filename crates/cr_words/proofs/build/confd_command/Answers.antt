@@ -18,4 +18,5 @@ returns c =
     let with_view = c.in_ok-subcommand-3.ensures.shape c.in_ok-view_command.ensures.local
     ∙ ap₂ with_subcommand with_serve (ap top c.in_ok-view_command.ensures.shape) in
     IfOk-weaker c.subcommand-4.result _ _
-    (λ m h. h.shape c.in_ok-drill_command.ensures.local ∙ ap₂ with_subcommand with_view (ap top c.in_ok-drill_command.ensures.shape)) c.subcommand-4.ensures
+    (λ m h. h.shape c.in_ok-drill_command.ensures.local ∙ ap₂ with_subcommand with_view
+    (ap top c.in_ok-drill_command.ensures.shape)) c.subcommand-4.ensures

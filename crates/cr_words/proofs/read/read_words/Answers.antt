@@ -4,7 +4,8 @@ use Rattle.cr_words.proofs.Named.{Answered, answered}
 use Rattle.cr_words.proofs.read.read_words.Goals as goal
 
 answers : (c : goal.Joined-matches) → Answered (map (string_bytes {Z = Global}) c.args.words.now) c.ok_or.result
-answers c = answered _ _ _ _ _ c.in-Ok.ensures (taken_from _ _ c.in-Ok.ensures c.in-Ok-try_get_matches_from.ensures.kinds)
+answers c =
+    answered _ _ _ _ _ c.in-Ok.ensures (taken_from _ _ c.in-Ok.ensures c.in-Ok-try_get_matches_from.ensures.kinds)
     (λ simple. (c.in-Ok-try_get_matches_from.ensures.matches simple).1) c.named_job.ensures c.ok_or.ensures.value
 
 pub returns-in-Ok-try_get_matches_from-clause-job : goal.returns-in-Ok-try_get_matches_from-clause-job
@@ -27,6 +28,8 @@ returns c = record {
   job = tt;
   ranges = tt;
   taken = tt;
-  refused = λ _. refused_from _ _ c.in-Err.error c.in-Ok.ensures c.in-Err.ensures.kinds (λ m. c.in_default-kind.not-OutOfMemory (c.kind.ensures ∙ m));
-  passes = λ t _. passes_from _ _ c.in-Err.error c.in-Ok.ensures c.in-Err.ensures.passes (λ m. c.in_default-kind.not-OutOfMemory (c.kind.ensures ∙ m)) t;
+  refused = λ _. refused_from _ _ c.in-Err.error c.in-Ok.ensures c.in-Err.ensures.kinds
+      (λ m. c.in_default-kind.not-OutOfMemory (c.kind.ensures ∙ m));
+  passes = λ t _. passes_from _ _ c.in-Err.error c.in-Ok.ensures c.in-Err.ensures.passes
+      (λ m. c.in_default-kind.not-OutOfMemory (c.kind.ensures ∙ m)) t;
 }

@@ -17,21 +17,31 @@ use Rattle.cr_workers.proofs.doors.+halves.Goals as goal
 
 pub returns-in-Err-clause-serves : goal.returns-in-Err-clause-serves
 returns-in-Err-clause-serves g t c =
-    rw c.in-Err.ensures.all (doors-unasked (streams_of (tries_of g.K.Keeper.tells_stops g.K.Keeper.rows g.K.Keeper.tried g.K.Keeper.moment g.K.Keeper.left_since g.K.Keeper.opens) g.D.In.Source.left g.D.In.Source.read_gives g.D.In.Source.faults g.D.Out.Sink.taken g.D.Out.Sink.faults g.D.Clock.Clock.coming g.D.Clock.Clock.faults)
+    rw c.in-Err.ensures.all
+    (doors-unasked
+    (streams_of (tries_of g.K.Keeper.tells_stops g.K.Keeper.rows g.K.Keeper.tried g.K.Keeper.moment
+    g.K.Keeper.left_since g.K.Keeper.opens) g.D.In.Source.left g.D.In.Source.read_gives g.D.In.Source.faults
+    g.D.Out.Sink.taken g.D.Out.Sink.faults g.D.Clock.Clock.coming g.D.Clock.Clock.faults)
     (map (door_of g.D.Door.left g.D.Door.is_out g.D.Door.faults g.D.Door.log) c.args.doors.items) c.args.pass)
 
 pub returns-clause-serves : goal.returns-clause-serves
 returns-clause-serves g t c =
-    let streams = streams_of (tries_of g.K.Keeper.tells_stops g.K.Keeper.rows g.K.Keeper.tried g.K.Keeper.moment g.K.Keeper.left_since g.K.Keeper.opens) g.D.In.Source.left g.D.In.Source.read_gives g.D.In.Source.faults g.D.Out.Sink.taken g.D.Out.Sink.faults g.D.Clock.Clock.coming g.D.Clock.Clock.faults in
+    let streams =
+    streams_of (tries_of g.K.Keeper.tells_stops g.K.Keeper.rows g.K.Keeper.tried g.K.Keeper.moment
+    g.K.Keeper.left_since g.K.Keeper.opens) g.D.In.Source.left g.D.In.Source.read_gives g.D.In.Source.faults
+    g.D.Out.Sink.taken g.D.Out.Sink.faults g.D.Clock.Clock.coming g.D.Clock.Clock.faults in
     let seen = door_of g.D.Door.left g.D.Door.is_out g.D.Door.faults g.D.Door.log in
     let front = c.in-Ok.halves.0.items in
     let back = c.in-Ok.halves.1.items in
     let one = c.join-one.result.0 in
     let other = c.join-one.result.1 in
     let first : ServesDoors streams one.2 (map seen front) (map seen one.1.items) (larger_half c.args.pass) one.0 =
-    subst (λ (p : KnownPass g.row.K.Denot). ServesDoors streams one.2 (map seen front) (map seen one.1.items) p one.0) c.in-Ok-split.ensures.1 c.join-one.ensures.first.0 in
-    let second : ServesDoors streams other.2 (map seen back) (map seen other.1.items) (smaller_half c.args.pass) other.0 =
-    subst (λ (p : KnownPass g.row.K.Denot). ServesDoors streams other.2 (map seen back) (map seen other.1.items) p other.0) c.in-Ok-split.ensures.2
+    subst (λ (p : KnownPass g.row.K.Denot). ServesDoors streams one.2 (map seen front) (map seen one.1.items) p one.0)
+    c.in-Ok-split.ensures.1 c.join-one.ensures.first.0 in
+    let second : ServesDoors streams other.2 (map seen back) (map seen other.1.items) (smaller_half c.args.pass)
+    other.0 =
+    subst (λ (p : KnownPass g.row.K.Denot). ServesDoors streams other.2 (map seen back) (map seen other.1.items) p
+    other.0) c.in-Ok-split.ensures.2
     c.join-one.ensures.second.0 in
     let before = ap (map seen) c.in-Ok.ensures.whole ∙ map-append seen front back in
     let after = ap (map seen) c.rejoin.ensures.items ∙ map-append seen one.1.items other.1.items in

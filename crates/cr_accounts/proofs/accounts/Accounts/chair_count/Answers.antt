@@ -9,4 +9,5 @@ pub returns : goal.returns
 returns c =
     c.chairs_among.ensures
     ∙ sym (chair_count-lines_from 1 c.deref.result.now)
-    ∙ ap (λ (accounts : List Account). chair_count (lines_of accounts)) (c.deref.ensures.value ∙ ap (λ (v : SeenAccounts). v.accounts) c.self.view_is)
+    ∙ ap (λ (accounts : List Account). chair_count (lines_of accounts))
+    (c.deref.ensures.value ∙ ap (λ (v : SeenAccounts). v.accounts) c.self.view_is)

@@ -6,5 +6,6 @@ abbrev pub invariant-loop-account : goal.invariant-loop-account
 invariant-loop-account l =
     record {
       count : length l.lines.items ≡ l.account-index;
-      rest : l.lines.items ++ lines_from (l.account-index + 1) (drop l.account-index l.self.accounts) ≡ lines_of l.self.accounts;
+      rest : l.lines.items ++ lines_from (l.account-index + 1) (drop l.account-index l.self.accounts)
+          ≡ lines_of l.self.accounts;
     }

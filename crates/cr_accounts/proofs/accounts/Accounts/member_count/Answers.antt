@@ -10,10 +10,13 @@ loop-account-preserved c =
     let same : c.deref-account-items.result.now ≡ c.args.self.now.accounts =
     c.deref-account-items.ensures.value ∙ ap (λ (v : SeenAccounts). v.accounts) c.self.view_is in
     record {
-      counted = count-step c.args.self.now.accounts i c.loop-account.count c.counted-count.result _ c.account-item.result
+      counted =
+          count-step c.args.self.now.accounts i c.loop-account.count c.counted-count.result _ c.account-item.result
           (subst (λ (xs : List Account). i < length xs) same c.loop-account-test.true)
-          (c.account-item.is ∙ ap (λ (xs : List Account). get_or xs i c.account-item.result) same) c.counted-count.ensures c.loop-account.invariant.counted;
-      few = step-few c.loop-account.count c.counted-count.result i c.account-item.result c.counted-count.ensures c.loop-account.invariant.few;
+          (c.account-item.is ∙ ap (λ (xs : List Account). get_or xs i c.account-item.result) same)
+          c.counted-count.ensures c.loop-account.invariant.counted;
+      few = step-few c.loop-account.count c.counted-count.result i c.account-item.result c.counted-count.ensures
+          c.loop-account.invariant.few;
     }
 
 pub returns-clause-count : goal.returns-clause-count
@@ -22,4 +25,5 @@ returns-clause-count c =
     let same : c.deref-account-items.result.now ≡ c.args.self.now.accounts =
     c.deref-account-items.ensures.value ∙ ap (λ (v : SeenAccounts). v.accounts) c.self.view_is in
     count-all c.args.self.now.accounts i c.loop-account.count _
-    (subst (λ (xs : List Account). length xs ≤ i) same (omega (arith, c.loop-account-test.false))) c.loop-account.invariant.counted
+    (subst (λ (xs : List Account). length xs ≤ i) same (omega (arith, c.loop-account-test.false)))
+    c.loop-account.invariant.counted

@@ -14,5 +14,6 @@ returns-clause-value c =
 pub returns-clause-few : goal.returns-clause-few
 returns-clause-few c =
     subst (λ (n : ℕ). n ≤ 26)
-    (sym (c.count_of.ensures ∙ ap (λ (ts : SeatsState). length ts) (own-of paper_of c.args.paper c.self.inside.seats.files c.self.invariant.1)))
+    (sym (c.count_of.ensures ∙ ap (λ (ts : SeatsState). length ts)
+    (own-of paper_of c.args.paper c.self.inside.seats.files c.self.invariant.1)))
     (c.self.invariant.0.few c.args.paper)

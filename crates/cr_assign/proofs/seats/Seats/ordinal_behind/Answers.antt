@@ -14,6 +14,7 @@ returns c =
     let earlier = c.args.earlier.now in
     let order = subst (λ (v : SeenSeats). SeatsInOrder v.seats) c.self.view_is c.self.invariant.0.in_order in
     c.seat_behind.ensures
-    ∙ ap (λ (held : Option ℕ). fold (λ (o : Option ℕ) (e : Stamped). last_or o (ordinal_told user paper e.entry)) held earlier)
+    ∙ ap (λ (held : Option ℕ). fold (λ (o : Option ℕ) (e : Stamped). last_or o (ordinal_told user paper e.entry)) held
+    earlier)
     c.ordinal_of-held.ensures.value
     ∙ sym (ordinal_in-from user paper c.args.self.now.seats earlier order c.requires)

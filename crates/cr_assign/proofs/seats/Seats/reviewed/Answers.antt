@@ -49,11 +49,13 @@ returns-clause-ordinals g c =
     let is : c.of.result.now ≡ ties_of ByUser c.args.user x.reviewing.ties = c.of.ensures.ties
     ∙ ap (λ (o : Order). ties_of o c.number.result x.reviewing.ties) c.self.invariant.0.by_user
     ∙ ap (λ (n : ℕ). ties_of ByUser n x.reviewing.ties) c.number.ensures.value in
-    let under : SeatsState → List (Tie ℕ) → Type 0 = λ seats ts. All (λ (t : Tie ℕ). ordinal_in seats (Some user) t.pair.paper ≡ Some t.value) ts in
+    let under : SeatsState → List (Tie ℕ) → Type 0 =
+    λ seats ts. All (λ (t : Tie ℕ). ordinal_in seats (Some user) t.pair.paper ≡ Some t.value) ts in
     subst (λ (v : SeenSeats). under v.seats c.of.result.now) c.self.view_is
     (subst (under seats) (sym is)
     (reviewed-under seats x.reviewing.order x.reviewing.ties c.self.invariant.0 c.of.ensures.order user))
 
 pub returns-clause-steps : goal.returns-clause-steps
 returns-clause-steps g c =
-    subst (λ (ts : List (Tie ℕ)). Takes (length ts) c.args.steps.now c.of.new.steps) (sym c.of.ensures.ties) c.of.ensures.steps
+    subst (λ (ts : List (Tie ℕ)). Takes (length ts) c.args.steps.now c.of.new.steps) (sym c.of.ensures.ties)
+    c.of.ensures.steps

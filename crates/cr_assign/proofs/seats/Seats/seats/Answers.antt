@@ -17,10 +17,12 @@ returns-clause-ties g c =
 pub returns-clause-few : goal.returns-clause-few
 returns-clause-few g c =
     subst (λ (ts : SeatsState). length ts ≤ 26)
-    (sym (c.of_paper.ensures.values ∙ own-of paper_of c.args.paper c.self.inside.seats.files c.self.invariant.1)) (c.self.invariant.0.few c.args.paper)
+    (sym (c.of_paper.ensures.values ∙ own-of paper_of c.args.paper c.self.inside.seats.files c.self.invariant.1))
+    (c.self.invariant.0.few c.args.paper)
 
 pub returns-clause-steps : goal.returns-clause-steps
 returns-clause-steps g c =
-    let same = ap (λ (ts : SeatsState). length ts) (own-of paper_of c.args.paper c.self.inside.seats.files c.self.invariant.1)
+    let same =
+    ap (λ (ts : SeatsState). length ts) (own-of paper_of c.args.paper c.self.inside.seats.files c.self.invariant.1)
     ∙ ap (λ (v : SeenSeats). length (ties_of ByPaper c.args.paper v.seats)) c.self.view_is in
     subst (λ (n : ℕ). Takes n c.args.steps.now c.of_paper.new.steps) same c.of_paper.ensures.steps

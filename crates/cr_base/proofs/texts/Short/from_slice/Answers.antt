@@ -3,4 +3,8 @@ use Rattle.cr_base.proofs.RowLaws.{zeros_behind}
 use Rattle.cr_base.proofs.texts.Short.from_slice.Goals as goal
 
 pub invariant_of-result : goal.invariant_of-result
-invariant_of-result c = (c.requires, simp (length-append, length-drop) (omega (arith, ap length c.copy_from_slice.ensures.after)), zeros_behind _ _ (ap length c.copy_from_slice.ensures.after) c.requires)
+invariant_of-result c = (
+  c.requires,
+  simp (length-append, length-drop) (omega (arith, ap length c.copy_from_slice.ensures.after)),
+  zeros_behind _ _ (ap length c.copy_from_slice.ensures.after) c.requires,
+)

@@ -24,6 +24,7 @@ returns g c =
     let q = queries.Report c.args.report.now in
     let same = ap (λ (v : SeenBook g.row.K.Denot). v.log) c.self.view_is in
     subst (λ (due : Reply). AnswersAsDue c.answer.result due)
-    (answered-by_view g.K.Keeper.rows c.self.inside.log.entries c.self.inside.live.tables c.self.inside.keeper u q c.self.invariant.0
+    (answered-by_view g.K.Keeper.rows c.self.inside.log.entries c.self.inside.live.tables c.self.inside.keeper u q
+    c.self.invariant.0
     ∙ ap (λ (h : History). answer u (view u h) q) same)
     c.answer.ensures

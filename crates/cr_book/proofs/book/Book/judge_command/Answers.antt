@@ -35,16 +35,19 @@ returns-in-Err-clause-only_rule g c = λ rule told.
 pub keep-requires-clause-legal : goal.keep-requires-clause-legal
 keep-requires-clause-legal g c =
     let same = ap (λ (v : SeenBook g.row.K.Denot). v.log) c.self.view_is in
-    let told = judged-by_view g.K.Keeper.rows _ c.args.self.now.log _ _ c.args.call (Ok (drawn_by c.self.inside.live.tables.accounts c.in-Ok.effect))
+    let told = judged-by_view g.K.Keeper.rows _ c.args.self.now.log _ _ c.args.call
+    (Ok (drawn_by c.self.inside.live.tables.accounts c.in-Ok.effect))
     (ap (λ (v : SeenBook g.row.K.Denot). v.log) c.self.view_is) c.self.invariant.0 c.in-Ok.ensures.drawn in
     subst (λ (group : History). Legal (c.args.self.now.log ++ group)) (sym c.in-Ok-group.ensures)
-    (Legal-accepted c.args.self.now.log c.args.call (drawn_by c.self.inside.live.tables.accounts c.in-Ok.effect) (subst (λ (h : History). Legal h) same c.self.invariant.0.legal)
+    (Legal-accepted c.args.self.now.log c.args.call (drawn_by c.self.inside.live.tables.accounts c.in-Ok.effect)
+    (subst (λ (h : History). Legal h) same c.self.invariant.0.legal)
     c.requires told)
 
 pub keep-requires-clause-adds : goal.keep-requires-clause-adds
 keep-requires-clause-adds g c =
     let log = c.args.self.now.log in
-    let told = judged-by_view g.K.Keeper.rows _ log _ _ c.args.call (Ok (drawn_by c.self.inside.live.tables.accounts c.in-Ok.effect))
+    let told = judged-by_view g.K.Keeper.rows _ log _ _ c.args.call
+    (Ok (drawn_by c.self.inside.live.tables.accounts c.in-Ok.effect))
     (ap (λ (v : SeenBook g.row.K.Denot). v.log) c.self.view_is) c.self.invariant.0 c.in-Ok.ensures.drawn in
     subst (λ (group : History). AddsOne log group) (sym c.in-Ok-group.ensures)
     (record { move = calls c.args.call; allowed = c.requires; adds = ap (followed_by log) told })
@@ -52,73 +55,92 @@ keep-requires-clause-adds g c =
 pub keep-requires-clause-follows : goal.keep-requires-clause-follows
 keep-requires-clause-follows g c =
     let same = ap (λ (v : SeenBook g.row.K.Denot). v.log) c.self.view_is in
-    let told = judged-by_view g.K.Keeper.rows _ c.args.self.now.log _ _ c.args.call (Ok (drawn_by c.self.inside.live.tables.accounts c.in-Ok.effect))
+    let told = judged-by_view g.K.Keeper.rows _ c.args.self.now.log _ _ c.args.call
+    (Ok (drawn_by c.self.inside.live.tables.accounts c.in-Ok.effect))
     (ap (λ (v : SeenBook g.row.K.Denot). v.log) c.self.view_is) c.self.invariant.0 c.in-Ok.ensures.drawn in
     subst (λ (group : History). MayFollow c.args.self.now.log group) (sym c.in-Ok-group.ensures)
-    (call-follows c.args.self.now.log c.args.call (drawn_by c.self.inside.live.tables.accounts c.in-Ok.effect) (subst (λ (h : History). Legal h) same c.self.invariant.0.legal)
+    (call-follows c.args.self.now.log c.args.call (drawn_by c.self.inside.live.tables.accounts c.in-Ok.effect)
+    (subst (λ (h : History). Legal h) same c.self.invariant.0.legal)
     c.requires told)
 
 pub keep-requires-clause-fits : goal.keep-requires-clause-fits
 keep-requires-clause-fits g c =
     subst (λ (group : History). FitInTurn (tables_of c.args.self.now.log) group) (sym c.in-Ok-group.ensures)
     (subst (λ (t : Tables). FitInTurn t (group_of c.in-Ok.effect))
-    (c.self.invariant.0.same ∙ ap (λ (v : SeenBook g.row.K.Denot). tables_of v.log) c.self.view_is) c.in-Ok.ensures.fits)
+    (c.self.invariant.0.same ∙ ap (λ (v : SeenBook g.row.K.Denot). tables_of v.log) c.self.view_is)
+    c.in-Ok.ensures.fits)
 
 pub returns-in_default-clause-rule : goal.returns-in_default-clause-rule
 returns-in_default-clause-rule g c = λ rule told.
-    let drawn = judged-by_view g.K.Keeper.rows _ c.args.self.now.log _ _ c.args.call (Ok (drawn_by c.self.inside.live.tables.accounts c.in-Ok.effect))
+    let drawn = judged-by_view g.K.Keeper.rows _ c.args.self.now.log _ _ c.args.call
+    (Ok (drawn_by c.self.inside.live.tables.accounts c.in-Ok.effect))
     (ap (λ (v : SeenBook g.row.K.Denot). v.log) c.self.view_is) c.self.invariant.0 c.in-Ok.ensures.drawn in
     absurd (drawn-no_error _ _ rule drawn told)
 
 pub returns-in_default-clause-memory : goal.returns-in_default-clause-memory
 returns-in_default-clause-memory g c = λ is.
-    drawn-ok _ _ (judged-by_view g.K.Keeper.rows _ c.args.self.now.log _ _ c.args.call (Ok (drawn_by c.self.inside.live.tables.accounts c.in-Ok.effect))
+    drawn-ok _ _ (judged-by_view g.K.Keeper.rows _ c.args.self.now.log _ _ c.args.call
+    (Ok (drawn_by c.self.inside.live.tables.accounts c.in-Ok.effect))
     (ap (λ (v : SeenBook g.row.K.Denot). v.log) c.self.view_is) c.self.invariant.0 c.in-Ok.ensures.drawn)
 
 pub returns-in-Err-keep-clause-rule : goal.returns-in-Err-keep-clause-rule
 returns-in-Err-keep-clause-rule g c = λ rule told.
-    let drawn = judged-by_view g.K.Keeper.rows _ c.args.self.now.log _ _ c.args.call (Ok (drawn_by c.self.inside.live.tables.accounts c.in-Ok.effect))
+    let drawn = judged-by_view g.K.Keeper.rows _ c.args.self.now.log _ _ c.args.call
+    (Ok (drawn_by c.self.inside.live.tables.accounts c.in-Ok.effect))
     (ap (λ (v : SeenBook g.row.K.Denot). v.log) c.self.view_is) c.self.invariant.0 c.in-Ok.ensures.drawn in
     absurd (drawn-no_error _ _ rule drawn told)
 
 pub returns-in-Err-keep-clause-memory : goal.returns-in-Err-keep-clause-memory
 returns-in-Err-keep-clause-memory g c = λ is.
-    drawn-ok _ _ (judged-by_view g.K.Keeper.rows _ c.args.self.now.log _ _ c.args.call (Ok (drawn_by c.self.inside.live.tables.accounts c.in-Ok.effect))
+    drawn-ok _ _ (judged-by_view g.K.Keeper.rows _ c.args.self.now.log _ _ c.args.call
+    (Ok (drawn_by c.self.inside.live.tables.accounts c.in-Ok.effect))
     (ap (λ (v : SeenBook g.row.K.Denot). v.log) c.self.view_is) c.self.invariant.0 c.in-Ok.ensures.drawn)
 
 pub returns-in-Err-keep-clause-lost : goal.returns-in-Err-keep-clause-lost
 returns-in-Err-keep-clause-lost g c = λ is.
-    drawn-ok _ _ (judged-by_view g.K.Keeper.rows _ c.args.self.now.log _ _ c.args.call (Ok (drawn_by c.self.inside.live.tables.accounts c.in-Ok.effect))
+    drawn-ok _ _ (judged-by_view g.K.Keeper.rows _ c.args.self.now.log _ _ c.args.call
+    (Ok (drawn_by c.self.inside.live.tables.accounts c.in-Ok.effect))
     (ap (λ (v : SeenBook g.row.K.Denot). v.log) c.self.view_is) c.self.invariant.0 c.in-Ok.ensures.drawn)
 
 pub returns-in-Ok-keep-clause-accepted : goal.returns-in-Ok-keep-clause-accepted
 returns-in-Ok-keep-clause-accepted g c =
-    acts-judged c.args.self.now.log _ _ (judge (view c.args.call.caller c.args.self.now.log) c.args.call) (drawn_by c.self.inside.live.tables.accounts c.in-Ok.effect)
-    (judged-by_view g.K.Keeper.rows _ c.args.self.now.log _ _ c.args.call (Ok (drawn_by c.self.inside.live.tables.accounts c.in-Ok.effect))
+    acts-judged c.args.self.now.log _ _ (judge (view c.args.call.caller c.args.self.now.log) c.args.call)
+    (drawn_by c.self.inside.live.tables.accounts c.in-Ok.effect)
+    (judged-by_view g.K.Keeper.rows _ c.args.self.now.log _ _ c.args.call
+    (Ok (drawn_by c.self.inside.live.tables.accounts c.in-Ok.effect))
     (ap (λ (v : SeenBook g.row.K.Denot). v.log) c.self.view_is) c.self.invariant.0 c.in-Ok.ensures.drawn)
     c.receipt-receipt.ensures
     (c.in-Ok-keep.ensures.kept ∙ ap (λ (group : History). c.args.self.now.log ++ group) c.in-Ok-group.ensures)
 
 pub returns-in-Ok-keep-clause-rule : goal.returns-in-Ok-keep-clause-rule
 returns-in-Ok-keep-clause-rule g c = λ rule told.
-    let drawn = judged-by_view g.K.Keeper.rows _ c.args.self.now.log _ _ c.args.call (Ok (drawn_by c.self.inside.live.tables.accounts c.in-Ok.effect))
+    let drawn = judged-by_view g.K.Keeper.rows _ c.args.self.now.log _ _ c.args.call
+    (Ok (drawn_by c.self.inside.live.tables.accounts c.in-Ok.effect))
     (ap (λ (v : SeenBook g.row.K.Denot). v.log) c.self.view_is) c.self.invariant.0 c.in-Ok.ensures.drawn in
     absurd (drawn-no_error _ _ rule drawn told)
 
 pub returns-in-Ok-keep-clause-stops : goal.returns-in-Ok-keep-clause-stops
 returns-in-Ok-keep-clause-stops g c = λ told drawn is.
     let K = g.K.Keeper in
-    kept_drawn K.rows K.tried K.moment K.left_since K.opens (judge (view c.args.call.caller c.args.self.now.log) c.args.call) (drawn_by c.self.inside.live.tables.accounts c.in-Ok.effect) drawn
-    (judged-by_view g.K.Keeper.rows _ c.args.self.now.log _ _ c.args.call (Ok (drawn_by c.self.inside.live.tables.accounts c.in-Ok.effect))
+    kept_drawn K.rows K.tried K.moment K.left_since K.opens
+    (judge (view c.args.call.caller c.args.self.now.log) c.args.call)
+    (drawn_by c.self.inside.live.tables.accounts c.in-Ok.effect) drawn
+    (judged-by_view g.K.Keeper.rows _ c.args.self.now.log _ _ c.args.call
+    (Ok (drawn_by c.self.inside.live.tables.accounts c.in-Ok.effect))
     (ap (λ (v : SeenBook g.row.K.Denot). v.log) c.self.view_is) c.self.invariant.0 c.in-Ok.ensures.drawn) is
     c.in-Ok-group.group.items c.in-Ok-group.ensures
-    c.args.self.now.log c.args.self.now.keeper c.keep.new.self.keeper c.keep.result c.in-Ok-keep.field-0 c.receipt-receipt.result c.in-Ok-keep.is (c.keep.ensures.stops told)
+    c.args.self.now.log c.args.self.now.keeper c.keep.new.self.keeper c.keep.result c.in-Ok-keep.field-0
+    c.receipt-receipt.result c.in-Ok-keep.is (c.keep.ensures.stops told)
 
 pub returns-in-Err-keep-clause-stops : goal.returns-in-Err-keep-clause-stops
 returns-in-Err-keep-clause-stops g c = λ told drawn is.
     let K = g.K.Keeper in
-    refused_drawn K.rows K.tried K.moment K.left_since K.opens (judge (view c.args.call.caller c.args.self.now.log) c.args.call) (drawn_by c.self.inside.live.tables.accounts c.in-Ok.effect) drawn
-    (judged-by_view g.K.Keeper.rows _ c.args.self.now.log _ _ c.args.call (Ok (drawn_by c.self.inside.live.tables.accounts c.in-Ok.effect))
+    refused_drawn K.rows K.tried K.moment K.left_since K.opens
+    (judge (view c.args.call.caller c.args.self.now.log) c.args.call)
+    (drawn_by c.self.inside.live.tables.accounts c.in-Ok.effect) drawn
+    (judged-by_view g.K.Keeper.rows _ c.args.self.now.log _ _ c.args.call
+    (Ok (drawn_by c.self.inside.live.tables.accounts c.in-Ok.effect))
     (ap (λ (v : SeenBook g.row.K.Denot). v.log) c.self.view_is) c.self.invariant.0 c.in-Ok.ensures.drawn) is
     c.in-Ok-group.group.items c.in-Ok-group.ensures
-    c.args.self.now.log c.args.self.now.keeper c.keep.new.self.keeper c.keep.result c.in-Err-keep.error c.in-Err-keep.error c.in-Err-keep.is (c.keep.ensures.stops told)
+    c.args.self.now.log c.args.self.now.keeper c.keep.new.self.keeper c.keep.result c.in-Err-keep.error
+    c.in-Err-keep.error c.in-Err-keep.is (c.keep.ensures.stops told)

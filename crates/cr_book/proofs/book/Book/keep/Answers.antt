@@ -19,10 +19,12 @@ pub append-requires-clause-follows : goal.append-requires-clause-follows
 append-requires-clause-follows g c =
     let old = sym (c.room-2.ensures.same ∙ ap (λ (v : SeenBook g.row.K.Denot). v.log) c.self.view_is) in
     let group = sym (c.in-Ok-copies_of.ensures ∙ c.deref-2.ensures.value) in
-    subst (λ (h : History). MayFollow h c.in-Ok-copies_of.entries.items) old (subst (λ (h : History). MayFollow c.args.self.now.log h) group c.requires.follows)
+    subst (λ (h : History). MayFollow h c.in-Ok-copies_of.entries.items) old
+    (subst (λ (h : History). MayFollow c.args.self.now.log h) group c.requires.follows)
 
 -- the history is followed by the group
-grown : (g : Over) (c : goal.After-drop-rows-2 g) → c.append.new.self.entries ≡ c.self.inside.log.entries ++ c.args.group.items
+grown : (g : Over) (c : goal.After-drop-rows-2 g)
+    → c.append.new.self.entries ≡ c.self.inside.log.entries ++ c.args.group.items
 grown g c =
     c.append.ensures
     ∙ ap (λ (h : History). h ++ c.in-Ok-copies_of.entries.items) c.room-2.ensures.same
@@ -35,20 +37,24 @@ sound : (g : Over) (c : goal.After-drop-rows-2 g)
     → IsSound g.K.Keeper.rows c.append.new.self.entries c.apply_all.new.self.tables c.append_all.new.self
 sound g c =
     let same = ap (λ (v : SeenBook g.row.K.Denot). v.log) c.self.view_is in
-    let legal = subst (λ (x : History). Legal x) (ap (λ (h : History). h ++ c.args.group.items) (sym same)) c.requires.legal in
-    sound-step g.K.Keeper.rows c.self.inside.log.entries c.append.new.self.entries c.args.group.items c.self.inside.live.tables c.apply_all.new.self.tables c.self.inside.keeper c.append_all.new.self
+    let legal =
+    subst (λ (x : History). Legal x) (ap (λ (h : History). h ++ c.args.group.items) (sym same)) c.requires.legal in
+    sound-step g.K.Keeper.rows c.self.inside.log.entries c.append.new.self.entries c.args.group.items
+    c.self.inside.live.tables c.apply_all.new.self.tables c.self.inside.keeper c.append_all.new.self
     c.self.invariant.0
     legal
     (grown g c)
     (c.apply_all.ensures.after ∙ ap (λ (t : Tables). tables_from t c.args.group.items) c.room.ensures.same)
-    (c.in-Ok-append_all.ensures.kept ∙ ap (λ (rs : List Row). and_rows (g.K.Keeper.rows c.self.inside.keeper) rs) (added-rows g c))
+    (c.in-Ok-append_all.ensures.kept ∙ ap (λ (rs : List Row). and_rows (g.K.Keeper.rows c.self.inside.keeper) rs)
+    (added-rows g c))
 
 pub invariant_of-self-2 : goal.invariant_of-self-2
 invariant_of-self-2 g c =
     let K = g.K.Keeper in
     let inside = c.self.inside in
     let same = ap (λ (v : SeenBook g.row.K.Denot). v.log) c.self.view_is in
-    kept_step K.rows K.tried K.moment K.left_since K.opens K.tells_stops K.rows_told inside.opened.value inside.keeper c.append_all.new.self
+    kept_step K.rows K.tried K.moment K.left_since K.opens K.tells_stops K.rows_told inside.opened.value inside.keeper
+    c.append_all.new.self
     inside.log.entries c.args.group.items c.deref-5.result.now inside.live.tables (added-rows g c) c.self.invariant
     (subst (λ (h : History). AddsOne h c.args.group.items) (sym same) c.requires.adds)
     c.append_all.ensures.stops c.append_all.ensures.between
@@ -59,33 +65,39 @@ invariant_of-self-in-Err-Failed g c =
     let K = g.K.Keeper in
     let inside = c.self.inside in
     let same = ap (λ (v : SeenBook g.row.K.Denot). v.log) c.self.view_is in
-    refused_step K.rows K.tried K.moment K.left_since K.opens K.tells_stops K.rows_told inside.opened.value inside.keeper c.append_all.new.self
+    refused_step K.rows K.tried K.moment K.left_since K.opens K.tells_stops K.rows_told inside.opened.value
+    inside.keeper c.append_all.new.self
     inside.log.entries c.args.group.items c.deref-5.result.now inside.live.tables
     (c.deref-5.ensures.value ∙ c.in-Ok.ensures ∙ ap rows_of c.deref.ensures.value) c.self.invariant
     (subst (λ (h : History). AddsOne h c.args.group.items) (sym same) c.requires.adds)
     c.append_all.ensures.stops c.append_all.ensures.between
-    c.room-2.new.self.entries c.room.new.self.tables c.room-2.ensures.same c.room.ensures.same c.in-Err-Failed.ensures.refused c.in-Err-Failed.ensures.tried
+    c.room-2.new.self.entries c.room.new.self.tables c.room-2.ensures.same c.room.ensures.same
+    c.in-Err-Failed.ensures.refused c.in-Err-Failed.ensures.tried
 
 pub invariant_of-self-in-Err-OutOfMemory : goal.invariant_of-self-in-Err-OutOfMemory
 invariant_of-self-in-Err-OutOfMemory g c =
     let K = g.K.Keeper in
     let inside = c.self.inside in
     let same = ap (λ (v : SeenBook g.row.K.Denot). v.log) c.self.view_is in
-    refused_step K.rows K.tried K.moment K.left_since K.opens K.tells_stops K.rows_told inside.opened.value inside.keeper c.append_all.new.self
+    refused_step K.rows K.tried K.moment K.left_since K.opens K.tells_stops K.rows_told inside.opened.value
+    inside.keeper c.append_all.new.self
     inside.log.entries c.args.group.items c.deref-5.result.now inside.live.tables
     (c.deref-5.ensures.value ∙ c.in-Ok.ensures ∙ ap rows_of c.deref.ensures.value) c.self.invariant
     (subst (λ (h : History). AddsOne h c.args.group.items) (sym same) c.requires.adds)
     c.append_all.ensures.stops c.append_all.ensures.between
-    c.room-2.new.self.entries c.room.new.self.tables c.room-2.ensures.same c.room.ensures.same c.in-Err-OutOfMemory.ensures.refused c.in-Err-OutOfMemory.ensures.tried
+    c.room-2.new.self.entries c.room.new.self.tables c.room-2.ensures.same c.room.ensures.same
+    c.in-Err-OutOfMemory.ensures.refused c.in-Err-OutOfMemory.ensures.tried
 
 pub returns-clause-stops : goal.returns-clause-stops
 returns-clause-stops g c = λ told.
     let K = g.K.Keeper in
     let inside = c.self.inside in
     let same = ap (λ (v : SeenBook g.row.K.Denot). v.log) c.self.view_is in
-    subst (λ (v : SeenBook g.row.K.Denot). Adding K.rows K.tried K.moment K.left_since K.opens (Ok (tt {0})) v.log c.args.group.items v.keeper c.append_all.new.self)
+    subst (λ (v : SeenBook g.row.K.Denot). Adding K.rows K.tried K.moment K.left_since K.opens (Ok (tt {0})) v.log
+    c.args.group.items v.keeper c.append_all.new.self)
     c.self.view_is
-    (kept_adds K.rows K.tried K.moment K.left_since K.opens K.tells_stops K.rows_told inside.opened.value inside.keeper c.append_all.new.self
+    (kept_adds K.rows K.tried K.moment K.left_since K.opens K.tells_stops K.rows_told inside.opened.value inside.keeper
+    c.append_all.new.self
     inside.log.entries c.args.group.items c.deref-5.result.now inside.live.tables (added-rows g c) c.self.invariant
     (subst (λ (h : History). AddsOne h c.args.group.items) (sym same) c.requires.adds)
     c.append_all.ensures.stops c.append_all.ensures.between c.in-Ok-append_all.ensures.tried told)
@@ -95,9 +107,11 @@ returns-in-Err-Failed-clause-stops g c = λ told.
     let K = g.K.Keeper in
     let inside = c.self.inside in
     let same = ap (λ (v : SeenBook g.row.K.Denot). v.log) c.self.view_is in
-    subst (λ (v : SeenBook g.row.K.Denot). Adding K.rows K.tried K.moment K.left_since K.opens {T = Unit {0}} (Err errors.KeeperFault) v.log c.args.group.items v.keeper c.append_all.new.self)
+    subst (λ (v : SeenBook g.row.K.Denot). Adding K.rows K.tried K.moment K.left_since K.opens {T = Unit {0}}
+    (Err errors.KeeperFault) v.log c.args.group.items v.keeper c.append_all.new.self)
     c.self.view_is
-    (refused_adds K.rows K.tried K.moment K.left_since K.opens K.tells_stops K.rows_told inside.opened.value inside.keeper c.append_all.new.self
+    (refused_adds K.rows K.tried K.moment K.left_since K.opens K.tells_stops K.rows_told inside.opened.value
+    inside.keeper c.append_all.new.self
     inside.log.entries c.args.group.items c.deref-5.result.now inside.live.tables
     (c.deref-5.ensures.value ∙ c.in-Ok.ensures ∙ ap rows_of c.deref.ensures.value) c.self.invariant
     (subst (λ (h : History). AddsOne h c.args.group.items) (sym same) c.requires.adds)
@@ -108,9 +122,11 @@ returns-in-Err-OutOfMemory-clause-stops g c = λ told.
     let K = g.K.Keeper in
     let inside = c.self.inside in
     let same = ap (λ (v : SeenBook g.row.K.Denot). v.log) c.self.view_is in
-    subst (λ (v : SeenBook g.row.K.Denot). Adding K.rows K.tried K.moment K.left_since K.opens {T = Unit {0}} (Err errors.OutOfMemory) v.log c.args.group.items v.keeper c.append_all.new.self)
+    subst (λ (v : SeenBook g.row.K.Denot). Adding K.rows K.tried K.moment K.left_since K.opens {T = Unit {0}}
+    (Err errors.OutOfMemory) v.log c.args.group.items v.keeper c.append_all.new.self)
     c.self.view_is
-    (refused_adds K.rows K.tried K.moment K.left_since K.opens K.tells_stops K.rows_told inside.opened.value inside.keeper c.append_all.new.self
+    (refused_adds K.rows K.tried K.moment K.left_since K.opens K.tells_stops K.rows_told inside.opened.value
+    inside.keeper c.append_all.new.self
     inside.log.entries c.args.group.items c.deref-5.result.now inside.live.tables
     (c.deref-5.ensures.value ∙ c.in-Ok.ensures ∙ ap rows_of c.deref.ensures.value) c.self.invariant
     (subst (λ (h : History). AddsOne h c.args.group.items) (sym same) c.requires.adds)
@@ -118,4 +134,5 @@ returns-in-Err-OutOfMemory-clause-stops g c = λ told.
 
 pub returns-in-Err-OutOfMemory-clause-untried : goal.returns-in-Err-OutOfMemory-clause-untried
 returns-in-Err-OutOfMemory-clause-untried g c = λ told is.
-    c.in-Err-OutOfMemory.ensures.untried told (ap Err c.in-Err-OutOfMemory.field-0-is) ∙ ap (λ (v : SeenBook g.row.K.Denot). v.keeper) c.self.view_is
+    c.in-Err-OutOfMemory.ensures.untried told (ap Err c.in-Err-OutOfMemory.field-0-is)
+    ∙ ap (λ (v : SeenBook g.row.K.Denot). v.keeper) c.self.view_is

@@ -9,5 +9,7 @@ use Rattle.cr_book.proofs.book.Book.needs_login.Goals as goal
 pub returns : goal.returns
 returns g c =
     c.needs_login.ensures
-    ∙ login-by_view g.K.Keeper.rows c.self.inside.log.entries c.self.inside.live.tables c.self.inside.keeper c.args.query.now c.self.invariant.0
-    ∙ ap (λ (h : History). needs_login (view None h) c.args.query.now) (ap (λ (v : SeenBook g.row.K.Denot). v.log) c.self.view_is)
+    ∙ login-by_view g.K.Keeper.rows c.self.inside.log.entries c.self.inside.live.tables c.self.inside.keeper
+    c.args.query.now c.self.invariant.0
+    ∙ ap (λ (h : History). needs_login (view None h) c.args.query.now)
+    (ap (λ (v : SeenBook g.row.K.Denot). v.log) c.self.view_is)

@@ -6,7 +6,9 @@ use Rattle.cr_book.proofs.book.Book.open.Goals as goal
 
 pub returns-in-Ok-clause-exact : goal.returns-in-Ok-clause-exact
 returns-in-Ok-clause-exact g c =
-    opens-book (g.K.Keeper.rows c.args.keeper) (record { log = c.in-Ok.log.entries; keeper = c.read_all.new.keeper; opened = c.args.keeper }) c.in-Ok.ensures.legal.0 c.in-Ok.ensures.spelled
+    opens-book (g.K.Keeper.rows c.args.keeper)
+    (record { log = c.in-Ok.log.entries; keeper = c.read_all.new.keeper; opened = c.args.keeper })
+    c.in-Ok.ensures.legal.0 c.in-Ok.ensures.spelled
 
 pub returns-in-Err-clause-exact : goal.returns-in-Err-clause-exact
 returns-in-Err-clause-exact g c =
@@ -15,7 +17,8 @@ returns-in-Err-clause-exact g c =
 pub returns-in-Ok-clause-between : goal.returns-in-Ok-clause-between
 returns-in-Ok-clause-between g c told =
     let K = g.K.Keeper in
-    (opened_well K.rows K.tried K.moment K.left_since K.opens c.args.keeper c.read_all.new.keeper c.in-Ok.log.entries (K.rows_told told c.args.keeper)
+    (opened_well K.rows K.tried K.moment K.left_since K.opens c.args.keeper c.read_all.new.keeper c.in-Ok.log.entries
+    (K.rows_told told c.args.keeper)
     c.in-Ok.ensures.legal.0 c.in-Ok.ensures.spelled (c.in-Ok.ensures.still told) (c.in-Ok.ensures.between told)).between
 
 pub invariant_of-result : goal.invariant_of-result
@@ -25,10 +28,13 @@ invariant_of-result g c =
       record {
         legal = c.in-Ok.ensures.legal.0;
         same = c.in-Ok.ensures.legal.1;
-        kept = spelled_kept (K.rows c.args.keeper) (K.rows c.read_all.new.keeper) log c.in-Ok.ensures.same c.in-Ok.ensures.spelled;
+        kept = spelled_kept (K.rows c.args.keeper) (K.rows c.read_all.new.keeper) log c.in-Ok.ensures.same
+            c.in-Ok.ensures.spelled;
       },
       λ told.
-          subst (λ (k : g.row.K.Denot). StopsWell K.rows K.tried K.moment K.left_since K.opens k c.read_all.new.keeper log) (sym c.of-opened.ensures)
-          (opened_well K.rows K.tried K.moment K.left_since K.opens c.args.keeper c.read_all.new.keeper log (K.rows_told told c.args.keeper)
+          subst (λ (k : g.row.K.Denot). StopsWell K.rows K.tried K.moment K.left_since K.opens k c.read_all.new.keeper
+          log) (sym c.of-opened.ensures)
+          (opened_well K.rows K.tried K.moment K.left_since K.opens c.args.keeper c.read_all.new.keeper log
+          (K.rows_told told c.args.keeper)
           c.in-Ok.ensures.legal.0 c.in-Ok.ensures.spelled (c.in-Ok.ensures.still told) (c.in-Ok.ensures.between told)),
     )

@@ -13,7 +13,9 @@ pub returns : goal.returns
 returns g c =
     let user = Some c.args.user in
     let book = c.self.inside in
-    subst (λ (sights : View). WritesView c.write_view.result (lines_text sights) (outlet_of g.O.Sink.taken g.O.Sink.faults c.args.sink.now) (outlet_of g.O.Sink.taken g.O.Sink.faults c.write_view.new.sink))
+    subst (λ (sights : View). WritesView c.write_view.result (lines_text sights)
+    (outlet_of g.O.Sink.taken g.O.Sink.faults c.args.sink.now)
+    (outlet_of g.O.Sink.taken g.O.Sink.faults c.write_view.new.sink))
     (ap (λ (log : History). sights (reader_in book.live.tables user) [] log) c.entries.ensures
     ∙ view-by_tables g.K.Keeper.rows book.log.entries book.live.tables book.keeper user c.self.invariant.0
     ∙ ap (λ (b : SeenBook g.row.K.Denot). view user b.log) c.self.view_is)

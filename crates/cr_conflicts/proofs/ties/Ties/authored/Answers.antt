@@ -16,16 +16,19 @@ pub returns-clause-papers : goal.returns-clause-papers
 returns-clause-papers g c =
     let x = c.self.inside in
     ap (map (λ (t : Tie (Unit {0})). t.pair.paper)) c.of.ensures.ties
-    ∙ ap (λ (o : Order). map (λ (t : Tie (Unit {0})). t.pair.paper) (ties_of o c.number.result x.authored.ties)) c.self.invariant.0.by_user
+    ∙ ap (λ (o : Order). map (λ (t : Tie (Unit {0})). t.pair.paper) (ties_of o c.number.result x.authored.ties))
+    c.self.invariant.0.by_user
     ∙ ap (λ (n : ℕ). papers_tied_to n x.authored.ties) c.number.ensures.value
-    ∙ (indexed-papers (values_in x.authors.files) x.authored.order x.authored.ties x.declared.order x.bids.order c.self.invariant.0 c.args.user).0
+    ∙ (indexed-papers (values_in x.authors.files) x.authored.order x.authored.ties x.declared.order x.bids.order
+    c.self.invariant.0 c.args.user).0
     ∙ ap (λ (v : SeenTies). papers_tied_to c.args.user v.ties.authors) c.self.view_is
 
 pub returns-clause-rising : goal.returns-clause-rising
 returns-clause-rising g c =
     let x = c.self.inside in
     subst (λ (v : SeenTies). IsRising (papers_tied_to c.args.user v.ties.authors)) c.self.view_is
-    (indexed-papers (values_in x.authors.files) x.authored.order x.authored.ties x.declared.order x.bids.order c.self.invariant.0 c.args.user).1
+    (indexed-papers (values_in x.authors.files) x.authored.order x.authored.ties x.declared.order x.bids.order
+    c.self.invariant.0 c.args.user).1
 
 pub returns-clause-steps : goal.returns-clause-steps
 returns-clause-steps g c =

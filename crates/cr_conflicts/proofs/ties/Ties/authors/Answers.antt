@@ -13,7 +13,8 @@ use Rattle.cr_conflicts.proofs.ties.Ties.authors.Goals as goal
 
 pub returns-clause-value : goal.returns-clause-value
 returns-clause-value g c =
-    ap (map (λ (t : Tie (Unit {0})). t.pair.user)) (c.of_paper.ensures.values ∙ own-of paper_of c.args.paper c.self.inside.authors.files c.self.invariant.1)
+    ap (map (λ (t : Tie (Unit {0})). t.pair.user))
+    (c.of_paper.ensures.values ∙ own-of paper_of c.args.paper c.self.inside.authors.files c.self.invariant.1)
     ∙ ap (λ (v : SeenTies). authors_in v.ties c.args.paper) c.self.view_is
 
 pub returns-clause-steps : goal.returns-clause-steps

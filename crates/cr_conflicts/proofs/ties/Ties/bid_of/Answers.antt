@@ -18,7 +18,8 @@ pub returns-clause-steps : goal.returns-clause-steps
 returns-clause-steps g c =
     let bids = c.self.inside.bids in
     let paper = c.args.paper in
-    let same = ap (λ (o : Order). length (ties_of o (major o (pair_of paper c.args.user)) bids.ties)) c.self.invariant.0.bids_by_paper
+    let same = ap (λ (o : Order). length (ties_of o (major o (pair_of paper c.args.user)) bids.ties))
+    c.self.invariant.0.bids_by_paper
     ∙ sym (length-map (ties_of ByPaper paper bids.ties) told)
     ∙ ap (λ (v : SeenTies). length (bids_in v.ties paper)) c.self.view_is in
     subst (λ (n : ℕ). Halves n c.args.steps.now c.value.new.steps) same c.value.ensures.steps

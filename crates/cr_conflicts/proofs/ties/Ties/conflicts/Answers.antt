@@ -10,6 +10,7 @@ use Rattle.cr_conflicts.proofs.ties.Ties.conflicts.Goals as goal
 pub returns-clause-steps : goal.returns-clause-steps
 returns-clause-steps g c =
     let paper = c.args.paper in
-    let same = sym (length-map (ties_of ByPaper paper c.self.inside.conflicts.ties) (λ (t : Tie (Unit {0})). t.pair.user))
+    let same =
+    sym (length-map (ties_of ByPaper paper c.self.inside.conflicts.ties) (λ (t : Tie (Unit {0})). t.pair.user))
     ∙ ap (λ (v : SeenTies). length (users_tied_to paper v.ties.conflicts)) c.self.view_is in
     subst (λ (n : ℕ). Takes n c.args.steps.now c.of_paper.new.steps) same c.of_paper.ensures.steps

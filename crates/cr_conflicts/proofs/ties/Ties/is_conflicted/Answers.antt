@@ -14,4 +14,5 @@ pub returns-clause-steps : goal.returns-clause-steps
 returns-clause-steps g c =
     let n = length (authors_in c.args.self.now.ties c.args.paper) in
     let m = length (users_tied_to c.args.paper c.args.self.now.ties.conflicts) in
-    at_most-at_most n m _ c.is_author_behind.new.steps _ (takes-at_most n _ _ c.is_author_behind.ensures.steps) (halves-at_most m _ _ c.is_declared_behind.ensures.steps)
+    at_most-at_most n m _ c.is_author_behind.new.steps _ (takes-at_most n _ _ c.is_author_behind.ensures.steps)
+    (halves-at_most m _ _ c.is_declared_behind.ensures.steps)

@@ -11,5 +11,6 @@ returns-clause-value g c =
     let paper = c.args.paper in
     let earlier = c.args.earlier.now in
     c.declared_behind.ensures
-    ∙ ap (λ (on : Bool). fold (λ (b : Bool) (e : Stamped). last_or b (conflict_told user paper e.entry)) on earlier) c.is_declared-on.ensures.value
+    ∙ ap (λ (on : Bool). fold (λ (b : Bool) (e : Stamped). last_or b (conflict_told user paper e.entry)) on earlier)
+    c.is_declared-on.ensures.value
     ∙ sym (is_conflict_on_in-from user paper c.args.self.now.ties earlier)

@@ -70,10 +70,12 @@ returns-clause-keeps c any has =
     room-kept any old new keeps (subst (λ (v : SeenTies). TiesHaveRoom any v.rooms) (sym c.self.view_is) has)
 
 -- room for pairs in an order is room for their numbers
-in-order : (o order : Order) (read pairs : List Pair) (rooms : List ℕ) → o ≡ order → read ≡ pairs → HasRoom (map (major o) read) rooms
+in-order : (o order : Order) (read pairs : List Pair) (rooms : List ℕ) → o ≡ order → read ≡ pairs
+    → HasRoom (map (major o) read) rooms
     → HasRoom (map (major order) pairs) rooms
 in-order o order read pairs rooms same is has =
-    subst (λ (ps : List Pair). HasRoom (map (major order) ps) rooms) is (subst (λ (k : Order). HasRoom (map (major k) read) rooms) same has)
+    subst (λ (ps : List Pair). HasRoom (map (major order) ps) rooms) is
+    (subst (λ (k : Order). HasRoom (map (major k) read) rooms) same has)
 
 pub returns-clause-ok : goal.returns-clause-ok
 returns-clause-ok c =
@@ -84,13 +86,18 @@ returns-clause-ok c =
     ∙ ap (map (λ (q : Pair). q.paper)) (c.deref.ensures.value ∙ c.in_ok-authored.ensures) in
     on_ok_weaker c.room-5.result (λ has. record {
       authors = subst (λ (ns : List ℕ). HasRoom ns c.room.new.self.rooms) papers c.in_ok-room.ensures.ok;
-      authored = in-order _ ByUser _ authored c.room-2.new.self.rooms c.self.invariant.0.by_user (c.deref-3.ensures.value ∙ c.in_ok-authored.ensures)
+      authored = in-order _ ByUser _ authored c.room-2.new.self.rooms c.self.invariant.0.by_user
+          (c.deref-3.ensures.value ∙ c.in_ok-authored.ensures)
           c.in_ok-room-2.ensures.ok;
-      conflicts = in-order ByPaper ByPaper _ conflicts c.room-3.new.self.by_paper_rooms refl (c.deref-4.ensures.value ∙ c.in_ok-conflicts.ensures)
+      conflicts = in-order ByPaper ByPaper _ conflicts c.room-3.new.self.by_paper_rooms refl
+          (c.deref-4.ensures.value ∙ c.in_ok-conflicts.ensures)
           c.in_ok-room-3.ensures.papers;
-      conflicting = in-order ByUser ByUser _ conflicts c.room-3.new.self.by_user_rooms refl (c.deref-4.ensures.value ∙ c.in_ok-conflicts.ensures)
+      conflicting = in-order ByUser ByUser _ conflicts c.room-3.new.self.by_user_rooms refl
+          (c.deref-4.ensures.value ∙ c.in_ok-conflicts.ensures)
           c.in_ok-room-3.ensures.users;
-      declared = in-order _ ByPaper _ conflicts c.room-4.new.self.rooms c.self.invariant.0.declared_by_paper (c.deref-5.ensures.value ∙ c.in_ok-conflicts.ensures)
+      declared = in-order _ ByPaper _ conflicts c.room-4.new.self.rooms c.self.invariant.0.declared_by_paper
+          (c.deref-5.ensures.value ∙ c.in_ok-conflicts.ensures)
           c.in_ok-room-4.ensures.ok;
-      bids = in-order _ ByPaper _ (filter_map bid_pair group) c.room-5.new.self.rooms c.self.invariant.0.bids_by_paper (c.deref-6.ensures.value ∙ c.in_ok-bids.ensures) has;
+      bids = in-order _ ByPaper _ (filter_map bid_pair group) c.room-5.new.self.rooms c.self.invariant.0.bids_by_paper
+          (c.deref-6.ensures.value ∙ c.in_ok-bids.ensures) has;
     }) c.room-5.ensures.ok

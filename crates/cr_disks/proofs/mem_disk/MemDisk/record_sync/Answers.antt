@@ -12,7 +12,8 @@ invariant_of-self c =
     let state = state_after inside.calls.items inside.put.items (settled inside.first.items) in
     let left = ap (λ (d : Held). d.calls_left) c.self.view_is in
     rw c.push_reserved.ensures.items (
-      inv.0 ∙ sym (is.1 state) ∙ ap (λ (s : DiskState). s.seen) (sym (sync-state c.args.call is.0 inside.first.items inside.put.items inside.calls.items inv.1)),
+      inv.0 ∙ sym (is.1 state) ∙ ap (λ (s : DiskState). s.seen)
+          (sym (sync-state c.args.call is.0 inside.first.items inside.put.items inside.calls.items inv.1)),
       sync-total c.args.call is.0 inside.put.items inside.calls.items inv.1,
       inv.2,
       inv.3,
@@ -25,7 +26,8 @@ returns-clause-state c =
     let inside = c.self.inside in
     let is = is_sync c.args.call c.requires.sync in
     rw (← c.self.view_is) (
-    ap (λ (l : List DiskCall). state_after l inside.put.items (settled inside.first.items)) c.push_reserved.ensures.items
+    ap (λ (l : List DiskCall). state_after l inside.put.items (settled inside.first.items))
+    c.push_reserved.ensures.items
     ∙ sync-state c.args.call is.0 inside.first.items inside.put.items inside.calls.items c.self.invariant.1)
 
 pub returns-clause-past : goal.returns-clause-past
@@ -33,7 +35,8 @@ returns-clause-past c =
     let inside = c.self.inside in
     let is = is_sync c.args.call c.requires.sync in
     rw (← c.self.view_is) (
-    ap (λ (l : List DiskCall). states_before l inside.put.items (settled inside.first.items)) c.push_reserved.ensures.items
+    ap (λ (l : List DiskCall). states_before l inside.put.items (settled inside.first.items))
+    c.push_reserved.ensures.items
     ∙ sync-past c.args.call is.0 inside.first.items inside.put.items inside.calls.items c.self.invariant.1)
 
 pub returns-clause-seen : goal.returns-clause-seen

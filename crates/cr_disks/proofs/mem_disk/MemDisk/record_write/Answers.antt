@@ -10,21 +10,31 @@ invariant_of-self c =
     let inside = c.self.inside in
     let room : inside.room ≡ c.args.self.now.room = ap (λ (d : Held). d.room) c.self.view_is in
     let left : inside.calls_left ≡ c.args.self.now.calls_left = ap (λ (d : Held). d.calls_left) c.self.view_is in
-    let bytes : length inside.bytes.items ≡ length c.args.self.now.bytes = ap (λ (d : Held). length d.bytes) c.self.view_is in
+    let bytes : length inside.bytes.items ≡ length c.args.self.now.bytes =
+    ap (λ (d : Held). length d.bytes) c.self.view_is in
     let within : c.args.at ≤ length inside.bytes.items = omega (arith, bytes, c.requires.inside) in
     rw (c.push_reserved.ensures.items, c.append_within.ensures.items) (
-      write-seen inside.first.items inside.put.items c.args.piece.now inside.bytes.items c.put_over.new.bytes.items inside.calls.items c.args.at c.args.len inv.1 inv.0 c.put_over.ensures.holds,
+      write-seen inside.first.items inside.put.items c.args.piece.now inside.bytes.items c.put_over.new.bytes.items
+          inside.calls.items c.args.at c.args.len inv.1 inv.0 c.put_over.ensures.holds,
       write-total inside.put.items c.args.piece.now inside.calls.items c.args.at c.args.len inv.1,
       omega (arith, inv.2, room, c.requires.room, c.append_within.ensures.len, c.append_within.ensures.capacity),
       omega (arith, inv.3, room, c.requires.room, c.put_over.ensures.len, c.put_over.ensures.capacity),
       omega (arith, inv.4, left, c.requires.calls, c.push_reserved.ensures.len, c.push_reserved.ensures.capacity),
-      omega (arith, inv.5, room, c.requires.room, holds-length c.args.at c.args.piece.now inside.bytes.items c.put_over.new.bytes.items within c.put_over.ensures.holds),
+      omega (
+        arith,
+        inv.5,
+        room,
+        c.requires.room,
+        holds-length c.args.at c.args.piece.now inside.bytes.items c.put_over.new.bytes.items within
+            c.put_over.ensures.holds,
+      ),
     )
 
 pub returns-clause-within : goal.returns-clause-within
 returns-clause-within c =
     let room : c.self.inside.room ≡ c.args.self.now.room = ap (λ (d : Held). d.room) c.self.view_is in
-    let bytes : length c.self.inside.bytes.items ≡ length c.args.self.now.bytes = ap (λ (d : Held). length d.bytes) c.self.view_is in
+    let bytes : length c.self.inside.bytes.items ≡ length c.args.self.now.bytes =
+    ap (λ (d : Held). length d.bytes) c.self.view_is in
     omega (arith, c.self.invariant.5, room, bytes, c.requires.inside, c.requires.room)
 
 pub returns-clause-state : goal.returns-clause-state
@@ -32,11 +42,14 @@ returns-clause-state c =
     let inside = c.self.inside in
     rw (← c.self.view_is) (
     (λ i. state_after (c.push_reserved.ensures.items i) (c.append_within.ensures.items i) (settled inside.first.items))
-    ∙ write-state inside.first.items inside.put.items c.args.piece.now inside.calls.items c.args.at c.args.len c.self.invariant.1)
+    ∙ write-state inside.first.items inside.put.items c.args.piece.now inside.calls.items c.args.at c.args.len
+    c.self.invariant.1)
 
 pub returns-clause-past : goal.returns-clause-past
 returns-clause-past c =
     let inside = c.self.inside in
     rw (← c.self.view_is) (
-    (λ i. states_before (c.push_reserved.ensures.items i) (c.append_within.ensures.items i) (settled inside.first.items))
-    ∙ write-past inside.first.items inside.put.items c.args.piece.now inside.calls.items c.args.at c.args.len c.self.invariant.1)
+    (λ i. states_before (c.push_reserved.ensures.items i) (c.append_within.ensures.items i)
+    (settled inside.first.items))
+    ∙ write-past inside.first.items inside.put.items c.args.piece.now inside.calls.items c.args.at c.args.len
+    c.self.invariant.1)

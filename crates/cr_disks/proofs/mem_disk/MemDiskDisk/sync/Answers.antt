@@ -5,18 +5,22 @@ use Rattle.cr_disks.proofs.Time.{call_elapses, nothing_elapses}
 use Rattle.cr_disks.proofs.mem_disk.MemDiskDisk.sync.Goals as goal
 
 pub returns-then-is_full-clause-crash : goal.returns-then-is_full-clause-crash
-returns-then-is_full-clause-crash c = λ told image left. inl (subst (λ (s : DiskState). left_in s image) c.fail.ensures.state left)
+returns-then-is_full-clause-crash c =
+    λ told image left. inl (subst (λ (s : DiskState). left_in s image) c.fail.ensures.state left)
 
 pub returns-then-is_full-clause-time : goal.returns-then-is_full-clause-time
-returns-then-is_full-clause-time c = λ told. nothing_elapses c.args.self.now c.fail.new.self c.fail.ensures.past c.fail.ensures.state
+returns-then-is_full-clause-time c =
+    λ told. nothing_elapses c.args.self.now c.fail.new.self c.fail.ensures.past c.fail.ensures.state
 
 pub returns-then-fails_next-clause-crash : goal.returns-then-fails_next-clause-crash
 returns-then-fails_next-clause-crash c = λ told image left.
-    inl (subst (λ (s : DiskState). left_in s image) (c.fail-then-fails_next.ensures.state ∙ c.record_sync.ensures.state) left)
+    inl (subst (λ (s : DiskState). left_in s image) (c.fail-then-fails_next.ensures.state ∙ c.record_sync.ensures.state)
+    left)
 
 pub returns-then-fails_next-clause-time : goal.returns-then-fails_next-clause-time
 returns-then-fails_next-clause-time c = λ told.
-    call_elapses c.args.self.now c.fail-then-fails_next.new.self (c.fail-then-fails_next.ensures.past ∙ c.record_sync.ensures.past)
+    call_elapses c.args.self.now c.fail-then-fails_next.new.self
+    (c.fail-then-fails_next.ensures.past ∙ c.record_sync.ensures.past)
 
 pub returns-clause-durable : goal.returns-clause-durable
 returns-clause-durable c = λ told image left.

@@ -18,4 +18,5 @@ returns-then-is_full-clause-crash c = λ told image left. (
 )
 
 pub returns-then-is_full-clause-time : goal.returns-then-is_full-clause-time
-returns-then-is_full-clause-time c = λ told. nothing_elapses c.args.self.now c.fail.new.self c.fail.ensures.past c.fail.ensures.state
+returns-then-is_full-clause-time c =
+    λ told. nothing_elapses c.args.self.now c.fail.new.self c.fail.ensures.past c.fail.ensures.state

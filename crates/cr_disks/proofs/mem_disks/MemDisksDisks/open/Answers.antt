@@ -5,8 +5,10 @@ use Rattle.cr_disks.proofs.mem_disks.MemDisksDisks.open.Goals as goal
 
 pub disk_at-requires : goal.disk_at-requires
 disk_at-requires c =
-    same_room (bytes_at c.args.self.now.files) (bytes_at c.make_file.new.self.files) c.args.path.now c.args.self.now.room
-    c.make_file.new.self.room c.make_file.ensures.files c.make_file.ensures.room.0 (c.is_too_long.ensures.0 c.if-is_too_long.false)
+    same_room (bytes_at c.args.self.now.files) (bytes_at c.make_file.new.self.files) c.args.path.now
+    c.args.self.now.room
+    c.make_file.new.self.room c.make_file.ensures.files c.make_file.ensures.room.0
+    (c.is_too_long.ensures.0 c.if-is_too_long.false)
 
 pub returns-in-Ok-clause-found : goal.returns-in-Ok-clause-found
 returns-in-Ok-clause-found c =

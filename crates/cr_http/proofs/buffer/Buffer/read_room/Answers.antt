@@ -11,7 +11,8 @@ returns-in-Got-clause-moves g c =
     let n = c.in-Got.n in
     let old = c.deref_mut.result.now in
     let block = c.read_behind.new.block in
-    let len : length block ≡ b.block.len = (let l = c.deref_mut.ensures.len in let k = c.read_behind.auto.block in omega (arith, l, k)) in
+    let len : length block ≡ b.block.len =
+    (let l = c.deref_mut.ensures.len in let k = c.read_behind.auto.block in omega (arith, l, k)) in
     let within : b.end ≤ length block = (let w = b.within in omega (arith, w, len)) in
     record {
       got = take n (drop b.end block);
@@ -32,14 +33,20 @@ pub returns-in-End-clause-once : goal.returns-in-End-clause-once
 returns-in-End-clause-once g c =
     let b = c.args.self.now in
     let block = c.read_behind.new.block in
-    let len : length block ≡ b.block.len = (let l = c.deref_mut.ensures.len in let k = c.read_behind.auto.block in omega (arith, l, k)) in
-    one_read g.S.Source.left g.S.Source.read_gives c.args.source.now c.read_behind.new.source (text_of b) _ [] c.in-End.ensures.gives
-    (not_grown b.start b.end _ block b.block.items _ (with_items_is b.block block len) c.in-End.ensures.front c.deref_mut.ensures.value)
+    let len : length block ≡ b.block.len =
+    (let l = c.deref_mut.ensures.len in let k = c.read_behind.auto.block in omega (arith, l, k)) in
+    one_read g.S.Source.left g.S.Source.read_gives c.args.source.now c.read_behind.new.source (text_of b) _ []
+    c.in-End.ensures.gives
+    (not_grown b.start b.end _ block b.block.items _ (with_items_is b.block block len) c.in-End.ensures.front
+    c.deref_mut.ensures.value)
 
 pub returns-in-Failed-clause-once : goal.returns-in-Failed-clause-once
 returns-in-Failed-clause-once g c =
     let b = c.args.self.now in
     let block = c.read_behind.new.block in
-    let len : length block ≡ b.block.len = (let l = c.deref_mut.ensures.len in let k = c.read_behind.auto.block in omega (arith, l, k)) in
-    one_read g.S.Source.left g.S.Source.read_gives c.args.source.now c.read_behind.new.source (text_of b) _ [] c.in-Failed.ensures.gives
-    (not_grown b.start b.end _ block b.block.items _ (with_items_is b.block block len) c.in-Failed.ensures.front c.deref_mut.ensures.value)
+    let len : length block ≡ b.block.len =
+    (let l = c.deref_mut.ensures.len in let k = c.read_behind.auto.block in omega (arith, l, k)) in
+    one_read g.S.Source.left g.S.Source.read_gives c.args.source.now c.read_behind.new.source (text_of b) _ []
+    c.in-Failed.ensures.gives
+    (not_grown b.start b.end _ block b.block.items _ (with_items_is b.block block len) c.in-Failed.ensures.front
+    c.deref_mut.ensures.value)

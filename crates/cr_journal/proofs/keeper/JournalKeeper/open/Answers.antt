@@ -11,7 +11,8 @@ pub invariant_of-result : goal.invariant_of-result
 invariant_of-result g c = (
   c.in-Ok.ensures.gate,
   λ tells.
-      let journal : Journal g.row.D.Denot = record { disk = c.open_or_make.new.disk; gate = c.in-Ok.gate; in_doubt = false } in
+      let journal : Journal g.row.D.Denot =
+      record { disk = c.open_or_make.new.disk; gate = c.in-Ok.gate; in_doubt = false } in
       let found = c.in-Ok.ensures.found tells in
       let rows = found.3 ∙ ap (λ (l : List Row). l ++ rows_of found.0) c.new-rows.ensures.items in
       opened_keeps g.D.Disk.seen g.D.Disk.may_leave journal c.open_or_make.new.rows.items c.new.result.items refl

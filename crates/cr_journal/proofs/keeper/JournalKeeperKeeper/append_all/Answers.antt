@@ -22,17 +22,25 @@ returns-in-Err-clause-any_moment g c = λ told.
 pub returns-in-Ok-clause-between : goal.returns-in-Ok-clause-between
 returns-in-Ok-clause-between g c = λ told image left.
     let k = c.keep_group.new in
-    stops_between g.D.Disk.seen g.D.Disk.may_leave k.journal k.rows.items k.doubt.items (c.keep_group.ensures.keeps told) image
+    stops_between g.D.Disk.seen g.D.Disk.may_leave k.journal k.rows.items k.doubt.items
+    (c.keep_group.ensures.keeps told) image
     (g.met.D.Disk.only_now k.journal.disk image left)
 
 pub returns-in-Err-clause-between : goal.returns-in-Err-clause-between
 returns-in-Err-clause-between g c = λ told image left.
     let inside = c.self.inside in
-    subst (λ (rows : List Row). OpensTo rows (doubted inside.journal.in_doubt inside.doubt.items) image) (sym c.prepare.ensures.same)
-    (stops_between g.D.Disk.seen g.D.Disk.may_leave inside.journal inside.rows.items inside.doubt.items (c.self.invariant.1 told) image
+    subst (λ (rows : List Row). OpensTo rows (doubted inside.journal.in_doubt inside.doubt.items) image)
+    (sym c.prepare.ensures.same)
+    (stops_between g.D.Disk.seen g.D.Disk.may_leave inside.journal inside.rows.items inside.doubt.items
+    (c.self.invariant.1 told) image
     (g.met.D.Disk.only_now inside.journal.disk image left))
 
 pub returns-in-Err-clause-memory : goal.returns-in-Err-clause-memory
 returns-in-Err-clause-memory g c = λ is.
-    ap (λ (rows : List Row). record { disk = c.self.inside.journal.disk; rows = rows; doubted = doubted c.self.inside.journal.in_doubt c.self.inside.doubt.items })
+    ap
+    (λ (rows : List Row). record {
+      disk = c.self.inside.journal.disk;
+      rows = rows;
+      doubted = doubted c.self.inside.journal.in_doubt c.self.inside.doubt.items;
+    })
     c.prepare.ensures.same ∙ c.self.view_is

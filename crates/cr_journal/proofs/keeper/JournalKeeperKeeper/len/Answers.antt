@@ -7,6 +7,7 @@ pub returns-clause-between : goal.returns-clause-between
 returns-clause-between g c = λ told image left.
     let inside = c.self.inside in
     subst (λ (k : Journaled g.row.D.Denot). OpensTo k.rows k.doubted image) c.self.view_is
-    (stops_between g.D.Disk.seen g.D.Disk.may_leave inside.journal inside.rows.items inside.doubt.items (c.self.invariant.1 told) image
+    (stops_between g.D.Disk.seen g.D.Disk.may_leave inside.journal inside.rows.items inside.doubt.items
+    (c.self.invariant.1 told) image
     (subst (λ (k : Journaled g.row.D.Denot). g.D.Disk.may_leave k.disk image) (sym c.self.view_is)
     (g.met.D.Disk.only_now c.args.self.now.disk image left)))

@@ -18,7 +18,8 @@ returns-in-Ok-clause-found g c =
 pub returns-in-Err-clause-same : goal.returns-in-Err-clause-same
 returns-in-Err-clause-same g c =
     let files = g.D.Disks.files in
-    rw (← c.self.view_is) (told_failed g.D.Disk.Disk.tells (files c.self.inside.disks) (files c.open.new.self) (files c.shut.new.self)
+    rw (← c.self.view_is) (told_failed g.D.Disk.Disk.tells (files c.self.inside.disks) (files c.open.new.self)
+    (files c.shut.new.self)
     c.args.path.now (g.D.Disk.Disk.seen c.in-Err.disk) (λ told. c.in_ok-disk.ensures.same told)
     (λ told some.
     let there = c.in_ok-disk.ensures.found told in

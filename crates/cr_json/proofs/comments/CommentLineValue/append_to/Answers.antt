@@ -6,8 +6,10 @@ use Rattle.cr_json.proofs.comments.CommentLineValue.append_to.Goals as goal
 pub returns : goal.returns
 unfolding comment_members
 returns c =
-    let all = c.in_ok-told.ensures then c.in_ok-number.ensures.adds then c.in_ok-string.ensures.adds then c.in_ok-told-2.ensures in
-    let members : Added c.open.new.into c.told-2.new.into c.in_ok-object.object.is_first c.told-2.new.self.is_first (comment_members c.args.self.now) =
+    let all = c.in_ok-told.ensures then c.in_ok-number.ensures.adds then c.in_ok-string.ensures.adds then
+    c.in_ok-told-2.ensures in
+    let members : Added c.open.new.into c.told-2.new.into c.in_ok-object.object.is_first c.told-2.new.self.is_first
+    (comment_members c.args.self.now) =
     rw (c.as_bytes.ensures.value, c.as_str.ensures) at all in
     closed c.close.result c.args.into.now c.open.new.into c.told-2.new.into c.close.new.into
     _ _ _ c.in_ok-object.ensures.text c.in_ok-object.ensures.first members c.close.ensures.text

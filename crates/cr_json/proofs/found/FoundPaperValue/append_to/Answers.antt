@@ -7,7 +7,8 @@ pub returns : goal.returns
 unfolding found_paper_members
 returns c =
     let all = c.in_ok-number.ensures.adds then c.in_ok-string.ensures.adds in
-    let members : Added c.open.new.into c.string.new.into c.in_ok-object.object.is_first c.string.new.self.is_first (found_paper_members c.args.self.now) =
+    let members : Added c.open.new.into c.string.new.into c.in_ok-object.object.is_first c.string.new.self.is_first
+    (found_paper_members c.args.self.now) =
     rw (c.number.ensures.value, c.as_bytes.ensures.value, c.as_str.ensures) at all in
     closed c.close.result c.args.into.now c.open.new.into c.string.new.into c.close.new.into
     _ _ _ c.in_ok-object.ensures.text c.in_ok-object.ensures.first members c.close.ensures.text

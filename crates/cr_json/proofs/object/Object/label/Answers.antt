@@ -3,4 +3,5 @@ use Rattle.cr_json.proofs.object.Object.label.Goals as goal
 
 pub returns-clause-adds : goal.returns-clause-adds
 returns-clause-adds c =
-    added_one c.append_label.result c.args.into.now c.key.new.into c.append_label.new.into c.args.self.now.is_first c.key.new.self.is_first _ _ c.in_ok-key.ensures.text c.in_ok-key.ensures.first c.append_label.ensures.text
+    added_one c.append_label.result c.args.into.now c.key.new.into c.append_label.new.into c.args.self.now.is_first
+    c.key.new.self.is_first _ _ c.in_ok-key.ensures.text c.in_ok-key.ensures.first c.append_label.ensures.text

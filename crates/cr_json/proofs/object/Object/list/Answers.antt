@@ -3,4 +3,5 @@ use Rattle.cr_json.proofs.object.Object.list.Goals as goal
 
 pub returns : goal.returns
 returns g c =
-    added_one c.append_list.result c.args.into.now c.key.new.into c.append_list.new.into c.args.self.now.is_first c.key.new.self.is_first _ _ c.in_ok-key.ensures.text c.in_ok-key.ensures.first c.append_list.ensures
+    added_one c.append_list.result c.args.into.now c.key.new.into c.append_list.new.into c.args.self.now.is_first
+    c.key.new.self.is_first _ _ c.in_ok-key.ensures.text c.in_ok-key.ensures.first c.append_list.ensures

@@ -14,7 +14,8 @@ returns c =
     then c.in_ok-told.ensures
     then c.in_ok-told-2.ensures
     then c.in_ok-told-3.ensures in
-    let members : Added c.open.new.into c.told-3.new.into c.in_ok-object.object.is_first c.told-3.new.self.is_first (review_members c.args.self.now) =
+    let members : Added c.open.new.into c.told-3.new.into c.in_ok-object.object.is_first c.told-3.new.self.is_first
+    (review_members c.args.self.now) =
     rw (c.number.ensures.value, c.number-3.ensures.value, c.as_bytes.ensures.value, c.as_str.ensures) at all in
     closed c.close.result c.args.into.now c.open.new.into c.told-3.new.into c.close.new.into
     _ _ _ c.in_ok-object.ensures.text c.in_ok-object.ensures.first members c.close.ensures.text

@@ -12,7 +12,8 @@ loop-index-preserved c =
     let room = c.loop-index.invariant.room in
     let same = c.push_reserved-in-loop-index.ensures.capacity in
     record {
-      so = group-more c.args.self.stamp c.args.self.first (behind c.args.self.rest) c.count-others.result c.count-others.ensures.value
+      so = group-more c.args.self.stamp c.args.self.first (behind c.args.self.rest) c.count-others.result
+          c.count-others.ensures.value
           c.loop-index.index c.entry.result c.loop-index.group.items _ c.entry.ensures c.loop-index.invariant.so
           (pushed ∙ ap (λ (s : Stamped). c.loop-index.group.items ++ s ∷ []) c.stamped-in-loop-index.ensures);
       count = omega (arith, more, count);
@@ -21,5 +22,6 @@ loop-index-preserved c =
 
 pub returns : goal.returns
 returns c =
-    group-all c.args.self.stamp c.args.self.first (behind c.args.self.rest) c.count-others.result c.count-others.ensures.value
+    group-all c.args.self.stamp c.args.self.first (behind c.args.self.rest) c.count-others.result
+    c.count-others.ensures.value
     c.loop-index.index c.loop-index.group.items c.loop-index-test.false c.loop-index.invariant.so

@@ -9,7 +9,8 @@ pub returns-in-Some-clause-value : goal.returns-in-Some-clause-value
 returns-in-Some-clause-value g c =
     let V = g.row.V.Denot in
     let looked = c.in-Some.ensures.lookup in
-    let place = of-place c.args.paper c.number.result c.self.inside.drawers.items c.deref.result.now c.in-Some.drawer.now c.number.ensures.value c.deref.ensures.value looked.3.0 looked.1 in
+    let place = of-place c.args.paper c.number.result c.self.inside.drawers.items c.deref.result.now
+    c.in-Some.drawer.now c.number.ensures.value c.deref.ensures.value looked.3.0 looked.1 in
     c.get-in-Some.ensures.value
     ∙ ap (λ (vs : List V). slice_get vs c.args.index) place
     ∙ ap (λ (s : SeenFiles V). slice_get (filed_of c.args.paper s.files) c.args.index) c.self.view_is
@@ -18,6 +19,7 @@ pub returns-in-None-clause-value : goal.returns-in-None-clause-value
 returns-in-None-clause-value g c =
     let V = g.row.V.Denot in
     let looked = c.in-None.ensures.lookup in
-    let place = of-no_place c.args.paper c.number.result c.self.inside.drawers.items c.deref.result.now c.number.ensures.value c.deref.ensures.value looked.3 in
+    let place = of-no_place c.args.paper c.number.result c.self.inside.drawers.items c.deref.result.now
+    c.number.ensures.value c.deref.ensures.value looked.3 in
     ap (λ (vs : List V). slice_get vs c.args.index) place
     ∙ ap (λ (s : SeenFiles V). slice_get (filed_of c.args.paper s.files) c.args.index) c.self.view_is

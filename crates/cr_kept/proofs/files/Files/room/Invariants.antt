@@ -3,4 +3,5 @@ use Rattle.cr_rooms.specs.Rooms.{HasRoom, IsNoLess}
 use Rattle.cr_kept.proofs.files.Files.room.Given as goal
 
 abbrev pub invariant-loop-i : goal.invariant-loop-i
-invariant-loop-i g l = HasRoom (take l.i l.papers) l.self.rooms × (l.self.files ≡ l.initial.self.files) × IsNoLess l.initial.self.rooms l.self.rooms
+invariant-loop-i g l = HasRoom (take l.i l.papers) l.self.rooms × (l.self.files ≡ l.initial.self.files)
+    × IsNoLess l.initial.self.rooms l.self.rooms

@@ -7,7 +7,11 @@ use Rattle.cr_kept.proofs.files.Files.room_of.Goals as goal
 
 pub returns-clause-ok : goal.returns-clause-ok
 returns-clause-ok g c =
-    rw (← c.number-index.ensures.value, room-of-row (λ (d : SeenDrawer g.row.V.Denot). d.room) c.number-index.result c.fill.new.drawers.items c.room.new.self c.in_ok-fill.ensures.ok) c.room.ensures.ok
+    rw (
+      ← c.number-index.ensures.value,
+      room-of-row (λ (d : SeenDrawer g.row.V.Denot). d.room) c.number-index.result
+          c.fill.new.drawers.items c.room.new.self c.in_ok-fill.ensures.ok,
+    ) c.room.ensures.ok
 
 pub returns-clause-same : goal.returns-clause-same
 returns-clause-same g c =
@@ -19,7 +23,10 @@ returns-clause-same g c =
 pub returns-clause-keeps : goal.returns-clause-keeps
 returns-clause-keeps g c p =
     let V = g.row.V.Denot in
-    let le = subst (λ (d : SeenDrawer V). d.room ≤ c.room.new.self.room) c.index_mut-drawer.ensures.value c.room.ensures.keeps in
-    let first = subst (λ (s : SeenFiles V). get_or s.rooms p 0 ≤ get_or (rooms_of c.fill.new.drawers.items) p 0) c.self.view_is (c.fill.ensures.keeps p) in
-    let second = no-less-row (λ (d : SeenDrawer V). d.room) c.number-index.result c.fill.new.drawers.items c.index_mut-drawer.result.now c.room.new.self le p in
+    let le = subst (λ (d : SeenDrawer V). d.room ≤ c.room.new.self.room) c.index_mut-drawer.ensures.value
+    c.room.ensures.keeps in
+    let first = subst (λ (s : SeenFiles V). get_or s.rooms p 0 ≤ get_or (rooms_of c.fill.new.drawers.items) p 0)
+    c.self.view_is (c.fill.ensures.keeps p) in
+    let second = no-less-row (λ (d : SeenDrawer V). d.room) c.number-index.result c.fill.new.drawers.items
+    c.index_mut-drawer.result.now c.room.new.self le p in
     omega (arith, first, second)

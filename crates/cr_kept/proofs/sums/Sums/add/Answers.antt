@@ -10,6 +10,7 @@ returns-clause-sums c =
     let index = c.number-index.result in
     let filled = c.fill.new.sums.items in
     let value = c.index_mut.result.now in
-    with_more-filled index c.args.more c.self.inside.sums.items filled _ value c.fill.ensures.items (c.index_mut.ensures.value ∙ get_or_default filled index value 0 (omega (arith, c.fill.ensures.within))) refl
+    with_more-filled index c.args.more c.self.inside.sums.items filled _ value c.fill.ensures.items
+    (c.index_mut.ensures.value ∙ get_or_default filled index value 0 (omega (arith, c.fill.ensures.within))) refl
     ∙ ap (λ (i : ℕ). with_more i c.args.more c.self.inside.sums.items) c.number-index.ensures.value
     ∙ ap (λ (s : SeenSums). with_more c.args.user c.args.more s.sums) c.self.view_is

@@ -3,7 +3,8 @@ use Rattle.cr_lock.proofs.Seats.{joins, settles}
 use Rattle.cr_lock.proofs.lock.HistoryLock.join.Goals as goal
 
 pub join_seat-requires : goal.join_seat-requires
-join_seat-requires g c = let r = c.one.invariant in let o = c.other.invariant in let a = r.2 in let b = r.4 in let d = o.2 in let e = o.4 in
+join_seat-requires g c = let r = c.one.invariant in let o = c.other.invariant in let a = r.2 in let b = r.4 in let d =
+    o.2 in let e = o.4 in
     let words = c.self.invariant.0 in (
       ap (λ p. p.lock) c.one.view_is ∙ (c.requires.0 ∙ sym (ap (λ l. l.lock) c.self.view_is)),
       ap (λ p. p.lock) c.other.view_is

@@ -10,5 +10,8 @@ pub returns-clause-steps : goal.returns-clause-steps
 returns-clause-steps g c =
     let x = c.self.inside in
     let q = c.args.pair.now in
-    let own = subst (λ (o : Order). Halves (length (ties_of o (major o q) x.by_paper.ties)) c.args.steps.now c.contains.new.steps) c.self.invariant.by_paper c.contains.ensures.steps in
-    subst (λ (s : SeenIndexed g.row.V.Denot). Halves (length (ties_of ByPaper q.paper s.ties)) c.args.steps.now c.contains.new.steps) c.self.view_is own
+    let own =
+    subst (λ (o : Order). Halves (length (ties_of o (major o q) x.by_paper.ties)) c.args.steps.now
+    c.contains.new.steps) c.self.invariant.by_paper c.contains.ensures.steps in
+    subst (λ (s : SeenIndexed g.row.V.Denot). Halves (length (ties_of ByPaper q.paper s.ties)) c.args.steps.now
+    c.contains.new.steps) c.self.view_is own

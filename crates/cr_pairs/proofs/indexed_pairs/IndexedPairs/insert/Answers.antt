@@ -9,4 +9,6 @@ invariant_of-self g c =
     let papers = c.insert-2 in
     let users = c.insert in
     let bare : Tie (Unit {0}) = record { pair = c.args.tie.pair; value = tt } in
-    indexed-with x.by_paper.order x.by_user.order x.by_paper.ties x.by_user.ties c.self.invariant papers.new.self.order users.new.self.order papers.new.self.ties users.new.self.ties c.args.tie bare papers.ensures.order users.ensures.order refl papers.ensures.ties users.ensures.ties
+    indexed-with x.by_paper.order x.by_user.order x.by_paper.ties x.by_user.ties c.self.invariant papers.new.self.order
+    users.new.self.order papers.new.self.ties users.new.self.ties c.args.tie bare papers.ensures.order
+    users.ensures.order refl papers.ensures.ties users.ensures.ties

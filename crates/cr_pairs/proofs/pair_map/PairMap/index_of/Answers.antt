@@ -16,9 +16,11 @@ loop-low-preserved-in-Less g c =
     let half = midway low high c.loop-low-test.true in (
       omega (arith, half.0),
       was.1,
-      is-behind now.order c.args.pair.now now.ties up middle (omega (arith, half.0, was.1)) c.compared_at.result c.compared_at.ensures.order c.in-Less.is,
+      is-behind now.order c.args.pair.now now.ties up middle (omega (arith, half.0, was.1)) c.compared_at.result
+          c.compared_at.ensures.order c.in-Less.is,
       was.3,
-      leaves-half (length now.ties) (high - low) (high - (middle + 1)) c.args.steps.now c.loop-low.steps c.compared_at.new.steps (omega (arith, c.loop-low-test.true)) half.1 was.4 c.compared_at.ensures.steps,
+      leaves-half (length now.ties) (high - low) (high - (middle + 1)) c.args.steps.now c.loop-low.steps
+          c.compared_at.new.steps (omega (arith, c.loop-low-test.true)) half.1 was.4 c.compared_at.ensures.steps,
     )
 
 pub returns-in-Equal-clause-steps : goal.returns-in-Equal-clause-steps
@@ -26,7 +28,8 @@ returns-in-Equal-clause-steps g c =
     let count = length c.args.self.now.ties in
     let left = c.loop-low.high - c.loop-low.low in
     leaves-halves count 0 c.args.steps.now c.compared_at.new.steps
-    (leaves-half count left 0 c.args.steps.now c.loop-low.steps c.compared_at.new.steps (omega (arith, c.loop-low-test.true)) (omega arith) c.loop-low.invariant.4 c.compared_at.ensures.steps)
+    (leaves-half count left 0 c.args.steps.now c.loop-low.steps c.compared_at.new.steps
+    (omega (arith, c.loop-low-test.true)) (omega arith) c.loop-low.invariant.4 c.compared_at.ensures.steps)
 
 pub loop-low-preserved : goal.loop-low-preserved
 loop-low-preserved g c =
@@ -40,6 +43,8 @@ loop-low-preserved g c =
       omega arith,
       omega (arith, half.0, was.1),
       was.2,
-      is-before now.order c.args.pair.now now.ties up middle (omega (arith, half.0, was.1)) c.compared_at.result c.compared_at.ensures.order c.in-Greater.is,
-      leaves-half (length now.ties) (high - low) (middle - low) c.args.steps.now c.loop-low.steps c.compared_at.new.steps (omega (arith, c.loop-low-test.true)) half.2 was.4 c.compared_at.ensures.steps,
+      is-before now.order c.args.pair.now now.ties up middle (omega (arith, half.0, was.1)) c.compared_at.result
+          c.compared_at.ensures.order c.in-Greater.is,
+      leaves-half (length now.ties) (high - low) (middle - low) c.args.steps.now c.loop-low.steps
+          c.compared_at.new.steps (omega (arith, c.loop-low-test.true)) half.2 was.4 c.compared_at.ensures.steps,
     )

@@ -15,7 +15,9 @@ returns-in-Some-clause-value g c =
     let rows = c.self.inside.rows.items in
     let looked = c.in-Some.ensures.lookup in
     c.contains.ensures.value
-    ∙ ap (λ (ts : List (Tie V)). has_pair q ts) (seen-row order (major order q) c.major.result rows c.deref.result.now c.in-Some.row.now c.major.ensures.value c.deref.ensures.value looked.3.0 looked.1 c.self.invariant)
+    ∙ ap (λ (ts : List (Tie V)). has_pair q ts)
+    (seen-row order (major order q) c.major.result rows c.deref.result.now c.in-Some.row.now c.major.ensures.value
+    c.deref.ensures.value looked.3.0 looked.1 c.self.invariant)
     ∙ has_pair-own order q (ties_in rows)
     ∙ ap (λ (s : SeenRows V). has_pair q s.ties) c.self.view_is
 
@@ -25,7 +27,9 @@ returns-in-None-clause-value g c =
     let order = c.self.inside.order in
     let q = c.args.pair.now in
     let rows = c.self.inside.rows.items in
-    ap (λ (ts : List (Tie V)). has_pair q ts) (no-row order (major order q) c.major.result rows c.deref.result.now c.major.ensures.value c.deref.ensures.value c.in-None.ensures.lookup.3 c.self.invariant)
+    ap (λ (ts : List (Tie V)). has_pair q ts)
+    (no-row order (major order q) c.major.result rows c.deref.result.now c.major.ensures.value c.deref.ensures.value
+    c.in-None.ensures.lookup.3 c.self.invariant)
     ∙ has_pair-own order q (ties_in rows)
     ∙ ap (λ (s : SeenRows V). has_pair q s.ties) c.self.view_is
 
@@ -35,6 +39,7 @@ returns-in-Some-clause-steps g c =
     let order = c.self.inside.order in
     let q = c.args.pair.now in
     let looked = c.in-Some.ensures.lookup in
-    let own = seen-row order (major order q) c.major.result c.self.inside.rows.items c.deref.result.now c.in-Some.row.now c.major.ensures.value c.deref.ensures.value looked.3.0 looked.1 c.self.invariant
+    let own = seen-row order (major order q) c.major.result c.self.inside.rows.items c.deref.result.now
+    c.in-Some.row.now c.major.ensures.value c.deref.ensures.value looked.3.0 looked.1 c.self.invariant
     ∙ ap (λ (s : SeenRows V). ties_of s.order (major s.order q) s.ties) c.self.view_is in
     subst (λ (ts : List (Tie V)). Halves (length ts) c.args.steps.now c.contains.new.steps) own c.contains.ensures.steps

@@ -13,5 +13,6 @@ returns-in-Err c =
     let papers = a.self.now.papers in
     rw c.in-Some.is
     (sym
-    (judged-front (revise_checks a.by.now (named_in papers (Some c.in-Some.paper)) a.late) (nat_lt 67108864 (own_bytes papers (Some a.maker) + a.bytes) breaks rules.QuotaBytes ∷ []) tt
+    (judged-front (revise_checks a.by.now (named_in papers (Some c.in-Some.paper)) a.late)
+    (nat_lt 67108864 (own_bytes papers (Some a.maker) + a.bytes) breaks rules.QuotaBytes ∷ []) tt
     (length (uploads_at papers c.in-Some.paper) + 1) c.in-Err.rule (sym c.in-Err.ensures)))

@@ -11,6 +11,7 @@ pub invariant_of-self : goal.invariant_of-self
 invariant_of-self c =
     let a = c.args in
     let made : Upload = record { version = a.version; content = a.content } in
-    let next = subst (λ (v : SeenUploads). a.version ≡ length (filed_of a.paper v.uploads) + 1) (sym c.self.view_is) c.requires.next in
+    let next = subst (λ (v : SeenUploads). a.version ≡ length (filed_of a.paper v.uploads) + 1) (sym c.self.view_is)
+    c.requires.next in
     subst (λ (all : List (Filed Upload)). AreNumbered all) (sym c.file.ensures.files)
     (numbered-more c.self.inside.uploads.files a.paper made c.self.invariant next)

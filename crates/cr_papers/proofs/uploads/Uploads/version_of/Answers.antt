@@ -19,5 +19,6 @@ returns-clause-value g c =
     let version = c.args.version in
     let some = c.if-version-eq0.false in
     c.get.ensures.value
-    ∙ sym (found-at (filed_of paper c.self.inside.uploads.files) version (version - 1) (c.self.invariant paper) (omega (arith, some)))
+    ∙ sym (found-at (filed_of paper c.self.inside.uploads.files) version (version - 1) (c.self.invariant paper)
+    (omega (arith, some)))
     ∙ ap (λ (s : SeenUploads). find (λ (u : Upload). eqb u.version version) (filed_of paper s.uploads)) c.self.view_is

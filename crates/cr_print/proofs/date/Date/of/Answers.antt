@@ -7,5 +7,8 @@ use Rattle.cr_print.proofs.date.Date.of.Goals as goal
 pub invariant_of-result : goal.invariant_of-result
 invariant_of-result c =
     let within : IsMoment c.args.at = rw c.seconds.ensures.value at c.seconds.ensures.high in
-    let same : unix_secs c.unwrap-date.result ≡ c.seconds.result = rw c.unwrap-date.ensures at c.from_unix_secs.ensures.value in
-    (c.to_bytes.ensures ∙ date-of-moment c.unwrap-date.result c.args.at within (same ∙ c.seconds.ensures.value), search rules)
+    let same : unix_secs c.unwrap-date.result ≡ c.seconds.result =
+    rw c.unwrap-date.ensures at c.from_unix_secs.ensures.value in (
+      c.to_bytes.ensures ∙ date-of-moment c.unwrap-date.result c.args.at within (same ∙ c.seconds.ensures.value),
+      search rules,
+    )

@@ -12,4 +12,5 @@ returns-clause-value g c =
     let then = λ (w : WrittenForm). not (is_from c.args.phase w.phase) in
     c.last_of.ensures
     ∙ last-both (is_under c.args.ordinal) then c.forms.result.now
-    ∙ ap (λ (forms : List WrittenForm). last (filter then (filter (is_under c.args.ordinal) forms))) c.forms.ensures.forms
+    ∙ ap (λ (forms : List WrittenForm). last (filter then (filter (is_under c.args.ordinal) forms)))
+    c.forms.ensures.forms

@@ -5,7 +5,9 @@ pub returns-in_default : goal.returns-in_default
 returns-in_default c = none_is c.args.self.now.router c.args.path.now c.args.self.now.whole c.in_default.ensures.missing
 
 pub taken-requires : goal.taken-requires
-taken-requires c = texts_are c.args.self.now.router c.args.path.now _ _ c.args.self.now.whole c.utf8.path c.in-Ok.ensures.found c.in-Ok.ensures.path
+taken-requires c = texts_are c.args.self.now.router c.args.path.now _ _ c.args.self.now.whole c.utf8.path
+    c.in-Ok.ensures.found c.in-Ok.ensures.path
 
 pub returns : goal.returns
-returns c = found_is c.args.self.now.router c.args.path.now _ _ _ _ c.args.self.now.whole c.in-Ok.ensures.found c.in-Ok.ensures.path c.taken.ensures.first c.taken.ensures.second
+returns c = found_is c.args.self.now.router c.args.path.now _ _ _ _ c.args.self.now.whole c.in-Ok.ensures.found
+    c.in-Ok.ensures.path c.taken.ensures.first c.taken.ensures.second

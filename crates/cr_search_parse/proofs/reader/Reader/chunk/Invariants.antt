@@ -10,5 +10,6 @@ invariant-loop-i l = record {
   stands : StandsForOne l.self;
   light : weight l.self ≤ weight l.fn.self + 2 * l.i;
   leads : (s : State) → Stands l.fn.self s
-      → (t : State) × Stands l.self t × (after_symbols s (chunk_symbols l.text) ≡ after_symbols t (chunk_symbols (drop l.i l.text)));
+      → (t : State) × Stands l.self t
+      × (after_symbols s (chunk_symbols l.text) ≡ after_symbols t (chunk_symbols (drop l.i l.text)));
 }

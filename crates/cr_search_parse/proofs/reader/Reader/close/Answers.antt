@@ -15,12 +15,14 @@ end_item-requires c =
 
 pub overflow_add-self : goal.overflow_add-self
 overflow_add-self c =
-    let so = around_code c.args.self.now c.pop.new.self.items c.in-Some.around c.requires.stands c.in-Some.ensures.items in
+    let so =
+    around_code c.args.self.now c.pop.new.self.items c.in-Some.around c.requires.stands c.in-Some.ensures.items in
     omega (arith, so.inside, so.low)
 
 pub overflow_sub-self : goal.overflow_sub-self
 overflow_sub-self c =
-    let so = around_code c.args.self.now c.pop.new.self.items c.in-Some.around c.requires.stands c.in-Some.ensures.items in
+    let so =
+    around_code c.args.self.now c.pop.new.self.items c.in-Some.around c.requires.stands c.in-Some.ensures.items in
     so.inside
 
 pub returns-clause-takes : goal.returns-clause-takes
@@ -28,10 +30,16 @@ returns-clause-takes c s stands =
     let r = c.args.self.now in
     let last = c.in-Some.around in
     let p = popped s.around c.pop.new.self.items last (sym c.in-Some.ensures.items ∙ stands.around) in
-    let q : Reader = record r { steps = c.end_item.new.steps; around = c.pop.new.self; level = c.in_ok-self.field-0; outside = r.outside - (last.negations + 1) } in
+    let q : Reader = record r {
+      steps = c.end_item.new.steps;
+      around = c.pop.new.self;
+      level = c.in_ok-self.field-0;
+      outside = r.outside - (last.negations + 1);
+    } in
     let after = closed (level_steps s.level) p.level p.levels s in
     let so : Stands q after =
-    close_stands r q s last c.in_ok-count.count c.end_level.new.steps.items stands p c.in_ok-count.ensures.steps c.in_ok-count.ensures.count
+    close_stands r q s last c.in_ok-count.count c.end_level.new.steps.items stands p c.in_ok-count.ensures.steps
+    c.in_ok-count.ensures.count
     c.in_ok-self.ensures.steps c.in_ok-self.ensures.level (sym (ap next_told c.in-Ended.is)) refl refl in
     (after, ap₂ (after_close s) (stands.next ∙ ap next_told c.in-Ended.is) p.all, so)
 
@@ -42,4 +50,6 @@ returns-clause-grows c =
     let count = c.in_ok-count.count in
     let so = around_code r c.pop.new.self.items last c.requires.stands c.in-Some.ensures.items in
     let none = ap (λ (l : Counts). l.negations) c.in_ok-self.ensures.level in
-    rw none (close_grows r.steps.items c.end_level.new.steps.items c.end_item.new.steps.items last r.level.negations (step.Or r.level.items) (step.And (count + last.negations)) r.level.alternatives last.items r.outside so.inside c.in_ok-count.ensures.steps c.in_ok-self.ensures.steps)
+    rw none (close_grows r.steps.items c.end_level.new.steps.items c.end_item.new.steps.items last r.level.negations
+    (step.Or r.level.items) (step.And (count + last.negations)) r.level.alternatives last.items r.outside so.inside
+    c.in_ok-count.ensures.steps c.in_ok-self.ensures.steps)

@@ -16,5 +16,6 @@ pub returns-in_ok-end_level-in-Ended : goal.returns-in_ok-end_level-in-Ended
 returns-in_ok-end_level-in-Ended c s stands =
     let none = nothing c.args.self.around.items (search rules) in
     let no_more = no-level_left s.around (sym none ∙ stands.around) in
-    let steps = end_steps c.args.self s c.end_level.new.steps.items stands none c.in_ok-end_level-in-Ended.ensures.steps in
+    let steps =
+    end_steps c.args.self s c.end_level.new.steps.items stands none c.in_ok-end_level-in-Ended.ensures.steps in
     rw (stands.next, c.in-Ended.is, no_more, steps) refl

@@ -11,5 +11,6 @@ returns-clause-takes c s stands =
     let r = c.args.self.now in
     let q : Reader = record r { level = record r.level { negations = r.level.negations + 1 }; next = c.args.next } in
     let after = one_negation_more (next_told c.args.next) s in
-    let so : Stands q after = negation_stands r q s stands refl refl refl refl refl (omega (arith, c.if-self-ge-MOST_DEPTH.false)) in
+    let so : Stands q after =
+    negation_stands r q s stands refl refl refl refl refl (omega (arith, c.if-self-ge-MOST_DEPTH.false)) in
     (after, shallow after so.shallow, so)

@@ -10,8 +10,16 @@ use Rattle.cr_search_parse.proofs.reader.Reader.or.Goals as goal
 pub returns-clause-takes : goal.returns-clause-takes
 returns-clause-takes c s stands =
     let r = c.args.self.now in
-    let only_alternatives = λ (n : ℕ). let counts : Counts = record { alternatives = n; items = 0; negations = 0 } in counts in
-    let q : Reader = record r { steps = c.end_level.new.steps; level = only_alternatives c.in_ok-alternatives.alternatives; next = told.Wanted } in
-    let after : State = record s { level = record { alternatives = level_steps s.level; items = []; negations = 0 }; next = wanted } in
-    let so : Stands q after = or_stands r q s stands c.in_ok-alternatives.ensures.steps refl (ap only_alternatives c.in_ok-alternatives.ensures.count) refl refl refl in
+    let only_alternatives = λ (n : ℕ). let counts : Counts =
+    record { alternatives = n; items = 0; negations = 0 } in counts in
+    let q : Reader =
+    record r {
+      steps = c.end_level.new.steps;
+      level = only_alternatives c.in_ok-alternatives.alternatives;
+      next = told.Wanted;
+    } in
+    let after : State =
+    record s { level = record { alternatives = level_steps s.level; items = []; negations = 0 }; next = wanted } in
+    let so : Stands q after = or_stands r q s stands c.in_ok-alternatives.ensures.steps refl
+    (ap only_alternatives c.in_ok-alternatives.ensures.count) refl refl refl in
     (after, ap (after_or s) (stands.next ∙ ap next_told c.in-Ended.is), so)

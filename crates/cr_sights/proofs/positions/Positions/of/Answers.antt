@@ -11,9 +11,11 @@ returns c =
       passed = c.new.ensures;
       all = c.in_ok-all.ensures;
       before_response = subst (AreLast c.in_ok-before_response.before_response.places.items)
-          (ap (λ (n : ℕ). take n log) c.opening-response_at.ensures.before ∙ take-until opens_response log) c.in_ok-before_response.ensures;
+          (ap (λ (n : ℕ). take n log) c.opening-response_at.ensures.before ∙ take-until opens_response log)
+          c.in_ok-before_response.ensures;
       before_discussion = subst (AreLast c.in_ok-before_discussion.before_discussion.places.items)
-          (ap (λ (n : ℕ). take n log) c.opening-discussion_at.ensures.before ∙ take-until opens_discussion log) c.in_ok-before_discussion.ensures;
+          (ap (λ (n : ℕ). take n log) c.opening-discussion_at.ensures.before ∙ take-until opens_discussion log)
+          c.in_ok-before_discussion.ensures;
       response_at = c.opening-response_at.ensures.before;
       discussion_at = c.opening-discussion_at.ensures.before;
     }

@@ -7,9 +7,12 @@ pub returns-clause-position : goal.returns-clause-position
 returns-clause-position c =
     let noted = c.requires.noted in
     let positions = c.args.self.now in
-    stands_so c.args.log.now c.args.at c.index-log-at.result c.requires.within c.series-series.result c.series-series.ensures.same c.series-series.ensures.alike
-    positions.passed.places.items positions.all.places.items positions.before_response.places.items positions.before_discussion.places.items
-    positions.response_at positions.discussion_at noted.passed noted.all noted.before_response noted.response_at noted.before_discussion noted.discussion_at _
+    stands_so c.args.log.now c.args.at c.index-log-at.result c.requires.within c.series-series.result
+    c.series-series.ensures.same c.series-series.ensures.alike
+    positions.passed.places.items positions.all.places.items positions.before_response.places.items
+    positions.before_discussion.places.items
+    positions.response_at positions.discussion_at noted.passed noted.all noted.before_response noted.response_at
+    noted.before_discussion noted.discussion_at _
     c.is_last_at.ensures c.is_last_at-2.ensures
     (rw (c.is_last_before.ensures, c.is_last_at-ends_at_response.ensures) refl)
     (rw (c.is_last_before-2.ensures, c.is_last_at-ends_at_discussion.ensures) refl) refl
@@ -18,7 +21,8 @@ pub returns-clause-noted : goal.returns-clause-noted
 returns-clause-noted c =
     let noted = c.requires.noted in
     record {
-      passed = noted-here c.args.log.now c.args.at c.index-log-at.result c.requires.within c.args.self.now.passed.places.items c.note.new.self.places.items
+      passed = noted-here c.args.log.now c.args.at c.index-log-at.result c.requires.within
+          c.args.self.now.passed.places.items c.note.new.self.places.items
           c.series-series.result c.series-series.ensures.same c.in_ok-note.ensures noted.passed;
       all = noted.all;
       before_response = noted.before_response;

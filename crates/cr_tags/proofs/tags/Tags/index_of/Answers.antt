@@ -13,4 +13,5 @@ returns c =
     let by = facts.position (λ (s : SetTag). tag_order s t)
     (always_returns_same _ (λ a r. r ≡ tag_order a.0.now t) _ (λ a r f called. search rules)) in
     let sorted = sorted-of c.args.paper c.self.inside.tags.files c.self.invariant in
-    rw (← c.self.view_is, ← c.of_paper.ensures.values) (searched t c.of_paper.result.now c.binary_search_by.result (rw c.of_paper.ensures.values sorted) facts.bound by)
+    rw (← c.self.view_is, ← c.of_paper.ensures.values)
+    (searched t c.of_paper.result.now c.binary_search_by.result (rw c.of_paper.ensures.values sorted) facts.bound by)

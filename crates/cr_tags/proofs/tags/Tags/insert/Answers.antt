@@ -12,7 +12,8 @@ invariant_of-self c =
     let paper = c.args.paper in
     let t : SetTag = record { tag = c.args.tag; owner = c.args.owner } in
     let tags = c.self.inside.tags.files in
-    let at = subst (λ (s : SeenTags). IsAt t (filed_of paper s.tags) c.in-Ok.index) (sym c.self.view_is) c.in-Ok.ensures in
+    let at =
+    subst (λ (s : SeenTags). IsAt t (filed_of paper s.tags) c.in-Ok.index) (sym c.self.view_is) c.in-Ok.ensures in
     sorted-after true (filed paper t) tags c.change.new.self.files c.self.invariant
     (c.change.ensures.values ∙ replaced paper t tags c.in-Ok.index c.self.invariant at)
 
@@ -21,7 +22,8 @@ returns-in-Ok-clause-tags c =
     let paper = c.args.paper in
     let t : SetTag = record { tag = c.args.tag; owner = c.args.owner } in
     let tags = c.self.inside.tags.files in
-    let at = subst (λ (s : SeenTags). IsAt t (filed_of paper s.tags) c.in-Ok.index) (sym c.self.view_is) c.in-Ok.ensures in
+    let at =
+    subst (λ (s : SeenTags). IsAt t (filed_of paper s.tags) c.in-Ok.index) (sym c.self.view_is) c.in-Ok.ensures in
     c.change.ensures.values ∙ replaced paper t tags c.in-Ok.index c.self.invariant at
     ∙ ap (λ (s : SeenTags). tag_switched true (filed paper t) s.tags) c.self.view_is
 
@@ -30,7 +32,8 @@ invariant_of-self-in-Err c =
     let paper = c.args.paper in
     let t : SetTag = record { tag = c.args.tag; owner = c.args.owner } in
     let tags = c.self.inside.tags.files in
-    let gap = subst (λ (s : SeenTags). IsGapFor t (filed_of paper s.tags) c.in-Err.index) (sym c.self.view_is) c.in-Err.ensures in
+    let gap = subst (λ (s : SeenTags). IsGapFor t (filed_of paper s.tags) c.in-Err.index) (sym c.self.view_is)
+    c.in-Err.ensures in
     sorted-after true (filed paper t) tags c.insert.new.self.files c.self.invariant
     (c.insert.ensures.values ∙ inserted paper t tags c.in-Err.index c.self.invariant gap)
 
@@ -39,6 +42,7 @@ returns-in-Err-clause-tags c =
     let paper = c.args.paper in
     let t : SetTag = record { tag = c.args.tag; owner = c.args.owner } in
     let tags = c.self.inside.tags.files in
-    let gap = subst (λ (s : SeenTags). IsGapFor t (filed_of paper s.tags) c.in-Err.index) (sym c.self.view_is) c.in-Err.ensures in
+    let gap = subst (λ (s : SeenTags). IsGapFor t (filed_of paper s.tags) c.in-Err.index) (sym c.self.view_is)
+    c.in-Err.ensures in
     c.insert.ensures.values ∙ inserted paper t tags c.in-Err.index c.self.invariant gap
     ∙ ap (λ (s : SeenTags). tag_switched true (filed paper t) s.tags) c.self.view_is

@@ -12,7 +12,8 @@ invariant_of-self c =
     let paper = c.args.paper in
     let t : SetTag = record { tag = c.args.tag; owner = c.args.owner } in
     let tags = c.self.inside.tags.files in
-    let at = subst (λ (s : SeenTags). IsAt t (filed_of paper s.tags) c.in-Ok.index) (sym c.self.view_is) c.in-Ok.ensures in
+    let at =
+    subst (λ (s : SeenTags). IsAt t (filed_of paper s.tags) c.in-Ok.index) (sym c.self.view_is) c.in-Ok.ensures in
     sorted-after false (filed paper t) tags c.remove.new.self.files c.self.invariant
     (c.remove.ensures.values ∙ removed paper t tags c.in-Ok.index c.self.invariant at)
 
@@ -21,7 +22,8 @@ returns-in-Ok-clause-tags c =
     let paper = c.args.paper in
     let t : SetTag = record { tag = c.args.tag; owner = c.args.owner } in
     let tags = c.self.inside.tags.files in
-    let at = subst (λ (s : SeenTags). IsAt t (filed_of paper s.tags) c.in-Ok.index) (sym c.self.view_is) c.in-Ok.ensures in
+    let at =
+    subst (λ (s : SeenTags). IsAt t (filed_of paper s.tags) c.in-Ok.index) (sym c.self.view_is) c.in-Ok.ensures in
     c.remove.ensures.values ∙ removed paper t tags c.in-Ok.index c.self.invariant at
     ∙ ap (λ (s : SeenTags). tag_switched false (filed paper t) s.tags) c.self.view_is
 

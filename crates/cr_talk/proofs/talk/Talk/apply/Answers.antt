@@ -8,20 +8,26 @@ use Rattle.cr_talk.proofs.talk.Talk.apply.Goals as goal
 
 pub add-requires-clause-room : goal.add-requires-clause-room
 add-requires-clause-room c =
-    let has = subst (λ (v : SeenTalk). TalkHasRoom (c.args.stamped ∷ []) v.rooms) (sym c.self.view_is) c.requires.room in
-    (beside-first paper_commented c.args.stamped [] c.self.inside.written.capacity c.in-Commented.paper c.self.inside.comments.rooms
+    let has =
+    subst (λ (v : SeenTalk). TalkHasRoom (c.args.stamped ∷ []) v.rooms) (sym c.self.view_is) c.requires.room in
+    (beside-first paper_commented c.args.stamped [] c.self.inside.written.capacity c.in-Commented.paper
+    c.self.inside.comments.rooms
     (ap comments_on c.in-Commented.is) has.comments).0
 
 pub file-requires : goal.file-requires
 file-requires c =
-    let has = subst (λ (v : SeenTalk). TalkHasRoom (c.args.stamped ∷ []) v.rooms) (sym c.self.view_is) c.requires.room in
-    (beside-first paper_commented c.args.stamped [] c.self.inside.written.capacity c.in-Commented.paper c.self.inside.comments.rooms
+    let has =
+    subst (λ (v : SeenTalk). TalkHasRoom (c.args.stamped ∷ []) v.rooms) (sym c.self.view_is) c.requires.room in
+    (beside-first paper_commented c.args.stamped [] c.self.inside.written.capacity c.in-Commented.paper
+    c.self.inside.comments.rooms
     (ap comments_on c.in-Commented.is) has.comments).1
 
 pub file-requires-in-Responded : goal.file-requires-in-Responded
 file-requires-in-Responded c =
-    let has = subst (λ (v : SeenTalk). TalkHasRoom (c.args.stamped ∷ []) v.rooms) (sym c.self.view_is) c.requires.room in
-    room-for-first paper_responded c.args.stamped [] c.self.inside.responses.rooms c.in-Responded.paper (ap responds_on c.in-Responded.is)
+    let has =
+    subst (λ (v : SeenTalk). TalkHasRoom (c.args.stamped ∷ []) v.rooms) (sym c.self.view_is) c.requires.room in
+    room-for-first paper_responded c.args.stamped [] c.self.inside.responses.rooms c.in-Responded.paper
+    (ap responds_on c.in-Responded.is)
     has.responses
 
 pub returns-in-Commented-clause-room : goal.returns-in-Commented-clause-room
@@ -32,9 +38,11 @@ returns-in-Commented-clause-room c = λ rest has.
     let here = subst (λ (v : SeenTalk). TalkHasRoom (c.args.stamped ∷ rest) v.rooms) (sym c.self.view_is) has in
     record {
       comments =
-          room-for-rest paper_commented c.args.stamped rest (rooms_beside sums rooms) (rooms_beside c.add.new.self.capacity fewer) c.in-Commented.paper
+          room-for-rest paper_commented c.args.stamped rest (rooms_beside sums rooms)
+          (rooms_beside c.add.new.self.capacity fewer) c.in-Commented.paper
           (ap comments_on c.in-Commented.is)
-          (one-less-beside c.in-Commented.paper sums c.add.new.self.capacity rooms fewer c.add.ensures.capacity c.file.ensures.rooms) here.comments;
+          (one-less-beside c.in-Commented.paper sums c.add.new.self.capacity rooms fewer c.add.ensures.capacity
+          c.file.ensures.rooms) here.comments;
       responses = room-for-behind paper_responded c.args.stamped rest c.self.inside.responses.rooms here.responses;
     }
 
@@ -43,8 +51,10 @@ returns-in-Responded-clause-room c = λ rest has.
     let here = subst (λ (v : SeenTalk). TalkHasRoom (c.args.stamped ∷ rest) v.rooms) (sym c.self.view_is) has in
     record {
       comments =
-          room-for-behind paper_commented c.args.stamped rest (rooms_beside c.self.inside.written.capacity c.self.inside.comments.rooms) here.comments;
+          room-for-behind paper_commented c.args.stamped rest
+          (rooms_beside c.self.inside.written.capacity c.self.inside.comments.rooms) here.comments;
       responses =
-          room-for-rest paper_responded c.args.stamped rest c.self.inside.responses.rooms c.file-in-Responded.new.self.rooms c.in-Responded.paper
+          room-for-rest paper_responded c.args.stamped rest c.self.inside.responses.rooms
+          c.file-in-Responded.new.self.rooms c.in-Responded.paper
           (ap responds_on c.in-Responded.is) c.file-in-Responded.ensures.rooms here.responses;
     }

@@ -28,7 +28,8 @@ returns-in_err-room-clause-keeps c = λ any has.
     record {
       comments =
           room-for-kept paper_commented any (rooms_beside sums rooms) (rooms_beside more c.room.new.self.rooms)
-          (no-less-beside sums more rooms c.room.new.self.rooms c.make_room.ensures.keeps c.room.ensures.keeps) here.comments;
+          (no-less-beside sums more rooms c.room.new.self.rooms c.make_room.ensures.keeps c.room.ensures.keeps)
+          here.comments;
       responses = here.responses;
     }
 
@@ -41,7 +42,9 @@ returns-clause-keeps c = λ any has.
     record {
       comments =
           room-for-kept paper_commented any (rooms_beside sums rooms) (rooms_beside more c.room.new.self.rooms)
-          (no-less-beside sums more rooms c.room.new.self.rooms c.make_room.ensures.keeps c.room.ensures.keeps) here.comments;
+          (no-less-beside sums more rooms c.room.new.self.rooms c.make_room.ensures.keeps c.room.ensures.keeps)
+          here.comments;
       responses =
-          room-for-kept paper_responded any c.self.inside.responses.rooms c.room-2.new.self.rooms c.room-2.ensures.keeps here.responses;
+          room-for-kept paper_responded any c.self.inside.responses.rooms c.room-2.new.self.rooms c.room-2.ensures.keeps
+          here.responses;
     }

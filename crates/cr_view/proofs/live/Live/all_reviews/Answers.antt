@@ -16,15 +16,18 @@ loop-before-preserved c =
     let o : ℕ = c.new-label.result in
     let told : ℕ → List ReviewLine = label_reviews t by p in
     let before : List ReviewLine = c.loop-before.lines.items in
-    let has = c.labels-written.ensures.value o ∙ ap (λ (v : SeenTables). is_written_in v.tables.reviews p o) c.self.view_is in
+    let has =
+    c.labels-written.ensures.value o ∙ ap (λ (v : SeenTables). is_written_in v.tables.reviews p o) c.self.view_is in
     elim c.if-has.branch [
       | then-has+in_ok-push_label w ↦
           labels-step told c.loop-before.before before _ c.loop-before.invariant
-          (ap (λ v. v.items) w.lines-is ∙ w.in_ok-push_label.ensures ∙ ap (λ (n : ℕ). before ++ told n) c.new-label.ensures)
+          (ap (λ v. v.items) w.lines-is ∙ w.in_ok-push_label.ensures
+          ∙ ap (λ (n : ℕ). before ++ told n) c.new-label.ensures)
       | else-has w ↦
           labels-step told c.loop-before.before before _ c.loop-before.invariant
           (ap (λ v. v.items) w.lines-is ∙ sym (append-nil before)
-          ∙ ap (λ (l : List ReviewLine). before ++ l) (label-unwritten t by p o (sym has ∙ sym c.has.ensures ∙ w.if-has.false) ∙ ap told c.new-label.ensures))
+          ∙ ap (λ (l : List ReviewLine). before ++ l)
+          (label-unwritten t by p o (sym has ∙ sym c.has.ensures ∙ w.if-has.false) ∙ ap told c.new-label.ensures))
     ]
 
 pub returns : goal.returns

@@ -19,16 +19,22 @@ invariant_of-self c =
     let x = c.self.inside in
     let maker = c.args.stamped.stamp.maker in
     let entry = c.args.stamped.entry in
-    let fits = subst (λ (v : SeenTables). PapersFit v.tables.papers maker entry) (sym c.self.view_is) c.requires.fits.papers in
+    let fits =
+    subst (λ (v : SeenTables). PapersFit v.tables.papers maker entry) (sym c.self.view_is) c.requires.fits.papers in
     let papers = sym c.apply-in_default.ensures.after in (
-      subst (λ (ties : TiesState). AreWithin (paper_count c.apply-in_default.new.self.papers) ties) (sym c.apply-3.ensures.after)
+      subst (λ (ties : TiesState). AreWithin (paper_count c.apply-in_default.new.self.papers) ties)
+          (sym c.apply-3.ensures.after)
           (subst (λ (state : PapersState). AreWithin (paper_count state) (ties_after x.ties.ties maker entry)) papers
           (within-after x.papers.papers x.ties.ties maker entry fits c.self.invariant.0)),
-      subst (λ (seats : SeatsState). are_within (paper_count c.apply-in_default.new.self.papers) seats ≡ true) (sym c.apply-4.ensures.after)
-          (subst (λ (state : PapersState). are_within (paper_count state) (seats_after x.seats.seats entry) ≡ true) papers
+      subst (λ (seats : SeatsState). are_within (paper_count c.apply-in_default.new.self.papers) seats ≡ true)
+          (sym c.apply-4.ensures.after)
+          (subst (λ (state : PapersState). are_within (paper_count state) (seats_after x.seats.seats entry) ≡ true)
+          papers
           (seats-within x.papers.papers x.seats.seats maker entry fits c.self.invariant.1)),
-      subst (λ (invites : InvitesState). are_within (paper_count c.apply-in_default.new.self.papers) invites ≡ true) (sym c.apply-4.ensures.invites)
-          (subst (λ (state : PapersState). are_within (paper_count state) (invites_after x.seats.invites entry) ≡ true) papers
+      subst (λ (invites : InvitesState). are_within (paper_count c.apply-in_default.new.self.papers) invites ≡ true)
+          (sym c.apply-4.ensures.invites)
+          (subst (λ (state : PapersState). are_within (paper_count state) (invites_after x.seats.invites entry) ≡ true)
+          papers
           (invites-within x.papers.papers x.seats.invites maker entry fits c.self.invariant.2)),
     )
 
@@ -43,8 +49,10 @@ returns-in-PhaseSet-clause-room c rest has =
       seats = c.apply-4.ensures.room rest here.seats;
       reviews = c.apply-in-PhaseSet.ensures.room rest here.reviews;
       talk = record {
-        comments = room-for-behind paper_commented c.args.stamped rest c.self.inside.talk.rooms.comments here.talk.comments;
-        responses = room-for-behind paper_responded c.args.stamped rest c.self.inside.talk.rooms.responses here.talk.responses;
+        comments =
+            room-for-behind paper_commented c.args.stamped rest c.self.inside.talk.rooms.comments here.talk.comments;
+        responses =
+            room-for-behind paper_responded c.args.stamped rest c.self.inside.talk.rooms.responses here.talk.responses;
       };
       tags = c.apply-5.ensures.room rest here.tags;
       decisions = c.apply-6.ensures.room rest here.decisions;
@@ -74,8 +82,10 @@ returns-in_default-clause-room c rest has =
       seats = c.apply-4.ensures.room rest here.seats;
       reviews = room-for-behind paper_reviewed c.args.stamped rest c.self.inside.reviews.rooms here.reviews;
       talk = record {
-        comments = room-for-behind paper_commented c.args.stamped rest c.self.inside.talk.rooms.comments here.talk.comments;
-        responses = room-for-behind paper_responded c.args.stamped rest c.self.inside.talk.rooms.responses here.talk.responses;
+        comments =
+            room-for-behind paper_commented c.args.stamped rest c.self.inside.talk.rooms.comments here.talk.comments;
+        responses =
+            room-for-behind paper_responded c.args.stamped rest c.self.inside.talk.rooms.responses here.talk.responses;
       };
       tags = c.apply-5.ensures.room rest here.tags;
       decisions = c.apply-6.ensures.room rest here.decisions;

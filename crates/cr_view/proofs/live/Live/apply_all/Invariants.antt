@@ -10,6 +10,7 @@ invariant-loop-stamped l =
       rest : tables_from l.self.tables l.stamped-iterator.rest.items ≡ tables_from l.fn.self.tables l.fn.group.items;
       fits : FitInTurn l.self.tables l.stamped-iterator.rest.items;
       enough : RoomFor l.stamped-iterator.rest.items l.self.rooms;
-      room : (more : History) → RoomFor (l.fn.group.items ++ more) l.fn.self.rooms → RoomFor (l.stamped-iterator.rest.items ++ more) l.self.rooms;
+      room : (more : History) → RoomFor (l.fn.group.items ++ more) l.fn.self.rooms
+          → RoomFor (l.stamped-iterator.rest.items ++ more) l.self.rooms;
       count : length l.stamped-iterator.rest.items ≡ l.stamped-iterator.rest.len;
     }

@@ -9,11 +9,13 @@ use Rattle.cr_view.proofs.live.Live.bidder.Goals as goal
 pub returns-in-Some : goal.returns-in-Some
 returns-in-Some c =
     let found = c.in-Some.ensures
-    ∙ ap (λ (v : SeenTables). option_map (λ (a : Account). a.name) (account_at v.tables.accounts c.args.tie.now.pair.user)) c.self.view_is in
+    ∙ ap (λ (v : SeenTables). option_map (λ (a : Account). a.name)
+    (account_at v.tables.accounts c.args.tie.now.pair.user)) c.self.view_is in
     bidder-is c.args.self.now.tables.accounts c.args.tie.now (Some c.in-Some.user) found
 
 pub returns-in-None : goal.returns-in-None
 returns-in-None c =
     let found = c.in-None.ensures
-    ∙ ap (λ (v : SeenTables). option_map (λ (a : Account). a.name) (account_at v.tables.accounts c.args.tie.now.pair.user)) c.self.view_is in
+    ∙ ap (λ (v : SeenTables). option_map (λ (a : Account). a.name)
+    (account_at v.tables.accounts c.args.tie.now.pair.user)) c.self.view_is in
     bidder-is c.args.self.now.tables.accounts c.args.tie.now None found

@@ -16,4 +16,5 @@ loop-tie-preserved c =
     c.in_ok-push_some.ensures
     ∙ ap (λ (o : Option Bidder). before ++ listed o) c.bidder.ensures
     ∙ ap (λ (tie : Tie ℕ). before ++ listed (bidder_told (lines_of t.accounts) (bid_of tie))) c.tie-item.is in
-    bidders-step t c.args.ties.now c.loop-tie.tie-index c.tie-item.result before _ _ c.loop-tie-test.true pushed c.loop-tie.invariant
+    bidders-step t c.args.ties.now c.loop-tie.tie-index c.tie-item.result before _ _ c.loop-tie-test.true pushed
+    c.loop-tie.invariant

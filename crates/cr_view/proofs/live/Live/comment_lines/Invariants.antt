@@ -4,4 +4,5 @@ use Rattle.cr_view.proofs.live.Live.comment_lines.Given as goal
 
 abbrev pub invariant-loop-comment : goal.invariant-loop-comment
 invariant-loop-comment l =
-    l.lines.items ++ lines_told l.self.tables l.by (drop l.comment-index l.comments) ≡ lines_told l.self.tables l.by l.comments
+    l.lines.items ++ lines_told l.self.tables l.by (drop l.comment-index l.comments) ≡ lines_told l.self.tables l.by
+    l.comments

@@ -10,7 +10,8 @@ use Rattle.cr_view.proofs.live.Live.invited.Goals as goal
 pub returns-then-is_member : goal.returns-then-is_member
 returns-then-is_member c =
     let t = c.args.self.now.tables in
-    let role = c.standing_for-role.ensures ∙ ap (λ (v : SeenTables). role_in v.tables.accounts (Some c.args.user)) c.self.view_is in
+    let role = c.standing_for-role.ensures ∙ ap (λ (v : SeenTables). role_in v.tables.accounts (Some c.args.user))
+    c.self.view_is in
     c.from_vec.ensures ∙ c.new-none.ensures.items
     ∙ external-none t c.args.user (sym (ap is_member role) ∙ sym c.is_member.ensures ∙ c.if-is_member.true)
 
@@ -18,7 +19,11 @@ pub returns : goal.returns
 returns c =
     let t = c.args.self.now.tables in
     let user : ℕ = c.args.user in
-    let role = c.standing_for-role.ensures ∙ ap (λ (v : SeenTables). role_in v.tables.accounts (Some user)) c.self.view_is in
-    c.in_ok-papers.ensures ∙ c.inviting.ensures.papers ∙ ap (λ (v : SeenTables). papers_tied_to user v.tables.invites) c.self.view_is
-    ∙ external-some t user (sym (ap is_member role) ∙ sym c.is_member.ensures ∙ c.if-is_member.false) c.law_within.ensures.invites
-    (subst (λ (v : SeenTables). IsRising (papers_tied_to user v.tables.invites)) c.self.view_is c.inviting.ensures.rising)
+    let role =
+    c.standing_for-role.ensures ∙ ap (λ (v : SeenTables). role_in v.tables.accounts (Some user)) c.self.view_is in
+    c.in_ok-papers.ensures ∙ c.inviting.ensures.papers
+    ∙ ap (λ (v : SeenTables). papers_tied_to user v.tables.invites) c.self.view_is
+    ∙ external-some t user (sym (ap is_member role) ∙ sym c.is_member.ensures ∙ c.if-is_member.false)
+    c.law_within.ensures.invites
+    (subst (λ (v : SeenTables). IsRising (papers_tied_to user v.tables.invites)) c.self.view_is
+    c.inviting.ensures.rising)

@@ -9,10 +9,13 @@ use Rattle.cr_view.proofs.live.Live.last_discussed.Goals as goal
 pub returns-in-Some : goal.returns-in-Some
 returns-in-Some c =
     discussed-late c.args.self.now.tables c.args.paper c.args.label c.in-Some.form.now
-    (c.in-Some.ensures.value ∙ ap (λ (v : SeenTables). last (forms_from v.tables.reviews c.args.paper c.args.label Discussion)) c.self.view_is)
+    (c.in-Some.ensures.value
+    ∙ ap (λ (v : SeenTables). last (forms_from v.tables.reviews c.args.paper c.args.label Discussion)) c.self.view_is)
 
 pub returns : goal.returns
 returns c =
     discussed-early c.args.self.now.tables c.args.paper c.args.label _
-    (c.in-None.ensures.value ∙ ap (λ (v : SeenTables). last (forms_from v.tables.reviews c.args.paper c.args.label Discussion)) c.self.view_is)
-    (c.last_before.ensures.value ∙ ap (λ (v : SeenTables). last_form_before v.tables.reviews c.args.paper c.args.label Discussion) c.self.view_is)
+    (c.in-None.ensures.value
+    ∙ ap (λ (v : SeenTables). last (forms_from v.tables.reviews c.args.paper c.args.label Discussion)) c.self.view_is)
+    (c.last_before.ensures.value
+    ∙ ap (λ (v : SeenTables). last_form_before v.tables.reviews c.args.paper c.args.label Discussion) c.self.view_is)

@@ -20,11 +20,15 @@ returns-in-Comments c =
 pub returns-in-Plan : goal.returns-in-Plan
 returns-in-Plan c =
     c.may_plan.ensures
-    ∙ ap (λ (query : Query). judged (query_checks (facts_of_tables c.args.self.now.tables c.args.user.now) (shown_in_tables c.args.self.now.tables) query) (tt {0}))
+    ∙ ap
+    (λ (query : Query). judged (query_checks (facts_of_tables c.args.self.now.tables c.args.user.now)
+    (shown_in_tables c.args.self.now.tables) query) (tt {0}))
     (sym c.in-Plan.is)
 
 pub returns-in-Response : goal.returns-in-Response
 returns-in-Response c =
     c.may_read_response.ensures
-    ∙ ap (λ (query : Query). judged (query_checks (facts_of_tables c.args.self.now.tables c.args.user.now) (shown_in_tables c.args.self.now.tables) query) (tt {0}))
+    ∙ ap
+    (λ (query : Query). judged (query_checks (facts_of_tables c.args.self.now.tables c.args.user.now)
+    (shown_in_tables c.args.self.now.tables) query) (tt {0}))
     (sym c.in-Response.is)

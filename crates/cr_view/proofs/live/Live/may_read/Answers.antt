@@ -10,7 +10,8 @@ returns-in-Ok c =
     let facts = facts_of_tables c.args.self.now.tables c.args.user.now in
     let shown = shown_in_tables c.args.self.now.tables in
     let paper = c.args.paper.now in
-    passed (content_asked facts shown paper c.args.version) (λ (content : List ℕ). tt) (unwrap_or (content_by facts shown paper c.args.version) [])
+    passed (content_asked facts shown paper c.args.version) (λ (content : List ℕ). tt)
+    (unwrap_or (content_by facts shown paper c.args.version) [])
     c.in-Ok.field-0.now (sym c.in-Ok.ensures.content)
 
 pub returns-in-Err : goal.returns-in-Err
@@ -18,4 +19,5 @@ returns-in-Err c =
     let facts = facts_of_tables c.args.self.now.tables c.args.user.now in
     let shown = shown_in_tables c.args.self.now.tables in
     let paper = c.args.paper.now in
-    refused (content_asked facts shown paper c.args.version) (unwrap_or (content_by facts shown paper c.args.version) []) tt c.in-Err.rule (sym c.in-Err.ensures.rule)
+    refused (content_asked facts shown paper c.args.version)
+    (unwrap_or (content_by facts shown paper c.args.version) []) tt c.in-Err.rule (sym c.in-Err.ensures.rule)

@@ -9,12 +9,14 @@ pub returns-in-Ok : goal.returns-in-Ok
 returns-in-Ok c =
     let shown = shown_in_tables c.args.self.now.tables in
     let paper = c.args.paper.now in
-    passed (query_checks (facts_of_tables c.args.self.now.tables c.args.user.now) shown (queries.Response paper)) (λ (text : List ℕ). tt)
+    passed (query_checks (facts_of_tables c.args.self.now.tables c.args.user.now) shown (queries.Response paper))
+    (λ (text : List ℕ). tt)
     (response_by shown paper) c.in-Ok.field-0.now (sym c.in-Ok.ensures.response)
 
 pub returns-in-Err : goal.returns-in-Err
 returns-in-Err c =
     let shown = shown_in_tables c.args.self.now.tables in
     let paper = c.args.paper.now in
-    refused (query_checks (facts_of_tables c.args.self.now.tables c.args.user.now) shown (queries.Response paper)) (response_by shown paper) tt
+    refused (query_checks (facts_of_tables c.args.self.now.tables c.args.user.now) shown (queries.Response paper))
+    (response_by shown paper) tt
     c.in-Err.rule (sym c.in-Err.ensures.rule)

@@ -10,7 +10,8 @@ pub returns-in-Ok : goal.returns-in-Ok
 returns-in-Ok c =
     let t = c.args.self.now.tables in
     let u = c.args.user.now in
-    passed (query_checks (facts_of_tables t u) (shown_in_tables t) (queries.Page c.args.paper.now)) (λ (s : PaperSeen). tt)
+    passed (query_checks (facts_of_tables t u) (shown_in_tables t) (queries.Page c.args.paper.now))
+    (λ (s : PaperSeen). tt)
     (paper_seen_at t u (unwrap_or c.args.paper.now 0)) c.in-Ok.field-0 c.in-Ok.ensures.facts
 
 pub returns : goal.returns

@@ -12,6 +12,9 @@ loop-tie-preserved c =
     let accounts = c.args.self.now.tables.accounts in
     let found =
     c.name_of.ensures
-    ∙ ap (λ (v : SeenTables). option_map (λ (a : Account). a.name) (account_at v.tables.accounts c.tie-item.result.pair.user)) c.self.view_is
-    ∙ ap (λ (t : Tie (Unit {0})). option_map (λ (a : Account). a.name) (account_at accounts t.pair.user)) c.tie-item.is in
-    names-step accounts c.args.ties.now c.loop-tie.tie-index c.tie-item.result c.loop-tie.names.items _ _ c.name_of.result c.loop-tie-test.true found c.in_ok-push_some.ensures c.loop-tie.invariant
+    ∙ ap (λ (v : SeenTables). option_map (λ (a : Account). a.name)
+    (account_at v.tables.accounts c.tie-item.result.pair.user)) c.self.view_is
+    ∙ ap (λ (t : Tie (Unit {0})). option_map (λ (a : Account). a.name) (account_at accounts t.pair.user))
+    c.tie-item.is in
+    names-step accounts c.args.ties.now c.loop-tie.tie-index c.tie-item.result c.loop-tie.names.items _ _
+    c.name_of.result c.loop-tie-test.true found c.in_ok-push_some.ensures c.loop-tie.invariant

@@ -6,4 +6,6 @@ use Rattle.cr_base.specs.Sources.{names_in}
 use Rattle.cr_view.proofs.live.Live.names.Given as goal
 
 abbrev pub invariant-loop-tie : goal.invariant-loop-tie
-invariant-loop-tie l = l.names.items ++ names_in (lines_of l.self.tables.accounts) (map (λ (tie : Tie (Unit {0})). tie.pair.user) (drop l.tie-index l.ties)) ≡ names_in (lines_of l.self.tables.accounts) (map (λ (tie : Tie (Unit {0})). tie.pair.user) l.ties)
+invariant-loop-tie l = l.names.items ++ names_in (lines_of l.self.tables.accounts)
+    (map (λ (tie : Tie (Unit {0})). tie.pair.user) (drop l.tie-index l.ties))
+    ≡ names_in (lines_of l.self.tables.accounts) (map (λ (tie : Tie (Unit {0})). tie.pair.user) l.ties)

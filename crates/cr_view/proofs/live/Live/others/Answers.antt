@@ -12,9 +12,12 @@ loop-tie-preserved c =
     let before : List ℕ = c.loop-tie.papers.items in
     let ties = c.args.self.now.tables.ties in
     let paper : ℕ = c.tie-item.result.pair.paper in
-    let hers = c.is_author-other.ensures.value ∙ ap (λ (v : SeenTables). is_author_in v.tables.ties (Some c.args.user) paper) c.self.view_is in
+    let hers = c.is_author-other.ensures.value
+    ∙ ap (λ (v : SeenTables). is_author_in v.tables.ties (Some c.args.user) paper) c.self.view_is in
     let pushed =
     c.in_ok-push_where.ensures
     ∙ ap (λ b. before ++ given (not b) paper) hers
-    ∙ ap (λ (t : Tie (Unit {0})). before ++ given (not (is_author_in ties (Some c.args.user) t.pair.paper)) t.pair.paper) c.tie-item.is in
-    kept-step (λ (n : ℕ). not (is_author_in ties (Some c.args.user) n)) c.args.ties.now c.loop-tie.tie-index c.tie-item.result before _ _ c.loop-tie-test.true pushed c.loop-tie.invariant
+    ∙ ap (λ (t : Tie (Unit {0})). before ++ given (not (is_author_in ties (Some c.args.user) t.pair.paper))
+    t.pair.paper) c.tie-item.is in
+    kept-step (λ (n : ℕ). not (is_author_in ties (Some c.args.user) n)) c.args.ties.now c.loop-tie.tie-index
+    c.tie-item.result before _ _ c.loop-tie-test.true pushed c.loop-tie.invariant

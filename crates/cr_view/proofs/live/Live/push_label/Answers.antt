@@ -19,12 +19,16 @@ returns c =
     let o : ℕ = c.args.label in
     let told : List ReviewLine = c.args.lines.now.items in
     let heading : Option (List ℕ) → Heading = λ name. record { to_author = by.author; label = o; user = name } in
-    let forms = c.forms-forms.ensures.forms ∙ ap (λ (v : SeenTables). filed_of p v.tables.reviews.forms) c.self.view_is in
-    let last = c.last_before-before.ensures.value ∙ ap (λ (v : SeenTables). last_form_before v.tables.reviews p o Discussion) c.self.view_is in
+    let forms =
+    c.forms-forms.ensures.forms ∙ ap (λ (v : SeenTables). filed_of p v.tables.reviews.forms) c.self.view_is in
+    let last = c.last_before-before.ensures.value
+    ∙ ap (λ (v : SeenTables). last_form_before v.tables.reviews p o Discussion) c.self.view_is in
     subst (λ (l : List ReviewLine). OnOk c.push_forms.result (c.push_forms.new.lines.items ≡ l))
-    (label-discussed t by p o (heading c.label_name.result) _ c.forms-forms.result.now told c.push_form-2.new.lines.items
+    (label-discussed t by p o (heading c.label_name.result) _ c.forms-forms.result.now told
+    c.push_form-2.new.lines.items
     c.if-by.false last forms c.in_ok-push_form.ensures
-    ∙ ap (λ (name : Option (List ℕ)). told ++ map (review_line (heading name)) (forms_shown t by p o)) c.label_name.ensures)
+    ∙ ap (λ (name : Option (List ℕ)). told ++ map (review_line (heading name)) (forms_shown t by p o))
+    c.label_name.ensures)
     c.push_forms.ensures
 
 pub returns-then-by : goal.returns-then-by
@@ -36,6 +40,8 @@ returns-then-by c =
     let told : List ReviewLine = c.args.lines.now.items in
     let heading : Option (List ℕ) → Heading = λ name. record { to_author = by.author; label = o; user = name } in
     subst (λ (l : List ReviewLine). OnOk c.push_form.result (c.push_form.new.lines.items ≡ l))
-    (label-authors t by p o (heading c.label_name.result) (option_copied c.authors_form.result) told c.if-by.true c.authors_form.ensures
-    ∙ ap (λ (name : Option (List ℕ)). told ++ map (review_line (heading name)) (forms_shown t by p o)) c.label_name.ensures)
+    (label-authors t by p o (heading c.label_name.result) (option_copied c.authors_form.result) told c.if-by.true
+    c.authors_form.ensures
+    ∙ ap (λ (name : Option (List ℕ)). told ++ map (review_line (heading name)) (forms_shown t by p o))
+    c.label_name.ensures)
     c.push_form.ensures

@@ -6,13 +6,16 @@ use Rattle.cr_view.proofs.live.Live.response_told.Goals as goal
 
 pub returns-in-Err-clause-rule : goal.returns-in-Err-clause-rule
 returns-in-Err-clause-rule c =
-    response-refused c.args.self.now.tables c.args.user.now c.args.paper.now c.standing-by.result c.has_paper-there.result c.is_some.result
+    response-refused c.args.self.now.tables c.args.user.now c.args.paper.now c.standing-by.result
+    c.has_paper-there.result c.is_some.result
     (option_copied c.response_of-response.result) c.standing-by.ensures c.has_paper-there.ensures
-    (c.is_some.ensures ∙ some-copied c.response_of-response.result) c.response_of-response.ensures c.in-Err.rule c.in-Err.ensures
+    (c.is_some.ensures ∙ some-copied c.response_of-response.result) c.response_of-response.ensures c.in-Err.rule
+    c.in-Err.ensures
 
 pub returns-in-Ok-clause-response : goal.returns-in-Ok-clause-response
 returns-in-Ok-clause-response c =
-    response-lent c.args.self.now.tables c.args.user.now c.args.paper.now c.standing-by.result c.has_paper-there.result c.is_some.result
+    response-lent c.args.self.now.tables c.args.user.now c.args.paper.now c.standing-by.result c.has_paper-there.result
+    c.is_some.result
     (option_copied c.response_of-response.result) c.standing-by.ensures c.has_paper-there.ensures
     (c.is_some.ensures ∙ some-copied c.response_of-response.result) c.response_of-response.ensures c.in-Ok.ensures
     c.unwrap.result.now (ap option_copied c.unwrap.ensures)
@@ -20,6 +23,7 @@ returns-in-Ok-clause-response c =
 pub unwrap-requires : goal.unwrap-requires
 unwrap-requires c =
     some-copied c.response_of-response.result
-    ∙ response-there c.args.self.now.tables c.args.user.now c.args.paper.now c.standing-by.result c.has_paper-there.result c.is_some.result
+    ∙ response-there c.args.self.now.tables c.args.user.now c.args.paper.now c.standing-by.result
+    c.has_paper-there.result c.is_some.result
     (option_copied c.response_of-response.result) c.standing-by.ensures c.has_paper-there.ensures
     (c.is_some.ensures ∙ some-copied c.response_of-response.result) c.response_of-response.ensures c.in-Ok.ensures

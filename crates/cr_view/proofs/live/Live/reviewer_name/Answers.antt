@@ -9,5 +9,7 @@ use Rattle.cr_view.proofs.live.Live.reviewer_name.Goals as goal
 pub returns : goal.returns
 returns c =
     let found = c.name_of.ensures
-    ∙ ap (λ (v : SeenTables). option_map (λ (a : Account). a.name) (account_at v.tables.accounts c.args.seat.now.pair.user)) c.self.view_is in
-    seat-name-is c.args.self.now.tables c.args.by.now c.args.seat.now c.name_of.result c.if-seat.false (sym c.if-not-shows_reviewer.ensures) found
+    ∙ ap (λ (v : SeenTables). option_map (λ (a : Account). a.name)
+    (account_at v.tables.accounts c.args.seat.now.pair.user)) c.self.view_is in
+    seat-name-is c.args.self.now.tables c.args.by.now c.args.seat.now c.name_of.result c.if-seat.false
+    (sym c.if-not-shows_reviewer.ensures) found

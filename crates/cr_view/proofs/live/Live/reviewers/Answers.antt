@@ -17,7 +17,12 @@ loop-seat-preserved c =
     let pushed =
     c.in_ok-push_some.ensures
     ∙ ap (λ (o : Option Reviewer). before ++ listed o) c.reviewer.ensures
-    ∙ ap (λ (name : Option (List ℕ)). before ++ listed (reviewer_of by c.seat-item.result c.has-done.result name)) c.reviewer_name-name.ensures
-    ∙ ap (λ (done : Bool). before ++ listed (reviewer_of by c.seat-item.result done (holder_name t by c.seat-item.result))) c.has-done.ensures
-    ∙ ap (λ (seat : Tie Seat). before ++ listed (reviewer_of by seat (has seat.value.ordinal) (holder_name t by seat))) c.seat-item.is in
-    reviewers-step t by has c.args.seats.now c.loop-seat.seat-index c.seat-item.result before _ _ c.loop-seat-test.true pushed c.loop-seat.invariant
+    ∙ ap (λ (name : Option (List ℕ)). before ++ listed (reviewer_of by c.seat-item.result c.has-done.result name))
+    c.reviewer_name-name.ensures
+    ∙ ap
+    (λ (done : Bool). before ++ listed (reviewer_of by c.seat-item.result done (holder_name t by c.seat-item.result)))
+    c.has-done.ensures
+    ∙ ap (λ (seat : Tie Seat). before ++ listed (reviewer_of by seat (has seat.value.ordinal) (holder_name t by seat)))
+    c.seat-item.is in
+    reviewers-step t by has c.args.seats.now c.loop-seat.seat-index c.seat-item.result before _ _ c.loop-seat-test.true
+    pushed c.loop-seat.invariant

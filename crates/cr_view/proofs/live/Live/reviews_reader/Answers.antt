@@ -12,9 +12,11 @@ returns-in-Ok c =
     let u = c.args.user.now in
     let paper = c.args.paper.now in
     let opened = c.had_response.ensures ∙ ap (λ (v : SeenTables). v.tables.stage.had_response) c.self.view_is in
-    ruled (λ (by : Standing) (there : Bool). reviews_checks by t.stage.had_response (of_there there)) c.standing-by.result (standing_at t u paper)
+    ruled (λ (by : Standing) (there : Bool). reviews_checks by t.stage.had_response (of_there there))
+    c.standing-by.result (standing_at t u paper)
     c.has_paper.result (has_paper (facts_of_tables t u) paper) (Ok tt) c.standing-by.ensures c.has_paper.ensures
-    (c.in-Ok.ensures ∙ ap (λ (b : Bool). judged (reviews_checks c.standing-by.result b (of_there c.has_paper.result)) tt) opened)
+    (c.in-Ok.ensures
+    ∙ ap (λ (b : Bool). judged (reviews_checks c.standing-by.result b (of_there c.has_paper.result)) tt) opened)
 
 pub returns-in-Err : goal.returns-in-Err
 returns-in-Err c =
@@ -22,6 +24,9 @@ returns-in-Err c =
     let u = c.args.user.now in
     let paper = c.args.paper.now in
     let opened = c.had_response.ensures ∙ ap (λ (v : SeenTables). v.tables.stage.had_response) c.self.view_is in
-    ruled (λ (by : Standing) (there : Bool). reviews_checks by t.stage.had_response (of_there there)) c.standing-by.result (standing_at t u paper)
-    c.has_paper.result (has_paper (facts_of_tables t u) paper) (Err c.in-Err.rule) c.standing-by.ensures c.has_paper.ensures
-    (c.in-Err.ensures ∙ ap (λ (b : Bool). judged (reviews_checks c.standing-by.result b (of_there c.has_paper.result)) tt) opened)
+    ruled (λ (by : Standing) (there : Bool). reviews_checks by t.stage.had_response (of_there there))
+    c.standing-by.result (standing_at t u paper)
+    c.has_paper.result (has_paper (facts_of_tables t u) paper) (Err c.in-Err.rule) c.standing-by.ensures
+    c.has_paper.ensures
+    (c.in-Err.ensures
+    ∙ ap (λ (b : Bool). judged (reviews_checks c.standing-by.result b (of_there c.has_paper.result)) tt) opened)

@@ -3,7 +3,9 @@ use Rattle.cr_view.proofs.AnswerLaws.{reviews-answered}
 use Rattle.cr_view.proofs.live.Live.reviews_reply.Goals as goal
 
 pub returns-in-Ok : goal.returns-in-Ok
-returns-in-Ok c = reviews-answered c.args.self.now.tables c.args.user.now c.args.paper.now (Ok c.in-Ok.lines) c.in-Ok.ensures
+returns-in-Ok c =
+    reviews-answered c.args.self.now.tables c.args.user.now c.args.paper.now (Ok c.in-Ok.lines) c.in-Ok.ensures
 
 pub returns-in-Err : goal.returns-in-Err
-returns-in-Err c = reviews-answered c.args.self.now.tables c.args.user.now c.args.paper.now (Err c.in-Err.error) c.in-Err.ensures
+returns-in-Err c =
+    reviews-answered c.args.self.now.tables c.args.user.now c.args.paper.now (Err c.in-Err.error) c.in-Err.ensures

@@ -11,12 +11,14 @@ loop-before-preserved c =
     let told : ℕ → List ℕ = score_under c.args.self.now.tables c.args.paper in
     let i : ℕ = c.loop-before.before in
     let under : listed c.score_under.result ≡ told (i + 1) = c.score_under.ensures ∙ ap told c.new.ensures in
-    let next : by_labels told i ++ told (i + 1) ≡ by_labels told (i + 1) = labels-step told i (by_labels told i) _ refl refl in (
+    let next : by_labels told i ++ told (i + 1) ≡ by_labels told (i + 1) =
+    labels-step told i (by_labels told i) _ refl refl in (
       sum-step c.loop-before.scores c.with-scores.result (by_labels told i) (told (i + 1)) c.loop-before.invariant.0
           (c.with-scores.ensures.count ∙ ap (λ (l : List ℕ). c.loop-before.scores.count + length l) under)
           (c.with-scores.ensures.sum ∙ ap (λ (l : List ℕ). c.loop-before.scores.sum + total l) under)
           ∙ ap score_sum next,
-      few c.with-scores.result.count c.loop-before.scores.count (length (listed c.score_under.result)) i c.with-scores.ensures.count
+      few c.with-scores.result.count c.loop-before.scores.count (length (listed c.score_under.result)) i
+          c.with-scores.ensures.count
           (one c.score_under.result) c.loop-before.invariant.1,
       c.with-scores.ensures.low,
     )
@@ -31,4 +33,5 @@ loop-before-preserved c =
 pub returns-clause-value : goal.returns-clause-value
 returns-clause-value c =
     let told : ℕ → List ℕ = score_under c.args.self.now.tables c.args.paper in
-    c.loop-before.invariant.0 ∙ ap score_sum (labels-all told c.loop-before.before (by_labels told c.loop-before.before) refl (omega arith) (omega arith))
+    c.loop-before.invariant.0 ∙ ap score_sum
+    (labels-all told c.loop-before.before (by_labels told c.loop-before.before) refl (omega arith) (omega arith))

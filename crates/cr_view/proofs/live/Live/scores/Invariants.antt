@@ -5,4 +5,5 @@ use Rattle.cr_view.proofs.live.Live.scores.Given as goal
 
 abbrev pub invariant-loop-before : goal.invariant-loop-before
 invariant-loop-before l =
-    (l.scores ≡ score_sum (by_labels (score_under l.self.tables l.fn.paper) l.before)) × (l.scores.count ≤ l.before) × (l.scores.sum ≤ 5 * l.scores.count)
+    (l.scores ≡ score_sum (by_labels (score_under l.self.tables l.fn.paper) l.before)) × (l.scores.count ≤ l.before)
+    × (l.scores.sum ≤ 5 * l.scores.count)

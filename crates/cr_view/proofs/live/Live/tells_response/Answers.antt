@@ -17,7 +17,10 @@ returns c =
     let by = c.args.facts.now.by in
     let p : ℕ = c.args.facts.now.paper in
     let here = has_paper (facts_of_tables t None) (Some p) in
-    let there = c.has.ensures ∙ ap (λ (v : SeenTables). list_any (λ (q : ℕ). q == c.paper-paper.result) (paper_numbers v.tables.papers)) c.self.view_is
+    let there =
+    c.has.ensures
+    ∙ ap (λ (v : SeenTables). list_any (λ (q : ℕ). q == c.paper-paper.result) (paper_numbers v.tables.papers))
+    c.self.view_is
     ∙ ap (λ (n : ℕ). list_any (λ (q : ℕ). q == n) (paper_numbers t.papers)) c.paper-paper.ensures in
     let responded = c.is_some-responded.ensures ∙ some-copied c.response.result ∙ ap is_some c.response.ensures.response
     ∙ ap (λ (v : SeenTables). is_some (response_in v.tables.talk c.paper-paper.result)) c.self.view_is
@@ -29,4 +32,5 @@ returns c =
     ∙ ap (λ (s : Standing). asked s c.has.result c.is_some-responded.result) c.by.ensures
     ∙ ap (λ (b : Bool). asked by b c.is_some-responded.result) there
     ∙ ap (asked by here) responded)
-    ∙ response-told (response_checks by (of_there here) (is_some (response_in t.talk p))) (unwrap_or (response_in t.talk p) [])
+    ∙ response-told (response_checks by (of_there here) (is_some (response_in t.talk p)))
+    (unwrap_or (response_in t.talk p) [])

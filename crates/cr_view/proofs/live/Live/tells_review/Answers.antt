@@ -18,7 +18,9 @@ returns-in-Ok c =
     let by = c.args.facts.now.by in
     let p : ℕ = c.args.facts.now.paper in
     let here = has_paper (facts_of_tables t None) (Some p) in
-    let there = c.has.ensures ∙ ap (λ (v : SeenTables). list_any (λ (q : ℕ). q == c.paper.result) (paper_numbers v.tables.papers)) c.self.view_is
+    let there =
+    c.has.ensures ∙ ap (λ (v : SeenTables). list_any (λ (q : ℕ). q == c.paper.result) (paper_numbers v.tables.papers))
+    c.self.view_is
     ∙ ap (λ (n : ℕ). list_any (λ (q : ℕ). q == n) (paper_numbers t.papers)) c.paper.ensures in
     let opened = c.had_response-opened.ensures ∙ ap (λ (v : SeenTables). v.tables.stage.had_response) c.self.view_is in
     c.has_review.ensures
@@ -36,12 +38,15 @@ returns-in-Err c =
     let by = c.args.facts.now.by in
     let p : ℕ = c.args.facts.now.paper in
     let here = has_paper (facts_of_tables t None) (Some p) in
-    let there = c.has.ensures ∙ ap (λ (v : SeenTables). list_any (λ (q : ℕ). q == c.paper.result) (paper_numbers v.tables.papers)) c.self.view_is
+    let there =
+    c.has.ensures ∙ ap (λ (v : SeenTables). list_any (λ (q : ℕ). q == c.paper.result) (paper_numbers v.tables.papers))
+    c.self.view_is
     ∙ ap (λ (n : ℕ). list_any (λ (q : ℕ). q == n) (paper_numbers t.papers)) c.paper.ensures in
     let opened = c.had_response-opened.ensures ∙ ap (λ (v : SeenTables). v.tables.stage.had_response) c.self.view_is in
     sym
     (ap (λ (lines : List ReviewLine). not (is_nothing lines))
-    (reviews-answered-none (reviews_checks by t.stage.had_response (of_there here)) (reviews_at t c.args.user.now by p) c.in-Err.field-0
+    (reviews-answered-none (reviews_checks by t.stage.had_response (of_there here)) (reviews_at t c.args.user.now by p)
+    c.in-Err.field-0
     (c.in-Err.ensures
     ∙ ap (λ (b : Bool). judged (reviews_checks c.by.result.now c.had_response-opened.result (of_there b)) tt) there
     ∙ ap (λ (b : Bool). judged (reviews_checks c.by.result.now b (of_there here)) tt) opened

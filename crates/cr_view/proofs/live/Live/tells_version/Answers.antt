@@ -20,9 +20,12 @@ returns-then-gets_versions c =
     let author : Bool = c.args.facts.now.by.author in
     c.is_some.ensures
     ∙ ap is_some c.last_version.ensures.value
-    ∙ ap (λ (v : SeenTables). is_some (option_map (λ (u : Upload). u.version) (last (uploads_at v.tables.papers c.paper.result)))) c.self.view_is
+    ∙ ap
+    (λ (v : SeenTables). is_some (option_map (λ (u : Upload). u.version)
+    (last (uploads_at v.tables.papers c.paper.result)))) c.self.view_is
     ∙ ap (λ (n : ℕ). is_some (option_map (λ (u : Upload). u.version) (last (uploads_at t.papers n)))) c.paper.ensures
     ∙ some-version author (uploads_at t.papers p)
     ∙ sym (ap (λ (b : Bool). tells_some (where_told b (Some (versions_at t author p))))
     (ap (λ (s : Standing). gets_versions s (accepted_seen c.args.facts.now)) (sym c.by.ensures)
-    ∙ ap (gets_versions c.by.result.now) (sym c.is_accepted.ensures) ∙ sym c.gets_versions.ensures ∙ c.if-gets_versions.true))
+    ∙ ap (gets_versions c.by.result.now) (sym c.is_accepted.ensures) ∙ sym c.gets_versions.ensures
+    ∙ c.if-gets_versions.true))

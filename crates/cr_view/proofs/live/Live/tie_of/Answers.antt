@@ -10,9 +10,13 @@ pub returns-clause-steps : goal.returns-clause-steps
 returns-clause-steps g c =
     let ties = c.self.inside.ties.ties in
     let p : ℕ = c.args.paper in
-    let wrote = takes-at_most (length (authors_in ties p)) c.args.steps.now c.is_author-author.new.steps c.is_author-author.ensures.steps in
-    let named = halves-at_most (length (users_tied_to p ties.conflicts)) c.is_author-author.new.steps c.is_declared-declared.new.steps c.is_declared-declared.ensures.steps in
-    let seated = takes-at_most (length (ties_of ByPaper p c.self.inside.seats.seats)) c.is_declared-declared.new.steps c.ordinal_of-label.new.steps c.ordinal_of-label.ensures.steps in
+    let wrote = takes-at_most (length (authors_in ties p)) c.args.steps.now c.is_author-author.new.steps
+    c.is_author-author.ensures.steps in
+    let named = halves-at_most (length (users_tied_to p ties.conflicts)) c.is_author-author.new.steps
+    c.is_declared-declared.new.steps c.is_declared-declared.ensures.steps in
+    let seated = takes-at_most (length (ties_of ByPaper p c.self.inside.seats.seats)) c.is_declared-declared.new.steps
+    c.ordinal_of-label.new.steps c.ordinal_of-label.ensures.steps in
     rw (← c.self.view_is)
-    (four _ _ _ _ c.args.steps.now c.is_author-author.new.steps c.is_declared-declared.new.steps c.ordinal_of-label.new.steps
+    (four _ _ _ _ c.args.steps.now c.is_author-author.new.steps c.is_declared-declared.new.steps
+    c.ordinal_of-label.new.steps
     c.is_external-external.new.steps wrote named seated c.is_external-external.ensures.steps)
