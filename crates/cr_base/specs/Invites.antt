@@ -1,6 +1,6 @@
 -- The table of invitations: who may review which paper as one from outside the committee (the HotCRP manual's external
 -- reviewers).
-use Rattle.std.specs.Prelude.{ℕ, Bool, false, List, [], fold, Option, Some, None}
+use Rattle.std.specs.Prelude.{ℕ, Bool, false, [], fold, Option, Some, None}
 use Rattle.cr_base.specs.declared.entry.Entry.{Entry}
 use Rattle.cr_base.specs.declared.entry.Entry.TheVariants.{Invited, Uninvited}
 use Rattle.cr_base.specs.declared.entry.Stamped.{Stamped}

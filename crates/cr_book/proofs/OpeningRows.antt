@@ -9,7 +9,7 @@ use Rattle.cr_base.specs.declared.entry.Stamped.{Stamped}
 use Rattle.cr_base.specs.declared.row.Row.{Row}
 use Rattle.cr_base.specs.History.{History}
 use Rattle.cr_base.specs.Rows.{built, kind_of, row_of, rows_of, stamped_by, IsBoundedEntry}
-use Rattle.cr_base.specs.Shapes.{stamp_in, FitsStamp}
+use Rattle.cr_base.specs.Shapes.{FitsStamp}
 use Rattle.cr_base.proofs.RowLaws.{restored-row_of, same_entry}
 use Rattle.cr_book.specs.Reading.{IsOpen, IsGroup}
 

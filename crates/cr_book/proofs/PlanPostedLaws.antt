@@ -22,7 +22,7 @@ use Rattle.cr_base.specs.Texts.{is_name, is_name_byte}
 use Rattle.cr_base.proofs.CheckLaws.{judged-Ok, judged-none}
 use Rattle.cr_base.proofs.SpelledNumbers.{paper-spelt}
 use Rattle.cr_bulk.specs.Rows.{parse_rows}
-use Rattle.cr_bulk.proofs.PlainRows.{IsPlain, IsPlainRow, header, plain-of, plain-rows, plain-word, plain_row}
+use Rattle.cr_bulk.proofs.PlainRows.{IsPlainRow, header, plain-of, plain-rows, plain-word, plain_row}
 use Rattle.cr_bulk.proofs.PlainRows.{plain_rows}
 use Rattle.cr_policy.specs.Judge.{judge_bulk}
 use Rattle.cr_policy.specs.PlansTaken.{row_of_pair}

@@ -1,5 +1,5 @@
 -- What a stop may leave of a book, as its history grows.
-use Rattle.std.proofs.Common.{ℕ, ◌≡◌, ◌≤◌, ◌⊎◌, inl, inr, ⊎_elim, List, [], ◌∷◌, ◌++◌, refl, sym, ap, subst, ◌∙◌, arith}
+use Rattle.std.proofs.Common.{ℕ, ◌≡◌, ◌⊎◌, inl, inr, ⊎_elim, List, [], ◌∷◌, ◌++◌, refl, sym, ap, subst, ◌∙◌, arith}
 use Rattle.std.proofs.Common.{Bool, Option, Some, None, Result, Ok, Err, IfSome, IsTrue, is_some}
 use mathlib.Core.List.{IsPrefix}
 use Rattle.cr_base.specs.declared.row.Row.{Row}

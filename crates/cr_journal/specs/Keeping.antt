@@ -1,10 +1,9 @@
 -- What a keeper over a disk keeps, and what the file that a stop leaves opens to.
-use Rattle.std.specs.Prelude.{◌≡◌, ◌≢◌, ◌⊎◌, ℕ, ◌+◌, ◌≤◌, ◌<◌, List, [], ◌∷◌, ◌++◌, length, take, drop, map, Result, Ok}
+use Rattle.std.specs.Prelude.{◌≡◌, ◌≢◌, ℕ, ◌+◌, ◌≤◌, ◌<◌, List, [], ◌∷◌, ◌++◌, length, take, drop, map, Result}
 use Rattle.std.specs.Prelude.{Err, ⊤}
 use Rattle.cr_base.specs.declared.row.Row.{Row}
 use Rattle.cr_ports.specs.Count.{Rises}
 use Rattle.cr_ports.specs.Stopping as stopping
-use Rattle.cr_ports.specs.declared.keeper.KeeperError.{KeeperError}
 use Rattle.cr_ports.specs.declared.source.ReadStep.{ReadStep}
 use Rattle.cr_ports.specs.declared.source.ReadStep.TheVariants as reads
 use Rattle.cr_journal.specs.Grammar.{AreSized, FitGroups, FitsGroup, IsJournalOf, IsTail, front, number, payload}

@@ -1,6 +1,6 @@
 -- The day and the time of a moment are those that `jiff` has of it.
 use Rattle.std.proofs.Common.{◌≡◌, ℕ, zero, suc, ◌+◌, ◌-◌, ◌*◌, ◌/◌, ◌%◌, ◌<◌, ◌≤◌, nat_lt, Bool, true, false}
-use Rattle.std.proofs.Common.{if◌then◌else◌, ℤ, pos, ◌*ℤ◌, unsigned_abs, refl, arith, ap, sym, ◌∙◌}
+use Rattle.std.proofs.Common.{if◌then◌else◌, pos, ◌*ℤ◌, unsigned_abs, refl, arith, ap, sym, ◌∙◌}
 use Rattle.std.proofs.lemmas.Bool.Decides.{nat_tests}
 use Rattle.jiff_core.specs.declared.civil.date.Date.{Date}
 use Rattle.jiff_core.specs.declared.civil.time.Time.{Time}

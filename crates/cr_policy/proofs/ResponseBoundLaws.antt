@@ -22,7 +22,6 @@ use Rattle.cr_base.specs.HistoryFacts.{phase_of, is_author, is_accepted}
 use Rattle.cr_history.proofs.ListCuts.{since-append}
 use Rattle.cr_policy.specs.HiddenPayload.{PlaceByPlace, outline, shown_of, IsHiddenFrom, IsDeclaredAlike}
 use Rattle.cr_policy.specs.Part as part
-use Rattle.cr_policy.specs.Part.{Part}
 use Rattle.cr_policy.specs.ResponseBounds.{ReviewsAwaited, ReviewsForAuthors, OneReview, ReviewsBehindUnseen}
 use Rattle.cr_policy.specs.ResponseBounds.{UnheardForms, LaterForms, IsSameUnlessUnheard, same, changed}
 use Rattle.cr_policy.specs.ShownTo.{is_past_reviewing, is_past_discussion, begins_response, gives_form, is_reviewed}

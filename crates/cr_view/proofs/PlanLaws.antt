@@ -1,7 +1,7 @@
 -- What plans ask of the tables: who is free for a paper, her bid, and how many papers are planned.
 use Rattle.std.proofs.Common.{ℕ, Bool, true, false, cond, eqb, ◌≡◌, ◌≤◌, ◌<◌, ◌+◌, ◌&&◌, suc, List, [], ◌∷◌, length}
-use Rattle.std.proofs.Common.{drop, get_or, map, refl, sym, ap, subst, ◌∙◌, arith, Option, Some, None}
-use Rattle.std.specs.Prelude.{filter, find, is_some, nat_le, not, unwrap_or}
+use Rattle.std.proofs.Common.{drop, get_or, map, refl, sym, ap, subst, ◌∙◌, arith, Option, Some}
+use Rattle.std.specs.Prelude.{filter, find, is_some, not, unwrap_or}
 use Rattle.std.specs.Option.{option_map, option_map_or}
 use Rattle.std.proofs.Math.ListN.{drop_of_length-le}
 use Rattle.std.proofs.lemmas.List.{drop_more}

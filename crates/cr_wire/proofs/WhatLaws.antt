@@ -1,5 +1,5 @@
 -- What a request wishes, by what its path, its method and its number are found to be.
-use Rattle.std.proofs.Common.{◌≡◌, ℕ, List, Option, Some, Result, refl, ap, sym, ◌∙◌, subst}
+use Rattle.std.proofs.Common.{◌≡◌, ℕ, List, Option, Some, Result, refl, ap, sym, ◌∙◌}
 use Rattle.std.specs.Prelude.{option_and_then}
 use Rattle.cr_base.specs.declared.ask.Ask.{Ask}
 use Rattle.cr_http.specs.Requests.{RequestText}

@@ -1,4 +1,4 @@
-use Rattle.std.proofs.Common.{◌≡◌, ◌∙◌, List, [], ◌∷◌, sym, ap, Some}
+use Rattle.std.proofs.Common.{◌∙◌, List, [], ◌∷◌, sym, ap, Some}
 use Rattle.cr_base.specs.declared.entry.Entry.{Entry}
 use Rattle.cr_base.specs.declared.entry.Entry.TheVariants.{Commented}
 use Rattle.cr_policy.specs.Sighting.{Sighting}

@@ -1,5 +1,3 @@
-use Rattle.std.proofs.Common.{◌≡◌, ◌∙◌, ℕ, List, ap}
-use Rattle.cr_disks.specs.Disk.{with_bytes}
 use Rattle.cr_journal.proofs.Shelving.{told_after, told_others}
 use Rattle.cr_journal.proofs.shelf.JournalShelfShelf.shut.Goals as goal
 
