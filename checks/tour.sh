@@ -3,9 +3,9 @@
 #
 #     checks/tour.sh [PROGRAM]
 #
-# PROGRAM is `confd` as `rt run` builds it (crates/confd/out/confd where none is named). bash and curl are needed. Starts `confd serve` on
-# a free port with a new store, prints each request and its answer, and then what one user may see of the store. Ends with status 0
-# where all that is due came, and else with 1 at the first answer that isn't due.
+# PROGRAM is `confd` as `rt run` builds it (crates/confd/out/confd where none is named). bash and curl are needed.
+# Starts `confd serve` on a free port with a new store, prints each request and its answer, and then what one user may
+# see of the store. Ends with status 0 where all that is due came, and else with 1 at the first answer that isn't due.
 top=$(cd "$(dirname "$0")/.." && pwd)
 program=${1:-$top/crates/confd/out/confd}
 if [ ! -x "$program" ]; then
@@ -14,7 +14,8 @@ if [ ! -x "$program" ]; then
 fi
 room=$(mktemp -d)
 : > "$room/said"
-"$program" serve --listen 127.0.0.1:0 --workers 2 --connections 65536 --store "$room/store" 2> "$room/said" > "$room/out" &
+"$program" serve --listen 127.0.0.1:0 --workers 2 --connections 65536 --store "$room/store" \
+    2> "$room/said" > "$room/out" &
 server=$!
 trap 'kill "$server" 2> /dev/null; wait "$server" 2> /dev/null; rm -rf "$room"' EXIT
 for _ in $(seq 200); do
@@ -33,8 +34,8 @@ part() {
     printf '\n%s\n' "$1"
 }
 
-# Sends a request, and prints it with its answer: ask NAME METHOD PATH [BODY]. Nobody is -; NAME.SECRET has another secret than the usual one;
-# the body @FILE is what FILE has. With NUMBER=N ahead of it the command has that number.
+# Sends a request, and prints it with its answer: ask NAME METHOD PATH [BODY]. Nobody is -; NAME.SECRET has another
+# secret than the usual one; the body @FILE is what FILE has. With NUMBER=N ahead of it the command has that number.
 ask() {
     local words=(-sS -m 60 --noproxy '*' -o "$room/content" -w '%{http_code}') who=$1 line=${*:2}
     case $1 in
@@ -48,7 +49,11 @@ ask() {
     printf '%6s> %s\n' "$who" "${line//"$room/"/}"
     : > "$room/content"
     code=$(curl "${words[@]}" "$confd$3")
-    if [ "$2" = HEAD ]; then content=$(sed -n 's/^Content-Length: \([0-9]*\).*/\1 bytes/p' "$room/head"); else content=$(cat "$room/content"; printf .) content=${content%.}; fi
+    if [ "$2" = HEAD ]; then
+        content=$(sed -n 's/^Content-Length: \([0-9]*\).*/\1 bytes/p' "$room/head")
+    else
+        content=$(cat "$room/content"; printf .) content=${content%.}
+    fi
     line=${content%$'\n'}
     printf '        %s %s\n' "$code" "${line//$'\n'/$'\n            '}"
     asked=$((asked + 1))
@@ -113,7 +118,8 @@ due 200 '{"paper":1}'
 ask alice GET /papers/1
 due 200 '{"conflict":false,"paper":1}'
 ask erin GET /papers/1
-due 200 '{"abstract":"We do prove.","authors":["erin","gus"],"conflict":true,"declared":["dave"],"paper":1,"title":"Proofs, again","versions":[1,2],"withdrawn":false}'
+due 200 '{"abstract":"We do prove.","authors":["erin","gus"],"conflict":true,"declared":["dave"],"paper":1,'\
+'"title":"Proofs, again","versions":[1,2],"withdrawn":false}'
 
 ask alice POST /deadlines '{"phase":"submission","until":"2020-01-31T23:59:59-12:00"}'
 due 200 '{"phase":"submission","until":"2020-02-01T11:59:59Z"}'
@@ -126,7 +132,8 @@ part "Bidding: the committee reads, bids and is assigned"
 ask alice POST /phase '{"phase":"bidding"}'
 due 200 '{"phase":"bidding"}'
 ask bob GET /papers/1
-due 200 '{"abstract":"We do prove.","bid":0,"conflict":false,"paper":1,"tags":[],"title":"Proofs, again","versions":[2],"withdrawn":false}'
+due 200 '{"abstract":"We do prove.","bid":0,"conflict":false,"paper":1,"tags":[],"title":"Proofs, again",'\
+'"versions":[2],"withdrawn":false}'
 ask bob GET /papers/1/content
 due 200 'We prove it.'
 ask dave GET /papers/1
@@ -166,7 +173,8 @@ sed -i '/^1,pcreview,dave,$/d' "$room/assignments.csv"
 ask alice POST /assign @"$room/assignments.csv"
 due 200 '{"rows":2}'
 ask alice GET '/search?q=re:bob'
-due 200 '{"count":3,"papers":[{"paper":1,"title":"Proofs, again"},{"paper":2,"title":"Types"},{"paper":3,"title":"Terms"}]}'
+due 200 '{"count":3,"papers":[{"paper":1,"title":"Proofs, again"},{"paper":2,"title":"Types"},'\
+'{"paper":3,"title":"Terms"}]}'
 ask alice POST /papers/2/reviewers '{"kind":"secondary","user":"gus"}'
 due 409 '{"error":"not_a_member"}'
 ask alice POST /papers/2/externals '{"user":"gus"}'
@@ -176,7 +184,8 @@ due 201 '{"label":"C"}'
 ask gus GET /papers/2
 due 200 '{"abstract":"","conflict":false,"label":"C","paper":2,"title":"Types","versions":[1],"withdrawn":false}'
 ask gus GET /me
-due 200 '{"assigned":[2],"bytes":12,"comments":0,"conflicts":[],"invited":[2],"name":"gus","papers":[1,3],"role":"account","user":7}'
+due 200 '{"assigned":[2],"bytes":12,"comments":0,"conflicts":[],"invited":[2],"name":"gus","papers":[1,3],'\
+'"role":"account","user":7}'
 ask alice DELETE /papers/2/externals/gus
 due 409 '{"error":"still_assigned"}'
 ask dave GET /reports/papers
@@ -184,7 +193,11 @@ due 200 $'   1 C Proofs, again\n   2 - Types\n   3 - Terms\n3 papers\n'
 ask bob PUT '/papers/1/tags/~mine'
 due 200 '{"paper":1}'
 ask alice GET /papers/1
-due 200 '{"abstract":"We do prove.","authors":["erin","gus"],"bid":0,"bids":[{"bid":5,"user":"bob"},{"bid":4,"user":"fay"}],"conflict":false,"conflicts":["dave"],"paper":1,"reviewers":[{"done":false,"kind":"primary","label":"A","user":"bob"},{"done":false,"kind":"pc","label":"B","user":"fay"}],"tags":[],"title":"Proofs, again","versions":[2],"withdrawn":false}'
+due 200 '{"abstract":"We do prove.","authors":["erin","gus"],"bid":0,'\
+'"bids":[{"bid":5,"user":"bob"},{"bid":4,"user":"fay"}],"conflict":false,"conflicts":["dave"],"paper":1,'\
+'"reviewers":[{"done":false,"kind":"primary","label":"A","user":"bob"},'\
+'{"done":false,"kind":"pc","label":"B","user":"fay"}],'\
+'"tags":[],"title":"Proofs, again","versions":[2],"withdrawn":false}'
 
 part "Reviewing: each for herself"
 ask alice POST /phase '{"phase":"reviewing"}'
@@ -210,7 +223,8 @@ part "Response: the authors answer the reviews"
 ask alice POST /phase '{"phase":"response"}'
 due 200 '{"phase":"response"}'
 ask erin GET /papers/1/reviews
-due 200 '{"reviews":[{"confidence":3,"label":"A","score":4,"to_authors":"Good."},{"confidence":2,"label":"B","score":2,"to_authors":"Fair."}]}'
+due 200 '{"reviews":[{"confidence":3,"label":"A","score":4,"to_authors":"Good."},'\
+'{"confidence":2,"label":"B","score":2,"to_authors":"Fair."}]}'
 ask gus PUT /papers/1/response '{"text":"Proof 3 is new."}'
 due 201 '{"paper":1}'
 ask erin PUT /papers/1/response '{"text":"Thanks."}'
@@ -226,7 +240,8 @@ part "Discussion: the committee talks, and decides"
 ask alice POST /phase '{"phase":"discussion"}'
 due 200 '{"phase":"discussion"}'
 ask bob GET /papers/1/reviews
-due 200 '{"reviews":[{"confidence":3,"label":"A","score":4,"to_authors":"Good.","to_pc":"ok","version":1},{"confidence":2,"label":"B","score":2,"to_authors":"Fair.","to_pc":"","version":1}]}'
+due 200 '{"reviews":[{"confidence":3,"label":"A","score":4,"to_authors":"Good.","to_pc":"ok","version":1},'\
+'{"confidence":2,"label":"B","score":2,"to_authors":"Fair.","to_pc":"","version":1}]}'
 ask fay GET /papers/1/response
 due 200 '{"text":"Proof 3 is new."}'
 ask dave GET /papers/1/response
@@ -236,7 +251,8 @@ due 201 '{"comment":1}'
 ask fay PUT /papers/1/review '{"score":4,"confidence":2,"to_authors":"Fair, now.","to_pc":"convinced"}'
 due 200 '{"version":2}'
 ask erin GET /papers/1/reviews
-due 200 '{"reviews":[{"confidence":3,"label":"A","score":4,"to_authors":"Good."},{"confidence":2,"label":"B","score":2,"to_authors":"Fair."}]}'
+due 200 '{"reviews":[{"confidence":3,"label":"A","score":4,"to_authors":"Good."},'\
+'{"confidence":2,"label":"B","score":2,"to_authors":"Fair."}]}'
 ask bob GET /reports/scores
 due 200 $'   1  2 4.00 Proofs, again\n   2  2 2.00 Types\n'
 ask dave GET /reports/scores
@@ -264,9 +280,12 @@ due 200 $'   1 accept Proofs, again\n   3 none   Terms\naccept 1, reject 0, none
 ask erin GET /reports/letter/1
 due 409 '{"error":"wrong_phase"}'
 ask bob GET /papers/1
-due 200 '{"abstract":"We do prove.","bid":5,"conflict":false,"decision":"accept","label":"A","paper":1,"reviewers":[{"kind":"primary","label":"A"},{"kind":"pc","label":"B"}],"tags":["~mine"],"title":"Proofs, again","versions":[2],"withdrawn":false}'
+due 200 '{"abstract":"We do prove.","bid":5,"conflict":false,"decision":"accept","label":"A","paper":1,'\
+'"reviewers":[{"kind":"primary","label":"A"},{"kind":"pc","label":"B"}],"tags":["~mine"],"title":"Proofs, again",'\
+'"versions":[2],"withdrawn":false}'
 ask erin GET /papers/1
-due 200 '{"abstract":"We do prove.","authors":["erin","gus"],"conflict":true,"declared":["dave"],"paper":1,"title":"Proofs, again","versions":[1,2],"withdrawn":false}'
+due 200 '{"abstract":"We do prove.","authors":["erin","gus"],"conflict":true,"declared":["dave"],"paper":1,'\
+'"title":"Proofs, again","versions":[1,2],"withdrawn":false}'
 ask - GET /accepted
 due 200 '{"papers":[]}'
 
@@ -274,19 +293,24 @@ part "Notification: authors are told, and everyone what is accepted"
 ask alice POST /phase '{"phase":"notification"}'
 due 200 '{"phase":"notification"}'
 ask erin GET /papers/1
-due 200 '{"abstract":"We do prove.","authors":["erin","gus"],"conflict":true,"decision":"accept","declared":["dave"],"paper":1,"title":"Proofs, again","versions":[1,2],"withdrawn":false}'
+due 200 '{"abstract":"We do prove.","authors":["erin","gus"],"conflict":true,"decision":"accept","declared":["dave"],'\
+'"paper":1,"title":"Proofs, again","versions":[1,2],"withdrawn":false}'
 ask erin GET /papers/1/reviews
-due 200 '{"reviews":[{"confidence":3,"label":"A","score":4,"to_authors":"Good."},{"confidence":2,"label":"B","score":4,"to_authors":"Fair, now."}]}'
+due 200 '{"reviews":[{"confidence":3,"label":"A","score":4,"to_authors":"Good."},'\
+'{"confidence":2,"label":"B","score":4,"to_authors":"Fair, now."}]}'
 ask erin GET /reports/letter/1
-due 200 $'Paper 1: Proofs, again\nDecision: accept\n\nReview A\nScore 4, confidence 3\nGood.\n\nReview B\nScore 4, confidence 2\nFair, now.\n'
+due 200 $'Paper 1: Proofs, again\nDecision: accept\n\nReview A\nScore 4, confidence 3\nGood.\n\n'\
+$'Review B\nScore 4, confidence 2\nFair, now.\n'
 ask gus GET /reports/letter/2
 due 403 '{"error":"not_author"}'
 ask gus GET /reports/letter/3
 due 200 $'Paper 3: Terms\nDecision: none\n'
 ask fay GET /papers/2
-due 200 '{"abstract":"","authors":["fay"],"conflict":true,"decision":"reject","declared":[],"paper":2,"title":"Types","versions":[1],"withdrawn":false}'
+due 200 '{"abstract":"","authors":["fay"],"conflict":true,"decision":"reject","declared":[],"paper":2,'\
+'"title":"Types","versions":[1],"withdrawn":false}'
 ask dave GET /papers/1
-due 200 '{"authors":["erin","gus"],"conflict":true,"decision":"accept","paper":1,"title":"Proofs, again","withdrawn":false}'
+due 200 '{"authors":["erin","gus"],"conflict":true,"decision":"accept","paper":1,"title":"Proofs, again",'\
+'"withdrawn":false}'
 ask erin GET /papers/2
 due 403 '{"error":"not_member"}'
 ask - GET /accepted
@@ -300,7 +324,8 @@ part "Closed: accepted papers are everyone's to read"
 ask alice POST /phase '{"phase":"closed"}'
 due 200 '{"phase":"closed"}'
 ask - GET /papers/1
-due 200 '{"abstract":"We do prove.","authors":["erin","gus"],"decision":"accept","paper":1,"title":"Proofs, again","versions":[2]}'
+due 200 '{"abstract":"We do prove.","authors":["erin","gus"],"decision":"accept","paper":1,"title":"Proofs, again",'\
+'"versions":[2]}'
 ask - GET /papers/1/content
 due 200 'We prove it.'
 ask - HEAD /papers/1/content

@@ -2,7 +2,8 @@
 # Wrong bodies that the gate leaves out, to stay short: each has to be refused by the proofs.
 #
 #     checks/wrong_bodies.sh [CRATE..]        all crates that have some in checks/wrong_bodies where none is told
-#     checks/wrong_bodies.sh --check          only whether each text that is to be changed is there, once; the gate's too
+#     checks/wrong_bodies.sh --check          only whether each text that is to be changed is there, once;
+#                                             the gate's too
 #
 # Works on a copy of what is committed, and takes a minute or more a crate. Ends with status 0 where all were refused.
 top=$(cd "$(dirname "$0")/.." && pwd) || exit 1

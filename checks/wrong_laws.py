@@ -1,16 +1,19 @@
 #!/usr/bin/env python3
-"""Plants wrong rules, the rows in checks/planted/laws, into definition and code alike, and looks which laws are false of each.
+"""Plants wrong rules, the rows in checks/planted/laws, into definition and code alike,
+and looks which laws are false of each.
 
-    checks/wrong_laws.py [WORD..]          computes, with no prover, which laws are false: those that each row names have to be
+    checks/wrong_laws.py [WORD..]          computes, with no prover, which laws are false:
+                                           those that each row names have to be
     checks/wrong_laws.py --check [WORD..]  only whether each text that is to be changed is there, once
-    checks/wrong_laws.py --try NAME..      plants each in a copy of cr_base, cr_history and cr_policy, and runs `rt check` there
+    checks/wrong_laws.py --try NAME..      plants each in a copy of cr_base, cr_history and cr_policy,
+                                           and runs `rt check` there
 
-A rule that definition, view and tables share is the same on both sides of the law that views suffice. What refuses it is what is
-said of rules a second time: of old the invariants of cr_history and that the small conference is legal, and since then the
-clauses of `law_permissions`, `law_first_told` and `law_goes_on` of cr_policy. They are computed of histories that the planted
-rules let come about: the small conference phase by phase, and twins of it; for nobody and nine users, each command, query and
-bulk of checks/planted/asked.py. Of the rules as they stand all have to hold. WORD picks rows by a word of their name, or a topic.
-Ends with status 0 where all were as due.
+A rule that definition, view and tables share is the same on both sides of the law that views suffice. What refuses it
+is what is said of rules a second time: of old the invariants of cr_history and that the small conference is legal, and
+since then the clauses of `law_permissions`, `law_first_told` and `law_goes_on` of cr_policy. They are computed of
+histories that the planted rules let come about: the small conference phase by phase, and twins of it; for nobody and
+nine users, each command, query and bulk of checks/planted/asked.py. Of the rules as they stand all have to hold. WORD
+picks rows by a word of their name, or a topic. Ends with status 0 where all were as due.
 """
 import concurrent.futures
 import functools
@@ -32,7 +35,8 @@ NONE, some = asked.NONE, asked.some
 CALLERS = [NONE] + [some(n) for n in range(1, 10)]
 DIGESTS = {name: (n,) * 32 for n, name in enumerate(asked.NAMES)}
 ASIDES = {"tag": asked.words("a"), "to_pc": asked.words("New."), "comment": asked.words("Take it.")}
-CASES = ("OfTheConference", "OfPapers", "OfConflicts", "OfReviewers", "OfExternals", "OfTheDiscussion", "OfTheResponse", "OfQueries", "OfBulks")
+CASES = ("OfTheConference", "OfPapers", "OfConflicts", "OfReviewers", "OfExternals", "OfTheDiscussion",
+         "OfTheResponse", "OfQueries", "OfBulks")
 # what is computed of the rows of a topic
 ASKS = {"commands": ("commands", "adds"), "queries": ("queries",), "added": ("commands", "adds"), "bulks": ("bulks",)}
 EVERY = ("commands", "adds", "queries", "bulks")
@@ -77,7 +81,8 @@ class Rules:
     def __init__(self, changed):
         self.specs, self.seen, self.kept = Specs(TOP, changed), {}, {}
         self.stand_in("cr_base.specs.Texts", is_name_byte=lambda b: 97 <= b <= 122 or 48 <= b <= 57 or b == 45)
-        self.stand_in("cr_base.specs.Parse", parse_paper=parse_paper, parse_name=lambda text: some(text) if 1 <= len(text) <= 32 else NONE)
+        self.stand_in("cr_base.specs.Parse", parse_paper=parse_paper,
+                      parse_name=lambda text: some(text) if 1 <= len(text) <= 32 else NONE)
         for name in ("facts_in_view", "shown_in_view"):
             self.stand_in("cr_policy.specs.ViewFacts", **{name: self.facts_kept(self.get("ViewFacts", name), name)})
         checks, judged = self.get("Answering", "query_checks", "cr_base"), self.get("Checks", "judged", "cr_base")
@@ -100,7 +105,8 @@ class Rules:
         def facts(u, V):
             key = (name, u, id(V))
             if key not in self.kept:
-                self.kept[key] = (V, {field: once(value) if callable(value) else value for field, value in applied(f, u, V).items()})
+                self.kept[key] = (V, {field: once(value) if callable(value) else value
+                                      for field, value in applied(f, u, V).items()})
             return self.kept[key][1]
 
         return eval("lambda u, V: facts(u, V)", {"facts": facts})  # pylint: disable=eval-used
@@ -188,7 +194,8 @@ class Laws:
                 if self.rules.answers(u, H, query) != self.rules.call("MayRead", "may_read", u, H, query):
                     self.note("reading", (name, u, query))
             for rows in asked.BULKS if "bulks" in self.asks and not alone and u != NONE else []:
-                if (self.rules.accepts_bulk(u[1], H, rows)[0] == "Ok") != self.rules.call("MayBulk", "may_bulk", H, self.rules.bulk(u[1], rows)):
+                if ((self.rules.accepts_bulk(u[1], H, rows)[0] == "Ok")
+                        != self.rules.call("MayBulk", "may_bulk", H, self.rules.bulk(u[1], rows))):
                     self.note("bulks", (name, u, rows))
         if not alone and name not in ("closed",):
             if not any(self.rules.judge(some(1), H, ("SetPhase", (phase,)))[0] == "Ok" for phase in asked.PHASES):
@@ -204,7 +211,8 @@ class Laws:
             return
         drawn, said = verdict[1], lambda word: self.rules.call("Added", word, u, H, command)
         entries, stamp = said("added"), self.rules.call("Added", "stamp_added", H, self.rules.called(u, command))
-        group = [{"stamp": stamp, "more": more, "entry": e} for e, more in zip(entries, self.rules.call("Added", "marks", entries))]
+        group = [{"stamp": stamp, "more": more, "entry": e}
+                 for e, more in zip(entries, self.rules.call("Added", "marks", entries))]
         if (list(drawn["group"]), (drawn["receipt"],)) != (group, tuple(said("answered"))):
             self.note("adds", (name, u, command))
         before = tuple(H)
@@ -220,7 +228,8 @@ class Laws:
                 self.note("rows", action)
         H = History(self.rules.call("Witness", "bidding_opened", *[(n,) * 32 for n in range(4)]))
         witness = lambda name: self.rules.get("Witness", name)
-        if self.rules.accepts_bulk(1, H, witness("four_rows")) != ("Ok", {"group": witness("rows_added"), "receipt": ("Rows", 4)}):
+        if (self.rules.accepts_bulk(1, H, witness("four_rows"))
+                != ("Ok", {"group": witness("rows_added"), "receipt": ("Rows", 4)})):
             self.note("witness", "four_rows")
         if self.rules.accepts_bulk(1, H, witness("twice_assigned")) != ("Err", ("Row", 3, ("AlreadyAssigned",))):
             self.note("witness", "twice_assigned")
@@ -256,7 +265,8 @@ def by_computing(rows):
         for row, false in zip(rows, pool.map(computed, rows)):
             as_due = set(false) == due(row) if due(row) or row.told.get("refused by") else bool(false)
             wrong += not as_due
-            print(f"{row.name}: {'' if as_due else 'NOT AS DUE: '}false {' '.join(sorted(false)) or 'none'}; {false}", flush=True)
+            print(f"{row.name}: {'' if as_due else 'NOT AS DUE: '}false {' '.join(sorted(false)) or 'none'}; {false}",
+                  flush=True)
     return wrong
 
 
@@ -271,16 +281,19 @@ def by_check(row):
             file.write("".join(listed))
         shutil.copy(f"{TOP}/HANDLES", room)
         row.plant(room)
-        run = subprocess.run(["rt", "check", "--jobs", "1"], cwd=f"{room}/crates/cr_policy", capture_output=True, text=True)
+        run = subprocess.run(["rt", "check", "--jobs", "1"], cwd=f"{room}/crates/cr_policy",
+                             capture_output=True, text=True)
     said = run.stdout + run.stderr
     places = sorted(set(re.findall(r"(\w+)\.antt:\d+:\d+: error: `([\w-]+)`", said)))
     return run.returncode != 0, " ".join(f"{file}.{name}" for file, name in places) or said.strip()[-300:]
 
 
 def pick(rows, picked):
-    """The rows of these names; else of these topics, or with one of these words in their name; all where none is given."""
+    """The rows of these names; else of these topics, or with one of these words in their name;
+    all where none is given."""
     exact = [row for row in rows if row.name in picked]
-    return exact or [row for row in rows if not picked or row.topic in picked or any(word in row.name for word in picked)]
+    return exact or [row for row in rows
+                     if not picked or row.topic in picked or any(word in row.name for word in picked)]
 
 
 def main():

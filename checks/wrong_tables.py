@@ -1,14 +1,17 @@
 #!/usr/bin/env python3
 """Plants wrong trigger tables, the rows in checks/planted/tables, and looks which clauses of the laws refuse each.
 
-    checks/wrong_tables.py [WORD..]          computes, with no prover, the clauses that each row names: all have to be false
-    checks/wrong_tables.py --check [WORD..]  only whether each text that is to be changed is there, once, and each clause too
+    checks/wrong_tables.py [WORD..]          computes, with no prover, the clauses that each row names:
+                                             all have to be false
+    checks/wrong_tables.py --check [WORD..]  only whether each text that is to be changed is there, once,
+                                             and each clause too
     checks/wrong_tables.py --all WORD..      computes every clause, and prints those that are false
-    checks/wrong_tables.py --try NAME..      plants each in a copy of the repository and runs `rt check` of cr_policy's law there
+    checks/wrong_tables.py --try NAME..      plants each in a copy of the repository
+                                             and runs `rt check` of cr_policy's law there
 
 WORD picks the rows that have it in their name, or a topic. Clauses are computed for nobody and every user of the small
-conference, in each mode and phase, and of made-up histories that aren't legal; those by part on the values shown alone. The
-table as it stands is computed first, and every clause has to hold of it. Ends with status 0 where all were as due.
+conference, in each mode and phase, and of made-up histories that aren't legal; those by part on the values shown alone.
+The table as it stands is computed first, and every clause has to hold of it. Ends with status 0 where all were as due.
 """
 import concurrent.futures
 import os
@@ -55,25 +58,34 @@ def words(text):
 
 
 def made_up(seed):
-    """A history that needn't be legal: any of eight users does anything in any phase, and a paper may be submitted twice."""
+    """A history that needn't be legal: any of eight users does anything in any phase,
+    and a paper may be submitted twice."""
     dice = random.Random(seed)
     paper, user = lambda: dice.randint(1, 3), lambda: dice.randint(1, 8)
     text = lambda: words(f"text {dice.randint(0, 999)}")
-    form = lambda: {"score": dice.randint(1, 5), "confidence": dice.randint(1, 5), "to_authors": text(), "to_pc": text()}
+    form = lambda: {"score": dice.randint(1, 5), "confidence": dice.randint(1, 5),
+                    "to_authors": text(), "to_pc": text()}
     kinds = [
-        lambda: ("Submitted", paper(), text(), text()), lambda: ("Coauthor", paper(), user()), lambda: ("Revised", paper(), text(), text()),
-        lambda: ("Uploaded", paper(), dice.randint(1, 3), text()), lambda: ("Withdrawn", 3), lambda: ("Conflict", paper(), user(), dice.random() < 0.7),
-        lambda: ("Bid", paper(), dice.randint(0, 40)), lambda: ("Assigned", paper(), user(), (dice.choice(["Primary", "Secondary", "Pc"]),), dice.randint(1, 3)),
-        lambda: ("Unassigned", paper(), user(), dice.randint(1, 3)), lambda: ("Reviewed", paper(), dice.randint(1, 2), dice.randint(1, 4), form()),
+        lambda: ("Submitted", paper(), text(), text()), lambda: ("Coauthor", paper(), user()),
+        lambda: ("Revised", paper(), text(), text()), lambda: ("Uploaded", paper(), dice.randint(1, 3), text()),
+        lambda: ("Withdrawn", 3), lambda: ("Conflict", paper(), user(), dice.random() < 0.7),
+        lambda: ("Bid", paper(), dice.randint(0, 40)),
+        lambda: ("Assigned", paper(), user(), (dice.choice(["Primary", "Secondary", "Pc"]),), dice.randint(1, 3)),
+        lambda: ("Unassigned", paper(), user(), dice.randint(1, 3)),
+        lambda: ("Reviewed", paper(), dice.randint(1, 2), dice.randint(1, 4), form()),
         lambda: ("Commented", paper(), dice.randint(1, 9), dice.choice([NOBODY, ("Some", 1), ("Some", 2)]), text()),
         lambda: ("Tagged", paper(), words(dice.choice(["hot", "~own", "~~odd"])), dice.random() < 0.7),
         lambda: ("Decided", paper(), (dice.choice(["Accept", "Reject"]),)), lambda: ("Dismissed", user()),
-        lambda: ("Invited", paper(), user()), lambda: ("Invited", paper(), dice.randint(6, 8)), lambda: ("Uninvited", paper(), dice.randint(6, 8)),
+        lambda: ("Invited", paper(), user()), lambda: ("Invited", paper(), dice.randint(6, 8)),
+        lambda: ("Uninvited", paper(), dice.randint(6, 8)),
         lambda: ("DeadlineSet", (dice.choice(PHASES[:5]),), dice.choice([NOBODY, ("Some", dice.randint(1, 2_000))])),
-        lambda: ("Responded", paper(), text()), lambda: ("Reviewed", paper(), dice.randint(1, 2), dice.randint(1, 4), form())]
+        lambda: ("Responded", paper(), text()),
+        lambda: ("Reviewed", paper(), dice.randint(1, 2), dice.randint(1, 4), form())]
     entries = [(1, ("Registered", n, text(), text())) for n in (1, 2)] + [
-        (1, ("Named", n, (role,))) for n, role in ((1, "Chair"), (2, "Chair"), (3, "Member"), (4, "Member"), (5, "Member"))]
-    entries += [(1, ("ModeSet", dice.choice(MODES))), (6, ("Submitted", 1, text(), text())), (7, ("Submitted", 2, text(), text()))]
+        (1, ("Named", n, (role,)))
+        for n, role in ((1, "Chair"), (2, "Chair"), (3, "Member"), (4, "Member"), (5, "Member"))]
+    entries += [(1, ("ModeSet", dice.choice(MODES))), (6, ("Submitted", 1, text(), text())),
+                (7, ("Submitted", 2, text(), text()))]
     phases = dice.choice([PHASES, PHASES, SKIPPING])
     for phase in phases[:dice.randint(0, len(phases))]:
         entries += [(1, ("PhaseSet", (phase,)))] + [(user(), dice.choice(kinds)()) for _ in range(dice.randint(2, 9))]
@@ -81,43 +93,60 @@ def made_up(seed):
 
 
 def stamped(entries):
-    """The history of these entries, each with its maker, and with a moment of its own; two of three with a number and a mark."""
+    """The history of these entries, each with its maker, and with a moment of its own;
+    two of three with a number and a mark."""
     key = lambda at: ("Some", {"number": at, "mark": words(f"mark {at}")}) if at % 3 else NOBODY
-    return History({"stamp": {"maker": maker, "at": 1_000 + at, "key": key(at)}, "more": False, "entry": entry} for at, (maker, entry) in enumerate(entries))
+    return History({"stamp": {"maker": maker, "at": 1_000 + at, "key": key(at)}, "more": False, "entry": entry}
+                   for at, (maker, entry) in enumerate(entries))
 
 
 def by_hand():
-    """What is rarely made up: a paper that is accepted though it was withdrawn, once the conference is closed; a tag in the submission; an
-    external of a withdrawn paper in it; one in the bidding who is in conflict with it; and a form that is written in the response."""
-    closed = [("Submitted", 3, words("a"), words("b")), ("Uploaded", 3, 1, words("c")), ("Withdrawn", 3), ("Decided", 3, ("Accept",)), ("PhaseSet", ("Closed",))]
-    early = [("Named", 4, ("Member",)), ("PhaseSet", ("Submission",)), ("Submitted", 1, words("a"), words("b")), ("Tagged", 1, words("hot"), True)]
-    invited = [("PhaseSet", ("Submission",)), ("Submitted", 3, words("a"), words("b")), ("Withdrawn", 3), ("Invited", 3, 5)]
+    """What is rarely made up: a paper that is accepted though it was withdrawn, once the conference is closed; a tag in
+    the submission; an external of a withdrawn paper in it; one in the bidding who is in conflict with it; and a form
+    that is written in the response."""
+    closed = [("Submitted", 3, words("a"), words("b")), ("Uploaded", 3, 1, words("c")), ("Withdrawn", 3),
+              ("Decided", 3, ("Accept",)), ("PhaseSet", ("Closed",))]
+    early = [("Named", 4, ("Member",)), ("PhaseSet", ("Submission",)), ("Submitted", 1, words("a"), words("b")),
+             ("Tagged", 1, words("hot"), True)]
+    invited = [("PhaseSet", ("Submission",)), ("Submitted", 3, words("a"), words("b")), ("Withdrawn", 3),
+               ("Invited", 3, 5)]
     barred = [*invited, ("Conflict", 3, 5, True), ("PhaseSet", ("Bidding",))]
-    form = lambda score: {"score": score, "confidence": 3, "to_authors": words(f"a {score}"), "to_pc": words(f"p {score}")}
-    answered = [("Submitted", 1, words("a"), words("b")), ("Coauthor", 1, 7), ("Assigned", 1, 3, ("Pc",), 1), ("PhaseSet", ("Reviewing",)),
-                ("Reviewed", 1, 1, 1, form(1)), ("PhaseSet", ("Response",)), ("Reviewed", 1, 1, 2, form(2)), ("Responded", 1, words("c"))]
+    form = lambda score: {"score": score, "confidence": 3,
+                          "to_authors": words(f"a {score}"), "to_pc": words(f"p {score}")}
+    answered = [("Submitted", 1, words("a"), words("b")), ("Coauthor", 1, 7), ("Assigned", 1, 3, ("Pc",), 1),
+                ("PhaseSet", ("Reviewing",)), ("Reviewed", 1, 1, 1, form(1)), ("PhaseSet", ("Response",)),
+                ("Reviewed", 1, 1, 2, form(2)), ("Responded", 1, words("c"))]
     return [stamped([(6, entry) for entry in entries]) for entries in (closed, early, invited, barred, answered)]
 
 
 def outside(mode, phases, ending):
-    """A conference with users 7 and 8 from outside, in these phases up to one: 8 reviews paper 1, is in conflict with 2, and is invited to 3, which
-    is withdrawn; 4 is dismissed behind a bid, and invited to paper 1; 7 is invited to it no longer; and of the members 5 is invited."""
-    form = lambda score: {"score": score, "confidence": 3, "to_authors": words(f"for authors {score}"), "to_pc": words(f"for us {score}")}
-    roles = [(1, ("Named", n, (role,))) for n, role in ((1, "Chair"), (2, "Chair"), (3, "Member"), (4, "Member"), (5, "Member"))]
+    """A conference with users 7 and 8 from outside, in these phases up to one: 8 reviews paper 1, is in conflict with
+    2, and is invited to 3, which is withdrawn; 4 is dismissed behind a bid, and invited to paper 1; 7 is invited to it
+    no longer; and of the members 5 is invited."""
+    form = lambda score: {"score": score, "confidence": 3,
+                          "to_authors": words(f"for authors {score}"), "to_pc": words(f"for us {score}")}
+    roles = [(1, ("Named", n, (role,)))
+             for n, role in ((1, "Chair"), (2, "Chair"), (3, "Member"), (4, "Member"), (5, "Member"))]
     parts = {
-        "Submission": [(6, ("Submitted", 1, words("a"), words("b"))), (6, ("Coauthor", 1, 7)), (6, ("Uploaded", 1, 1, words("c"))),
-                       (6, ("Revised", 1, words("d"), words("e"))), (6, ("Revised", 1, words("f"), words("g"))), (6, ("Uploaded", 1, 2, words("h"))),
-                       (7, ("Submitted", 2, words("i"), words("j"))), (7, ("Uploaded", 2, 1, words("k"))), (6, ("Submitted", 3, words("l"), words("m"))),
-                       (6, ("Withdrawn", 3)), (6, ("Conflict", 1, 2, True)), (1, ("Invited", 1, 8)), (1, ("Invited", 3, 8)), (1, ("Invited", 2, 8)),
-                       (1, ("Uninvited", 2, 8))],
+        "Submission": [(6, ("Submitted", 1, words("a"), words("b"))), (6, ("Coauthor", 1, 7)),
+                       (6, ("Uploaded", 1, 1, words("c"))), (6, ("Revised", 1, words("d"), words("e"))),
+                       (6, ("Revised", 1, words("f"), words("g"))), (6, ("Uploaded", 1, 2, words("h"))),
+                       (7, ("Submitted", 2, words("i"), words("j"))), (7, ("Uploaded", 2, 1, words("k"))),
+                       (6, ("Submitted", 3, words("l"), words("m"))), (6, ("Withdrawn", 3)),
+                       (6, ("Conflict", 1, 2, True)), (1, ("Invited", 1, 8)), (1, ("Invited", 3, 8)),
+                       (1, ("Invited", 2, 8)), (1, ("Uninvited", 2, 8))],
         "Bidding": [(1, ("Invited", 2, 8)), (1, ("Conflict", 2, 8, True)), (3, ("Bid", 1, 25)), (4, ("Bid", 1, 0)),
-                    (1, ("Dismissed", 4)), (1, ("Invited", 1, 4)), (1, ("Invited", 1, 5)), (1, ("Invited", 3, 7)), (1, ("Uninvited", 3, 7)),
-                    (1, ("Assigned", 1, 3, ("Primary",), 1)), (1, ("Assigned", 1, 8, ("Pc",), 2)), (3, ("Tagged", 1, words("hot"), True)),
-                    (1, ("Tagged", 1, words("~~odd"), True)), (1, ("Assigned", 1, 5, ("Pc",), 3)), (1, ("Unassigned", 1, 5, 3))],
-        "Reviewing": [(3, ("Reviewed", 1, 1, 1, form(1))), (8, ("Reviewed", 1, 2, 1, form(2))), (3, ("Reviewed", 1, 1, 2, form(3)))],
+                    (1, ("Dismissed", 4)), (1, ("Invited", 1, 4)), (1, ("Invited", 1, 5)), (1, ("Invited", 3, 7)),
+                    (1, ("Uninvited", 3, 7)), (1, ("Assigned", 1, 3, ("Primary",), 1)),
+                    (1, ("Assigned", 1, 8, ("Pc",), 2)), (3, ("Tagged", 1, words("hot"), True)),
+                    (1, ("Tagged", 1, words("~~odd"), True)), (1, ("Assigned", 1, 5, ("Pc",), 3)),
+                    (1, ("Unassigned", 1, 5, 3))],
+        "Reviewing": [(3, ("Reviewed", 1, 1, 1, form(1))), (8, ("Reviewed", 1, 2, 1, form(2))),
+                      (3, ("Reviewed", 1, 1, 2, form(3)))],
         "Response": [(6, ("Responded", 1, words("p"))), (7, ("Responded", 2, words("q")))],
-        "Discussion": [(3, ("Commented", 1, 1, ("Some", 1), words("n"))), (5, ("Commented", 1, 2, NOBODY, words("o"))), (8, ("Reviewed", 1, 2, 2, form(4))),
-                       (1, ("Decided", 1, ("Reject",))), (1, ("Decided", 1, ("Accept",))), (1, ("Decided", 2, ("Reject",)))],
+        "Discussion": [(3, ("Commented", 1, 1, ("Some", 1), words("n"))), (5, ("Commented", 1, 2, NOBODY, words("o"))),
+                       (8, ("Reviewed", 1, 2, 2, form(4))), (1, ("Decided", 1, ("Reject",))),
+                       (1, ("Decided", 1, ("Accept",))), (1, ("Decided", 2, ("Reject",)))],
         "Notification": [], "Closed": []}
     entries = roles + [(1, ("ModeSet", mode))]
     for phase in phases[:phases.index(ending) + 1]:
@@ -129,13 +158,17 @@ def small_conference(specs):
     """What the small conference is made of, and its histories in each mode and phase."""
     of = lambda name: specs.get("cr_policy.specs.Conference", name)
     digests = {name: tuple([n] * 32) for n, name in enumerate("alice bob carol dave erin fay gus hal ivy".split())}
-    asides = [{"tag": words(t), "to_pc": words("New."), "comment": words(c)} for t, c in (("a", "Take it."), ("b", "Leave it."))]
+    asides = [{"tag": words(t), "to_pc": words("New."), "comment": words(c)}
+              for t, c in (("a", "Take it."), ("b", "Leave it."))]
     some = [NOBODY, ("Some", ("Accept",)), ("Some", ("Reject",))]
-    verdicts = [of("verdicts"), of("reversed")] + [{"other": some[a], "first": some[b], "last": some[c]} for a, b, c in ((2, 0, 1), (0, 1, 1), (1, 2, 1))]
+    verdicts = [of("verdicts"), of("reversed")] + [
+        {"other": some[a], "first": some[b], "last": some[c]} for a, b, c in ((2, 0, 1), (0, 1, 1), (1, 2, 1))]
     histories = []
     for mode in MODES:
-        histories += [of("before_bidding")(digests, mode), of("in_bidding")(digests, mode, asides[0], 4), of("in_reviewing")(digests, mode, asides[0], 4)]
-        histories += [of(name)(digests, mode, asides[0], 4, v) for v in verdicts[:2] for name in ("in_discussion", "at_notification", "at_close")]
+        histories += [of("before_bidding")(digests, mode), of("in_bidding")(digests, mode, asides[0], 4),
+                      of("in_reviewing")(digests, mode, asides[0], 4)]
+        histories += [of(name)(digests, mode, asides[0], 4, v)
+                      for v in verdicts[:2] for name in ("in_discussion", "at_notification", "at_close")]
     return digests, asides, verdicts, [History(history) for history in histories]
 
 
@@ -147,14 +180,16 @@ class Computed:
     def __init__(self, plain=None, changed=None):
         self.specs = Specs(TOP, changed, plain and plain.specs)
         if plain:
-            self.digests, self.asides, self.verdicts, self.histories = plain.digests, plain.asides, plain.verdicts, plain.histories
+            self.digests, self.asides, self.verdicts, self.histories = (
+                plain.digests, plain.asides, plain.verdicts, plain.histories)
         else:
             file = f"{POLICY}/specs/ViewBounds.antt"
             with open(f"{TOP}/{file}", encoding="utf-8") as opened:
                 text = opened.read()
             told = "map seen (view u H) ≡ each_told u H (part u H) [] H"
             assert told in text, "how ViewBounds says that a part is shown"
-            self.specs.changed[file] = text.replace(told, "values (map seen (view u H)) ≡ values (each_told u H (part u H) [] H)")
+            self.specs.changed[file] = text.replace(
+                told, "values (map seen (view u H)) ≡ values (each_told u H (part u H) [] H)")
             self.digests, self.asides, self.verdicts, conference = small_conference(self.specs)
             self.histories = by_hand() + [made_up(seed) for seed in range(40)] + conference
             self.histories += [outside(mode, SKIPPING, ending) for mode in MODES for ending in SKIPPING]
@@ -168,8 +203,8 @@ class Computed:
         return all(clause(u, p, history) for u in [NOBODY, *USERS] for p in PAPERS)
 
     def twins(self):
-        """Histories in which a form that is unheard has other grades and texts, and such without one that was written when the response had
-        been opened; each with a user to whom they are to look the same."""
+        """Histories in which a form that is unheard has other grades and texts, and such without one that was written
+        when the response had been opened; each with a user to whom they are to look the same."""
         is_author = self.specs.get("cr_base.specs.HistoryFacts", "is_author")
         is_heard = self.specs.get("cr_policy.specs.ShownTo", "is_responded_to")
         begins = self.specs.get("cr_policy.specs.ShownTo", "begins_response")
@@ -183,7 +218,8 @@ class Computed:
                 _, paper, ordinal, version, _ = e["entry"]
                 before, after = History(history[:at]), History(history[at + 1:])
                 for u in USERS:
-                    if not is_author(u, paper, history) or u[1] == e["stamp"]["maker"] or is_heard(paper, ordinal, before, after):
+                    if (not is_author(u, paper, history) or u[1] == e["stamp"]["maker"]
+                            or is_heard(paper, ordinal, before, after)):
                         continue
                     changed = {**e, "entry": ("Reviewed", paper, ordinal, version, other)}
                     yield "unheard", u, history, History([*before, changed, *after])
@@ -201,7 +237,8 @@ class Computed:
                 return self.holds_of_twins(name)
             clause = self.specs.get("cr_policy.specs.ResponseBounds", LAWS[law][name])
             if name == "one":
-                return all(clause(u, p, o, history) for history in self.histories for u in [NOBODY, *USERS] for p in PAPERS for o in (1, 2, 3))
+                return all(clause(u, p, o, history)
+                           for history in self.histories for u in [NOBODY, *USERS] for p in PAPERS for o in (1, 2, 3))
             return all(self.holds_of(clause, history) for history in self.histories)
         if law == "law_bounds":
             clause = self.specs.get("cr_policy.specs.ViewBounds", LAWS[law][name])
@@ -211,7 +248,8 @@ class Computed:
         if name == "asides":
             return all(applied(clause, self.digests, mode, a, b) for mode in MODES)
         if name == "verdicts":
-            return all(applied(clause, self.digests, mode, a, v, w) for mode in MODES for v in self.verdicts for w in self.verdicts)
+            return all(applied(clause, self.digests, mode, a, v, w)
+                       for mode in MODES for v in self.verdicts for w in self.verdicts)
         return all(applied(clause, self.digests, mode, a) for mode in MODES)
 
 
@@ -238,7 +276,8 @@ def computed(row, every):
 
 def by_computing(rows, every):
     """Prints what came of each row; the count of those of which a clause holds that should be false."""
-    held = [clause for law in LAWS for clause in LAWS[law] if clause not in UNCOMPUTED and not plain().holds(law, clause)]
+    held = [clause for law in LAWS for clause in LAWS[law]
+            if clause not in UNCOMPUTED and not plain().holds(law, clause)]
     if held:
         print(f"the table as it stands: false {' '.join(held)}")
         return len(rows)
@@ -262,7 +301,8 @@ def what_is_lost(row):
 
 
 def by_check(row):
-    """Plants a row in a copy and checks the laws that it names there: of each, whether it is refused, and what was said."""
+    """Plants a row in a copy and checks the laws that it names there:
+    of each, whether it is refused, and what was said."""
     with tempfile.TemporaryDirectory(prefix="wrong-table-") as room:
         shutil.copytree(f"{TOP}/crates", f"{room}/crates", ignore=shutil.ignore_patterns("out"))
         for name in ("crates.txt", "HANDLES"):
@@ -277,9 +317,11 @@ def by_check(row):
 
 
 def pick(rows, picked):
-    """The rows of these names; else of these topics, or with one of these words in their name; all where none is given."""
+    """The rows of these names; else of these topics, or with one of these words in their name;
+    all where none is given."""
     exact = [row for row in rows if row.name in picked]
-    return exact or [row for row in rows if not picked or row.topic in picked or any(word in row.name for word in picked)]
+    return exact or [row for row in rows
+                     if not picked or row.topic in picked or any(word in row.name for word in picked)]
 
 
 def main():

@@ -1,20 +1,22 @@
 """Computes definitions out of specs/*.antt, on closed values and with no prover, for wrong_tables.py and wrong_laws.py.
 
-It reads the part of the language in which tables, facts and clauses are written: equations by cases, records, lists, λ, if. A
-clause is computed as a Bool: `→` as what follows, `×` as both, `≡` as being the same, ⊥ as false, and what stands for every
-paper as all of PAPERS. This is a second reading of that language and nothing is proved by it: it says which plants a law should
-refuse, and the check says whether it does.
+It reads the part of the language in which tables, facts and clauses are written: equations by cases, records, lists, λ,
+if. A clause is computed as a Bool: `→` as what follows, `×` as both, `≡` as being the same, ⊥ as false, and what stands
+for every paper as all of PAPERS. This is a second reading of that language and nothing is proved by it: it says which
+plants a law should refuse, and the check says whether it does.
 """
 import functools
 import os
 import re
 
 PAPERS = range(1, 4)
-TOKEN = re.compile(r'\s+|--[^\n]*|"([^"]*)"|([A-Za-z_][\w\']*(?:\.[A-Za-z_0-9][\w\']*)*)|(\d+)|(&&|\|\||\+\+|==|[λ∷→×≡≤<*/%⊥(){}\[\];=.:+-])')
+TOKEN = re.compile(r'\s+|--[^\n]*|"([^"]*)"|([A-Za-z_][\w\']*(?:\.[A-Za-z_0-9][\w\']*)*)|(\d+)'
+                   r'|(&&|\|\||\+\+|==|[λ∷→×≡≤<*/%⊥(){}\[\];=.:+-])')
 # how tightly each binds, and whether it goes to the right
-LEVELS = {"→": (0, 1), "×": (1, 1), "||": (2, 1), "&&": (3, 1), "≡": (4, 0), "≤": (4, 0), "<": (4, 0), "==": (4, 0), "++": (5, 1),
-          "∷": (5, 1), "+": (6, 0), "-": (6, 0), "*": (7, 0), "/": (7, 0), "%": (7, 0)}
-PYTHON = {"||": "or", "&&": "and", "×": "and", "≡": "==", "==": "==", "≤": "<=", "<": "<", "++": "+", "+": "+", "*": "*", "/": "//", "%": "%"}
+LEVELS = {"→": (0, 1), "×": (1, 1), "||": (2, 1), "&&": (3, 1), "≡": (4, 0), "≤": (4, 0), "<": (4, 0), "==": (4, 0),
+          "++": (5, 1), "∷": (5, 1), "+": (6, 0), "-": (6, 0), "*": (7, 0), "/": (7, 0), "%": (7, 0)}
+PYTHON = {"||": "or", "&&": "and", "×": "and", "≡": "==", "==": "==", "≤": "<=", "<": "<",
+          "++": "+", "+": "+", "*": "*", "/": "//", "%": "%"}
 ENDS = {"see", "adds", "then", "else", "in"}
 
 
@@ -163,7 +165,8 @@ class Module:
         return self.made[name]
 
     def later(self, name, space, code):
-        """A function that is made when it is called first, and then stands in its own place; a value without arguments at once."""
+        """A function that is made when it is called first, and then stands in its own place;
+        a value without arguments at once."""
         n = self.takes(name)
         if n == 0 or name in self.made:
             return self.get(name)
@@ -200,7 +203,9 @@ def remembered(f):
         return lambda u, H, part, before, after: f(u, H, part, before, after) if before else kept(
             f, (u, H, part.func, part.args), (u, H, part, before, after))
     if n == 3:
-        return lambda a, b, c: kept(f, (a, b, c), (a, b, c)) if isinstance(c, History) and not isinstance(a, functools.partial) else f(a, b, c)
+        return lambda a, b, c: (
+            kept(f, (a, b, c), (a, b, c)) if isinstance(c, History) and not isinstance(a, functools.partial)
+            else f(a, b, c))
     if n == 2:
         return lambda a, b: kept(f, (a, b), (a, b)) if isinstance(b, History) else f(a, b)
     return (lambda a: kept(f, a, (a,)) if isinstance(a, History) else f(a)) if n == 1 else f
@@ -214,7 +219,8 @@ def kept(f, key, args, made=lambda answer: answer):
 
 
 class Specs:
-    """The specs of cr_base and cr_policy as they stand, or with other texts in some files; what these don't touch is shared."""
+    """The specs of cr_base and cr_policy as they stand, or with other texts in some files;
+    what these don't touch is shared."""
 
     def __init__(self, top, changed=None, plain=None):
         self.top, self.changed, self.plain, self.modules, self.touched = top, changed or {}, plain, {}, {}
@@ -222,7 +228,8 @@ class Specs:
     def is_touched(self, module):
         if module.file not in self.touched:
             named = [self.plain.module(path) for path in {*module.names.values(), *module.aliases.values()}]
-            self.touched[module.file] = module.file in self.changed or any(self.is_touched(below) for below in named if below)
+            self.touched[module.file] = (
+                module.file in self.changed or any(self.is_touched(below) for below in named if below))
         return self.touched[module.file]
 
     def module(self, path):
@@ -379,7 +386,8 @@ class Writer:
         return None
 
     def clause(self):
-        """An expression, or a clause: one for every paper is computed for all of them, and other names ahead are parameters."""
+        """An expression, or a clause: one for every paper is computed for all of them,
+        and other names ahead are parameters."""
         names = self.binders()
         if names is None:
             return self.expression(0)
@@ -471,7 +479,8 @@ class Writer:
         if word == "(":
             inner = self.clause()
             self.expect(")")
-            while self.peek() == ("sign", ".") and self.at + 1 < len(self.found) and self.found[self.at + 1][0] == "word":
+            while (self.peek() == ("sign", ".") and self.at + 1 < len(self.found)
+                   and self.found[self.at + 1][0] == "word"):
                 self.next()
                 for field in self.next()[1].split("."):
                     inner = f"{inner}[{field!r}]"
