@@ -101,13 +101,14 @@ def stamped(entries):
 
 
 def by_hand():
-    """What is rarely made up: a paper that is accepted though it was withdrawn, once the conference is closed; a tag in
-    the submission; an external of a withdrawn paper in it; one in the bidding who is in conflict with it; and a form
-    that is written in the response."""
+    """What is rarely made up: a paper that is accepted though it was withdrawn, once the conference is closed; tags in
+    the submission, one of them the chairs'; an external of a withdrawn paper in it; one in the bidding who is in
+    conflict with it; and a form that is written in the response."""
     closed = [("Submitted", 3, words("a"), words("b")), ("Uploaded", 3, 1, words("c")), ("Withdrawn", 3),
               ("Decided", 3, ("Accept",)), ("PhaseSet", ("Closed",))]
-    early = [("Named", 4, ("Member",)), ("PhaseSet", ("Submission",)), ("Submitted", 1, words("a"), words("b")),
-             ("Tagged", 1, words("hot"), True)]
+    early = [("Named", 2, ("Chair",)), ("Named", 4, ("Member",)), ("PhaseSet", ("Submission",)),
+             ("Submitted", 1, words("a"), words("b")), ("Tagged", 1, words("hot"), True),
+             ("Tagged", 1, words("~~odd"), True)]
     invited = [("PhaseSet", ("Submission",)), ("Submitted", 3, words("a"), words("b")), ("Withdrawn", 3),
                ("Invited", 3, 5)]
     barred = [*invited, ("Conflict", 3, 5, True), ("PhaseSet", ("Bidding",))]
