@@ -3,9 +3,9 @@
 
     python3 checks/behind_nginx.py [PROGRAM]
 
-PROGRAM is `confd` as `rt run` builds it (crates/confd/out/confd where none is named). Needs the Debian packages nginx-light and
-openssl, and is no part of the gate. Prints a line a check, and last `N passed, M failed`; ends with status 0 where none failed.
-Takes less than a minute.
+PROGRAM is `confd` as `rt run` builds it (crates/confd/out/confd where none is named). Needs the Debian packages
+nginx-light and openssl, and is no part of the gate. Prints a line a check, and last `N passed, M failed`; ends with
+status 0 where none failed. Takes less than a minute.
 """
 
 import contextlib

@@ -1,13 +1,15 @@
 """The best plan of assignments, found otherwise than the program finds it, and from whole numbers alone.
 
-All plans have as many pairs. So an earlier pair is made to weigh more than all later ones together, and a bid more than all
-pairs: the plan that then weighs most is the first of those whose bids have the greatest sum. Places are filled one by one, each
-along the way of exchanges that gains most (Bellman's and Ford's search), which keeps what is chosen the heaviest for its places.
+All plans have as many pairs. So an earlier pair is made to weigh more than all later ones together, and a bid more than
+all pairs: the plan that then weighs most is the first of those whose bids have the greatest sum. Places are filled one
+by one, each along the way of exchanges that gains most (Bellman's and Ford's search), which keeps what is chosen the
+heaviest for its places.
 """
 
 
 def best_plan(bids, papers, per_paper, load):
-    """The pairs of the plan, where `bids` has those that may be chosen, each with its bid, in order; None where there is no plan."""
+    """The pairs of the plan, where `bids` has those that may be chosen, each with its bid, in order; None where there
+    is no plan."""
     order = list(bids)
     weights = {pair: (bids[pair] << len(order)) + (1 << (len(order) - 1 - place)) for place, pair in enumerate(order)}
     chosen = set()
@@ -34,7 +36,8 @@ def exchanged(weights, chosen, paper, load):
             if ends[0] in reached and (ends[1] not in reached or reached[ends[0]][0] + gain > reached[ends[1]][0]):
                 reached[ends[1]] = (reached[ends[0]][0] + gain, (p, member), ends[0])
                 moved = True
-    free = [end for end in reached if end[0] == "member" and len([1 for _, member in chosen if member == end[1]]) < load]
+    free = [end for end in reached
+            if end[0] == "member" and len([1 for _, member in chosen if member == end[1]]) < load]
     if not free:
         return None
     at, pairs = max(free, key=lambda end: reached[end][0]), set()

@@ -4,8 +4,8 @@
     python3 checks/clients.py [PROGRAM]
 
 PROGRAM is `confd` as `rt run` builds it (crates/confd/out/confd where none is named). Needs the Debian packages curl,
-python3-requests, apache2-utils and wrk, and is no part of the gate. Prints a line a check, and last `N passed, M failed`;
-ends with status 0 where none failed. Takes about half a minute.
+python3-requests, apache2-utils and wrk, and is no part of the gate. Prints a line a check, and last
+`N passed, M failed`; ends with status 0 where none failed. Takes about half a minute.
 """
 
 import json
@@ -33,10 +33,12 @@ def address(server, path):
 
 
 def with_curl(program, folder):
-    """curl: register, log in, submit, submit twice by a number, a page, a wrong secret, HEAD and its date, a 413, HTTP/1.0, ten requests on one connection."""
+    """curl: register, log in, submit, submit twice by a number, a page, a wrong secret, HEAD and its date, a 413, \
+HTTP/1.0, ten requests on one connection."""
 
     def curl(*words, text=b""):
-        out = said("curl", "--silent", "--show-error", "--max-time", "20", "--write-out", "\n%{http_code}", *words, text=text)
+        out = said("curl", "--silent", "--show-error", "--max-time", "20", "--write-out", "\n%{http_code}", *words,
+                   text=text)
         content, _, code = out.rpartition("\n")
         return int(code), content
 
@@ -50,7 +52,8 @@ def with_curl(program, folder):
         told = curl(*login, "--json", '{"abstract":"We prove.","title":"Proofs"}', address(server, "/papers"))
         expect(told == (201, '{"paper":1}'), told)
         for _ in range(2):
-            told = curl(*login, "--header", "Command-Number: 7", "--json", '{"abstract":"","title":"Types"}', address(server, "/papers"))
+            told = curl(*login, "--header", "Command-Number: 7", "--json", '{"abstract":"","title":"Types"}',
+                        address(server, "/papers"))
             expect(told == (201, '{"paper":2}'), told)
         code, page = curl(*login, address(server, "/papers/1"))
         expect(code == 200 and json.loads(page)["title"] == "Proofs", page)
@@ -64,7 +67,8 @@ def with_curl(program, folder):
         expect(curl("--http1.0", address(server, "/phase"))[0] == 200, "HTTP/1.0")
         told = curl("--header", "Expect:", "--data-binary", "@-", address(server, "/register"), text=b"x" * 4_194_305)
         expect(told == (413, '{"error":"too_large"}'), told)
-        ten = said("curl", "--silent", "--write-out", "\n%{num_connects}\n", *[address(server, "/phase")] * 10).splitlines()
+        ten = said("curl", "--silent", "--write-out", "\n%{num_connects}\n",
+                   *[address(server, "/phase")] * 10).splitlines()
         expect([int(count) for count in ten[1::2]] == [1] + [0] * 9, f"connections made: {ten[1::2]}")
 
 
@@ -81,7 +85,8 @@ def with_requests(program, folder):
         told = session.post(address(server, "/phase"), json={"phase": "submission"}, timeout=20)
         expect(told.json() == {"phase": "submission"}, told.text)
         for number in range(1, 9):
-            told = session.post(address(server, "/papers"), json={"abstract": "", "title": f"Paper {number}"}, timeout=20)
+            told = session.post(address(server, "/papers"), json={"abstract": "", "title": f"Paper {number}"},
+                                timeout=20)
             expect((told.status_code, told.json()) == (201, {"paper": number}), told.text)
 
 

@@ -4,8 +4,8 @@
     checks/drills.py [PROGRAM]        crates/confd/out/confd where none is named
 
 A drill makes up commands from a number. Here the numbers and the commands are made anew, by docs/API.md, and given to
-`model.py`, which knows no tables; the four lines have to be those that `confd drill` prints, for several seeds and lengths, and
-a drill that is run twice has to print the same bytes. Ends with status 0 where all of it is so.
+`model.py`, which knows no tables; the four lines have to be those that `confd drill` prints, for several seeds and
+lengths, and a drill that is run twice has to print the same bytes. Ends with status 0 where all of it is so.
 """
 import os
 import subprocess
@@ -17,10 +17,11 @@ from model_views import view_lines
 TOP = os.path.dirname(os.path.dirname(os.path.abspath(__file__)))
 CONFD = os.path.join(TOP, "crates/confd/out/confd")
 CAST = [f"u{number}" for number in range(1, 9)]
-KINDS = ["registered", "named", "phase", "mode", "submitted", "coauthor", "revised", "uploaded", "withdrawn", "conflict", "bid",
-         "assigned", "unassigned", "reviewed", "commented", "tagged", "decided", "deadline", "dismissed", "invited", "uninvited",
-         "responded"]
-PATH = ["setup", "submission", "bidding", "reviewing", "discussion", "notification", "closed"]  # a drill skips the response
+KINDS = ["registered", "named", "phase", "mode", "submitted", "coauthor", "revised", "uploaded", "withdrawn",
+         "conflict", "bid", "assigned", "unassigned", "reviewed", "commented", "tagged", "decided", "deadline",
+         "dismissed", "invited", "uninvited", "responded"]
+# a drill skips the response
+PATH = ["setup", "submission", "bidding", "reviewing", "discussion", "notification", "closed"]
 DRILLS = [(1, 4), (0, 1), (2147483647, 2), (5, 3), (1, 5), (2, 7), (3, 40), (4, 41), (11, 150), (12, 300), (13, 600)]
 
 
@@ -118,7 +119,8 @@ class Drill:
 
 
 def run(program, seed, steps):
-    done = subprocess.run([program, "drill", "--seed", str(seed), "--steps", str(steps)], capture_output=True, check=False)
+    done = subprocess.run([program, "drill", "--seed", str(seed), "--steps", str(steps)],
+                          capture_output=True, check=False)
     return done.returncode, done.stdout.decode()
 
 

@@ -1,11 +1,11 @@
 """A small model of confd, written from docs/API.md, STORE.md and VIEWS.md and from nothing else.
 
-A conference is a list of entries; each answer, each rule and each line of a view is read off that list anew, with no table
-beside it but the answers to commands that had a number. The lines of a view are made in `model_views.py`, reports in
-`model_reports.py`. It is slow and short, and stands against the program in `random_runs.py`, `drills.py` and `retries.py`. It
-answers requests whose bodies are well formed; what is wrong with a body or a head stands in cases. Whoever asks it sets the moment
-of the request. Below, `u` and `v` are users' numbers, `p` is a paper's, and `t` is the user whom a command names; nobody's number
-is None.
+A conference is a list of entries; each answer, each rule and each line of a view is read off that list anew, with no
+table beside it but the answers to commands that had a number. The lines of a view are made in `model_views.py`, reports
+in `model_reports.py`. It is slow and short, and stands against the program in `random_runs.py`, `drills.py` and
+`retries.py`. It answers requests whose bodies are well formed; what is wrong with a body or a head stands in cases.
+Whoever asks it sets the moment of the request. Below, `u` and `v` are users' numbers, `p` is a paper's, and `t` is the
+user whom a command names; nobody's number is None.
 """
 import csv
 import datetime
@@ -51,8 +51,8 @@ def number_told(fields):
     return int(value) if len(fields) == 1 and re.fullmatch("[1-9][0-9]{0,17}", value) else None
 
 
-CODE = {"no_user": 404, "no_paper": 404, "no_content": 404, "no_response": 404, "not_chair": 403, "not_member": 403, "not_author": 403,
-        "conflict": 403, "not_reviewer": 403}
+CODE = {"no_user": 404, "no_paper": 404, "no_content": 404, "no_response": 404, "not_chair": 403, "not_member": 403,
+        "not_author": 403, "conflict": 403, "not_reviewer": 403}
 
 
 class Conference(Reports):
@@ -60,7 +60,8 @@ class Conference(Reports):
         self.history = []  # (maker, kind, fields)
         self.moments = {}  # when an entry's request came, by the entry's place; 0 of those that a drill makes up
         self.numbers = {}  # the number of the command that added an entry, by the entry's place, where it had one
-        self.answered = {}  # of an accepted command that added an entry the mark and the answer, by its caller and its number
+        # of an accepted command that added an entry the mark and the answer, by its caller and its number
+        self.answered = {}
         self.now = 0  # when the request at hand came, in seconds since 1970
 
     # ---- facts
@@ -142,7 +143,8 @@ class Conference(Reports):
         return [f[0] for m, f in self.entries_of("submitted")]
 
     def authors(self, p):
-        return [m for m, f in self.entries_of("submitted") if f[0] == p] + [f[1] for m, f in self.entries_of("coauthor") if f[0] == p]
+        return ([m for m, f in self.entries_of("submitted") if f[0] == p]
+                + [f[1] for m, f in self.entries_of("coauthor") if f[0] == p])
 
     def declared_on(self, u, p):
         on = False
@@ -238,8 +240,8 @@ class Conference(Reports):
 
     # ---- one request
     def ask(self, who, method, path, body=None, fields=()):
-        """The answer's code and content, the whole one to HEAD too; `who` is as in `caller`, `fields` are the values of the fields
-        Command-Number."""
+        """The answer's code and content, the whole one to HEAD too; `who` is as in `caller`, `fields` are the values of
+        the fields Command-Number."""
         u = self.caller(who)
         path, _, query = path.partition("?")
         parts = path.strip("/").split("/")
@@ -252,7 +254,8 @@ class Conference(Reports):
             return 200, dump({"mode": self.mode, "papers": len(self.papers()), "phase": self.phase})
         if path == "/deadlines" and method == "GET":
             told = [(phase, self.deadline(phase)) for phase in PHASES]
-            return 200, dump({"deadlines": [{"phase": phase, "until": spelled(until)} for phase, until in told if until]})
+            return 200, dump({"deadlines": [{"phase": phase, "until": spelled(until)}
+                                            for phase, until in told if until]})
         if path == "/accepted":
             return self.accepted_papers()
         if u is None and not (method == "GET" and self.is_public(parts)):
@@ -302,8 +305,9 @@ class Conference(Reports):
             return self.uninvite(u, p, rest[1])
         if rest[0] == "tags":
             return self.tag(u, p, rest[1], method == "PUT")
-        told = {"content": self.upload, "conflicts": self.conflict, "bid": self.set_bid, "reviewers": self.assign, "review": self.review,
-                "response": self.respond, "comments": self.comment, "decision": self.decide, "externals": self.invite}
+        told = {"content": self.upload, "conflicts": self.conflict, "bid": self.set_bid, "reviewers": self.assign,
+                "review": self.review, "response": self.respond, "comments": self.comment, "decision": self.decide,
+                "externals": self.invite}
         return told[rest[0]](u, p, body)
 
     def told_of(self, u, path, query):
@@ -332,7 +336,8 @@ class Conference(Reports):
 
     def is_public(self, parts):
         """Whether nobody is served at this path: it is the page of a published paper, or its content."""
-        return parts[0] == "papers" and len(parts) > 1 and parts[2:3] in ([], ["content"]) and self.published(self.paper_told(parts[1]))
+        return (parts[0] == "papers" and len(parts) > 1 and parts[2:3] in ([], ["content"])
+                and self.published(self.paper_told(parts[1])))
 
     def first(self, *rules):
         for broken, rule in rules:
@@ -358,10 +363,12 @@ class Conference(Reports):
         return 200, dump({"phase": to})
 
     def set_deadline(self, u, phase, until):
-        r = self.first((self.role_of(u) != "chair", "not_chair"), (PHASES.index(phase) < PHASES.index(self.phase), "wrong_phase"))
+        r = self.first((self.role_of(u) != "chair", "not_chair"),
+                       (PHASES.index(phase) < PHASES.index(self.phase), "wrong_phase"))
         if r:
             return r
-        until = 0 if until is None else round(datetime.datetime.fromisoformat(until.upper().replace("Z", "+00:00")).timestamp())
+        until = 0 if until is None else round(
+            datetime.datetime.fromisoformat(until.upper().replace("Z", "+00:00")).timestamp())
         self.history.append((u, "deadline", (phase, until)))
         return 200, dump({"phase": phase, "until": spelled(until) if until else None})
 
@@ -375,7 +382,8 @@ class Conference(Reports):
     def member(self, u, body):
         t = self.number_of(body["name"])
         rank = {"account": 0, "member": 1, "chair": 2}
-        r = self.first((t is None, "no_user"), (self.role_of(u) != "chair", "not_chair"), (self.is_from("notification"), "wrong_phase"),
+        r = self.first((t is None, "no_user"), (self.role_of(u) != "chair", "not_chair"),
+                       (self.is_from("notification"), "wrong_phase"),
                        (t and rank[self.role_of(t)] >= rank[body["role"]], "already_named"))
         if r:
             return r
@@ -401,8 +409,8 @@ class Conference(Reports):
         return p in self.papers()
 
     def own(self, u, p):
-        return ((not self.is_there(p), "no_paper"), (u not in self.authors(p), "not_author"), (self.phase != "submission", "wrong_phase"),
-                self.late(), (self.withdrawn(p), "withdrawn"))
+        return ((not self.is_there(p), "no_paper"), (u not in self.authors(p), "not_author"),
+                (self.phase != "submission", "wrong_phase"), self.late(), (self.withdrawn(p), "withdrawn"))
 
     def revise(self, u, p, body):
         r = self.first(*self.own(u, p))
@@ -449,7 +457,8 @@ class Conference(Reports):
         chair, wd = self.role_of(u) == "chair", (self.withdrawn(p), "withdrawn")
         nam = (self.stranger(t, p), "not_a_member")
         if on and not self.is_from("bidding"):
-            rules = [(u not in self.authors(p), "not_author"), self.late(), wd, (self.role_of(t) == "account", "not_a_member")]
+            rules = [(u not in self.authors(p), "not_author"), self.late(), wd,
+                     (self.role_of(t) == "account", "not_a_member")]
         elif on and self.committee() and t == u:
             rules = [(self.role_of(u) == "account", "not_member"), wd]
         elif on and self.committee():
@@ -457,8 +466,8 @@ class Conference(Reports):
         elif on:
             rules = [(True, "wrong_phase")]
         else:
-            rules = [(not chair, "not_chair"), (self.conflicted(u, p), "conflict"), (not self.committee(), "wrong_phase"), wd, nam,
-                     (t in self.authors(p), "author_conflict")]
+            rules = [(not chair, "not_chair"), (self.conflicted(u, p), "conflict"),
+                     (not self.committee(), "wrong_phase"), wd, nam, (t in self.authors(p), "author_conflict")]
         r = self.first(*rules)
         if r:
             return r
@@ -466,8 +475,9 @@ class Conference(Reports):
         return 200, dump({"paper": p})
 
     def set_bid(self, u, p, body):
-        r = self.first((not self.is_there(p), "no_paper"), (self.role_of(u) == "account", "not_member"), (self.conflicted(u, p), "conflict"),
-                       (self.phase != "bidding", "wrong_phase"), self.late(), (self.withdrawn(p), "withdrawn"))
+        r = self.first((not self.is_there(p), "no_paper"), (self.role_of(u) == "account", "not_member"),
+                       (self.conflicted(u, p), "conflict"), (self.phase != "bidding", "wrong_phase"), self.late(),
+                       (self.withdrawn(p), "withdrawn"))
         if r:
             return r
         self.history.append((u, "bid", (p, body["bid"])))
@@ -475,13 +485,15 @@ class Conference(Reports):
 
     def chairs_rules(self, u, p, t):
         return [(not self.is_there(p), "no_paper"), (t is None, "no_user"), (self.role_of(u) != "chair", "not_chair"),
-                (self.conflicted(u, p), "conflict"), (not self.committee(), "wrong_phase"), (self.withdrawn(p), "withdrawn")]
+                (self.conflicted(u, p), "conflict"), (not self.committee(), "wrong_phase"),
+                (self.withdrawn(p), "withdrawn")]
 
     def assign(self, u, p, body):
         t = self.number_of(body["user"])
         r = self.first(*self.chairs_rules(u, p, t))
         r = r or self.first((self.stranger(t, p), "not_a_member"), (self.conflicted(t, p), "target_conflict"),
-                            (self.ordinal_of(t, p) is not None, "already_assigned"), (self.labels(p) >= 26, "labels_spent"))
+                            (self.ordinal_of(t, p) is not None, "already_assigned"),
+                            (self.labels(p) >= 26, "labels_spent"))
         if r:
             return r
         o = self.labels(p) + 1
@@ -491,7 +503,8 @@ class Conference(Reports):
     def unassign(self, u, p, name):
         t = self.number_of(name)
         r = self.first(*self.chairs_rules(u, p, t))
-        r = r or self.first((self.ordinal_of(t, p) is None, "not_assigned"), (self.forms(p, self.ordinal_of(t, p)), "has_review"))
+        r = r or self.first((self.ordinal_of(t, p) is None, "not_assigned"),
+                            (self.forms(p, self.ordinal_of(t, p)), "has_review"))
         if r:
             return r
         self.history.append((u, "unassigned", (p, t, self.ordinal_of(t, p))))
@@ -499,7 +512,8 @@ class Conference(Reports):
 
     def dismiss(self, u, name):
         t = self.number_of(name)
-        r = self.first((t is None, "no_user"), (self.role_of(u) != "chair", "not_chair"), (self.is_from("notification"), "wrong_phase"))
+        r = self.first((t is None, "no_user"), (self.role_of(u) != "chair", "not_chair"),
+                       (self.is_from("notification"), "wrong_phase"))
         r = r or self.first((self.role_of(t) == "account", "not_a_member"), (self.chairs() == [t], "last_chair"))
         if r:
             return r
@@ -519,7 +533,8 @@ class Conference(Reports):
     def uninvite(self, u, p, name):
         t = self.number_of(name)
         r = self.first(*self.chairs_rules(u, p, t))
-        r = r or self.first((not self.invited(t, p), "not_invited"), (self.ordinal_of(t, p) is not None, "still_assigned"))
+        r = r or self.first((not self.invited(t, p), "not_invited"),
+                            (self.ordinal_of(t, p) is not None, "still_assigned"))
         if r:
             return r
         self.history.append((u, "uninvited", (p, t)))
@@ -546,10 +561,13 @@ class Conference(Reports):
             return err(409, "bad_action")
         p = self.paper_told(paper)
         if action in ("tag", "cleartag"):
-            return self.tag(u, p, tag, action == "tag") if re.fullmatch(r"(~|~~)?[a-z0-9-]{1,32}", tag) else err(409, "bad_tag")
+            return (self.tag(u, p, tag, action == "tag") if re.fullmatch(r"(~|~~)?[a-z0-9-]{1,32}", tag)
+                    else err(409, "bad_tag"))
         if action in ("conflict", "clearconflict"):
-            return err(409, "bulk_self") if self.number_of(user) == u else self.conflict(u, p, {"on": action == "conflict", "user": user})
-        return self.unassign(u, p, user) if action == "clearreview" else self.assign(u, p, {"kind": kinds[action], "user": user})
+            return (err(409, "bulk_self") if self.number_of(user) == u
+                    else self.conflict(u, p, {"on": action == "conflict", "user": user}))
+        return (self.unassign(u, p, user) if action == "clearreview"
+                else self.assign(u, p, {"kind": kinds[action], "user": user}))
 
     # ---- plans
     def plan(self, u, told):
@@ -561,19 +579,22 @@ class Conference(Reports):
                        (per_paper * len(papers) > 512 or len(papers) * len(members) > 4096, "plan_too_large"))
         if r:
             return r
-        bids = {(p, v): self.bid_of(v, p) or 0 for p in papers for v in members if not self.conflicted(v, p) and self.ordinal_of(v, p) is None}
+        bids = {(p, v): self.bid_of(v, p) or 0 for p in papers for v in members
+                if not self.conflicted(v, p) and self.ordinal_of(v, p) is None}
         plan = best_plan(bids, papers, per_paper, load)
         if plan is None:
             return err(409, "no_plan")
         return 200, "text: paper,action,user,tag\n" + "".join(f"{p},pcreview,{self.name_of(v)},\n" for p, v in plan)
 
     def members_rules(self, u, p):
-        return ((not self.is_there(p), "no_paper"), (self.role_of(u) == "account", "not_member"), (self.conflicted(u, p), "conflict"))
+        return ((not self.is_there(p), "no_paper"), (self.role_of(u) == "account", "not_member"),
+                (self.conflicted(u, p), "conflict"))
 
     def review(self, u, p, body):
-        r = self.first((not self.is_there(p), "no_paper"), (self.stranger(u, p), "not_member"), (self.conflicted(u, p), "conflict"),
-                       (self.ordinal_of(u, p) is None, "not_reviewer"),
-                       (self.phase not in ("reviewing", "discussion"), "wrong_phase"), self.late(), (self.withdrawn(p), "withdrawn"))
+        r = self.first((not self.is_there(p), "no_paper"), (self.stranger(u, p), "not_member"),
+                       (self.conflicted(u, p), "conflict"), (self.ordinal_of(u, p) is None, "not_reviewer"),
+                       (self.phase not in ("reviewing", "discussion"), "wrong_phase"), self.late(),
+                       (self.withdrawn(p), "withdrawn"))
         if r:
             return r
         o = self.ordinal_of(u, p)
@@ -590,7 +611,8 @@ class Conference(Reports):
         own = ordinal is not None and (self.phase in ("reviewing", "response") if member else self.is_from("reviewing"))
         early = not self.is_from("notification") and self.opening("response") is None
         r = self.first((not self.is_there(p), "no_paper"), (author and early, "wrong_phase"),
-                       (not author and self.stranger(u, p), "not_member"), (not author and self.conflicted(u, p), "conflict"),
+                       (not author and self.stranger(u, p), "not_member"),
+                       (not author and self.conflicted(u, p), "conflict"),
                        (not author and not (member and self.is_from("discussion")) and not own, "wrong_phase"))
         if r:
             return r
@@ -599,7 +621,8 @@ class Conference(Reports):
         def add(o, forms, keys, named):
             for version, form in forms:
                 whole = {**form, "label": chr(64 + o), "version": version}
-                out.append({**{k: whole[k] for k in keys}, **({"user": self.name_of(self.assigned_to(p, o))} if named else {})})
+                out.append({**{k: whole[k] for k in keys},
+                            **({"user": self.name_of(self.assigned_to(p, o))} if named else {})})
 
         authors_keys = ["confidence", "label", "score", "to_authors"]
         all_keys = authors_keys + ["to_pc", "version"]
@@ -613,8 +636,9 @@ class Conference(Reports):
         return 200, dump({"reviews": out})
 
     def respond(self, u, p, body):
-        r = self.first((not self.is_there(p), "no_paper"), (u not in self.authors(p), "not_author"), (self.phase != "response", "wrong_phase"),
-                       self.late(), (self.withdrawn(p), "withdrawn"), (self.response(p) is not None, "already_responded"))
+        r = self.first((not self.is_there(p), "no_paper"), (u not in self.authors(p), "not_author"),
+                       (self.phase != "response", "wrong_phase"), self.late(), (self.withdrawn(p), "withdrawn"),
+                       (self.response(p) is not None, "already_responded"))
         if r:
             return r
         self.history.append((u, "responded", (p, body["text"])))
@@ -623,7 +647,8 @@ class Conference(Reports):
     def response_page(self, u, p):
         author = self.is_there(p) and u in self.authors(p)
         r = self.first((not self.is_there(p), "no_paper"), (not author and self.role_of(u) == "account", "not_member"),
-                       (not author and self.conflicted(u, p), "conflict"), (not author and not self.is_from("discussion"), "wrong_phase"),
+                       (not author and self.conflicted(u, p), "conflict"),
+                       (not author and not self.is_from("discussion"), "wrong_phase"),
                        (self.response(p) is None, "no_response"))
         return r or (200, dump({"text": self.response(p)}))
 
@@ -645,7 +670,8 @@ class Conference(Reports):
         return 200, dump({"comments": [{"n": n, "text": text, **who(m, o)} for m, (q, n, o, text) in self.comments(p)]})
 
     def tag(self, u, p, tag, on):
-        r = self.first((not self.is_there(p), "no_paper"), (tag.startswith("~~") and self.role_of(u) != "chair", "not_chair"),
+        r = self.first((not self.is_there(p), "no_paper"),
+                       (tag.startswith("~~") and self.role_of(u) != "chair", "not_chair"),
                        (self.role_of(u) == "account", "not_member"), (self.conflicted(u, p), "conflict"),
                        (not self.committee(), "wrong_phase"), (self.withdrawn(p), "withdrawn"))
         if r:
@@ -654,8 +680,9 @@ class Conference(Reports):
         return 200, dump({"paper": p})
 
     def decide(self, u, p, body):
-        r = self.first((not self.is_there(p), "no_paper"), (self.role_of(u) != "chair", "not_chair"), (self.conflicted(u, p), "conflict"),
-                       (self.phase != "discussion", "wrong_phase"), (self.withdrawn(p), "withdrawn"))
+        r = self.first((not self.is_there(p), "no_paper"), (self.role_of(u) != "chair", "not_chair"),
+                       (self.conflicted(u, p), "conflict"), (self.phase != "discussion", "wrong_phase"),
+                       (self.withdrawn(p), "withdrawn"))
         if r:
             return r
         self.history.append((u, "decided", (p, body["decision"])))
@@ -663,7 +690,8 @@ class Conference(Reports):
 
     def accepted_papers(self):
         names = lambda p: [self.name_of(v) for v in self.authors(p)]
-        told = [{"authors": names(p), "paper": p, "title": self.last_texts(p)[0]} for p in self.papers() if self.accepted(p)]
+        told = [{"authors": names(p), "paper": p, "title": self.last_texts(p)[0]}
+                for p in self.papers() if self.accepted(p)]
         return 200, dump({"papers": told})
 
     def me(self, u):
@@ -676,15 +704,16 @@ class Conference(Reports):
             "papers": [p for p in ps if u in self.authors(p)], "role": self.role_of(u), "user": u})
 
     def told(self, u, p):
-        """What a user is told of a paper, as the terms of a search ask: by her page and by what she is answered of reviews, of a response
-        and of comments."""
+        """What a user is told of a paper, as the terms of a search ask: by her page and by what she is answered of
+        reviews, of a response and of comments."""
 
         def listed(answer, key):
             return json.loads(answer[1])[key] if answer[0] == 200 else []
 
         code, page = self.page(u, p)
         return {
-            "page": json.loads(page) if code == 200 else {}, "accepted": self.accepted(p), "conflicted": self.conflicted(u, p),
+            "page": json.loads(page) if code == 200 else {}, "accepted": self.accepted(p),
+            "conflicted": self.conflicted(u, p),
             "reviews": listed(self.reviews(u, p), "reviews"), "comments": listed(self.comments_page(u, p), "comments"),
             "responded": self.response_page(u, p)[0] == 200}
 
@@ -698,13 +727,15 @@ class Conference(Reports):
         found = [p for p in told if "title" in told[p]["page"] and searches.holds(tree, told[p])]
         if ("only", "count") in pairs:
             return 200, dump({"count": len(found)})
-        return 200, dump({"count": len(found), "papers": [{"paper": p, "title": told[p]["page"]["title"]} for p in found]})
+        return 200, dump({"count": len(found),
+                          "papers": [{"paper": p, "title": told[p]["page"]["title"]} for p in found]})
 
     def page(self, u, p):
         author = p in self.papers() and u in self.authors(p)
         member, chair = self.role_of(u) != "account", self.role_of(u) == "chair"
         accepted, published = self.accepted(p), self.published(p)
-        r = self.first((not self.is_there(p), "no_paper"), (self.stranger(u, p) and not author and not accepted, "not_member"))
+        r = self.first((not self.is_there(p), "no_paper"),
+                       (self.stranger(u, p) and not author and not accepted, "not_member"))
         if r:
             return r
         clear = not self.conflicted(u, p)
@@ -720,7 +751,8 @@ class Conference(Reports):
         if cm and bidding:
             out["bid"] = self.bid_of(u, p) or 0
         if cc and bidding:
-            out["bids"] = [{"bid": self.bid_of(v, p), "user": n} for v, n in self.users() if self.bid_of(v, p) is not None]
+            out["bids"] = [{"bid": self.bid_of(v, p), "user": n}
+                           for v, n in self.users() if self.bid_of(v, p) is not None]
         if member or author or self.external(u, p):
             out["conflict"] = self.conflicted(u, p)
         if cc and bidding:
@@ -734,9 +766,11 @@ class Conference(Reports):
             out["label"] = chr(64 + self.ordinal_of(u, p))
         lab = lambda f: chr(64 + f[3])
         if cc and bidding:
-            out["reviewers"] = [{"done": bool(self.forms(p, f[3])), "kind": f[2], "label": lab(f), "user": self.name_of(f[1])} for f in self.reviewers(p)]
+            out["reviewers"] = [{"done": bool(self.forms(p, f[3])), "kind": f[2], "label": lab(f),
+                                 "user": self.name_of(f[1])} for f in self.reviewers(p)]
         elif cm and disc:
-            out["reviewers"] = [{"kind": f[2], "label": lab(f), **({} if anon else {"user": self.name_of(f[1])})} for f in self.reviewers(p)]
+            out["reviewers"] = [{"kind": f[2], "label": lab(f), **({} if anon else {"user": self.name_of(f[1])})}
+                                for f in self.reviewers(p)]
         elif author and notif and self.mode == "open":
             out["reviewers"] = [{"label": lab(f), "user": self.name_of(f[1])} for f in self.reviewers(p)]
         if cm and bidding:

@@ -8,7 +8,8 @@ class Reports:
         if parts[0] == "letter":
             p = self.paper_told(parts[1])
             author = self.is_there(p) and u in self.authors(p)
-            r = self.first((not self.is_there(p), "no_paper"), (not author, "not_author"), (not self.is_from("notification"), "wrong_phase"))
+            r = self.first((not self.is_there(p), "no_paper"), (not author, "not_author"),
+                           (not self.is_from("notification"), "wrong_phase"))
             return r or (200, "text: " + self.letter(p))
         first = "discussion" if parts[0] in ("scores", "decisions") else "bidding"
         who = (not chair, "not_chair") if parts[0] == "load" else (not member, "not_member")
@@ -40,11 +41,13 @@ class Reports:
         return "".join(lines)
 
     def load_report(self, u):
-        seats = [(seat[1], seat[2], bool(self.forms(p, seat[3]))) for p in self.papers() if not self.conflicted(u, p) for seat in self.reviewers(p)]
+        seats = [(seat[1], seat[2], bool(self.forms(p, seat[3])))
+                 for p in self.papers() if not self.conflicted(u, p) for seat in self.reviewers(p)]
         lines = []
         for v, name in self.users():
             if self.role_of(v) != "account":
-                counts = [len([1 for w, k, _ in seats if (w, k) == (v, kind)]) for kind in ("primary", "secondary", "pc")]
+                counts = [len([1 for w, k, _ in seats if (w, k) == (v, kind)])
+                          for kind in ("primary", "secondary", "pc")]
                 counts.append(len([1 for w, _, done in seats if w == v and done]))
                 lines.append(f"{name:32}" + "".join(f" {count:4}" for count in counts) + "\n")
         return "".join(lines)
@@ -59,5 +62,6 @@ class Reports:
         text = f"Paper {p}: {self.title(p)}\nDecision: {self.decision(p)}\n"
         for o, form in self.last_forms(p):
             by = f" by {self.name_of(self.assigned_to(p, o))}" if self.mode == "open" else ""
-            text += f"\nReview {chr(64 + o)}{by}\nScore {form['score']}, confidence {form['confidence']}\n{form['to_authors']}\n"
+            text += (f"\nReview {chr(64 + o)}{by}\n"
+                     f"Score {form['score']}, confidence {form['confidence']}\n{form['to_authors']}\n")
         return text

@@ -1,7 +1,7 @@
 """What `confd view` prints, by the small model of `model.py`, written from docs/VIEWS.md and from nothing else.
 
-Below, `c` is a conference, `u` the reader's number, `p` a paper's; of an entry, `i` is its place, `m` its maker, `k` its kind, and
-`f` are its fields.
+Below, `c` is a conference, `u` the reader's number, `p` a paper's; of an entry, `i` is its place, `m` its maker, `k`
+its kind, and `f` are its fields.
 """
 import hashlib
 
@@ -115,15 +115,18 @@ def view_lines(c, who):
                 row(mine or author or (cm and disc), {"paper": p, "text": f[1]})
             if k == "commented":
                 row(mine, {"paper": p, "n": f[1], "ordinal": f[2], "text": f[3]})
-                row(cm and disc, {"paper": p, "n": f[1], "text": f[3], **({"writer": m} if chair or not anon else {"ordinal": f[2]})})
+                row(cm and disc, {"paper": p, "n": f[1], "text": f[3],
+                                  **({"writer": m} if chair or not anon else {"ordinal": f[2]})})
             if k == "tagged":
                 whole = {"paper": p, "tag": f[1], "on": f[2]}
-                row(mine or (not f[1].startswith("~") and cm and bidding) or (f[1].startswith("~~") and cc and bidding), whole)
+                row(mine or (not f[1].startswith("~") and cm and bidding)
+                    or (f[1].startswith("~~") and cc and bidding), whole)
             if k == "decided":
                 row(mine or (cm and disc), {"paper": p, "decision": f[1]})
                 row(last_decision(i, p) and author and notif, {"paper": p, "outcome": True, "decision": f[1]})
                 row(last_decision(i, p) and accepted, {"paper": p, "accepted": True})
         if seen:
-            own = {"mine": True, "at": c.moments.get(i, 0), **({"num": c.numbers[i]} if i in c.numbers else {})} if mine else {}
+            own = ({"mine": True, "at": c.moments.get(i, 0), **({"num": c.numbers[i]} if i in c.numbers else {})}
+                   if mine else {})
             out.append(dump({"kind": kind, **own, **shown}))
     return out

@@ -3,12 +3,12 @@
 
     python3 checks/plans.py [PLANS [PROGRAM]]     10,000 small plans of crates/confd/out/confd where none are named
 
-Small conferences have two or three papers and three or four members, with bids, conflicts, reviewers, labels that are spent and
-papers that are withdrawn, all made up from a number; each answer has to be the one of the greatest sum that is first in order,
-and `no_plan` exactly where none is. Middling ones are the plan that another way finds (best_plans.py), and large ones have the sum
-that scipy finds (Debian's python3-scipy, so /usr/bin/python3; left out where it isn't there). The sizes at both limits are asked
-for. Every plan is posted to /assign, which has to take it whole. Prints a line a check, and last `N passed, M failed`; ends with
-status 0 where none failed. Takes some minutes.
+Small conferences have two or three papers and three or four members, with bids, conflicts, reviewers, labels that are
+spent and papers that are withdrawn, all made up from a number; each answer has to be the one of the greatest sum that
+is first in order, and `no_plan` exactly where none is. Middling ones are the plan that another way finds
+(best_plans.py), and large ones have the sum that scipy finds (Debian's python3-scipy, so /usr/bin/python3; left out
+where it isn't there). The sizes at both limits are asked for. Every plan is posted to /assign, which has to take it
+whole. Prints a line a check, and last `N passed, M failed`; ends with status 0 where none failed. Takes some minutes.
 """
 
 import itertools
@@ -48,7 +48,8 @@ class Planned:
 
     def paper(self, author):
         self.ask(submit(author, f"Paper {len(self.papers) + 1}"))
-        self.papers[len(self.papers) + 1] = {"author": author, "gone": False, "clash": {author}, "seats": [], "labels": 0}
+        self.papers[len(self.papers) + 1] = {
+            "author": author, "gone": False, "clash": {author}, "seats": [], "labels": 0}
 
     def withdraw(self, paper):
         self.ask(request("DELETE", f"/papers/{paper}", self.papers[paper]["author"]))
@@ -95,7 +96,8 @@ class Planned:
         for choice in itertools.product(*choices):  # in dictionary order
             pairs = [pair for some in choice for pair in some]
             names = [name for _, name in pairs]
-            if all(names.count(name) <= load for name in names) and (best is None or self.worth(pairs) > self.worth(best)):
+            if (all(names.count(name) <= load for name in names)
+                    and (best is None or self.worth(pairs) > self.worth(best))):
                 best = pairs
         return best
 
@@ -196,7 +198,8 @@ def large_one(dice, papers, members, bids=range(-20, 21)):
 def middling(program, _folder):
     """Middling plans are those that best_plans.py finds: the first of the greatest sum, with many that have it."""
     dice = random.Random(3)
-    for papers, members, per_paper, load in [(12, 9, 2, 3), (12, 9, 2, 4), (9, 14, 4, 3), (20, 6, 1, 4), (5, 30, 8, 2), (16, 8, 3, 6)] * 4:
+    for papers, members, per_paper, load in [(12, 9, 2, 3), (12, 9, 2, 4), (9, 14, 4, 3),
+                                             (20, 6, 1, 4), (5, 30, 8, 2), (16, 8, 3, 6)] * 4:
         made = large_one(dice, papers, members, bids=dice.choice([range(-20, 21), [0, 1], [-20, 20], [7]]))
         for number in made.papers:
             for name in made.members[1:]:
@@ -209,7 +212,8 @@ def middling(program, _folder):
 
 
 def greatest(made, per_paper, load):
-    """The greatest sum of a plan, by scipy's linear programs, whose answers here are whole; None where there is none."""
+    """The greatest sum of a plan, by scipy's linear programs, whose answers here are whole; None where there is
+    none."""
     import numpy
     from scipy.optimize import linprog
     from scipy.sparse import lil_matrix
@@ -220,7 +224,8 @@ def greatest(made, per_paper, load):
     full, light = lil_matrix((len(papers), len(pairs))), lil_matrix((len(members), len(pairs)))
     for place, (paper, name) in enumerate(pairs):
         full[papers[paper], place] = light[members[name], place] = 1
-    found = linprog([-made.bids.get(pair, 0) for pair in pairs], A_ub=light.tocsr(), b_ub=numpy.full(len(members), load),
+    found = linprog([-made.bids.get(pair, 0) for pair in pairs],
+                    A_ub=light.tocsr(), b_ub=numpy.full(len(members), load),
                     A_eq=full.tocsr(), b_eq=numpy.full(len(papers), per_paper), bounds=(0, 1), method="highs")
     return round(-found.fun) if found.status == 0 else None
 
@@ -228,8 +233,8 @@ def greatest(made, per_paper, load):
 def large(program, _folder):
     """Large plans have the sum that scipy finds."""
     dice = random.Random(1)
-    for papers, members, per_paper, load in [(20, 30, 3, 2), (64, 64, 4, 4), (64, 64, 8, 8), (128, 32, 4, 16), (32, 128, 16, 4),
-                                             (100, 40, 3, 7), (100, 40, 3, 8), (8, 512, 26, 1)]:
+    for papers, members, per_paper, load in [(20, 30, 3, 2), (64, 64, 4, 4), (64, 64, 8, 8), (128, 32, 4, 16),
+                                             (32, 128, 16, 4), (100, 40, 3, 7), (100, 40, 3, 8), (8, 512, 26, 1)]:
         made = large_one(dice, papers, members)
         found = taken(program, made, "alice", per_paper, load)
         best = greatest(made, per_paper, load)
@@ -239,7 +244,8 @@ def large(program, _folder):
         rows = [row.split(",") for row in found[1].decode().splitlines()[1:]]
         pairs = [(int(row[0]), row[2]) for row in rows]
         expect(found[0] == 200 and made.worth(pairs) == best, (papers, members, found[0], made.worth(pairs), best))
-        expect(len(set(pairs)) == per_paper * papers and pairs == sorted(pairs, key=lambda p: (p[0], made.members.index(p[1]))), "pairs")
+        expect(len(set(pairs)) == per_paper * papers
+               and pairs == sorted(pairs, key=lambda p: (p[0], made.members.index(p[1]))), "pairs")
         names = [name for _, name in pairs]
         expect(all(names.count(name) <= load for name in made.members), "a load")
 
@@ -247,11 +253,13 @@ def large(program, _folder):
 def sizes(program, _folder):
     """512 places and 4,096 pairs may be asked for, and one more may not."""
     dice = random.Random(2)
-    for papers, members, per_paper, load, code in [(256, 3, 2, 512, 200), (171, 3, 3, 512, 409), (512, 8, 1, 64, 200), (513, 7, 1, 512, 409),
-                                                   (64, 64, 1, 1, 200), (64, 64, 8, 8, 200), (241, 17, 1, 512, 409)]:
+    for papers, members, per_paper, load, code in [(256, 3, 2, 512, 200), (171, 3, 3, 512, 409), (512, 8, 1, 64, 200),
+                                                   (513, 7, 1, 512, 409), (64, 64, 1, 1, 200), (64, 64, 8, 8, 200),
+                                                   (241, 17, 1, 512, 409)]:
         made = large_one(dice, papers, members)
         found = taken(program, made, "alice", per_paper, load)
-        expect(found[0] == code and (code == 200 or found[1] == b'{"error":"plan_too_large"}'), (papers, members, found))
+        expect(found[0] == code and (code == 200 or found[1] == b'{"error":"plan_too_large"}'),
+               (papers, members, found))
 
 
 def alike(program, _folder):

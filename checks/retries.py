@@ -1,17 +1,19 @@
 #!/usr/bin/env python3
-"""Sends ten thousand commands of `confd serve`, each by its number until it is answered, while connections are cut and the server is killed.
+"""Sends ten thousand commands of `confd serve`, each by its number until it is answered, while connections are cut and
+the server is killed.
 
     python3 checks/retries.py [--commands N] [--kills N] [--seed N] [PROGRAM]
 
-PROGRAM is `confd` as `rt run` builds it (crates/confd/out/confd where none is named). Python 3 alone is needed. Eight clients
-take a conference from setup to discussion through a relay that cuts each connection behind a random number of bytes, on the way
-there or back; a client whose answer doesn't come whole connects anew and sends the same bytes. Meanwhile the server is killed, and
-started again on its store. Whatever the order, each of these commands is to be accepted. Now and then a client sends an old one
-again, or another by an old number. What is looked at:
+PROGRAM is `confd` as `rt run` builds it (crates/confd/out/confd where none is named). Python 3 alone is needed. Eight
+clients take a conference from setup to discussion through a relay that cuts each connection behind a random number of
+bytes, on the way there or back; a client whose answer doesn't come whole connects anew and sends the same bytes.
+Meanwhile the server is killed, and started again on its store. Whatever the order, each of these commands is to be
+accepted. Now and then a client sends an old one again, or another by an old number. What is looked at:
 
 - each number of each user stands in the store's rows at the entries of one command, with the mark of what was sent;
-- the small model of `model.py`, asked the commands once each in the order of the rows, gives the answers that the clients got, adds
-  as many entries of the same kinds, and is asked about every paper, review and comment what the server is.
+- the small model of `model.py`, asked the commands once each in the order of the rows, gives the answers that the
+  clients got, adds as many entries of the same kinds, and is asked about every paper, review and comment what the
+  server is.
 
 Prints a line a check, and last `N passed, M failed`; ends with status 0 where none failed. Takes about a minute.
 """
@@ -36,7 +38,8 @@ from store import LONG, answers, expect, opened, program_named, run_all
 
 CLIENTS = ["alice", "bob", "carol", "dave", "erin", "fay", "gus", "hal"]
 CHAIRS = ["alice", "carol"]
-# Members who ask nothing: further authors, whom authors declare in conflict, whom each chair assigns, and whom each declares.
+# Members who ask nothing: further authors, whom authors declare in conflict, whom each chair assigns, and whom each
+# declares.
 COAUTHORS = ["coauthor0", "coauthor1"]
 DECLARED = [f"declared{n}" for n in range(6)]
 SEATED = {chair: [f"seated-{chair}{n}" for n in range(6)] for chair in CHAIRS}
@@ -69,7 +72,8 @@ class Relay:
                 self.carried += 1
                 room = self.random.randrange(self.random.choice([300, 1000, 5000]))
                 there = self.random.random() < 0.5
-                threading.Thread(target=self.carry, args=(near, room, there, self.random.random() < 0.5), daemon=True).start()
+                threading.Thread(target=self.carry, args=(near, room, there, self.random.random() < 0.5),
+                                 daemon=True).start()
 
     def carry(self, near, room, there, is_reset):
         """One connection, until so many bytes went the one way, or an end ends it; both ends are cut then."""
@@ -142,11 +146,13 @@ class Sender:
 
 
 class Client(Sender):
-    """A sender of commands that are accepted whatever the others do meanwhile: what it works on it shares with nobody."""
+    """A sender of commands that are accepted whatever the others do meanwhile: what it works on it shares with
+    nobody."""
 
     def __init__(self, port, name, seed, papers):
         super().__init__(port, name)
-        self.random, self.papers = random.Random(seed), papers  # the papers that weren't withdrawn, by number, with their authors
+        # the papers that weren't withdrawn, by number, with their authors
+        self.random, self.papers = random.Random(seed), papers
         self.sent = {}  # each command by its number, with its answer
         self.submitted, self.conflicts, self.seats, self.reviews, self.comments = 0, set(), [], [], 0
         self.given = collections.Counter()  # how many labels of a paper it gave
@@ -167,7 +173,8 @@ class Client(Sender):
             came = self.ask(method, path, body, [str(number)])
             expect(came == answer, f"{self.name}, number {number} again: came {came}, due {answer}")
         if self.random.random() < OTHER:
-            came = self.ask(method, path, "another", [str(number)]) if method == "DELETE" else self.ask("PUT", "/papers/1/tags/other", None, [str(number)])
+            came = (self.ask(method, path, "another", [str(number)]) if method == "DELETE"
+                    else self.ask("PUT", "/papers/1/tags/other", None, [str(number)]))
             expect(came == (409, '{"error":"number_used"}'), f"{self.name}, number {number} for another: {came}")
 
     def work(self, phase, count):
@@ -180,7 +187,8 @@ class Client(Sender):
 
     def clear(self):
         """A paper with which the user is in no conflict."""
-        return self.random.choice([paper for paper, author in list(self.papers.items()) if author != self.name and paper not in self.conflicts])
+        return self.random.choice([paper for paper, author in list(self.papers.items())
+                                   if author != self.name and paper not in self.conflicts])
 
     def setup(self):
         if self.random.random() < 0.5:
@@ -200,9 +208,11 @@ class Client(Sender):
         elif deed < 0.5:
             self.command("PUT", f"/papers/{self.random.choice(own)}", texts)
         elif deed < 0.8:
-            self.command("PUT", f"/papers/{self.random.choice(own)}/content", self.random.choice("xyz") * self.random.randrange(300))
+            self.command("PUT", f"/papers/{self.random.choice(own)}/content",
+                         self.random.choice("xyz") * self.random.randrange(300))
         elif deed < 0.95 or len(own) < 4:
-            self.command("POST", f"/papers/{self.random.choice(own)}/conflicts", {"on": True, "user": self.random.choice(DECLARED)})
+            self.command("POST", f"/papers/{self.random.choice(own)}/conflicts",
+                         {"on": True, "user": self.random.choice(DECLARED)})
         elif self.name in CHAIRS and deed < 0.98:
             self.deadline("submission")
         else:
@@ -235,22 +245,26 @@ class Client(Sender):
         if deed < 0.3 and free and self.given[paper] < LABELS:
             name = self.random.choice(free)
             self.given[paper] += 1
-            self.command("POST", f"/papers/{paper}/reviewers", {"kind": self.random.choice(["primary", "secondary", "pc"]), "user": name})
+            self.command("POST", f"/papers/{paper}/reviewers",
+                         {"kind": self.random.choice(["primary", "secondary", "pc"]), "user": name})
             self.seats.append((paper, name))
         elif deed < 0.5 and self.seats:
             paper, name = self.seats.pop(self.random.randrange(len(self.seats)))
             self.command("DELETE", f"/papers/{paper}/reviewers/{name}")
         elif deed < 0.8:
-            self.command("POST", f"/papers/{paper}/conflicts", {"on": self.random.random() < 0.6, "user": self.random.choice(CONFLICTED[self.name])})
+            self.command("POST", f"/papers/{paper}/conflicts",
+                         {"on": self.random.random() < 0.6, "user": self.random.choice(CONFLICTED[self.name])})
         else:
-            rows = [f"{self.clear()},{self.random.choice(['tag', 'cleartag'])},,bulk" for _ in range(self.random.randint(1, 4))]
+            rows = [f"{self.clear()},{self.random.choice(['tag', 'cleartag'])},,bulk"
+                    for _ in range(self.random.randint(1, 4))]
             rows.append(f"{self.clear()},conflict,{self.random.choice(CONFLICTED[self.name])},")
             self.command("POST", "/assign", "\n".join(["paper,action,user,tag", *rows]) + "\n")
 
     def review(self):
         if not self.reviews:
             return self.tag()
-        form = {"confidence": self.random.randint(1, 5), "score": self.random.randint(1, 5), "to_authors": "Good.", "to_pc": ""}
+        form = {"confidence": self.random.randint(1, 5), "score": self.random.randint(1, 5),
+                "to_authors": "Good.", "to_pc": ""}
         return self.command("PUT", f"/papers/{self.random.choice(self.reviews)}/review", form)
 
     def reviewing(self):
@@ -259,12 +273,14 @@ class Client(Sender):
     def discussion(self):
         deed = self.random.random()
         if self.name in CHAIRS and deed < 0.2:
-            self.command("PUT", f"/papers/{self.clear()}/decision", {"decision": self.random.choice(["accept", "reject"])})
+            self.command("PUT", f"/papers/{self.clear()}/decision",
+                         {"decision": self.random.choice(["accept", "reject"])})
         elif self.name in CHAIRS and deed < 0.3:
             self.chair()
         elif deed < 0.8 and self.comments < COMMENTS:
             self.comments += 1
-            self.command("POST", f"/papers/{self.clear()}/comments", {"text": f"Comment {self.comments} by {self.name}."})
+            self.command("POST", f"/papers/{self.clear()}/comments",
+                         {"text": f"Comment {self.comments} by {self.name}."})
         elif deed < 0.9:
             self.review()
         else:
@@ -289,7 +305,8 @@ def conference(clients, count):
                 alice.command("POST", "/phase", {"phase": phase})
             if phase == "reviewing":
                 for client in clients[1:]:
-                    papers = [paper for paper, author in alice.papers.items() if "alice" != author != client.name and paper not in alice.conflicts | client.conflicts]
+                    papers = [paper for paper, author in alice.papers.items()
+                              if "alice" != author != client.name and paper not in alice.conflicts | client.conflicts]
                     client.reviews = alice.random.sample(papers, 2)
                     for paper in client.reviews:
                         alice.command("POST", f"/papers/{paper}/reviewers", {"kind": "pc", "user": client.name})
@@ -319,8 +336,10 @@ def kill_and_start(program, store, relay, servers, clients, count, over):
 def kept(store):
     """The groups of the store's rows in order: of each row the kind, the maker, the number and the mark."""
     with opened(store) as file:
-        tables = [name for name, in file.execute("SELECT name FROM sqlite_master WHERE type = 'table' AND name != 'meta'")]
-        rows = sorted(row for table in tables for row in file.execute(f"SELECT place, more, kind, maker, num, mark FROM {table}"))
+        tables = [name
+                  for name, in file.execute("SELECT name FROM sqlite_master WHERE type = 'table' AND name != 'meta'")]
+        rows = sorted(row for table in tables
+                      for row in file.execute(f"SELECT place, more, kind, maker, num, mark FROM {table}"))
     groups = [[]]
     for place, (told, more, *row) in enumerate(rows):
         expect(told == place, f"row {place} has the place {told}")
@@ -343,11 +362,13 @@ def once_each(groups, clients):
         expect(due.get((maker, number)) == bytes(mark), f"a command that nobody sent: {group}")
         came[maker, number] += 1
     twice = [key for key, times in came.items() if times > 1]
-    expect(not twice and len(came) == len(due), f"{len(came)} of {len(due)} commands stand there, {len(twice)} twice: {twice[:3]}")
+    expect(not twice and len(came) == len(due),
+           f"{len(came)} of {len(due)} commands stand there, {len(twice)} twice: {twice[:3]}")
 
 
 class ByKind(Conference):
-    """The model, with the entries of each kind together, so that ten thousand commands are asked in time. No bulk is refused here."""
+    """The model, with the entries of each kind together, so that ten thousand commands are asked in time. No bulk is
+    refused here."""
 
     def __init__(self):
         super().__init__()
@@ -361,7 +382,8 @@ class ByKind(Conference):
 
 
 def replayed(groups, clients):
-    """The model behind the same commands in the rows' order, each asked once; its answers have to be those that came."""
+    """The model behind the same commands in the rows' order, each asked once; its answers have to be those that
+    came."""
     model, names = ByKind(), iter(CLIENTS + OTHERS)
     for group in groups:
         before, (_, maker, number, _) = len(model.history), group[0]
@@ -404,7 +426,8 @@ def act_once(program, folder):
             kills = killer.result()
         expect(kills == options.kills, f"{kills} kills")
         sendings = sum(client.sendings for client in clients)
-        print(f"    {options.commands:,} commands in {sendings:,} sendings over {relay.carried:,} connections, {kills} kills", flush=True)
+        print(f"    {options.commands:,} commands in {sendings:,} sendings over {relay.carried:,} connections, "
+              f"{kills} kills", flush=True)
         servers[-1].stop()
         groups = kept(store)
         once_each(groups, clients)

@@ -3,9 +3,10 @@
 
     checks/search_texts.py [TOKENS] [PROGRAM]
 
-Asks `confd pipe` each text of up to so many tokens (4 where none are told; 5 take a minute or two) of a small alphabet, over papers that have each
-set of three words in their titles, so that what is found tells the tree. Each answer has to be what `searches.py` gives: the papers, or the
-place. PROGRAM is `confd` as `rt run` builds it (crates/confd/out/confd where none is named). Ends with status 0 where all are.
+Asks `confd pipe` each text of up to so many tokens (4 where none are told; 5 take a minute or two) of a small alphabet,
+over papers that have each set of three words in their titles, so that what is found tells the tree. Each answer has to
+be what `searches.py` gives: the papers, or the place. PROGRAM is `confd` as `rt run` builds it (crates/confd/out/confd
+where none is named). Ends with status 0 where all are.
 """
 import itertools
 import json
@@ -32,8 +33,11 @@ def due(text):
     tree = searches.read(text.encode())
     if isinstance(tree, int):
         return 400, {"error": "bad_query", "place": tree}
-    told = [{"page": {"title": title, "abstract": ""}, "reviews": [], "comments": [], "responded": False, "accepted": False, "conflicted": True} for title in TITLES]
-    found = [{"paper": number + 1, "title": title} for number, title in enumerate(TITLES) if searches.holds(tree, told[number])]
+    told = [{"page": {"title": title, "abstract": ""}, "reviews": [], "comments": [], "responded": False,
+             "accepted": False, "conflicted": True}
+            for title in TITLES]
+    found = [{"paper": number + 1, "title": title}
+             for number, title in enumerate(TITLES) if searches.holds(tree, told[number])]
     return 200, {"count": len(found), "papers": found}
 
 
@@ -52,7 +56,8 @@ def main():
     most = int(sys.argv[1]) if len(sys.argv) > 1 else 4
     program = sys.argv[2] if len(sys.argv) > 2 else os.path.join(TOP, "crates/confd/out/confd")
     texts = sorted({"".join(row) for count in range(most + 1) for row in itertools.product(TOKENS, repeat=count)})
-    opening = [request("POST", "/register", {"name": "alice", "secret": "alice-secret-000001"}), request("POST", "/phase", {"phase": "submission"})]
+    opening = [request("POST", "/register", {"name": "alice", "secret": "alice-secret-000001"}),
+               request("POST", "/phase", {"phase": "submission"})]
     opening += [request("POST", "/papers", {"abstract": "", "title": title}) for title in TITLES]
     asked = [request("GET", f"/search?q={urllib.parse.quote_plus(text)}") for text in texts]
     told = subprocess.run([program, "pipe"], input=b"".join(opening + asked), stdout=subprocess.PIPE, check=True).stdout

@@ -3,8 +3,9 @@
 
     checks/searches.py TEXT..        the tree of each text, or the place of a bad one
 
-A text is read by trying the grammar at every place, and its place is found by trying its cuts, each with every number of closing
-parentheses. So it is slow, and shares nothing with the program; `random_runs.py` and the case files' tables go by it.
+A text is read by trying the grammar at every place, and its place is found by trying its cuts, each with every number
+of closing parentheses. So it is slow, and shares nothing with the program; `random_runs.py` and the case files' tables
+go by it.
 """
 import re
 import sys
@@ -24,7 +25,8 @@ def is_character(byte):
 
 
 class Reading:
-    """All ways in which the grammar reads a text. `added` is the place of a parenthesis that doesn't count, nor does the term behind it."""
+    """All ways in which the grammar reads a text. `added` is the place of a parenthesis that doesn't count, nor does
+    the term behind it."""
 
     def __init__(self, text, added=None):
         self.text, self.added, self.known = text, added, {}
@@ -46,7 +48,8 @@ class Reading:
         return i
 
     def quoted_end(self, i):
-        """Where the quoted text that begins here ends, if one does: what follows is a space, a parenthesis or the end."""
+        """Where the quoted text that begins here ends, if one does: what follows is a space, a parenthesis or the
+        end."""
         if self.text[i : i + 1] != b'"':
             return None
         j = i + 1
@@ -65,7 +68,8 @@ class Reading:
             return [(end, ("tag", word[1:], i))] if TAG.match(word[1:]) else []
         key, colon, value = word.partition(b":")
         if not colon:
-            return [(end, ("plain", word, i))] if word and word[:1] != b"-" and word not in (b"AND", b"OR", b"NOT") else []
+            return ([(end, ("plain", word, i))]
+                    if word and word[:1] != b"-" and word not in (b"AND", b"OR", b"NOT") else [])
         if key in VALUES:
             return [(end, (key.decode(), value, i))] if value in VALUES[key] else []
         if key not in (b"ti", b"ab", b"au", b"re"):
@@ -89,7 +93,8 @@ class Reading:
         return self.term(i)
 
     def star(self, first, rest):
-        """What begins with one of `first`, and goes on with any number of `rest`, each a function from an end to what may follow."""
+        """What begins with one of `first`, and goes on with any number of `rest`, each a function from an end to what
+        may follow."""
         found, waiting = [], list(first)
         while waiting:
             end, tree = waiting.pop()
@@ -102,7 +107,8 @@ class Reading:
 
             def rest(end, tree):
                 begins = self.gaps(end)
-                begins = begins + [k for j in begins if self.text[j : self.word_end(j)] == b"AND" for k in self.gaps(j + 3)]
+                begins = begins + [k for j in begins if self.text[j : self.word_end(j)] == b"AND"
+                                   for k in self.gaps(j + 3)]
                 return [(behind, ("and", tree, item)) for j in begins for behind, item in self.item(j, depth)]
 
             self.known["all", i, depth] = self.star(self.item(i, depth), rest)
@@ -112,7 +118,8 @@ class Reading:
         if ("any", i, depth) not in self.known:
 
             def rest(end, tree):
-                begins = [k for j in self.gaps(end) if self.text[j : self.word_end(j)] == b"OR" for k in self.gaps(j + 2)]
+                begins = [k for j in self.gaps(end) if self.text[j : self.word_end(j)] == b"OR"
+                          for k in self.gaps(j + 2)]
                 return [(behind, ("or", tree, one)) for j in begins for behind, one in self.all(j, depth)]
 
             self.known["any", i, depth] = self.star(self.all(i, depth), rest)
@@ -182,8 +189,8 @@ def has(value, text):
 
 
 def holds(tree, told):
-    """Whether a search holds of a paper, by what its asker is told: a record of `page`, `reviews`, `comments`, `responded`,
-    `accepted`, `conflicted`."""
+    """Whether a search holds of a paper, by what its asker is told: a record of `page`, `reviews`, `comments`,
+    `responded`, `accepted`, `conflicted`."""
     if tree is None:
         return True
     kind, page = tree[0], told["page"]
