@@ -3,11 +3,11 @@
 
     python3 bench/assignment_cost.py [PROGRAM] [PAGES]
 
-PROGRAM is `confd` as `rt run` builds it (crates/confd/out/confd where none is named). Python 3 alone is needed. The large
-conference has 9,999 papers by 500 authors, 500 members, 5,000 bids and 5,000 assignments; the small one a paper, two
-members, their bids and their assignments. Each figure is one run of `confd pipe` over requests made here, of which a run
-without what is measured is taken off; the least of five. Beside it SQLite, in memory and through Python's module, is asked
-the same of tables with the same rows and an index for each question. Nothing is kept.
+PROGRAM is `confd` as `rt run` builds it (crates/confd/out/confd where none is named). Python 3 alone is needed. The
+large conference has 9,999 papers by 500 authors, 500 members, 5,000 bids and 5,000 assignments; the small one a paper,
+two members, their bids and their assignments. Each figure is one run of `confd pipe` over requests made here, of which
+a run without what is measured is taken off; the least of five. Beside it SQLite, in memory and through Python's module,
+is asked the same of tables with the same rows and an index for each question. Nothing is kept.
 """
 
 import json
@@ -49,11 +49,16 @@ def conference(authors, members, papers, each):
     opening += [register(f"author-{n}") for n in range(authors)] + [register(f"member-{n}") for n in range(members)]
     opening += [request("POST", "/members", "alice", {"name": f"member-{n}", "role": "member"}) for n in range(members)]
     opening.append(request("POST", "/phase", "alice", {"phase": "submission"}))
-    opening += [request("POST", "/papers", f"author-{p % authors}", {"abstract": "We prove.", "title": "Proofs"}) for p in range(papers)]
+    opening += [
+        request("POST", "/papers", f"author-{p % authors}", {"abstract": "We prove.", "title": "Proofs"})
+        for p in range(papers)
+    ]
     opening.append(request("POST", "/phase", "alice", {"phase": "bidding"}))
     turns = [(n, paper_of(n, t)) for n in range(members) for t in range(each)]
     bids = [request("PUT", f"/papers/{p}/bid", f"member-{n}", {"bid": n % 41 - 20}) for n, p in turns]
-    seats = [request("POST", f"/papers/{p}/reviewers", "alice", {"kind": "pc", "user": f"member-{n}"}) for n, p in turns]
+    seats = [
+        request("POST", f"/papers/{p}/reviewers", "alice", {"kind": "pc", "user": f"member-{n}"}) for n, p in turns
+    ]
     return b"".join(opening), b"".join(bids), b"".join(seats), len(turns)
 
 
@@ -93,12 +98,15 @@ def measure(program, name, shape, count):
     chair = each_cost(program, whole, without, request("GET", "/papers/1", "alice"), count)
     member = each_cost(program, whole, without, request("GET", "/papers/1", "member-0"), count)
     me = each_cost(program, whole, without, request("GET", "/me", "member-0"), count)
-    rule = each_cost(program, whole, without, request("POST", "/papers/1/reviewers", "alice", {"kind": "pc", "user": "member-0"}), count)
-    print(f"{name}: a page to a chair {chair:.2f} us, to a reviewer {member:.2f}; /me {me:.2f}; an assignment refused {rule:.2f}")
+    rule = each_cost(program, whole, without,
+                     request("POST", "/papers/1/reviewers", "alice", {"kind": "pc", "user": "member-0"}), count)
+    print(f"{name}: a page to a chair {chair:.2f} us, to a reviewer {member:.2f}; /me {me:.2f}; "
+          f"an assignment refused {rule:.2f}")
     if turns > 2:
         before = least(program, opening)
         then = least(program, opening + bids)
-        print(f"{name}: a bid {(then - before) / turns * 1e6:.2f} us, an assignment {(without - then) / turns * 1e6:.2f}")
+        print(f"{name}: a bid {(then - before) / turns * 1e6:.2f} us, "
+              f"an assignment {(without - then) / turns * 1e6:.2f}")
     return chair, member, me
 
 
@@ -106,8 +114,10 @@ def peer(count):
     """Microseconds in which SQLite tells the bids and reviewers of a paper, and the papers of a reviewer."""
     tables = sqlite3.connect(":memory:")
     tables.execute("create table users (user integer primary key, name text)")
-    tables.execute("create table bids (paper integer, user integer, bid integer, primary key (paper, user)) without rowid")
-    tables.execute("create table seats (paper integer, ordinal integer, user integer, kind integer, primary key (paper, ordinal)) without rowid")
+    tables.execute("create table bids (paper integer, user integer, bid integer, "
+                   "primary key (paper, user)) without rowid")
+    tables.execute("create table seats (paper integer, ordinal integer, user integer, kind integer, "
+                   "primary key (paper, ordinal)) without rowid")
     tables.execute("create index by_user on seats (user, paper)")
     tables.executemany("insert into users values (?, ?)", [(n, f"member-{n}") for n in range(MEMBERS)])
     turns = [(n, paper_of(n, t)) for n in range(MEMBERS) for t in range(EACH)]
@@ -120,8 +130,10 @@ def peer(count):
     for _ in range(RUNS):
         began = time.perf_counter()
         for _ in range(count):
-            tables.execute("select name, bid from bids join users using (user) where paper = 1 order by user").fetchall()
-            tables.execute("select name, kind, ordinal from seats join users using (user) where paper = 1 order by ordinal").fetchall()
+            tables.execute("select name, bid from bids join users using (user) "
+                           "where paper = 1 order by user").fetchall()
+            tables.execute("select name, kind, ordinal from seats join users using (user) "
+                           "where paper = 1 order by ordinal").fetchall()
         middle = time.perf_counter()
         for _ in range(count):
             tables.execute("select paper from seats where user = 0 order by paper").fetchall()
@@ -147,7 +159,8 @@ def main():
     small = measure(program, "small", (1, 2, 1, 1), count)
     large = measure(program, "large", (AUTHORS, MEMBERS, PAPERS, EACH), count)
     ratios = [f"{one / other:.2f}" for one, other in zip(large, small)]
-    print(f"large to small: a page to a chair {ratios[0]}, to a reviewer {ratios[1]}, /me {ratios[2]} (10 papers assigned, not 1)")
+    print(f"large to small: a page to a chair {ratios[0]}, to a reviewer {ratios[1]}, "
+          f"/me {ratios[2]} (10 papers assigned, not 1)")
     page, me = peer(count // 10)
     print(f"SQLite: the bids and reviewers of a paper {page:.2f} us, the papers of a reviewer {me:.2f}")
 

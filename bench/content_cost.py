@@ -3,12 +3,13 @@
 
     python3 bench/content_cost.py [PROGRAM] [FOLDER]
 
-PROGRAM is `confd` as `rt run` builds it (crates/confd/out/confd where none is named), FOLDER where the files are made (the
-system's folder for such where none is named; it decides which disk is measured, and has to have 5 GB free). Debian's packages
-nginx-light and wrk are needed. The peer of downloads is nginx with one worker, which gives the same bytes from a file.
+PROGRAM is `confd` as `rt run` builds it (crates/confd/out/confd where none is named), FOLDER where the files are made
+(the system's folder for such where none is named; it decides which disk is measured, and has to have 5 GB free).
+Debian's packages nginx-light and wrk are needed. The peer of downloads is nginx with one worker, which gives the same
+bytes from a file.
 
-The goals: downloads at least half as fast as the peer's; memory at most 1.25 times the bytes of 400 uploads without a store,
-1.5 times with one, and 2.25 times where that store is opened, in at most 15 seconds.
+The goals: downloads at least half as fast as the peer's; memory at most 1.25 times the bytes of 400 uploads without a
+store, 1.5 times with one, and 2.25 times where that store is opened, in at most 15 seconds.
 """
 
 import os
@@ -102,8 +103,8 @@ def speed(program, folder):
         peer = [load(port, "/content", connections, threads) * SIZE for connections, threads in LOADS]
     print(f"uploads of 4 MiB, kept in a store, on one connection: {up / 1e6:,.0f} MB a second")
     for (connections, _), ours, theirs in zip(LOADS, down, peer):
-        print(f"downloads of 4 MiB, connections {connections}: {ours / 1e6:,.0f} MB a second; by nginx from a file {theirs / 1e6:,.0f}; "
-              f"ours are {ours / theirs:.2f} of it")
+        print(f"downloads of 4 MiB, connections {connections}: {ours / 1e6:,.0f} MB a second; "
+              f"by nginx from a file {theirs / 1e6:,.0f}; ours are {ours / theirs:.2f} of it")
 
 
 # ---- memory
@@ -125,7 +126,8 @@ def drained(stream):
 
 
 def pipe(words, pieces, count):
-    """The peak of memory of a program that is given these bytes, in times of the contents, and its seconds; it has to end well."""
+    """The peak of memory of a program that is given these bytes, in times of the contents, and its seconds;
+    it has to end well."""
     began = time.perf_counter()
     process = subprocess.Popen(words, stdin=subprocess.PIPE, stdout=subprocess.PIPE)
     reading = drained(process.stdout)

@@ -3,8 +3,9 @@
 
     python3 bench/drill_cost.py [PROGRAM]
 
-PROGRAM is `confd` as `rt run` builds it (crates/confd/out/confd where none is named). Python 3 alone is needed. Each figure is the least
-of three runs. Beside it stands the small model of `checks/`, which reads each rule off the list of entries. Nothing is kept.
+PROGRAM is `confd` as `rt run` builds it (crates/confd/out/confd where none is named). Python 3 alone is needed. Each
+figure is the least of three runs. Beside it stands the small model of `checks/`, which reads each rule off the list of
+entries. Nothing is kept.
 """
 
 import os
@@ -25,7 +26,8 @@ SEED, RUNS = 7, 3
 def run(program, steps):
     """The seconds that one drill takes, and what it prints."""
     began = time.perf_counter()
-    done = subprocess.run([program, "drill", "--seed", str(SEED), "--steps", str(steps)], stdout=subprocess.PIPE, check=True)
+    done = subprocess.run([program, "drill", "--seed", str(SEED), "--steps", str(steps)],
+                          stdout=subprocess.PIPE, check=True)
     return time.perf_counter() - began, done.stdout.decode()
 
 

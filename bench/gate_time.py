@@ -55,8 +55,8 @@ def stats():
 
 
 def label(pid, inherited):
-    """The crate and the part that a process works for: by its words, else its parent's; None where it is about to end, since
-    its words are gone then."""
+    """The crate and the part that a process works for: by its words, else its parent's; None where it is about to end,
+    since its words are gone then."""
     line = read(f"/proc/{pid}/cmdline")
     if not line:
         return None

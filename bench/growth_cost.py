@@ -43,7 +43,8 @@ WORDS, LABELS = 100, 3  # the tags that there are, and the reviewers of a paper
 TEXT = "Why is that so?"
 REFUSAL = b'{"error":'
 LAST, LAST_ANSWER = request("GET", "/that-is-no-route"), REFUSAL + b'"no_route"}'
-ROW = "INSERT INTO {} (place, kind, maker, more, n1, n2, n3, n4, n5, b1, b2{}) VALUES (?, ?, ?, ?, ?, ?, ?, ?, ?, ?, ?{})"
+ROW = ("INSERT INTO {} (place, kind, maker, more, n1, n2, n3, n4, n5, b1, b2{}) "
+       "VALUES (?, ?, ?, ?, ?, ?, ?, ?, ?, ?, ?{})")
 STAMP = {"at": "0", "num": "0", "mark": "x''"}  # what a store may keep of a command, and nothing of it
 TABLES = {"people": range(1, 5), "papers": range(5, 10), "ties": range(10, 14), "talk": range(14, 18)}
 PEER = "create table t (paper integer, n integer, user integer, what, primary key ({})) without rowid"
@@ -70,7 +71,8 @@ def spent(child, text=b"", refusals=0):
         told += more
     feeder.join()
     if told.count(REFUSAL) != refusals + 1:
-        sys.exit(f"{child.args}: {told.count(REFUSAL) - 1} refusals, not {refusals}, the first {told[told.index(REFUSAL):][:80]}")
+        sys.exit(f"{child.args}: {told.count(REFUSAL) - 1} refusals, not {refusals}, "
+                 f"the first {told[told.index(REFUSAL):][:80]}")
     return time.clock_gettime(~child.pid << 3 | 2)  # the processor clock of that process
 
 
@@ -193,7 +195,8 @@ def make_store(program, store, rows):
             # A store of an older version keeps no moments, or no numbers.
             columns = [column for _, column, *_ in file.execute(f"PRAGMA table_info({name})") if column in STAMP]
             placed = ((place, *row) for place, row in enumerate(rows) if row[0] in kinds)
-            file.executemany(ROW.format(name, "".join(f", {column}" for column in columns), "".join(f", {STAMP[column]}" for column in columns)), placed)
+            file.executemany(ROW.format(name, "".join(f", {column}" for column in columns),
+                                        "".join(f", {STAMP[column]}" for column in columns)), placed)
 
 
 def stores(programs, runs):

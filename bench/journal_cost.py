@@ -3,11 +3,12 @@
 
     python3 bench/journal_cost.py [--rows N] [--commits N] [--turns N] [PROGRAM] [FOLDER]
 
-PROGRAM is `confd` as `rt run` builds it (crates/confd/out/confd where none is named), FOLDER where the files are made (the
-system's folder for such where none is named; it decides which disk is measured, and should be none in memory). Python 3 alone
-is needed. A million rows and two thousand commits, where it isn't said. Both stores are measured in turn, N times (5), and the median
-is told: one registration after another over `confd pipe`, without what opening the store takes; and the processor time of a run on
-no input, of the same rows. The goals are half as many commits as the database's, and twice as fast an opening.
+PROGRAM is `confd` as `rt run` builds it (crates/confd/out/confd where none is named), FOLDER where the files are made
+(the system's folder for such where none is named; it decides which disk is measured, and should be none in memory).
+Python 3 alone is needed. A million rows and two thousand commits, where it isn't said. Both stores are measured in
+turn, N times (5), and the median is told: one registration after another over `confd pipe`, without what opening the
+store takes; and the processor time of a run on no input, of the same rows. The goals are half as many commits as the
+database's, and twice as fast an opening.
 """
 
 import argparse
@@ -107,8 +108,10 @@ def main():
     if not os.path.exists(options.program):
         sys.exit(f"{options.program}: build it first, with `rt run` in crates/confd")
     with tempfile.TemporaryDirectory(dir=options.folder) as folder:
-        disk = subprocess.run(["df", "--output=fstype", folder], capture_output=True, text=True, check=False).stdout.split()[-1:]
-        print(f"{time.strftime('%Y-%m-%d')}, {os.cpu_count()} processors, {processor()}, {' '.join(disk)}, {syncs(folder):,.0f} syncs a second")
+        disk = subprocess.run(["df", "--output=fstype", folder],
+                              capture_output=True, text=True, check=False).stdout.split()[-1:]
+        print(f"{time.strftime('%Y-%m-%d')}, {os.cpu_count()} processors, {processor()}, {' '.join(disk)}, "
+              f"{syncs(folder):,.0f} syncs a second")
         commits(options.program, folder)
         opening(options.program, folder)
 

@@ -99,7 +99,8 @@ def compared(programs, pages):
             for program, found in zip(programs, costs):
                 found.append((run(program, whole) - run(program, base)) / pages * 1e6)
         before, now = map(statistics.median, costs)
-        print(f"a page with an abstract of {len(abstract):,} bytes: before {before:.2f} us, now {now:.2f}, {now - before:+.2f}")
+        print(f"a page with an abstract of {len(abstract):,} bytes: before {before:.2f} us, now {now:.2f}, "
+              f"{now - before:+.2f}")
 
 
 def peer_json(pages):

@@ -3,14 +3,16 @@
 
     /usr/bin/python3 bench/plan_cost.py [PROGRAM]      crates/confd/out/confd where none is named
 
-For each conference at the greatest sizes, up to 512 places and 4,096 papers times members, the same requests are piped with no GET
-/plan at their end, and with twenty; a twentieth of the difference is a plan, with the answer and all. Told are milliseconds of the
-processor, the least of three runs, so that what else the machine does counts little. With one place a paper the problem is scipy's
-`linear_sum_assignment` with the members written out `load` times, whose time stands beside it (Debian's python3-scipy, which
-Debian's own python3 finds; left out where it isn't there). scipy tells a plan of the greatest sum, not the first of them.
+For each conference at the greatest sizes, up to 512 places and 4,096 papers times members, the same requests are piped
+with no GET /plan at their end, and with twenty; a twentieth of the difference is a plan, with the answer and all. Told
+are milliseconds of the processor, the least of three runs, so that what else the machine does counts little. With one
+place a paper the problem is scipy's `linear_sum_assignment` with the members written out `load` times, whose time
+stands beside it (Debian's python3-scipy, which Debian's own python3 finds; left out where it isn't there). scipy tells
+a plan of the greatest sum, not the first of them.
 
-The bids: at random; all equal; the same of all members for a paper, or of a member for all papers; some patterns; and few, one in
-twelve, the others none, which a search among some thousand of inputs of other forms found to be the dearest.
+The bids: at random; all equal; the same of all members for a paper, or of a member for all papers; some patterns; and
+few, one in twelve, the others none, which a search among some thousand of inputs of other forms found to be the
+dearest.
 """
 
 import os
@@ -35,7 +37,10 @@ BIDS = [
     ("products", lambda paper, member: 20 - paper * member // 100 % 41),
     ("few", lambda paper, member: DICE.randint(1, 20) if DICE.random() < 1 / 12 else 0),
 ]
-SIZES = [(64, 64, 1, 1), (512, 8, 1, 64), (64, 64, 8, 8), (128, 32, 4, 17), (32, 128, 16, 8), (21, 195, 24, 7), (19, 215, 26, 3)]
+SIZES = [
+    (64, 64, 1, 1), (512, 8, 1, 64), (64, 64, 8, 8), (128, 32, 4, 17), (32, 128, 16, 8), (21, 195, 24, 7),
+    (19, 215, 26, 3),
+]
 
 
 def conference(papers, members, bid):
@@ -79,7 +84,8 @@ def by_scipy(made, load):
         from scipy.optimize import linear_sum_assignment
     except ImportError:
         return None
-    worth = numpy.array([[made.bids.get((paper, name), 0) for name in made.members for _ in range(load)] for paper in made.papers])
+    worth = numpy.array([[made.bids.get((paper, name), 0) for name in made.members for _ in range(load)]
+                         for paper in made.papers])
     least = None
     for _ in range(3):
         since = time.process_time()
@@ -103,7 +109,8 @@ def main():
             asked = [plan("alice", per_paper, load)] * TIMES
             whole, [answer] = seconds(program, made, *asked)
             took = (whole - seconds(program, made)[0]) / TIMES
-            said = f"{papers} papers, {members} members, {per_paper} a paper, {load} at most, bids {title}: {1000 * took:.1f} ms"
+            said = (f"{papers} papers, {members} members, {per_paper} a paper, {load} at most, "
+                    f"bids {title}: {1000 * took:.1f} ms")
             worst = max(worst, (took, said))
             beside = by_scipy(made, load) if per_paper == 1 else None
             if beside is not None:

@@ -3,13 +3,14 @@
 
     python3 bench/retries_cost.py [PROGRAM] [--before OTHER] [--tenth] [--runs N]
 
-PROGRAM is `confd` as `rt run` builds it (crates/confd/out/confd where none is named), OTHER one to stand beside it where
-no number is sent. Python 3 alone is needed. By `confd pipe` without a store, over 9,999 papers and 500 members:
+PROGRAM is `confd` as `rt run` builds it (crates/confd/out/confd where none is named), OTHER one to stand beside it
+where no number is sent. Python 3 alone is needed. By `confd pipe` without a store, over 9,999 papers and 500 members:
 
-- bids at random papers where 0, 10,000 and 200,000 numbers are kept: without a number; the same bids, each by a new number;
-  those again, which are looked up and not judged; and another bid by each of their numbers, which is refused. The goal: with
-  200,000 numbers each costs at most 1.3 times what it does with none.
-- uploads of 4 MiB without a number, by a new one, and again. Beside them the digest of as many bytes by Python's `hashlib`.
+- bids at random papers where 0, 10,000 and 200,000 numbers are kept: without a number; the same bids, each by a new
+  number; those again, which are looked up and not judged; and another bid by each of their numbers, which is refused.
+  The goal: with 200,000 numbers each costs at most 1.3 times what it does with none.
+- uploads of 4 MiB without a number, by a new one, and again. Beside them the digest of as many bytes by Python's
+  `hashlib`.
 
 Times are processor time, the kernel's for the program among it; each is the least of three runs, or N. Nothing is kept.
 """
@@ -35,7 +36,8 @@ def numbered(text, number):
 
 
 def bids():
-    """Bids, each with the number that its member gives it, and another bid with the same: as many as the last level has, and more."""
+    """Bids, each with the number that its member gives it, and another bid with the same: as many as the last level
+    has, and more."""
     dice, found = random.Random(SEED), []
     for turn in range(LEVELS[-1] + len(LEVELS) * MORE):
         path, who, value = f"/papers/{dice.randint(1, COUNT)}/bid", f"member-{turn % MEMBERS}", dice.randint(-20, 19)
@@ -64,7 +66,8 @@ def costs_of_bids(program, start, asked, has_numbers):
 def of_bids(programs, runs):
     """Prints what a bid costs at each level."""
     start, asked, goals = opening("bidding"), bids(), []
-    print("\n|µs a command, where so many numbers are kept|by|" + "|".join(f"{level:,}" for level in LEVELS) + "|last to first|")
+    print("\n|µs a command, where so many numbers are kept|by|" + "|".join(f"{level:,}" for level in LEVELS)
+          + "|last to first|")
     print("|---|---|" + "---|" * len(LEVELS) + "---|")
     for name, program in programs.items():
         all_runs = [costs_of_bids(program, start, asked, name == "confd") for _ in range(runs)]
@@ -80,10 +83,12 @@ def uploads():
     """The requests that lead to a paper of each uploader, and an upload to each."""
     content = random.Random(SEED).randbytes(LARGEST)
     names = [f"author-{n}" for n in range(UPLOADERS)]
-    start = [register(name) for name in ["alice", *names]] + [request("POST", "/phase", "alice", {"phase": "submission"})]
+    start = ([register(name) for name in ["alice", *names]]
+             + [request("POST", "/phase", "alice", {"phase": "submission"})])
     start += [request("POST", "/papers", name, {"abstract": "", "title": "Proofs"}) for name in names]
     ends = f"\r\nContent-Length: {LARGEST}\r\n\r\n".encode() + content
-    return b"".join(start), [request("PUT", f"/papers/{p}/content", name)[:-4] + ends for p, name in enumerate(names, 1)]
+    return b"".join(start), [request("PUT", f"/papers/{p}/content", name)[:-4] + ends
+                             for p, name in enumerate(names, 1)]
 
 
 def costs_of_uploads(program, start, plain):
@@ -111,7 +116,8 @@ def of_uploads(program, runs):
     peer = time.process_time() - begun
     each = lambda seconds: seconds / (UPLOADS * UPLOADERS) * 1e3
     print(f"\nan upload of 4 MiB: {each(without):.2f} ms, by a number {each(by_one):.2f}, that again {each(again):.2f}")
-    print(f"so the digest takes {megabytes / (by_one - without):,.0f} MB a second; by Python's hashlib {megabytes / peer:,.0f}")
+    print(f"so the digest takes {megabytes / (by_one - without):,.0f} MB a second; "
+          f"by Python's hashlib {megabytes / peer:,.0f}")
 
 
 def main():

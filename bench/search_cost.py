@@ -3,9 +3,9 @@
 
     python3 bench/search_cost.py [PROGRAM]
 
-PROGRAM is `confd` as `rt run` builds it (crates/confd/out/confd where none is named). Python 3 alone is needed. Each figure is one run
-of `confd pipe` over requests made here, of which a run without what is measured is taken off; the least of three. Beside it stands
-Python's `sqlite3` (its LIKE, over the same abstracts in memory). Nothing is kept.
+PROGRAM is `confd` as `rt run` builds it (crates/confd/out/confd where none is named). Python 3 alone is needed. Each
+figure is one run of `confd pipe` over requests made here, of which a run without what is measured is taken off; the
+least of three. Beside it stands Python's `sqlite3` (its LIKE, over the same abstracts in memory). Nothing is kept.
 """
 
 import os
@@ -32,8 +32,10 @@ def conference(length):
     authors = [f"author-{number}" for number in range((PAPERS + PAPERS_EACH - 1) // PAPERS_EACH)]
     text += [register(author) for author in authors] + [request("POST", "/phase", "alice", {"phase": "submission"})]
     for number in range(PAPERS):
-        text.append(request("POST", "/papers", authors[number // PAPERS_EACH], {"abstract": abstract(number)[:length], "title": f"Paper {number}"}))
-    text += [request("DELETE", f"/papers/{number + 1}", authors[number // PAPERS_EACH]) for number in range(0, PAPERS, 5)]
+        text.append(request("POST", "/papers", authors[number // PAPERS_EACH],
+                            {"abstract": abstract(number)[:length], "title": f"Paper {number}"}))
+    text += [request("DELETE", f"/papers/{number + 1}", authors[number // PAPERS_EACH])
+             for number in range(0, PAPERS, 5)]
     text += [request("POST", "/phase", "alice", {"phase": "bidding"})]
     text += [request("PUT", f"/papers/{number + 1}/tags/hot", "bob") for number in range(0, PAPERS, 3) if number % 5]
     return b"".join(text)
@@ -72,14 +74,19 @@ def main():
     print(f"{time.strftime('%Y-%m-%d')}, {os.cpu_count()} processors, {model()}")
     short, long = conference(20), conference(5000)
     without_short, without_long = (min(run(program, base) for _ in range(RUNS)) for base in (short, long))
-    for text in ("#hot status:active dec:none", "#hot -status:withdrawn (au:author-17 OR au:author-23)", "au:author-499 OR au:author-1 OR #cold"):
+    for text in ("#hot status:active dec:none", "#hot -status:withdrawn (au:author-17 OR au:author-23)",
+                 "au:author-499 OR au:author-1 OR #cold"):
         spent = cost(program, short, without_short, search(text), 100)
-        print(f"`{text}`: {spent * 1e3:.2f} ms over {PAPERS:,} papers, {PAPERS / spent / 1e6:.1f} million papers a second")
+        print(f"`{text}`: {spent * 1e3:.2f} ms over {PAPERS:,} papers, "
+              f"{PAPERS / spent / 1e6:.1f} million papers a second")
     total = sum(len(abstract(number)) for number in range(PAPERS))
     for needle in ("zebra", "graphs and dragons", "locks rows we prove what nobody", "trees of dragons", "say nothing"):
         ours, theirs = cost(program, long, without_long, search(f'ab:"{needle}"'), 10), peer_like(needle)
-        print(f"`ab:\"{needle}\"`: {total / ours / 1e6:.0f} MB/s; sqlite3's LIKE {total / theirs / 1e6:.0f} MB/s; {theirs / ours:.2f} times as fast")
-    for name, text in (("1,024 opening parentheses", "(" * 1024), ("128 terms and one more", "kale " * 129), ("63 levels, and no end", "-(a OR " * 31), ("a long quotation", '"' + "a" * 1023), ("dashes", "-" * 1024)):
+        print(f"`ab:\"{needle}\"`: {total / ours / 1e6:.0f} MB/s; sqlite3's LIKE {total / theirs / 1e6:.0f} MB/s; "
+              f"{theirs / ours:.2f} times as fast")
+    for name, text in (("1,024 opening parentheses", "(" * 1024), ("128 terms and one more", "kale " * 129),
+                       ("63 levels, and no end", "-(a OR " * 31), ("a long quotation", '"' + "a" * 1023),
+                       ("dashes", "-" * 1024)):
         spent = cost(program, short, without_short, search(text), 2000)
         print(f"{name}: {spent * 1e6:.1f} us")
 

@@ -6,10 +6,10 @@
 
 PROGRAM is `confd` as `rt run` builds it (crates/confd/out/confd where none is named), OTHER an earlier one to be
 measured in the same run, FOLDER where the stores are made (the system's folder for such where none is named; it decides
-which disk is measured). Debian's packages nginx-light, wrk, python3-flask and gunicorn are needed. The peers: nginx with
-one worker, which gives the same bytes from memory; a small Flask application over a database of SQLite's in WAL mode,
-under gunicorn with two processes of four threads; and, for what is kept, SQLite's own commits with the setting that
-confd uses. All loads keep their connections alive; all talk on loopback.
+which disk is measured). Debian's packages nginx-light, wrk, python3-flask and gunicorn are needed. The peers: nginx
+with one worker, which gives the same bytes from memory; a small Flask application over a database of SQLite's in WAL
+mode, under gunicorn with two processes of four threads; and, for what is kept, SQLite's own commits with the setting
+that confd uses. All loads keep their connections alive; all talk on loopback.
 
 Every load, on each number C of connections (1,4,16,64), is tried N times (5) for S seconds (2) on each server in turn,
 and its figure is the median. At the end R requests (a million) are made on 64 connections, and the slowest of them is
@@ -142,7 +142,8 @@ def free_port():
 @contextlib.contextmanager
 def running(words, port, **more):
     """A server, as soon as it listens; killed at the end."""
-    server = subprocess.Popen(words, stdout=subprocess.DEVNULL, stderr=subprocess.DEVNULL, start_new_session=True, **more)
+    server = subprocess.Popen(words, stdout=subprocess.DEVNULL, stderr=subprocess.DEVNULL,
+                              start_new_session=True, **more)
     try:
         for _ in range(100):
             try:
@@ -300,7 +301,8 @@ def beside_each_other(asked, folder):
         for name, program in ((OURS, asked.program), (BEFORE, asked.before)):
             if program is not None:
                 port = free_port()
-                pid = held.enter_context(confd(os.path.abspath(program), os.path.join(folder, f"{name}.store"), port, 64))
+                pid = held.enter_context(
+                    confd(os.path.abspath(program), os.path.join(folder, f"{name}.store"), port, 64))
                 servers[name] = port, pid
                 phase, page = conference(port)
         port = free_port()
@@ -350,8 +352,8 @@ def main():
             conference(port)
             posts = submissions_a_second(port, True)
         commits = commits_a_second(folder)
-        print(f"POST /papers, kept: {posts:,.0f} a second; Flask {flask_posts:,.0f}; SQLite's own commits {commits:,.0f}; "
-              f"ours are {posts / commits:.2f} of these")
+        print(f"POST /papers, kept: {posts:,.0f} a second; Flask {flask_posts:,.0f}; "
+              f"SQLite's own commits {commits:,.0f}; ours are {posts / commits:.2f} of these")
 
 
 if __name__ == "__main__":

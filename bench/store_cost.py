@@ -3,10 +3,10 @@
 
     python3 bench/store_cost.py [PROGRAM] [FOLDER]
 
-PROGRAM is `confd` as `rt run` builds it (crates/confd/out/confd where none is named), FOLDER where the files are made (the
-system's folder for such where none is named; it decides which disk is measured). Python 3 alone is needed, with its module
-`sqlite3`, which is the peer: the same rows read by it, and as many transactions of one such row with the same settings.
-The goals are ten seconds for the opening, and half as many commits as the peer's.
+PROGRAM is `confd` as `rt run` builds it (crates/confd/out/confd where none is named), FOLDER where the files are made
+(the system's folder for such where none is named; it decides which disk is measured). Python 3 alone is needed, with
+its module `sqlite3`, which is the peer: the same rows read by it, and as many transactions of one such row with the
+same settings. The goals are ten seconds for the opening, and half as many commits as the peer's.
 """
 
 import contextlib
@@ -64,7 +64,8 @@ def conference():
 def run(program, store, text):
     """The seconds that a run over these bytes takes, and the most memory that any run took, in bytes."""
     began = time.perf_counter()
-    done = subprocess.run([program, "pipe", "--store", store], input=text, stdout=subprocess.PIPE, stderr=subprocess.PIPE)
+    done = subprocess.run([program, "pipe", "--store", store], input=text,
+                          stdout=subprocess.PIPE, stderr=subprocess.PIPE)
     spent = time.perf_counter() - began
     if done.returncode != 0:
         sys.exit(f"{program} pipe --store ended with {done.returncode}: {done.stderr.decode()}")
@@ -115,7 +116,8 @@ def commits(program, folder):
         for n in range(COMMITS):
             file.execute(ROW.format(PEOPLE), (n, 1, n + 1, n + 1, 0, 0, f"user{n}".encode(), bytes(32)))
         theirs = COMMITS / (time.perf_counter() - began)
-    print(f"as many transactions of such a row by Python's sqlite3, WAL and FULL: {theirs:,.0f} a second; ours are {ours / theirs:.2f} of it")
+    print(f"as many transactions of such a row by Python's sqlite3, WAL and FULL: {theirs:,.0f} a second; "
+          f"ours are {ours / theirs:.2f} of it")
 
 
 def processor():

@@ -1,5 +1,6 @@
 #!/usr/bin/env python3
-"""Tries what no proof says of sockets, clocks, threads and sizes: time-outs, an hour's connection, the time of day, growth, addresses.
+"""Tries what no proof says of sockets, clocks, threads and sizes: time-outs, an hour's connection, the time of day,
+growth, addresses.
 
     python3 checks/edge.py [CHECK..] [PROGRAM]
 
@@ -141,8 +142,11 @@ def an_hour(program, folder):
 
 
 def time_of_day(program, folder):
-    """It is asked for once an answer. Where it can't be had, or has no date, `pipe` ends with status 10, that request unanswered."""
-    steps = ((2, register("alice")), (0, request("HEAD", "/phase")), (0, request("GET", "/nowhere")), (1, register("bob")))
+    """It is asked for once an answer. Where it can't be had, or has no date, `pipe` ends with status 10,
+    that request unanswered."""
+    steps = (
+        (2, register("alice")), (0, request("HEAD", "/phase")), (0, request("GET", "/nowhere")), (1, register("bob"))
+    )
     steps += ((0, b"no request\r\n\r\n"),)
     text = b"".join(text for _, text in steps)
 
@@ -162,19 +166,24 @@ def time_of_day(program, folder):
         came = run(refuse_time=number + 1)
         expect(came == (ends[number], 10, NO_TIME, number + 1, kept), f"call {number + 1} refused: {came}")
     came, status, _, times, _ = run(moment=LAST)
-    expect((came, status, times) == (out.replace(DATE.encode(), LAST_DATE.encode()), 0, len(steps)), f"{status}, {came}")
+    expect(
+        (came, status, times) == (out.replace(DATE.encode(), LAST_DATE.encode()), 0, len(steps)), f"{status}, {came}"
+    )
     for moment in (-1, -(10**9), LAST + 1, 2**40, 2**62):
         came = run(moment=moment)
         expect(came == (b"", 10, NO_TIME, 1, []), f"at {moment}: {came}")
 
 
 def jumps(program, folder):
-    """In `serve` a time of day that stands or goes back is told; where it can't be had, that connection ends, and no other."""
+    """In `serve` a time of day that stands or goes back is told; where it can't be had, that connection ends,
+    and no other."""
     orders = Orders(os.path.join(folder, "orders"), moment=MOMENT)
     store = os.path.join(folder, "store")
     with serving(program, store, workers=4, env=shim.environment(orders)) as server, Client(server) as client:
         with Client(server) as other:
-            for moment, date in ((MOMENT, DATE), (MOMENT, DATE), (LAST, LAST_DATE), (1, "Thu, 01 Jan 1970 00:00:01 GMT"), (MOMENT, DATE)):
+            for moment, date in (
+                (MOMENT, DATE), (MOMENT, DATE), (LAST, LAST_DATE), (1, "Thu, 01 Jan 1970 00:00:01 GMT"), (MOMENT, DATE)
+            ):
                 orders.tell(moment=moment)
                 for asked in (client, other):
                     code, fields, _ = asked.ask(request("GET", "/phase"))
@@ -195,7 +204,9 @@ def until_a_deadline(program, folder):
     orders = Orders(os.path.join(folder, "orders"), moment=MOMENT)
     steps = (register("alice"), post("/phase", "alice", phase="submission"))
     steps += (post("/deadlines", "alice", phase="submission", until="1994-11-06T08:49:37Z"),)
-    with serving(program, os.path.join(folder, "store"), env=shim.environment(orders)) as server, Client(server) as client:
+    with serving(
+        program, os.path.join(folder, "store"), env=shim.environment(orders)
+    ) as server, Client(server) as client:
         codes = [client.ask(text)[0] for text in steps]
         expect(codes == [201, 200, 200], f"{codes}")
         for moment, code in ((MOMENT, 201), (MOMENT + 1, 409), (MOMENT, 201), (LAST, 409), (1, 201)):

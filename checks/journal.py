@@ -1,13 +1,14 @@
 #!/usr/bin/env python3
-"""Tries confd on journals, files whose names end in `.cj`: what was answered is there, whatever happens, in each copy too.
+"""Tries confd on journals, files whose names end in `.cj`: what was answered is there, whatever happens,
+in each copy too.
 
     python3 checks/journal.py [CHECK..] [PROGRAM]
 
 PROGRAM is `confd` as `rt run` builds it (crates/confd/out/confd where none is named); CHECK is a name out of CHECKS or
-CHECKS_BY_SHIM, all where none is told. Python 3 alone is needed, and `cc` for the checks that refuse calls of the system
-(shim.py), which are left out where it is missing. What a file has is read by `journal_file.py`, which knows the format from
-docs/STORE.md and judges rows on the small model. Prints a line a check, and last `N passed, M failed`; ends with status 0
-where none failed. Takes about a minute.
+CHECKS_BY_SHIM, all where none is told. Python 3 alone is needed, and `cc` for the checks that refuse calls of the
+system (shim.py), which are left out where it is missing. What a file has is read by `journal_file.py`, which knows the
+format from docs/STORE.md and judges rows on the small model. Prints a line a check, and last `N passed, M failed`; ends
+with status 0 where none failed. Takes about a minute.
 """
 
 import concurrent.futures
@@ -34,13 +35,17 @@ from journal_file import EMPTY, Bad, Judged, NoJournal, Row, groups_of, rows_in,
 from model_views import view_lines
 from serve import SOON, Client, Server, serving
 from shim import FILES, MOMENT, AT_ONCE, Orders, Shim, chosen
-from store import LASTING, PASSING, TAKEN_AGAIN, answers, ask, ended, expect, line_of, opening, read, register, request, run_all, said
+from store import (
+    LASTING, PASSING, TAKEN_AGAIN, answers, ask, ended, expect, line_of, opening, read, register, request, run_all, said
+)
 from store import submit
 from sync import NAMES, QUESTION, Kind, appends, each, registrations
 
 NO_JOURNAL = "the file is no journal"
 BUSY = "another process has the file open"
-FAILED, NO_ROOM, TOO_LARGE = (f"{os.strerror(number)} (os error {number})" for number in (errno.EIO, errno.ENOSPC, errno.EFBIG))
+FAILED, NO_ROOM, TOO_LARGE = (
+    f"{os.strerror(number)} (os error {number})" for number in (errno.EIO, errno.ENOSPC, errno.EFBIG)
+)
 WORDS = ["pipe", "--store", "store.cj"]
 KILLS, COPIES, WRITERS = 20, 50, 8
 # Of how many first places of a journal each is written wrong, and what each byte is written as.
@@ -89,7 +94,10 @@ def every_route(program, folder):
         found[name] = re.sub(rb"\r\nDate: [^\r]*", b"", out), status
     expect(found["database"] == found["store.cj"], "other answers")
     due = store.rows(os.path.join(folder, "database"))
-    rows = [(place, row.kind, row.maker, row.more, row.n1, row.b1, row.b2) for place, row in enumerate(rows_in(named(folder)))]
+    rows = [
+        (place, row.kind, row.maker, row.more, row.n1, row.b1, row.b2)
+        for place, row in enumerate(rows_in(named(folder)))
+    ]
     expect(rows == due and len(due) == sum(added for added, _ in EVERY_ROUTE), f"{len(rows)} rows, {len(due)} are due")
 
 
@@ -97,7 +105,8 @@ def every_route(program, folder):
 
 
 class Load:
-    """Clients who revise a paper each, all the time, until the server is gone: what they sent, and what was answered."""
+    """Clients who revise a paper each, all the time, until the server is gone: what they sent,
+    and what was answered."""
 
     def __init__(self, server, turn):
         self.server, self.turn, self.over = server, turn, threading.Event()
@@ -129,7 +138,9 @@ class Load:
                     return
                 title, abstract = f"{self.turn} {number} {count}", "x" * dice.choice((0, 100, 5000))
                 self.sent.append(title)
-                answer = client.ask(request("PUT", f"/papers/{number + 1}", f"w{number}", {"abstract": abstract, "title": title}))
+                answer = client.ask(
+                    request("PUT", f"/papers/{number + 1}", f"w{number}", {"abstract": abstract, "title": title})
+                )
                 if answer is None:
                     return
                 if answer[0] != 200:
@@ -156,12 +167,15 @@ def opens(program, path):
     told, status = program.pipe(path, b"".join(request("GET", f"/papers/{paper}", f"w{paper - 1}") for paper in last))
     expect(status == 0, f"opened with status {status}")
     for paper, (code, content) in zip(last, told, strict=True):
-        expect(code == 200 and f'"title":"{last[paper]}"'.encode() in content, f"paper {paper}: {code} {content[-200:]}")
+        expect(
+            code == 200 and f'"title":"{last[paper]}"'.encode() in content, f"paper {paper}: {code} {content[-200:]}"
+        )
     return rows
 
 
 def killed(program, folder):
-    """Killed at random moments while eight clients write: all that was answered is there, and at most one command more of each."""
+    """Killed at random moments while eight clients write: all that was answered is there,
+    and at most one command more of each."""
     path, dice, due = named(folder), random.Random(7), []
     begin(program, path)
     for turn in range(KILLS):
@@ -186,7 +200,8 @@ def killed(program, folder):
 
 
 def copies(program, folder):
-    """Copies made by cp while eight clients write: each opens as a beginning of the history, with all that was answered before."""
+    """Copies made by cp while eight clients write: each opens as a beginning of the history,
+    with all that was answered before."""
     path, made = named(folder), []
     begin(program, path)
     with serving(program, path, workers=WRITERS) as server, Load(server, 0) as load:
@@ -255,35 +270,53 @@ def refused(program, path, status, reason):
 
 
 def no_journals(program, folder):
-    """What is no journal is refused with status 6 and its line, and stays as it is: a text, a database, a journal that is cut."""
+    """What is no journal is refused with status 6 and its line, and stays as it is:
+    a text, a database, a journal that is cut."""
     path, database, whole = named(folder), os.path.join(folder, "database"), os.path.join(folder, "whole.cj")
     for name in (database, whole):
         program.pipe(name, opening())
     content = read(whole)
     ends = {len(spelled(groups_of(content)[:count])) - 1 for count in range(3)}
-    tried = [b"no journal, but long enough to be read as one\n" * 100, read(database), b"\0", b"CONFDJ02\0", content[:-1] + b"\1"]
+    tried = [
+        b"no journal, but long enough to be read as one\n" * 100,
+        read(database),
+        b"\0",
+        b"CONFDJ02\0",
+        content[:-1] + b"\1",
+    ]
     tried += [content[:length] for length in range(1, len(content)) if length - 1 not in ends]
-    tried += [content[:length] + b"\1" for length in ends] + [EMPTY[:8] + journal_file.OPEN + journal_file.field(b"no row") + b"\0"]
+    tried += [content[:length] + b"\1" for length in ends] + [
+        EMPTY[:8] + journal_file.OPEN + journal_file.field(b"no row") + b"\0"
+    ]
     for wrong in tried:
         write(path, wrong)
         refused(program, path, 6, NO_JOURNAL)
     other = os.path.join(folder, "other")
     write(other, content)
     _, status, line = program.run(["pipe", "--store", other])
-    expect(status == 6 and b": file is not a database" in line and read(other) == content, f"by another name: {status}, {line}")
+    expect(
+        status == 6 and b": file is not a database" in line and read(other) == content,
+        f"by another name: {status}, {line}",
+    )
     os.mkdir(os.path.join(folder, "folder.cj"))
-    for name, reason in (("folder.cj", "it is no file"), ("no/folder.cj", f"{os.strerror(errno.ENOENT)} (os error {errno.ENOENT})")):
+    for name, reason in (
+        ("folder.cj", "it is no file"),
+        ("no/folder.cj", f"{os.strerror(errno.ENOENT)} (os error {errno.ENOENT})"),
+    ):
         name = os.path.join(folder, name)
         came = program.run(["pipe", "--store", name])
         expect(came == (b"", 6, line_of(name, reason)), f"{name}: {came}")
 
 
 def unread(program, folder):
-    """What stands behind the closed gate is not read, whatever it is and whatever closes it; the next command is written over it."""
+    """What stands behind the closed gate is not read, whatever it is and whatever closes it;
+    the next command is written over it."""
     path, due = named(folder), None
     program.pipe(path, opening())
     content = read(path)
-    for number, rest in enumerate((b"\0", b"\2", b"\xff", b"\0" + content, b"\0\1" + b"\0" * 7, b"\x80" + b"\1" * 4000)):
+    for number, rest in enumerate(
+        (b"\0", b"\2", b"\xff", b"\0" + content, b"\0\1" + b"\0" * 7, b"\x80" + b"\1" * 4000)
+    ):
         write(path, content[:-1] + rest)
         told, status = program.pipe(path, request("GET", "/accounts") + register("bob"))
         expect(status == 0 and (due is None or told == due), f"{number}: status {status}, {told}")
@@ -292,7 +325,15 @@ def unread(program, folder):
 
 
 def row(kind, **fields):
-    return Row(**{**dict.fromkeys(journal_file.NUMBERS, 0), **dict.fromkeys(journal_file.TEXTS, b""), "kind": kind, "maker": 1, **fields})
+    return Row(
+        **{
+            **dict.fromkeys(journal_file.NUMBERS, 0),
+            **dict.fromkeys(journal_file.TEXTS, b""),
+            "kind": kind,
+            "maker": 1,
+            **fields,
+        }
+    )
 
 
 def small():
@@ -304,7 +345,8 @@ def small():
 
 
 def bad_rows(program, folder):
-    """A row of no history is refused with status 3, its number and its kind; so is the last one where its command goes on."""
+    """A row of no history is refused with status 3, its number and its kind;
+    so is the last one where its command goes on."""
     path, (chair, phase, bob, paper) = named(folder), small()
     for groups, at in (
         ([phase], 0), ([chair, phase, phase], 3), ([chair, phase, bob, paper, [row(9, n1=2)]], 6), ([chair[:1]], 0),
@@ -348,7 +390,8 @@ def as_judged(program, path, content):
 
 
 def wrong_bytes(program, folder):
-    """One wrong byte at each of the first 400 places: no journal, cut there, bad at a row, or another legal history, as is due."""
+    """One wrong byte at each of the first 400 places: no journal, cut there, bad at a row, or another legal history,
+    as is due."""
     content = spelled(small())
     whole = len(rows_of(content))
     expect(as_judged(program, named(folder), content) == "a history" and len(content) > PLACES, f"{len(content)} bytes")
@@ -379,7 +422,8 @@ def wrong_bytes(program, folder):
 
 
 def full_disk(program, folder):
-    """A file that may grow no further, and then may: 503 and a line, then a line where commands go on; what was answered is there."""
+    """A file that may grow no further, and then may: 503 and a line, then a line where commands go on;
+    what was answered is there."""
     path = named(folder)
     program.pipe(path, opening())
 
@@ -419,7 +463,8 @@ def counted(program, words, text, name, folder, **numbers):
 
 
 def syncs(program, folder):
-    """A command is synced twice. Each sync fails, once or from then on: 503 until a restart, told so; what was answered is kept."""
+    """A command is synced twice. Each sync fails, once or from then on: 503 until a restart, told so;
+    what was answered is kept."""
     count, _ = counted(program, WORDS, registrations(), "syncs", folder)
     expect(count >= 2 * len(NAMES), f"{count} syncs in {len(NAMES)} commands")
 
@@ -433,7 +478,8 @@ def syncs(program, folder):
 
 
 def writes(program, folder):
-    """Each write fails once for want of room, and is made all the same or isn't: 503 for that command, told so; the next is taken."""
+    """Each write fails once for want of room, and is made all the same or isn't: 503 for that command, told so;
+    the next is taken."""
     count, _ = counted(program, WORDS, registrations(), "writes", folder, scope=FILES)
 
     def fail(number, room):
@@ -446,7 +492,8 @@ def writes(program, folder):
 
 
 def reads(program, folder):
-    """Each read of a journal that is opened fails: status 6 and its line, and the file stays; one that a signal broke off is read again."""
+    """Each read of a journal that is opened fails: status 6 and its line, and the file stays;
+    one that a signal broke off is read again."""
     program.pipe(named(folder), registrations())
     content = read(named(folder))
     count, whole = counted(program, WORDS, QUESTION, "reads", folder, scope=FILES)
@@ -454,15 +501,24 @@ def reads(program, folder):
     def fail(number, room):
         is_broken_off = number > count
         write(named(room), content)
-        orders = {"refuse_read": number - is_broken_off * count, "error": errno.EINTR if is_broken_off else errno.EIO, "scope": FILES}
+        orders = {
+            "refuse_read": number - is_broken_off * count,
+            "error": errno.EINTR if is_broken_off else errno.EIO,
+            "scope": FILES,
+        }
         out, status, err, _ = shim.run(program, WORDS, QUESTION, room, **orders)
         due = (0, whole, b"") if is_broken_off else (6, b"", line_of("store.cj", FAILED))
         expect((status, out, err) in (due, (0, whole, b"")), f"status {status}, {err}, {out[:80]}")
         expect(read(named(room)) == content, "the file was changed")
 
     each(2 * count, fail)
-    out, status, err, orders = shim.run(program, WORDS, QUESTION, folder, refuse_read=2, lasts=1, error=errno.EINTR, scope=FILES)
-    expect((out, status, err) == (b"", 6, line_of("store.cj", f"{os.strerror(errno.EINTR)} (os error {errno.EINTR})")), f"{status}, {err}")
+    out, status, err, orders = shim.run(
+        program, WORDS, QUESTION, folder, refuse_read=2, lasts=1, error=errno.EINTR, scope=FILES
+    )
+    expect(
+        (out, status, err) == (b"", 6, line_of("store.cj", f"{os.strerror(errno.EINTR)} (os error {errno.EINTR})")),
+        f"{status}, {err}",
+    )
     expect(orders.reads < 100, f"{orders.reads} reads")
 
 
@@ -486,7 +542,8 @@ def short(program, folder):
     due, _ = counted(program, WORDS, registrations(), "writes", folder), read(named(folder))
     content = read(named(folder))
     for orders in (
-        {"most_write": 1}, {"most_write": 7}, {"most_read": 1, "scope": FILES}, {"most_read": 100, "most_write": 100, "scope": FILES},
+        {"most_write": 1}, {"most_write": 7}, {"most_read": 1, "scope": FILES},
+        {"most_read": 100, "most_write": 100, "scope": FILES},
     ):  # fmt: skip
         with tempfile.TemporaryDirectory() as room:
             _, out = counted(program, WORDS, registrations(), "writes", room, **orders)
@@ -496,7 +553,8 @@ def short(program, folder):
 
 
 def told_of_a_sync(program, folder):
-    """A failed sync is told once, and each command is refused from then on; started again, confd says what the file has."""
+    """A failed sync is told once, and each command is refused from then on;
+    started again, confd says what the file has."""
     path = named(folder)
     program.pipe(path, opening())
     orders = Orders(os.path.join(folder, "orders"))
@@ -516,7 +574,8 @@ def told_of_a_sync(program, folder):
 
 
 CHECKS = (
-    bytes_of, every_route, killed, copies, held_by_another, modes, no_journals, unread, bad_rows, wrong_bytes, full_disk,
+    bytes_of, every_route, killed, copies, held_by_another, modes, no_journals, unread, bad_rows, wrong_bytes,
+    full_disk,
 )  # fmt: skip
 
 # Those that refuse calls of the system, by what cc builds.
@@ -530,7 +589,10 @@ def main():
     with tempfile.TemporaryDirectory() as folder:
         shim = Shim(folder) if shutil.which("cc") is not None else None
         if shim is None or not shim.holds(program):
-            print(f"left out, since no shim can stand before the program: {', '.join(check.__name__ for check in CHECKS_BY_SHIM)}")
+            print(
+                "left out, since no shim can stand before the program: "
+                f"{', '.join(check.__name__ for check in CHECKS_BY_SHIM)}"
+            )
             checks = tuple(check for check in checks if check not in CHECKS_BY_SHIM)
         run_all(checks, program)
 

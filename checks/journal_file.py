@@ -1,4 +1,5 @@
-"""Reads and writes a journal's file, and judges its rows on the small model: written from docs/STORE.md and from nothing else.
+"""Reads and writes a journal's file, and judges its rows on the small model: written from docs/STORE.md
+and from nothing else.
 
 No script of its own: journal.py and bench/journal_cost.py use it.
 """
@@ -15,7 +16,8 @@ TEXTS = "mark b1 b2".split()
 Row = collections.namedtuple("Row", NUMBERS + TEXTS)
 # A journal of no group.
 EMPTY = MAGIC + CLOSED
-# 9999-12-31T23:59:59Z, behind which no row has a moment; the last number of a command, and the last of users and papers.
+# 9999-12-31T23:59:59Z, behind which no row has a moment; the last number of a command, and the last of users and
+# papers.
 LAST_MOMENT, LAST_NUMBER, LAST_USER = 253_402_300_799, 10**18 - 1, 9_999
 NAME = re.compile(rb"[a-z0-9-]{1,32}")
 MODES = ["open", "blind", "anonymous"]
@@ -132,7 +134,8 @@ def is_title(text):
 
 
 class Judged:
-    """The model of the history that rows spell, each of them judged by it; kinds of a committee at work are no entry here."""
+    """The model of the history that rows spell, each of them judged by it;
+    kinds of a committee at work are no entry here."""
 
     def __init__(self, rows):
         self.rows, self.model, self.used, self.digests = rows, Conference(), set(), {}

@@ -89,7 +89,8 @@ def is_there(path):
 
 
 def looks_like_path(text):
-    """A file's name by its kind, or what begins with a folder of the top; no name of a code's field or of somebody's machine."""
+    """A file's name by its kind, or what begins with a folder of the top;
+    no name of a code's field or of somebody's machine."""
     ours = ("crates/", "checks/", "bench/", "docs/", "deploy/")
     return not text.startswith(("/", "http", ".case", "..")) and (text.endswith(KINDS) or text.startswith(ours))
 

@@ -19,7 +19,9 @@ import shutil
 import sys
 import tempfile
 
-from conference import BEGINNING, BIDDING, CUT, DEADLINES, EVERY_ROUTE, JUDGING, RETRIES, beginnings, codes_of, rows_behind, text_of
+from conference import (
+    BEGINNING, BIDDING, CUT, DEADLINES, EVERY_ROUTE, JUDGING, RETRIES, beginnings, codes_of, rows_behind, text_of
+)
 from edge import NO_TIME
 from serve import Client, serving
 from shim import DATE, MOMENT, Orders, chosen, in_turn, sample, shim_for

@@ -3,8 +3,8 @@
 
     python3 checks/serve.py [--kills N] [--seconds S] [--timeouts] [PROGRAM]
 
-PROGRAM is `confd` as `rt run` builds it (crates/confd/out/confd where none is named). Python 3 alone is needed. Prints a
-line a check, and last `N passed, M failed`; ends with status 0 where none failed. Takes less than two minutes.
+PROGRAM is `confd` as `rt run` builds it (crates/confd/out/confd where none is named). Python 3 alone is needed. Prints
+a line a check, and last `N passed, M failed`; ends with status 0 where none failed. Takes less than two minutes.
 
 For longer runs: --kills N kills it N times under load (5 where it isn't said), the first time after S seconds (1), then
 sooner; --kills 1 --seconds 600 is one load of ten minutes. --timeouts also waits for the timeouts of 60 seconds, for
@@ -63,7 +63,11 @@ class Server:
     def __init__(self, program, store, workers=4, connections=65536, listen="127.0.0.1:0", **more):
         words = ["--listen", listen, "--workers", str(workers), "--connections", str(connections), "--store", store]
         self.process = subprocess.Popen(
-            [program.path, "serve", *words], stdin=subprocess.DEVNULL, stdout=subprocess.PIPE, stderr=subprocess.PIPE, **more
+            [program.path, "serve", *words],
+            stdin=subprocess.DEVNULL,
+            stdout=subprocess.PIPE,
+            stderr=subprocess.PIPE,
+            **more,
         )
         self.port = None
         line = self.process.stderr.readline().decode()
@@ -251,7 +255,8 @@ def too_large(program, folder):
 
 
 def dates(program, folder):
-    """The date of each answer is the system's, whatever is asked: of refusals, of a content, to HEAD, and of what closes."""
+    """The date of each answer is the system's, whatever is asked:
+    of refusals, of a content, to HEAD, and of what closes."""
     with serving(program, os.path.join(folder, "store")) as server, Client(server) as client:
         client.send(opening() + submit("alice", "Proofs") + upload("alice", 1, b"x" * 100_000))
         came = [client.answer() for _ in range(4)]
@@ -263,14 +268,18 @@ def dates(program, folder):
             return answer
 
         for text in (
-            request("GET", "/papers/1/content", "alice"), request("GET", "/reports/load", "alice"), request("GET", "/me"),
-            request("DELETE", "/accepted"), request("GET", "/nowhere"), register("alice"), request("POST", "/register", body={}),
+            request("GET", "/papers/1/content", "alice"), request("GET", "/reports/load", "alice"),
+            request("GET", "/me"), request("DELETE", "/accepted"), request("GET", "/nowhere"),
+            register("alice"), request("POST", "/register", body={}),
         ):  # fmt: skip
             came.append(dated(text))
             time.sleep(0.3)
         came.append(dated(request("HEAD", "/phase"), is_head=True))
         came.append(dated(b"no request\r\n\r\n"))
-        expect([code for code, _, _ in came] == [201, 200, 201, 200, 200, 409, 401, 405, 404, 409, 400, 200, 400], f"{came}")
+        expect(
+            [code for code, _, _ in came] == [201, 200, 201, 200, 200, 409, 401, 405, 404, 409, 400, 200, 400],
+            f"{came}",
+        )
         told = [moment_of(fields[b"Date"].decode()) for _, fields, _ in came]
         expect(told == sorted(told) and told[0] < told[-1], f"{told}")
 
@@ -294,7 +303,8 @@ def last_request(program, folder):
 
 
 def contents(program, folder):
-    """Contents of 4 MiB: sixteen are taken and not a byte more, and they come back as they were, after a restart too."""
+    """Contents of 4 MiB: sixteen are taken and not a byte more, and they come back as they were, after a restart too.
+    """
     store = os.path.join(folder, "store")
     first, last = os.urandom(LARGEST), os.urandom(LARGEST)
 
@@ -302,19 +312,26 @@ def contents(program, folder):
         with Client(server) as client:
             for path, content in (("", last), ("/16", last), ("/1", first)):
                 code, fields, came = client.ask(request("GET", f"/papers/1/content{path}", "erin"))
-                expect((code, fields[b"Content-Type"]) == (200, b"application/octet-stream"), f"{path}: {code} {fields}")
+                expect(
+                    (code, fields[b"Content-Type"]) == (200, b"application/octet-stream"), f"{path}: {code} {fields}"
+                )
                 expect(came == content, f"{path}: other bytes came")
             code, fields, _ = client.ask(request("HEAD", "/papers/1/content", "erin"), is_head=True)
             expect((code, fields[b"Content-Length"]) == (200, str(LARGEST).encode()), f"HEAD: {code} {fields}")
 
     with serving(program, store) as server:
         with Client(server) as client:
-            client.send(opening() + register("erin") + register("bob") + submit("erin", "Large") + submit("bob", "Small"))
+            client.send(
+                opening() + register("erin") + register("bob") + submit("erin", "Large") + submit("bob", "Small")
+            )
             expect([client.answer()[0] for _ in range(6)] == [201, 200, 201, 201, 201, 201], "opening")
             for number in range(16):
                 code, _, content = client.ask(upload("erin", 1, first if number == 0 else last))
                 expect((code, content) == (200, b'{"version":%d}' % (number + 1)), f"upload {number}: {code} {content}")
-            for who, paper, due in (("erin", 1, (409, b'{"error":"quota_bytes"}')), ("bob", 2, (200, b'{"version":1}'))):
+            for who, paper, due in (
+                ("erin", 1, (409, b'{"error":"quota_bytes"}')),
+                ("bob", 2, (200, b'{"version":1}')),
+            ):
                 code, _, content = client.ask(upload(who, paper, b"x"))
                 expect((code, content) == due, f"{who}: {code} {content}")
         read(server)
@@ -421,7 +438,9 @@ def few_descriptors(program, folder):
         resource.setrlimit(resource.RLIMIT_NOFILE, (FEW, FEW))
 
     count = 4 * WORKERS
-    with serving(program, os.path.join(folder, "store"), workers=WORKERS, connections=count, preexec_fn=limit) as server:
+    with serving(
+        program, os.path.join(folder, "store"), workers=WORKERS, connections=count, preexec_fn=limit
+    ) as server:
 
         def work(_):
             codes = []
@@ -543,7 +562,9 @@ def killed(program, folder):
         for kind, kept, now in (("users", users, names), ("papers", papers, titles)):
             expect(kept.items() <= now.items(), f"{kind} that were answered are gone after kill {turn}")
             expect(sorted(now) == list(range(1, len(now) + 1)), f"numbers of {kind} after kill {turn}")
-        expect(conflicts <= collections.Counter(row[4] for row in found if row[1] == 10), f"conflicts after kill {turn}")
+        expect(
+            conflicts <= collections.Counter(row[4] for row in found if row[1] == 10), f"conflicts after kill {turn}"
+        )
         with serving(program, store) as server:
             code, _, content = ask_once(server, register(f"after{turn}"))
             if len(names) < 9_999:
@@ -554,7 +575,8 @@ def killed(program, folder):
 
 
 def timeouts(program, folder):
-    """Whoever takes more than a minute over a request, or over taking an answer, in whatever pieces, is let go; others stay."""
+    """Whoever takes more than a minute over a request, or over taking an answer, in whatever pieces, is let go;
+    others stay."""
     with serving(program, os.path.join(folder, "store"), workers=10) as server:
         with Client(server) as client:
             client.send(opening() + submit("alice", "Large"))
@@ -611,7 +633,8 @@ def timeouts(program, folder):
             return None
 
         def unread_contents():
-            """Asks for more contents than the system holds, and reads none before the timeout; how many of them come whole."""
+            """Asks for more contents than the system holds, and reads none before the timeout;
+            how many of them come whole."""
             with Client(server, 2 * TIMEOUT) as client:
                 client.send(request("GET", "/papers/1/content", "alice") * 16)
                 time.sleep(TIMEOUT + 10)
@@ -631,7 +654,9 @@ def timeouts(program, folder):
                         pass
                 for _ in range(4):
                     code, _, content = client.answer()
-                    expect((code, len(content)) == (200, LARGEST), f"a content taken in time: {code}, {len(content)} bytes")
+                    expect(
+                        (code, len(content)) == (200, LARGEST), f"a content taken in time: {code}, {len(content)} bytes"
+                    )
 
         acts = (
             lambda: lasts(silent), lambda: lasts(dripping), lambda: lasts(after_one), lambda: lasts(amid_the_next),

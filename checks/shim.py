@@ -1,7 +1,7 @@
 """The shim of shim.c, built and told what to do: what checks need that refuse calls, cut them short or turn the clock.
 
-No script of its own: memory.py, sync.py, edge.py, store.py and others use it. `cc` is needed, and a program that takes the C
-library as it is loaded; where either is missing, the checks are left out, with a line that says so.
+No script of its own: memory.py, sync.py, edge.py, store.py and others use it. `cc` is needed, and a program that takes
+the C library as it is loaded; where either is missing, the checks are left out, with a line that says so.
 """
 
 import concurrent.futures

@@ -157,7 +157,11 @@ def opened(store, **more):
 def rows(store):
     """Every row of the four tables, by place, without its moment and its command's number."""
     with opened(store) as file:
-        found = [row for table in TABLES for row in file.execute(f"SELECT place, kind, maker, more, n1, b1, b2 FROM {table}")]
+        found = [
+            row
+            for table in TABLES
+            for row in file.execute(f"SELECT place, kind, maker, more, n1, b1, b2 FROM {table}")
+        ]
     return sorted(found)
 
 
@@ -444,7 +448,9 @@ def copied(program, folder):
         paper = request("GET", f"/papers/{json.loads(answer[1])['paper']}", "alice")
         second, status = program.pipe(copy, paper)
         first, _ = program.pipe(store, paper)
-        expect(status == 0 and first == second and first[0][0] == 200, f"{name}: the copy tells {second}, status {status}")
+        expect(
+            status == 0 and first == second and first[0][0] == 200, f"{name}: the copy tells {second}, status {status}"
+        )
 
 
 def view_of_a_file(program, folder):
@@ -453,7 +459,9 @@ def view_of_a_file(program, folder):
     program.pipe(store, opening())
     out, status, _ = program.run(["view", "--store", store, "--user", "alice"])
     lines = [json.loads(line) for line in out.splitlines()]
-    expect(status == 0 and [line["kind"] for line in lines] == ["registered", "named", "phaseset"], f"{status}: {out!r}")
+    expect(
+        status == 0 and [line["kind"] for line in lines] == ["registered", "named", "phaseset"], f"{status}: {out!r}"
+    )
     out, status, _ = program.run(["view", "--store", store, "--user", "zoe"])
     expect(status == 8 and out == b"", f"{status}: {out!r}")
 

@@ -46,8 +46,8 @@ def names_in(store):
     return [bytes(row[5]).decode() for row in rows(store) if row[1] == 1]
 
 
-# A kind of store: what its file is named here, how the names in it are read, and what is said where a call fails, and where there is
-# no room.
+# A kind of store: what its file is named here, how the names in it are read, and what is said where a call fails, and
+# where there is no room.
 Kind = collections.namedtuple("Kind", "name names failed no_room")
 DATABASE = Kind("store", names_in, "disk I/O error", "database or disk is full")
 
@@ -67,9 +67,10 @@ def registrations():
 def appends(kind, program, folder, out, status, err, goes_on, may_be_left=False):
     """A run of `registrations` in which a call on the store failed: the names that were answered 201, and what is left.
 
-    `goes_on`: whether what failed passes, so that later ones are taken again. The last write of an append to a database is the
-    exception: where that fails it isn't known what the file has, so the store is closed as it is by a failed sync. `may_be_left`:
-    whether a command that was refused last may be in the file all the same, though later ones would have been taken.
+    `goes_on`: whether what failed passes, so that later ones are taken again. The last write of an append to a database
+    is the exception: where that fails it isn't known what the file has, so the store is closed as it is by a failed
+    sync. `may_be_left`: whether a command that was refused last may be in the file all the same, though later ones
+    would have been taken.
     """
     lines = err.decode().splitlines(keepends=True)
     reason = kind.failed
@@ -124,7 +125,8 @@ def syncs(program, _folder):
 
 
 def full(program, _folder):
-    """Each write to the store fails once for want of room: 503 for that command, told so; the next is taken, or none until a restart."""
+    """Each write to the store fails once for want of room: 503 for that command, told so;
+    the next is taken, or none until a restart."""
     count, _, _ = counted(program, WORDS, registrations(), "writes", scope=FILES)
 
     def fail(number, folder):
