@@ -138,8 +138,8 @@ def request_at(sent, place):
     return request, stop
 
 
-def exchanges(path):
-    """Each answer that is due in a file's cases: its line, its request, none where bytes are none, and itself."""
+def cases(path):
+    """The cases of a file: of each its lines, with their numbers."""
     parts = [[]]
     for number, line in enumerate(path.read_text().splitlines(), 1):
         if line.startswith("== "):
@@ -147,11 +147,23 @@ def exchanges(path):
         elif line and not line.startswith("#"):
             parts[-1].append((number, line))
     for own in parts[1:]:
-        for talk in talks(lines_of(parts[0], own)):
-            place = 0
-            for number, due in talk.answers:
-                request = None
-                if not due[0].closes():
-                    request, place = request_at(talk.sent, place)
-                for answer in due:
-                    yield number, request, answer
+        yield list(lines_of(parts[0], own))
+
+
+def exchanges_in(lines):
+    """Each answer that is due in a case, connection by connection: its line, its request, none where bytes are none,
+    and itself."""
+    for talk in talks(lines):
+        place = 0
+        for number, due in talk.answers:
+            request = None
+            if not due[0].closes():
+                request, place = request_at(talk.sent, place)
+            for answer in due:
+                yield number, request, answer
+
+
+def exchanges(path):
+    """Each answer that is due in a file's cases, as above."""
+    for lines in cases(path):
+        yield from exchanges_in(lines)

@@ -33,8 +33,8 @@ def address(server, path):
 
 
 def with_curl(program, folder):
-    """curl: register, log in, submit, submit twice by a number, a page, a wrong secret, HEAD and its date, a 413, \
-HTTP/1.0, ten requests on one connection."""
+    """curl: register, log in, submit, submit twice by a number, a page, a wrong secret, HEAD and its date, a 413,
+    HTTP/1.0, ten requests on one connection."""
 
     def curl(*words, text=b""):
         out = said("curl", "--silent", "--show-error", "--max-time", "20", "--write-out", "\n%{http_code}", *words,

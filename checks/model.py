@@ -37,7 +37,7 @@ def err(code, name):
 
 def content_of(body):
     """The bytes of a body: none, a text as it is, or an object."""
-    return b"" if body is None else (body if isinstance(body, str) else dump(body)).encode()
+    return b"" if body is None else (body if isinstance(body, str) else dump(body)).encode("utf-8", "surrogateescape")
 
 
 def mark_of(method, path, body):
@@ -427,7 +427,8 @@ class Conference(Reports):
         return 200, dump({"paper": p})
 
     def upload(self, u, p, body):
-        r = self.first(*self.own(u, p))
+        size = sum(len(content_of(f[2])) for m, f in self.entries_of("uploaded") if m == u) + len(content_of(body))
+        r = self.first(*self.own(u, p), (size > 64 << 20, "quota_bytes"))
         if r:
             return r
         v = len(self.uploads(p)) + 1

@@ -303,8 +303,8 @@ def last_request(program, folder):
 
 
 def contents(program, folder):
-    """Contents of 4 MiB: sixteen are taken and not a byte more, and they come back as they were, after a restart too.
-    """
+    """Contents of 4 MiB: sixteen are taken and not a byte more, and they come back as they were, after a restart
+    too."""
     store = os.path.join(folder, "store")
     first, last = os.urandom(LARGEST), os.urandom(LARGEST)
 

@@ -637,7 +637,7 @@ def run_all(checks, program):
     """Runs each check in a folder of its own, prints a line for each and how many passed, and ends with the status."""
     passed = failed = 0
     for check in checks:
-        title = check.__doc__.strip().splitlines()[0]
+        title = " ".join(check.__doc__.split())
         with tempfile.TemporaryDirectory() as folder:
             try:
                 check(program, folder)
