@@ -13,7 +13,8 @@ The rules are the rows in checks/planted/rules.
 
 Ends with status 0 where every one is refused. A build takes three processor minutes and more. So those of a
 topic are planted side by side in one copy, which is built once and run for each (checks/planted/switch.py); the
-few that can't be have one of their own. The whole takes an hour and a half of processors. JOBS=n has n at a time.
+few that can't be have one of their own, and those with cases that spend a quota, which run for a minute, have another.
+The whole takes some hour and a half of processors. JOBS=n has n at a time.
 """
 import concurrent.futures
 import contextlib
@@ -110,6 +111,11 @@ def tried_together(rules):
     return [(rule, verdict(rule, runs.get(number, "no run"))) for number, rule in enumerate(rules, 1)]
 
 
+def is_slow(rule):
+    """Whether a case of the rule spends a quota, of 64 MiB or of a thousand comments."""
+    return any(case.startswith("quota_") or case.endswith("_spent") for case in rule.words("cases"))
+
+
 def tasks(rules):
     """What is to be run: the rules of each topic that can be planted side by side, and the others one by one."""
     topics, alone = {}, []
@@ -117,7 +123,7 @@ def tasks(rules):
     for rule in rules:
         try:
             switched.add(rule)
-            topics.setdefault(rule.topic, []).append(rule)
+            topics.setdefault((rule.topic, is_slow(rule)), []).append(rule)
         except (Unswitched, Lost):
             alone.append(rule)
     return [*topics.values()], alone
