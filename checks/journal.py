@@ -523,18 +523,23 @@ def reads(program, folder):
 
 
 def ends(program, folder):
-    """Reads of a journal that is opened find its end too soon, as where it is cut meanwhile: status 6 and its line."""
-    program.pipe(named(folder), registrations())
+    """Reads of a journal that is opened find its end too soon, as where it is cut meanwhile, or one of them does, as
+    where it is written anew: status 6 and its line."""
+    # The last row ends in zeros, as a payload does that is filled with nothing.
+    program.pipe(named(folder), opening())
     content, few = read(named(folder)), {"scope": FILES, "most_read": 4}
+    expect(content.endswith(bytes(8)), "the journal ends in other bytes than zeros")
     count, whole = counted(program, WORDS, QUESTION, "reads", folder, **few)
 
-    def cut(number, room):
+    def cut(number, room, lasts):
         write(named(room), content)
-        came = shim.run(program, WORDS, QUESTION, room, refuse_read=number, lasts=1, ended=1, **few)[:3]
-        expect(came in ((b"", 6, line_of("store.cj", NO_JOURNAL)), (whole, 0, b"")), f"read {number}: {came}")
+        came = shim.run(program, WORDS, QUESTION, room, refuse_read=number, lasts=lasts, ended=1, **few)[:3]
+        due = (b"", 6, line_of("store.cj", NO_JOURNAL)) if number < count else (whole, 0, b"")
+        expect(came == due, f"read {number} of {count}: {came}")
         expect(read(named(room)) == content, "the file was changed")
 
-    each(count, cut)
+    each(count, lambda number, room: cut(number, room, lasts=1))
+    each(count, lambda number, room: cut(number, room, lasts=0))
 
 
 def short(program, folder):
