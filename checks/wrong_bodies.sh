@@ -30,6 +30,8 @@ def lost(crate, edit):
         elif key in ("new", "new:") and path and old:
             if texts[path].count(old) != 1:
                 return f"{path.name} has the text {texts[path].count(old)} times: {old}"
+            if old == told:
+                return f"it changes nothing in {path.name}"
             texts[path], old = texts[path].replace(old, told), None
     return None if texts and not old else "it changes nothing"
 
