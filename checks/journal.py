@@ -477,6 +477,18 @@ def syncs(program, folder):
     each(2 * count, fail)
 
 
+def folder_synced(program, folder):
+    """Where the folder of a new journal can't be synced, status 6 and its line, and no byte is written;
+    the next start syncs it."""
+    with tempfile.TemporaryDirectory() as room:
+        due, _ = counted(program, WORDS, b"", "syncs", room)
+    out, status, err, _ = shim.run(program, WORDS, b"", folder, refuse_sync=1, error=errno.EIO)
+    expect((out, status, err) == (b"", 6, line_of("store.cj", FAILED)), f"{out[:80]}, status {status}, {err}")
+    expect(read(named(folder)) == b"", "bytes in a journal whose name may not last")
+    count, _ = counted(program, WORDS, b"", "syncs", folder)
+    expect(count == due, f"{count} syncs at the next start, {due} at one that makes the file")
+
+
 def writes(program, folder):
     """Each write fails once for want of room, and is made all the same or isn't: 503 for that command, told so;
     the next is taken."""
@@ -584,7 +596,7 @@ CHECKS = (
 )  # fmt: skip
 
 # Those that refuse calls of the system, by what cc builds.
-CHECKS_BY_SHIM = (syncs, writes, reads, ends, short, told_of_a_sync)
+CHECKS_BY_SHIM = (syncs, folder_synced, writes, reads, ends, short, told_of_a_sync)
 shim = None
 
 

@@ -270,7 +270,8 @@ impl Seats {
     /// fits in its turn. `by` is the caller's standing at the paper; `paper` is none where there is no such
     /// paper, `target` none where there is no such user. Whether the paper is withdrawn, and whether the
     /// user is in conflict with it, stands in none of the seats. Two reads by number, a walk over the paper's
-    /// seats and two over the earlier entries, of which there are none but in a command of many parts.
+    /// seats, and of one who is no member a binary search among its invitations; and three walks at most over the
+    /// earlier entries, of which there are none but in a command of many parts.
     ///
     /// In this order: `NoPaper`, `NoUser`, `NotChair`, `Conflict` where the caller is in conflict with the
     /// paper, `WrongPhase` before the bidding or after the discussion, `Withdrawn`, `NotAMember`,

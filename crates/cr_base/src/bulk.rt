@@ -1,8 +1,6 @@
 //! Bulk assignment: the rows of a file, and what is wrong with them.
 ghost use Rattle.std.specs.Prelude.{◌≡◌, ◌≤◌, [], length, IfOk};
-ghost use Rattle.cr_base.specs.Bulk.{command_of_row};
 
-use crate::command::Command;
 use crate::entry::Stamped;
 use crate::numbers::PaperNo;
 use crate::reply::Rule;
@@ -32,7 +30,7 @@ pub struct BulkRow {
 /// The command of a row: one of the four that a row may tell.
 #[derive(Drop)]
 pub enum RowCommand {
-    /// A [`Command::SetConflict`].
+    /// A [`Command::SetConflict`](crate::Command::SetConflict).
     Conflict {
         /// The paper told; None where what was told is no number of a paper.
         paper: Option<PaperNo>,
@@ -41,7 +39,7 @@ pub enum RowCommand {
         /// Whether she is in conflict from now on.
         on: bool,
     },
-    /// A [`Command::Assign`].
+    /// A [`Command::Assign`](crate::Command::Assign).
     Assign {
         /// The paper told; None where what was told is no number of a paper.
         paper: Option<PaperNo>,
@@ -50,14 +48,14 @@ pub enum RowCommand {
         /// What she is to the paper.
         kind: Kind,
     },
-    /// A [`Command::Unassign`].
+    /// A [`Command::Unassign`](crate::Command::Unassign).
     Unassign {
         /// The paper told; None where what was told is no number of a paper.
         paper: Option<PaperNo>,
         /// The name told of her; None where what was told is no name.
         user: Option<Short>,
     },
-    /// A [`Command::Tag`].
+    /// A [`Command::Tag`](crate::Command::Tag).
     Tag {
         /// The paper told; None where what was told is no number of a paper.
         paper: Option<PaperNo>,
@@ -66,20 +64,6 @@ pub enum RowCommand {
         /// Whether it is on.
         on: bool,
     },
-}
-
-impl RowCommand {
-    /// It, among all commands.
-    pub fn into_command(self) -> Command
-        ensures { result ≡ command_of_row self }
-    {
-        match self {
-            RowCommand::Conflict { paper, user, on } => Command::SetConflict { paper, user, on },
-            RowCommand::Assign { paper, user, kind } => Command::Assign { paper, user, kind },
-            RowCommand::Unassign { paper, user } => Command::Unassign { paper, user },
-            RowCommand::Tag { paper, tag, on } => Command::Tag { paper, tag, on },
-        }
-    }
 }
 
 /// The rows of a bulk in their order, at most 512, with room for an entry each: so judging them takes no memory.

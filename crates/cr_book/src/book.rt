@@ -452,10 +452,10 @@ impl<K: Keeper> Book<K> {
     /// for. The keeper isn't asked. `Query::Accounts` costs a walk over all accounts, `Query::AcceptedPapers` one over
     /// all papers, with a few look-ups for each that is accepted, `Query::Page` a few look-ups, one more for each name
     /// that is told, a step for each version and each tag that is told, and, where reviewers are told, a walk over the
-    /// paper's forms, `Query::Me` a walk over her own papers, conflicts and assignments, `Query::Reviews` at most three
-    /// walks over the paper's forms for each of its labels, of which there are at most 26, `Query::Comments` a walk
-    /// over the comments on the paper with a look-up each, `Query::Content` and `Query::Version` one look-up,
-    /// `Query::Search` a walk over all papers, which costs each what `matches` of `cr_search_eval` does,
+    /// paper's forms, `Query::Me` what `me` of `cr_view` does, `Query::Reviews` a walk over the paper's forms, and two
+    /// more at most for each of its labels, of which there are at most 26, `Query::Comments` a walk over the comments
+    /// on the paper with a look-up each, `Query::Response` a few reads by number, `Query::Content` and `Query::Version`
+    /// one look-up, `Query::Search` a walk over all papers, which costs each what `found` of `cr_search_eval` says,
     /// `Query::Report` what `cr_reports` says of each report, `Query::Plan` what `answer` of `cr_plans` does,
     /// `Query::Phase` and `Query::Deadlines` nothing that grows. But for a search and a letter, the length of texts
     /// and contents makes no difference.

@@ -1,16 +1,16 @@
 //! What a history in memory begins with.
-ghost use Rattle.std.specs.Prelude.{◌≡◌, [], IfSome};
+ghost use Rattle.std.specs.Prelude.{◌≡◌, [], IfOk};
 
 use crate::book::Book;
 use cr_ports::PlainKeeper;
-use std::alloc::Global;
+use std::alloc::{AllocError, Global};
 
-/// A book without entries, whose rows stand in memory; none for lack of memory alone.
-pub fn empty_book(alloc: Global) -> Option<Book<PlainKeeper>>
-    ensures { IfSome result (λ book. book.log ≡ []) }
+/// A book without entries, whose rows stand in memory. An error only for lack of memory.
+pub fn empty_book(alloc: Global) -> Result<Book<PlainKeeper>, AllocError>
+    ensures { IfOk result (λ book. book.log ≡ []) }
 {
     match Book::open(alloc, PlainKeeper::new(alloc)) {
-        Ok(book) => Some(book),
-        Err(_) => None,
+        Ok(book) => Ok(book),
+        Err(_) => Err(AllocError),
     }
 }

@@ -336,9 +336,7 @@ pub fn run_drill(alloc: Global, seed: u64, steps: u64) -> Result<Vec<u8>, AllocE
     requires steps { (1 ≤ steps) × (steps ≤ 100000) }
     ensures { IfOk result (λ text. text.items ≡ summary steps (drilled seed steps)) }
 {
-    let Some(mut book) = empty_book(alloc) else {
-        return Err(AllocError);
-    };
+    let mut book = empty_book(alloc)?;
     let text = run_on(alloc, &mut book, seed, steps);
     let _keeper = book.close();
     text

@@ -32,7 +32,7 @@ impl Model for FileDisks {
     ghost view = { λ d. d.faults };
 }
 
-/// Makes the file for its owner alone, where it is missing, and syncs its folder then.
+/// Makes the file for its owner alone, where it is missing.
 fn make_missing(rt: &HostRuntime, path: &str) -> Result<(), Reason> {
     match OpenOptions::new()
         .write(true)
@@ -40,7 +40,7 @@ fn make_missing(rt: &HostRuntime, path: &str) -> Result<(), Reason> {
         .mode(OWNERS_ALONE)
         .open(rt, path)
     {
-        Ok(_) => sync_folder(rt, path),
+        Ok(_) => Ok(()),
         Err(error) if error.kind() == ErrorKind::AlreadyExists => Ok(()),
         Err(error) => Err(Reason::System(error)),
     }
@@ -59,23 +59,33 @@ fn sync_folder(rt: &HostRuntime, path: &str) -> Result<(), Reason> {
     }
 }
 
-/// Opens a file and holds it for this process.
-fn open_held(rt: &HostRuntime, path: &str) -> Result<File, Reason> {
+/// Opens a file, which is made where it is missing, and tells how many bytes it has.
+fn open_or_make(rt: &HostRuntime, path: &str) -> Result<(File, u64), Reason> {
     make_missing(rt, path)?;
-    match fs::metadata(rt, path) {
-        Ok(found) if found.is_file() => {}
+    let len = match fs::metadata(rt, path) {
+        Ok(found) if found.is_file() => found.len(),
         Ok(_) => return Err(Reason::NoFile),
         Err(error) => return Err(Reason::System(error)),
-    }
-    let file = match OpenOptions::new().read(true).write(true).open(rt, path) {
-        Ok(file) => file,
-        Err(error) => return Err(Reason::System(error)),
     };
-    match file.try_lock() {
-        Ok(()) => Ok(file),
-        Err(TryLockError::WouldBlock) => Err(Reason::Busy),
-        Err(TryLockError::Error(error)) => Err(Reason::System(error)),
+    match OpenOptions::new().read(true).write(true).open(rt, path) {
+        Ok(file) => Ok((file, len)),
+        Err(error) => Err(Reason::System(error)),
     }
+}
+
+/// Opens a file and holds it for this process. The folder of an empty one is synced, whoever made it: an earlier start
+/// may have been stopped, or refused, ahead of that.
+fn open_held(rt: &HostRuntime, path: &str) -> Result<File, Reason> {
+    let (file, len) = open_or_make(rt, path)?;
+    match file.try_lock() {
+        Ok(()) => {}
+        Err(TryLockError::WouldBlock) => return Err(Reason::Busy),
+        Err(TryLockError::Error(error)) => return Err(Reason::System(error)),
+    }
+    if len == 0 {
+        sync_folder(rt, path)?;
+    }
+    Ok(file)
 }
 
 impl FileDisks {
@@ -108,7 +118,7 @@ impl Disks for FileDisks {
 
     ghost faults = { λ d. d };
 
-    /// Makes the file where it is missing, for its owner alone, and then syncs its folder.
+    /// Makes the file where it is missing, for its owner alone, and syncs the folder of one without bytes.
     fn open(&mut self, path: &str) -> Result<FileDisk, KeeperError> {
         match open_held(&self.rt, path) {
             Ok(file) => Ok(FileDisk::new(file)),

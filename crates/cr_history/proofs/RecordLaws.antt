@@ -28,7 +28,7 @@ use Rattle.cr_base.proofs.SeatLaws.{left_at, ties_of-with_seat, ties_of-without_
 use Rattle.cr_base.proofs.SortedLists.{filter-swap}
 use Rattle.cr_base.proofs.TagLaws.{tag_before-turned}
 use Rattle.cr_base.proofs.TieLaws.{users_tied_to-push}
-use Rattle.cr_history.specs.Records.{is_on, entries_on, records_on, records_declared}
+use Rattle.cr_history.specs.Records.{is_on, entries_on, records_with, records_on, records_declared}
 
 -- ---- lists
 
@@ -198,52 +198,35 @@ seats-left p paper ordinal ts =
 
 -- ---- one entry
 
--- it adds to one list at most, and there to its paper's alone
-kept-entry : (p : ℕ) (t : Tables) (s : Stamped)
-    → records_on p (tables_after t s) ≤ records_on p t + one (is_on p s.entry)
-kept-entry p t s = by s.entry
-  where
-    by : (e : Entry) → records_on p (tables_after t (record { stamp = s.stamp; more = s.more; entry = e }))
-        ≤ records_on p t + one (is_on p e)
-    by (Submitted paper title abstract) = let more =
-        authors-more p paper s.stamp.maker t.ties.authors in omega (arith, more)
-    by (Coauthor paper user) = let more = authors-more p paper user t.ties.authors in omega (arith, more)
-    by (Uploaded paper version content) = let more =
-        filed-more p (filed paper (record { version = version; content = content })) t.papers.uploads in omega
-        (arith, more)
-    by (Conflict paper user on) = let more = conflicts-more p on paper user t.ties.conflicts in omega (arith, more)
-    by (Bid paper value) = let more = bids-more p paper s.stamp.maker value t.ties in omega (arith, more)
-    by (Assigned paper user kind ordinal) = let more =
-        seats-more p (seat_tie paper user kind ordinal) t.seats in omega (arith, more)
-    by (Unassigned paper user ordinal) = let left = seats-left p paper ordinal t.seats in omega (arith, left)
-    by (Reviewed paper ordinal version form) =
-        let more =
-        filed-more p
-        (filed paper (record { ordinal = ordinal; version = version; phase = t.reviews.phase; form = form }))
-        t.reviews.forms in
-        omega (arith, more)
-    by (Tagged paper tag on) =
-        let more = tags-more p on (filed paper (record { tag = tag; owner = tag_owner tag s.stamp.maker })) t.tags in
-        omega (arith, more)
-    by (Invited paper user) = let more = conflicts-more p true paper user t.invites in omega (arith, more)
-    by (Uninvited paper user) = let more = conflicts-more p false paper user t.invites in omega (arith, more)
-    by e = omega arith
+-- those who are in conflict with a paper, or those whom its authors have declared
+abbrev conflicts_in : (declared : Bool) → Tables → BareTies
+conflicts_in declared t = cond declared t.ties.declared t.ties.conflicts
 
-declared-entry : (p : ℕ) (t : Tables) (s : Stamped)
-    → records_declared p (tables_after t s) ≤ records_declared p t + one (is_on p s.entry)
-declared-entry p t s = by s.entry
+-- it adds to one list at most, and there to its paper's alone
+kept-entry : (declared : Bool) (p : ℕ) (t : Tables) (s : Stamped)
+    → records_with (conflicts_in declared (tables_after t s)) p (tables_after t s)
+    ≤ records_with (conflicts_in declared t) p t + one (is_on p s.entry)
+kept-entry declared p t s = by s.entry
   where
-    by : (e : Entry) → records_declared p (tables_after t (record { stamp = s.stamp; more = s.more; entry = e }))
-        ≤ records_declared p t + one (is_on p e)
+    after : Entry → Tables
+    after e = tables_after t (record { stamp = s.stamp; more = s.more; entry = e })
+
+    turned : (which : Bool) (paper user : ℕ) (on : Bool)
+        → length (users_tied_to p (conflicts_in which (after (Conflict paper user on))))
+        ≤ length (users_tied_to p (conflicts_in which t)) + one (eqb p paper)
+    turned true paper user on =
+        declared-more p (is_author_in t.ties (Some s.stamp.maker) paper) paper user t.ties.declared
+    turned false paper user on = conflicts-more p on paper user t.ties.conflicts
+
+    by : (e : Entry) → records_with (conflicts_in declared (after e)) p (after e)
+        ≤ records_with (conflicts_in declared t) p t + one (is_on p e)
     by (Submitted paper title abstract) = let more =
         authors-more p paper s.stamp.maker t.ties.authors in omega (arith, more)
     by (Coauthor paper user) = let more = authors-more p paper user t.ties.authors in omega (arith, more)
     by (Uploaded paper version content) = let more =
         filed-more p (filed paper (record { version = version; content = content })) t.papers.uploads in omega
         (arith, more)
-    by (Conflict paper user on) = let more =
-        declared-more p (is_author_in t.ties (Some s.stamp.maker) paper) paper user t.ties.declared in omega
-        (arith, more)
+    by (Conflict paper user on) = let more = turned declared paper user on in omega (arith, more)
     by (Bid paper value) = let more = bids-more p paper s.stamp.maker value t.ties in omega (arith, more)
     by (Assigned paper user kind ordinal) = let more =
         seats-more p (seat_tie paper user kind ordinal) t.seats in omega (arith, more)
@@ -275,8 +258,8 @@ module _ (p : ℕ) (number : Tables → ℕ)
       omega (arith, here, rest, counted)
 
 pub records-few : (p : ℕ) (H : History) → records_on p (tables_of H) ≤ entries_on p H
-records-few p H = let few = number-from p (records_on p) (kept-entry p) no_tables H in omega (arith, few)
+records-few p H = let few = number-from p (records_on p) (kept-entry false p) no_tables H in omega (arith, few)
 
 pub records-declared-few : (p : ℕ) (H : History) → records_declared p (tables_of H) ≤ entries_on p H
-records-declared-few p H = let few =
-    number-from p (records_declared p) (declared-entry p) no_tables H in omega (arith, few)
+records-declared-few p H = let few = number-from p (records_declared p) (kept-entry true p) no_tables H in omega
+    (arith, few)

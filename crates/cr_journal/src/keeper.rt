@@ -1,5 +1,5 @@
 //! A keeper over a disk.
-ghost use Rattle.std.specs.Prelude.{◌≡◌, ◌≢◌, ◌↔◌, ◌<◌, ◌≤◌, ◌+◌, ◌^◌, ◌++◌, [], ◌∷◌, List, ℕ, length};
+ghost use Rattle.std.specs.Prelude.{◌≡◌, ◌≢◌, ◌<◌, ◌≤◌, ◌+◌, ◌^◌, ◌++◌, [], ◌∷◌, List, ℕ, length};
 ghost use Rattle.std.specs.Prelude.{Err, Some, false, true, vec_len, vec_capacity, IfOk, IfErr, OnOk, OnErr, IsTrue};
 ghost use Rattle.cr_base.specs.declared.row.Row.{Row};
 ghost use Rattle.cr_disks.specs.Disk.{Only};
@@ -210,13 +210,6 @@ impl<D: Disk> JournalKeeper<D> {
         ensures { result.now ≡ self.now.disk }
     {
         &self.journal.disk
-    }
-
-    /// Whether after a stop a group may be found behind the rows, whose append failed.
-    pub fn is_in_doubt(&self) -> bool
-        ensures { IsTrue result ↔ (self.now.doubted ≢ []) }
-    {
-        self.journal.in_doubt
     }
 }
 

@@ -29,15 +29,15 @@ use cr_view::Live;
 /// `judge_dismiss` of the accounts, `judge_phase`, `judge_mode` and `judge_deadline` of the stage, `judge_submit`,
 /// `judge_revise`, `judge_upload` and `judge_withdraw` of the papers, `judge_conflict` and `judge_bid` of the ties,
 /// `judge_assign`, `judge_unassign`, `judge_invite` and `judge_uninvite` of the seats, and `judge_review`,
-/// `judge_comment`, `judge_tag` and `judge_decide`.
+/// `judge_comment`, `judge_respond`, `judge_tag` and `judge_decide`.
 ///
-/// Takes no memory: the command's texts and its content are moved. A registration, a naming, a
-/// conflict, an assignment and the end of one take one look-up by name, a submission one for each
-/// co-author told. Where a paper is named, how the caller stands to it takes walks over the paper's
-/// authors and seats and a binary search among its conflicts, and how a user stands who is named with it
-/// takes as much at most; the end of an assignment takes a walk over the paper's forms too, a review such
-/// a walk and one more over the seats, and a comment one more over the seats. All else is a few reads by
-/// number.
+/// Takes no memory: the command's texts and its content are moved. A registration takes one look-up by name, and so
+/// does each command that names a user (a naming, a dismissal, a conflict, an assignment, an invitation, the end of
+/// either); a submission takes one for each co-author told. Where a paper is named, how the caller stands to it takes
+/// walks over the paper's authors and seats and a binary search among its conflicts and one among its invitations,
+/// and how a user stands who is named with it takes as much at most; the end of an assignment takes a walk over the
+/// paper's forms too, a review such a walk and one more over the seats, and a comment one more over the seats. All
+/// else is a few reads by number.
 pub fn judge(live: &Live, call: Call) -> Result<Effect, Rule>
     requires caller { HasCaller call }
     requires few { HasFewAuthors call.command }

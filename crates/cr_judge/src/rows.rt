@@ -39,7 +39,7 @@ pub fn may_bulk(live: &Live, caller: UserNo) -> Result<(), Rule>
 /// command, as `judge` tells them.
 ///
 /// Takes no memory. The cost is that of the command in `judge`, and walks over the earlier entries, at most
-/// 511: three for how the caller stands to the paper, and four more at most for how the user named does.
+/// 511: three for how the caller stands to the paper, and five more at most for how the user named does.
 pub fn judge_row(
     live: &Live,
     stamp: &Stamp,

@@ -64,7 +64,7 @@ mod rule;
 mod stands;
 mod steps;
 
-pub use lock::{HistoryLock, SplitError};
+pub use lock::HistoryLock;
 pub use pass::Pass;
 pub use pass_state::Turn;
 pub use stands::Stands;

@@ -67,15 +67,6 @@ impl<T: Stands> Model for HistoryLock<T> {
     ghost invariant = { λ l. (l.table.shared.table_id.words ≡ 3) × (l.table.shared.table_id.slots ≡ 1) };
 }
 
-/// Why a pass was not split.
-#[derive(Clone, Copy, PartialEq, Eq, Drop)]
-pub enum SplitError {
-    /// Its share is 1, which can't be halved.
-    Full,
-    /// There is no memory for a second pass. The passes of this lock take none, so it never comes.
-    OutOfMemory,
-}
-
 /// The table's one slot, with the value in it; or, without memory, the value.
 fn one_slot<T>(alloc: Global, value: T) -> Result<Vec<Option<T>, Global>, T>
     ensures ok { IfOk result (λ v. v.items ≡ Some value ∷ []) }
@@ -215,15 +206,15 @@ impl<T: Stands> HistoryLock<T> {
     /// Two passes in place of one: each has half the share, the first one the larger half, and has seen what
     /// the pass had seen, with its count of turns. The turns themselves stay with the first one.
     ///
-    /// `Full` comes exactly where the share is 1; the pass is handed back as it was. It takes no memory.
-    pub fn split(&self, pass: Pass<T>) -> Result<(Pass<T>, Pass<T>), (SplitError, Pass<T>)>
+    /// An error comes exactly where the share is 1, and is the pass as it was. It takes no memory.
+    pub fn split(&self, pass: Pass<T>) -> Result<(Pass<T>, Pass<T>), Pass<T>>
         requires { pass.lock ≡ self.now.lock }
         ensures { MatchResult result
             (λ halves. (1 < pass.share) × (halves.0 ≡ larger_half pass) × (halves.1 ≡ smaller_half pass))
-            (λ refused. (pass.share ≡ 1) × (refused.0 ≡ SplitError.Full) × (refused.1 ≡ pass)) }
+            (λ refused. (pass.share ≡ 1) × (refused ≡ pass)) }
     {
         if pass.share == 1 {
-            return Err((SplitError::Full, pass));
+            return Err(pass);
         }
         let Pass {
             mut seat,

@@ -59,21 +59,23 @@ same_pay xs p q c e = ap (λ k. cond c (get_or xs k 0) 0) e
 pub same_value : (v w : ℕ) (c : Bool) → w ≡ v → cond c w 0 ≡ cond c v 0
 same_value v w c e = ap (λ k. cond c k 0) e
 
--- slots that suit their prices, and are closed under the changes
-rest_cost : (a b d e : List ℕ) (ss ts : List Slot) → Alike ss ts → AllSuit a b ss → Closed a b d e ss
-    → ((q : ℕ) → get_or d q 0 ≤ 1) → ((q : ℕ) → get_or e q 0 ≤ 1) →
+-- one more slot on each side, which costs `more` beside what the others do
+added_cost : (a b d e : List ℕ) (s t : Slot) (ss ts : List Slot) (more : ℕ) → Alike (s ∷ ss) (t ∷ ts) →
+    cond t.chosen s.value 0 + cond t.chosen (get_or d s.paper 0) 0 + cond s.chosen (get_or a s.paper 0) 0
+    + cond s.chosen (get_or b s.member 0) 0 + cond s.chosen (get_or e s.member 0) 0 + more
+    ≤ cond s.chosen s.value 0 + cond s.chosen (get_or d s.paper 0) 0 + cond t.chosen (get_or a s.paper 0) 0
+    + cond t.chosen (get_or b s.member 0) 0 + cond t.chosen (get_or e s.member 0) 0 →
     chosen_value ts + papers_pay d ts + papers_pay a ss + members_pay b ss + members_pay e ss
-    ≤ chosen_value ss + papers_pay d ss + papers_pay a ts + members_pay b ts + members_pay e ts
-rest_cost a b d e [] [] h suit closed ld le = omega arith
-rest_cost a b d e [] (t ∷ ts) h suit closed ld le = absurd h
-rest_cost a b d e (s ∷ ss) [] h suit closed ld le = absurd h
-rest_cost a b d e (s ∷ ss) (t ∷ ts) h suit closed ld le =
+    ≤ chosen_value ss + papers_pay d ss + papers_pay a ts + members_pay b ts + members_pay e ts →
+    chosen_value (t ∷ ts) + papers_pay d (t ∷ ts) + papers_pay a (s ∷ ss) + members_pay b (s ∷ ss)
+    + members_pay e (s ∷ ss) + more
+    ≤ chosen_value (s ∷ ss) + papers_pay d (s ∷ ss) + papers_pay a (t ∷ ts) + members_pay b (t ∷ ts)
+    + members_pay e (t ∷ ts)
+added_cost a b d e s t ss ts more h slot rest =
     omega (
       arith,
-      slot_cost s.value (get_or a s.paper 0) (get_or b s.member 0) (get_or d s.paper 0) (get_or e s.member 0) s.chosen
-          t.chosen
-          suit.0.0 suit.0.1 closed.0 closed.1 (ld s.paper) (le s.member),
-      rest_cost a b d e ss ts h.3 suit.1 closed.2 ld le,
+      slot,
+      rest,
       same_value s.value t.value t.chosen h.2,
       same_pay a s.paper t.paper t.chosen h.0,
       same_pay d s.paper t.paper t.chosen h.0,
@@ -90,6 +92,22 @@ rest_cost a b d e (s ∷ ss) (t ∷ ts) h suit closed ld le =
       pays_cons (λ x. x.member) e s ss,
       pays_cons (λ x. x.member) e t ts,
     )
+
+-- slots that suit their prices, and are closed under the changes
+rest_cost : (a b d e : List ℕ) (ss ts : List Slot) → Alike ss ts → AllSuit a b ss → Closed a b d e ss
+    → ((q : ℕ) → get_or d q 0 ≤ 1) → ((q : ℕ) → get_or e q 0 ≤ 1) →
+    chosen_value ts + papers_pay d ts + papers_pay a ss + members_pay b ss + members_pay e ss
+    ≤ chosen_value ss + papers_pay d ss + papers_pay a ts + members_pay b ts + members_pay e ts
+rest_cost a b d e [] [] h suit closed ld le = omega arith
+rest_cost a b d e [] (t ∷ ts) h suit closed ld le = absurd h
+rest_cost a b d e (s ∷ ss) [] h suit closed ld le = absurd h
+rest_cost a b d e (s ∷ ss) (t ∷ ts) h suit closed ld le =
+    let slot =
+    slot_cost s.value (get_or a s.paper 0) (get_or b s.member 0) (get_or d s.paper 0) (get_or e s.member 0) s.chosen
+    t.chosen suit.0.0 suit.0.1 closed.0 closed.1 (ld s.paper) (le s.member) in
+    let added =
+    added_cost a b d e s t ss ts 0 h (omega (arith, slot)) (rest_cost a b d e ss ts h.3 suit.1 closed.2 ld le) in
+    omega (arith, added)
 
 -- a slot that isn't chosen, whose price goes up by the changes
 turn_cost : (v a b d e : ℕ) (s t : Bool) → s ≡ false → v + d + 1 ≤ a + b + e →
@@ -106,27 +124,10 @@ from_cost : (a b d e : List ℕ) (s t : Slot) (ss ts : List Slot) → Alike (s �
     ≤ chosen_value (s ∷ ss) + papers_pay d (s ∷ ss) + papers_pay a (t ∷ ts) + members_pay b (t ∷ ts)
     + members_pay e (t ∷ ts)
 from_cost a b d e s t ss ts h out up suit closed ld le =
-    omega (
-      arith,
-      turn_cost s.value (get_or a s.paper 0) (get_or b s.member 0) (get_or d s.paper 0) (get_or e s.member 0) s.chosen
-          t.chosen out up,
-      rest_cost a b d e ss ts h.3 suit closed ld le,
-      same_value s.value t.value t.chosen h.2,
-      same_pay a s.paper t.paper t.chosen h.0,
-      same_pay d s.paper t.paper t.chosen h.0,
-      same_pay b s.member t.member t.chosen h.1,
-      same_pay e s.member t.member t.chosen h.1,
-      value_cons s ss,
-      value_cons t ts,
-      pays_cons (λ x. x.paper) a s ss,
-      pays_cons (λ x. x.paper) a t ts,
-      pays_cons (λ x. x.paper) d s ss,
-      pays_cons (λ x. x.paper) d t ts,
-      pays_cons (λ x. x.member) b s ss,
-      pays_cons (λ x. x.member) b t ts,
-      pays_cons (λ x. x.member) e s ss,
-      pays_cons (λ x. x.member) e t ts,
-    )
+    added_cost a b d e s t ss ts (bit t.chosen) h
+    (turn_cost s.value (get_or a s.paper 0) (get_or b s.member 0) (get_or d s.paper 0) (get_or e s.member 0) s.chosen
+    t.chosen out up)
+    (rest_cost a b d e ss ts h.3 suit closed ld le)
 
 -- papers of full choices pay the same
 full_case : (want load papers : ℕ) (ss ts : List Slot) (q : ℕ) (c e : Bool) → (q == papers) ≡ c → (ltb q papers) ≡ e

@@ -10,6 +10,33 @@ same_or_not : (k i : ℕ) (b : Bool) → (k == i) ≡ b → (k ≡ i) ⊎ (k ≢
 same_or_not k i true e = inl (grind (arith, nat_tests))
 same_or_not k i false e = inr (grind (arith, nat_tests))
 
+-- where the labels of its paper and of its member are the same, a slot leads as before
+still_leads : (a b lp lm lp' lm' : List ℕ) (ss : List Slot) (p i : ℕ) (u : Leads a b lp lm ss p i)
+    → get_or lp' p 0 ≡ get_or lp p 0 → get_or lm' u.member 0 ≡ get_or lm u.member 0 → Leads a b lp' lm' ss p i
+still_leads a b lp lm lp' lm' ss p i u own other =
+    record {
+      member = u.member;
+      value = u.value;
+      inside = u.inside;
+      is = u.is;
+      tight = u.tight;
+      labelled = omega (arith, other, u.labelled);
+      lower = omega (arith, own, other, u.lower);
+    }
+
+still_leads_back : (a b lp lm lp' lm' : List ℕ) (ss : List Slot) (m i : ℕ) (u : LeadsBack a b lp lm ss m i)
+    → get_or lm' m 0 ≡ get_or lm m 0 → get_or lp' u.paper 0 ≡ get_or lp u.paper 0 → LeadsBack a b lp' lm' ss m i
+still_leads_back a b lp lm lp' lm' ss m i u own other =
+    record {
+      paper = u.paper;
+      value = u.value;
+      inside = u.inside;
+      is = u.is;
+      tight = u.tight;
+      labelled = omega (arith, other, u.labelled);
+      lower = omega (arith, own, other, u.lower);
+    }
+
 pub label_paper : (load : ℕ) (a b lp lm np nm : List ℕ) (ss : List Slot) (p i m v r : ℕ) → p < length lp
     → length lp ≡ length np → get_or lp p 0 ≡ 0 →
     i < length ss → ((d : Slot) → get_or ss i d ≡ slot p m v false) → v ≡ price a b (slot p m v false)
@@ -37,17 +64,8 @@ label_paper load a b lp lm np nm ss p i m v r lt len none inside is tight labell
             let en : get_or (set np p i) q 0 ≡ get_or np q 0 = get_or-set_other np p q i 0 ne in
             let u : Leads a b lp lm ss q (get_or np q 0) =
             (fit most).papers q (omega (arith, eq, some)) (omega (arith, eq, low)) in
-            let old : Leads a b (set lp p r) lm ss q (get_or np q 0) =
-            record {
-              member = u.member;
-              value = u.value;
-              inside = u.inside;
-              is = u.is;
-              tight = u.tight;
-              labelled = u.labelled;
-              lower = omega (arith, eq, u.lower);
-            } in
-            subst (Leads a b (set lp p r) lm ss q) (sym en) old
+            subst (Leads a b (set lp p r) lm ss q) (sym en)
+            (still_leads a b lp lm (set lp p r) lm ss q (get_or np q 0) u eq refl)
       ];
       members = λ q some low.
           let u : LeadsBack a b lp lm ss q (get_or nm q 0) = (fit most).members q some low in
@@ -55,15 +73,7 @@ label_paper load a b lp lm np nm ss p i m v r lt len none inside is tight labell
           λ e. absurd (let s : get_or lp u.paper 0 ≡ get_or lp p 0 = ap (λ k. get_or lp k 0) e in omega
           (arith, s, none, u.labelled)) in
           let eq : get_or (set lp p r) u.paper 0 ≡ get_or lp u.paper 0 = get_or-set_other lp p u.paper r 0 ne in
-          record {
-            paper = u.paper;
-            value = u.value;
-            inside = u.inside;
-            is = u.is;
-            tight = u.tight;
-            labelled = omega (arith, eq, u.labelled);
-            lower = omega (arith, eq, u.lower);
-          };
+          still_leads_back a b lp lm (set lp p r) lm ss q (get_or nm q 0) u refl eq;
       room = (fit most).room;
     }
 
@@ -93,15 +103,7 @@ label_member load a b lp lm np nm ss p i m v r lt len none inside is tight label
           λ e. absurd (let s : get_or lm u.member 0 ≡ get_or lm m 0 = ap (λ k. get_or lm k 0) e in omega
           (arith, s, none, u.labelled)) in
           let eq : get_or (set lm m r) u.member 0 ≡ get_or lm u.member 0 = get_or-set_other lm m u.member r 0 ne in
-          record {
-            member = u.member;
-            value = u.value;
-            inside = u.inside;
-            is = u.is;
-            tight = u.tight;
-            labelled = omega (arith, eq, u.labelled);
-            lower = omega (arith, eq, u.lower);
-          };
+          still_leads a b lp lm lp (set lm m r) ss q (get_or np q 0) u refl eq;
       members = λ q some low. elim (same_or_not q m (q == m) refl) [
         | inl e ↦ subst (λ k. LeadsBack a b lp (set lm m r) ss k (get_or (set nm m i) k 0)) (sym e)
             (subst (LeadsBack a b lp (set lm m r) ss m) (sym at) new)
@@ -109,17 +111,8 @@ label_member load a b lp lm np nm ss p i m v r lt len none inside is tight label
             let en : get_or (set nm m i) q 0 ≡ get_or nm q 0 = get_or-set_other nm m q i 0 ne in
             let u : LeadsBack a b lp lm ss q (get_or nm q 0) =
             (fit most).members q (omega (arith, eq, some)) (omega (arith, eq, low)) in
-            let old : LeadsBack a b lp (set lm m r) ss q (get_or nm q 0) =
-            record {
-              paper = u.paper;
-              value = u.value;
-              inside = u.inside;
-              is = u.is;
-              tight = u.tight;
-              labelled = u.labelled;
-              lower = omega (arith, eq, u.lower);
-            } in
-            subst (LeadsBack a b lp (set lm m r) ss q) (sym en) old
+            subst (LeadsBack a b lp (set lm m r) ss q) (sym en)
+            (still_leads_back a b lp lm lp (set lm m r) ss q (get_or nm q 0) u eq refl)
       ];
       room = λ q one. elim (same_or_not q m (q == m) refl) [
         | inl e ↦ absurd (let s : get_or (set lm m r) q 0 ≡ get_or (set lm m r) m 0 = ap (λ k. get_or (set lm m r) k 0)

@@ -5,8 +5,11 @@ use std::alloc::Global;
 /// A paper and a member who may review it, both counted from 0, and what that is worth, -20 to 20.
 #[derive(Clone, Copy, PartialEq, Eq)]
 pub struct Pair {
+    /// The paper's place among the papers.
     pub paper: u32,
+    /// The member's place among the members.
     pub member: u32,
+    /// What it is worth that she reviews it.
     pub weight: i32,
 }
 
@@ -14,10 +17,15 @@ pub struct Pair {
 /// which stand in order, by paper, then member.
 #[derive(Drop)]
 pub struct Problem {
+    /// How many papers there are.
     pub papers: u32,
+    /// How many members there are.
     pub members: u32,
+    /// How many members each paper needs.
     pub per_paper: u32,
+    /// How many papers a member takes at most.
     pub load: u32,
+    /// The pairs that may be chosen, in order.
     pub pairs: Vec<Pair>,
 }
 

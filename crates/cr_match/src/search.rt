@@ -19,9 +19,13 @@ ghost use Rattle.cr_match.specs.Plan.{total_below};
 /// A pair with its worth, shifted above 0, and whether it is chosen.
 #[derive(Clone, Copy)]
 pub struct Slot {
+    /// The paper's place.
     pub paper: usize,
+    /// The member's place.
     pub member: usize,
+    /// The pair's worth, above 0.
     pub value: u64,
+    /// Whether it is chosen.
     pub chosen: bool,
 }
 

@@ -7,7 +7,7 @@ ghost use Rattle.cr_base.specs.Checks.{judged, submit_checks, revise_checks, upl
 ghost use Rattle.cr_base.specs.History.{History};
 ghost use Rattle.cr_base.specs.Lists.{last, numbered, numbers_from};
 ghost use Rattle.cr_base.specs.Papers.{no_papers, papers_after, paper_count};
-ghost use Rattle.cr_base.specs.Papers.{paper_numbers, title_at, abstract_at, PapersFit};
+ghost use Rattle.cr_base.specs.Papers.{paper_numbers, title_at, PapersFit};
 ghost use Rattle.cr_base.specs.Papers.{is_withdrawn_at, uploads_at, own_count, own_bytes};
 ghost use Rattle.cr_base.specs.Steps.{Takes, TakesAtMost};
 ghost use Rattle.cr_papers.specs.Named.{named_in};
@@ -130,17 +130,6 @@ impl Papers {
     {
         let paper = self.paper_of(paper, steps)?;
         Some(&paper.title)
-    }
-
-    /// The last abstract that a paper was given, and none where there is no such paper. Found by number; a step
-    /// where there is one.
-    pub fn last_abstract<L: Ledger>(&self, paper: PaperNo, steps: &mut Steps<L>) -> Option<&Text>
-        ensures value { option_copied result ≡ abstract_at self.now.papers paper }
-        ensures steps { TakesAtMost 1 steps.old steps.new }
-        ensures told { IfSome result (λ value. Takes 1 steps.old steps.new) }
-    {
-        let paper = self.paper_of(paper, steps)?;
-        Some(&paper.abstract_)
     }
 
     /// Whether a paper was withdrawn; false where there is no such paper. Found by number; a step where there is

@@ -33,10 +33,10 @@ pub enum Refused {
     BadNumber,
     /// The body doesn't spell what the request asks for (400).
     BadBody,
-    /// The search spells nothing that can be searched for (400); the answer tells where.
+    /// The query string spells no search, or not the numbers of a plan (400); the answer tells where.
     BadQuery {
         /// The last offset in the search's text, in bytes from 0 to 1,024, up to which that can be the beginning of a
-        /// search; 0 where there is no text.
+        /// search; 0 where there is no text, and of a plan.
         offset: usize,
     },
     /// A rule of the conference is broken.

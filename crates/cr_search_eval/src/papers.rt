@@ -1,8 +1,7 @@
 //! The papers that a search finds.
 ghost use Rattle.std.specs.Prelude.{◌≡◌, ◌≤◌, ◌++◌, IfOk, OnOk, IsSome, Some, length};
 ghost use Rattle.std.specs.Option.{option_copied, option_map};
-ghost use Rattle.cr_base.specs.Answering.{found_by, search_told, told_of_paper};
-ghost use Rattle.cr_base.specs.Searching.{search_holds, term_holds};
+ghost use Rattle.cr_base.specs.Answering.{found_by, search_told};
 ghost use Rattle.cr_base.specs.Lists.{listed};
 ghost use Rattle.cr_base.specs.Sources.{facts_of_tables, shown_in_tables};
 ghost use Rattle.cr_search_eval.specs.Asked.{title_found};
@@ -13,17 +12,6 @@ use crate::evaluate::search_holds;
 use cr_base::{FoundPaper, FoundPapers, PaperNo, Reply, Search, Text, UserNo};
 use cr_view::Live;
 use std::alloc::{AllocError, Global};
-
-/// Whether the search holds of the paper, by what the user is told of it. It costs what `facts` of the tables does, and
-/// for each term that decides it what its field costs beside; takes no memory.
-pub fn matches(live: &Live, user: UserNo, search: &Search, paper: PaperNo) -> bool
-    ensures { result ≡ search_holds
-        (term_holds (told_of_paper (facts_of_tables live.now.tables (Some user)) (shown_in_tables live.now.tables)
-        (Some user) paper)) search.now }
-{
-    let asked = Asked::new(live, user, paper);
-    search_holds(live, &asked, search)
-}
 
 /// The title of the paper, where the user is told one and the search holds of it. Without one no term is tried.
 fn title_found<'a>(
@@ -55,8 +43,8 @@ fn count_one(live: &Live, user: UserNo, search: &Search, paper: PaperNo) -> u64
 }
 
 /// The papers that the search finds for the user, by number, each with its last title; an error only for
-/// lack of memory. A walk over all papers, which costs each what `matches` does. Shares the titles, and
-/// takes no memory but for the answer.
+/// lack of memory. A walk over all papers, which costs each what `facts` of the tables does, and for each term that
+/// decides it what its field costs beside. Shares the titles, and takes no memory but for the answer.
 pub fn found(
     alloc: Global,
     live: &Live,

@@ -16,7 +16,7 @@ pub enum Exit {
     /// The words name no job, a call for help included.
     Usage,
     /// The store has a row that is no entry's, or doesn't continue a legal history, or is its last one though
-    /// another of its command should follow.
+    /// another of its command or its bulk should follow.
     BadStore {
         /// The row's number, from 0: it is the first such row.
         row: u64,

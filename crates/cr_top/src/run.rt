@@ -71,7 +71,7 @@ fn do_job<R: Threads + Wait + Sync, I: Source, O: Sink, S: Shelf, G: Gates, C: C
 {
     match job {
         Job::Pipe { store: None } => {
-            let Some(book) = empty_book(alloc) else {
+            let Ok(book) = empty_book(alloc) else {
                 return Exit::OutOfMemory;
             };
             let (ending, _keeper) = pipe(rt, alloc, book, input, out, clock);

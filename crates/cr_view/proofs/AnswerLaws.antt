@@ -3,7 +3,6 @@ use Rattle.std.proofs.Common.{ℕ, Bool, true, ◌≡◌, ◌<◌, ◌+◌, List
 use Rattle.std.proofs.Common.{append_assoc, refl, sym, ap, subst, ◌∙◌, Option, Some, None, Result, Ok, Err}
 use Rattle.std.specs.Option.{option_map}
 use Rattle.std.specs.Prelude.{map, unwrap_or, IsOk, IsErrAnd, IsSome}
-use Rattle.std.specs.Result.{result_and}
 use Rattle.std.proofs.lemmas.Bool.{true≢false}
 use Rattle.std.proofs.lemmas.List.{at_drop_more}
 use Rattle.cr_base.specs.declared.entry.Account.{Account}
@@ -102,23 +101,6 @@ member-known t (Some user) paper h = refl
 abbrev pub as_reply : {A : Type 0} → (A → Reply) → Result A AnswerError → Result Reply AnswerError
 as_reply made (Ok shown) = Ok (made shown)
 as_reply made (Err error) = Err error
-
--- whoever may read a paper may ask for what is told of it
-pub reader-may : (asked : Option ℕ → Query) (t : Tables) (user paper : Option ℕ) (query : Query)
-    (reader : Result Standing Rule) (r : Result (Unit {0}) Rule)
-    → query ≡ asked paper → reader ≡ reader_at asked t user paper → r ≡ result_and reader (Ok tt)
-    → r ≡ judged (query_checks (facts_of_tables t user) (shown_in_tables t) query) tt
-reader-may asked t user paper query reader r is reads told =
-    told ∙ by reader reads
-    ∙ sym (ap (λ (q : Query). judged (query_checks (facts_of_tables t user) (shown_in_tables t) q) tt) is)
-  where
-    checks : List Check
-    checks = query_checks (facts_of_tables t user) (shown_in_tables t) (asked paper)
-
-    by : (reader : Result Standing Rule) → reader ≡ reader_at asked t user paper
-        → ◌≡◌ {A = Result (Unit {0}) Rule} (result_and reader (Ok tt)) (judged checks tt)
-    by (Ok given) h = passed checks (λ y. tt) (standing_at t user paper) given h
-    by (Err rule) h = refused checks (standing_at t user paper) tt rule h
 
 -- what is told of a paper to one who stands so to it is what is due
 module _ {A : Type 0} (asked : Option ℕ → Query) (told : Facts → Shown → ℕ → A) (t : Tables)

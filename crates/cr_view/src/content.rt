@@ -1,9 +1,6 @@
 //! What is answered of a paper's content: the last version to members and externals, any to authors.
 ghost use Rattle.std.specs.Prelude.{◌≡◌, IfOk, IfErr, Ok, Err, Some};
 ghost use Rattle.std.specs.Option.{option_copied};
-ghost use Rattle.cr_base.specs.Answering.{content_asked};
-ghost use Rattle.cr_base.specs.Checks.{judged};
-ghost use Rattle.cr_base.specs.Sources.{facts_of_tables, shown_in_tables};
 ghost use Rattle.cr_view.specs.Replies.{AnswersAsDue, ShowsAsDue, content_at};
 ghost use Rattle.cr_view.specs.Replies.{content_due, content_reader_at, content_reply_at};
 
@@ -44,22 +41,6 @@ impl Live {
         match self.content_for(user, paper, version) {
             Ok(content) => Ok(Reply::Content(content)),
             Err(error) => Err(error),
-        }
-    }
-
-    /// Whether she may read it, or the first broken rule; takes no memory.
-    pub(crate) fn may_read(
-        &self,
-        user: &Option<UserNo>,
-        paper: &Option<PaperNo>,
-        version: Option<u64>,
-    ) -> Result<(), Rule>
-        ensures { result ≡ judged (content_asked (facts_of_tables self.now.tables user.now)
-            (shown_in_tables self.now.tables) paper.now version) tt }
-    {
-        match self.content_told(user, paper, version) {
-            Ok(_) => Ok(()),
-            Err(rule) => Err(rule),
         }
     }
 

@@ -14,8 +14,8 @@ use std::alloc::{AllocError, Global};
 
 impl Live {
     /// What a user is told of herself; an error only for lack of memory. A few look-ups by number, and
-    /// a walk over her own papers, over those with which she is declared in conflict, over those that
-    /// she reviews and over those to which she is invited.
+    /// a walk over her own papers, over those with which she is declared in conflict, each of which costs one over its
+    /// authors, over those that she reviews and over those to which she is invited.
     pub fn me(&self, alloc: Global, user: UserNo) -> Result<Me, AllocError>
         ensures { IfOk result (λ me. me ≡ me_by (facts_of_tables self.now.tables (Some user)) user) }
     {

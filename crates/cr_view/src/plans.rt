@@ -56,8 +56,9 @@ fn is_none_of(wrote: bool, declared: bool, reviews: bool) -> bool
 
 /// Whether one may be asked for.
 impl Live {
-    /// Whether a user, or nobody, may ask for a plan with so many places for each paper, or the first broken rule, as
-    /// `may` tells it. A walk over all papers, and one over the accounts.
+    /// Whether a user, or nobody, may ask for a plan with so many places for each paper, or the first broken rule:
+    /// `NotChair`, `WrongPhase` and `PlanTooLarge`, but not `NoPlan`, which memory finds. A walk over all papers, and
+    /// one over the accounts.
     pub fn may_plan(&self, user: &Option<UserNo>, per_paper: PerPaper) -> Result<(), Rule>
         ensures { result ≡ judged (plan_asked (facts_of_tables self.now.tables user.now)
             (shown_in_tables self.now.tables) per_paper) tt }

@@ -53,32 +53,6 @@ fn may_see_page(facts: &PaperFacts<'_>) -> bool
 
 /// Who may ask.
 impl Live {
-    /// Whether a user, or nobody, may ask this, or the first broken rule of its kind: of a page
-    /// `NoPaper` where there is no such paper, else `NotMember` where she is neither a member of the
-    /// committee nor an external or an author of the paper, and it isn't accepted; of a content, of reviews, of a
-    /// response and of comments as `content_for`, `reviews_for`, `response_for` and `comments_for` tell it; of a
-    /// report as it is told at `Report`: `NotMember` or `NotChair`, of a letter `NoPaper` and then `NotAuthor`, and
-    /// last `WrongPhase`; of a plan `NotChair`, `WrongPhase` and `PlanTooLarge`, but not `NoPlan`, which memory finds.
-    /// Takes no memory; a few reads by number, of a content one look-up besides, and of a plan a walk over all papers
-    /// and one over the accounts.
-    pub fn may(&self, user: &Option<UserNo>, query: &Query) -> Result<(), Rule>
-        ensures { result ≡ judged (query_checks (facts_of_tables self.now.tables user.now)
-            (shown_in_tables self.now.tables) query.now) tt }
-    {
-        match query {
-            Query::Me | Query::Accounts | Query::Phase => Ok(()),
-            Query::Deadlines | Query::AcceptedPapers | Query::Search { .. } => Ok(()),
-            Query::Page { paper } => self.may_see(user, paper),
-            Query::Content { paper } => self.may_read(user, paper, None),
-            Query::Version { paper, version } => self.may_read(user, paper, Some(*version)),
-            Query::Reviews { paper } => self.reviews_reader(user, paper).and(Ok(())),
-            Query::Comments { paper } => self.comments_reader(user, paper).and(Ok(())),
-            Query::Response { paper } => self.may_read_response(user, paper),
-            Query::Report { report } => self.may_have(user, report),
-            Query::Plan { per_paper, .. } => self.may_plan(user, *per_paper),
-        }
-    }
-
     /// What is asked of the paper whose page she may see, or the first broken rule.
     fn page_facts<L: Ledger>(
         &self,
@@ -102,17 +76,6 @@ impl Live {
             return Err(Rule::NotMember);
         }
         Ok(facts)
-    }
-
-    /// Whether she may see the paper's page, or the first broken rule.
-    fn may_see(&self, user: &Option<UserNo>, paper: &Option<PaperNo>) -> Result<(), Rule>
-        ensures { result ≡ judged (query_checks (facts_of_tables self.now.tables user.now)
-            (shown_in_tables self.now.tables) (queries.Page paper.now)) tt }
-    {
-        match self.page_facts(user, paper, &mut Steps::uncounted()) {
-            Ok(_) => Ok(()),
-            Err(rule) => Err(rule),
-        }
     }
 
     /// Whether there is such a paper.
@@ -154,9 +117,8 @@ impl Live {
     /// a report and a plan, see `cr_reports` and `cr_plans`. All accounts cost a walk over them; a page a few
     /// look-ups and one more for each name that is told, whatever the length of the texts, a step for each
     /// version and each tag that is told, and, where reviewers are told, one for each who was ever assigned, at
-    /// most 26, and a walk over the paper's forms; what she is told of herself a walk over her own papers, over
-    /// those with which she is in conflict and over those that she reviews; a content one look-up, whatever its
-    /// length; the deadlines five reads; the accepted papers, reviews, response and comments as
+    /// most 26, and a walk over the paper's forms; a content one look-up, whatever its length; the deadlines five
+    /// reads; what she is told of herself, the accepted papers, reviews, response and comments as `me`,
     /// `accepted_papers`, `reviews_for`, `response_for` and `comments_for` tell it.
     pub fn answer(
         &self,
@@ -227,10 +189,11 @@ impl Live {
         }
     }
 
-    /// The page of a paper as a user, or nobody, may see it, or the first broken rule, as `may` tells it; an error for
-    /// lack of memory only where no rule is broken. Shares the texts that are told, and no others. The paper is found
-    /// by number. The steps are at most twice as many as there are entries on it, and 16, whatever else is kept; of
-    /// what is told by name a look-up each.
+    /// The page of a paper as a user, or nobody, may see it, or the first broken rule: `NoPaper` where there is no such
+    /// paper, else `NotMember` where she is neither a member of the committee nor an external or an author of the
+    /// paper, and it isn't accepted. An error for lack of memory only where no rule is broken. Shares the texts that
+    /// are told, and no others. The paper is found by number. The steps are at most twice as many as there are entries
+    /// on it, and 16, whatever else is kept; of what is told by name a look-up each.
     pub fn show<L: Ledger>(
         &self,
         alloc: Global,

@@ -64,7 +64,8 @@ fn letter_rule(by: &Standing, there: bool) -> Result<(), Rule>
 
 /// Who may have a report.
 impl Live {
-    /// Whether a user, or nobody, may have the report, or the first broken rule, as `may` tells it.
+    /// Whether a user, or nobody, may have the report, or the first broken rule: `NotMember` or, of the load,
+    /// `NotChair`, of a letter `NoPaper` and then `NotAuthor`, and last `WrongPhase`. A few reads by number.
     pub fn may_have(&self, user: &Option<UserNo>, report: &Report) -> Result<(), Rule>
         ensures { result ≡ judged (report_checks (facts_of_tables self.now.tables user.now) report.now) tt }
     {

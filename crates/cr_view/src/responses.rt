@@ -2,9 +2,8 @@
 ghost use Rattle.std.specs.Prelude.{◌≡◌, IfOk, IfErr, Ok, Err};
 ghost use Rattle.cr_base.specs.declared.command.Query.TheVariants as queries;
 ghost use Rattle.std.specs.Option.{option_and_then, option_copied};
-ghost use Rattle.cr_base.specs.Answering.{answer_by_role, query_checks};
+ghost use Rattle.cr_base.specs.Answering.{answer_by_role};
 ghost use Rattle.cr_base.specs.Checks.{judged, of_there, response_checks};
-ghost use Rattle.cr_base.specs.Sources.{facts_of_tables, shown_in_tables};
 ghost use Rattle.cr_base.specs.Talk.{response_in};
 ghost use Rattle.cr_view.specs.Replies.{AnswersAsDue, ShowsAsDue};
 ghost use Rattle.cr_view.specs.Responses.{response_due};
@@ -65,21 +64,6 @@ impl Live {
         match self.response_for(user, paper) {
             Ok(text) => Ok(Reply::Response(text)),
             Err(error) => Err(error),
-        }
-    }
-
-    /// Whether she may read it, or the first broken rule; takes no memory.
-    pub(crate) fn may_read_response(
-        &self,
-        user: &Option<UserNo>,
-        paper: &Option<PaperNo>,
-    ) -> Result<(), Rule>
-        ensures { result ≡ judged (query_checks (facts_of_tables self.now.tables user.now)
-            (shown_in_tables self.now.tables) (queries.Response paper.now)) tt }
-    {
-        match self.response_told(user, paper) {
-            Ok(_) => Ok(()),
-            Err(rule) => Err(rule),
         }
     }
 

@@ -66,7 +66,7 @@ fn new_server<R: Wait>(
 ) -> Result<(Server<'_, R, PlainKeeper>, Pass<Book<PlainKeeper>>), AllocError>
     ensures { IfOk result (λ made. (made.1.lock ≡ made.0.lock.lock) × (made.1.share ≡ 64) × (made.1.turns ≡ 0)) }
 {
-    match Server::new(rt, alloc, empty_book(alloc).ok_or(AllocError)?) {
+    match Server::new(rt, alloc, empty_book(alloc)?) {
         Ok(made) => Ok(made),
         Err(book) => {
             let _ = book.close();

@@ -234,7 +234,7 @@ fn serve_two<R: Threads + Wait + Sync>(
     requires back { (first.is_out ≡ false) × (second.is_out ≡ false) }
 {
     let doors = vec![in alloc; first, second]?;
-    let book = empty_book(alloc).ok_or(AllocError)?;
+    let book = empty_book(alloc)?;
     let (worked, book, doors) = serve_book(rt, alloc, book, doors);
     let _ = book.close();
     let answered = [is_answered(doors.first()), is_answered(doors.get(1))];

@@ -4,7 +4,7 @@ ghost use Rattle.std.specs.Prelude.{length, vec_len, All, OnOk, IfOk, IfSome, Ma
 ghost use Rattle.std.specs.Thread.{IsSync};
 ghost use Rattle.cr_lock.specs.Turns.{groups_of};
 
-use cr_lock::{HistoryLock, Pass, SplitError, Stands};
+use cr_lock::{HistoryLock, Pass, Stands};
 use std::alloc::{AllocError, Global};
 use std::sync::Wait;
 use std::test::Fail;
@@ -78,7 +78,7 @@ fn spread(
             spread(lock, larger, passes)?;
             spread(lock, smaller, passes)
         }
-        Err((_, pass)) => keep(passes, pass),
+        Err(pass) => keep(passes, pass),
     }
 }
 
@@ -88,7 +88,7 @@ fn refused(lock: &HistoryLock<Acts>, pass: Pass<Acts>) -> Pass<Acts>
     requires last { pass.share ≡ 1 }
     ensures { result ≡ pass }
 {
-    let Err((SplitError::Full, pass)) = lock.split(pass) else {
+    let Err(pass) = lock.split(pass) else {
         unreachable!()
     };
     pass
@@ -146,7 +146,7 @@ fn act_in_crowd<R: Threads + Wait + Sync>(
 {
     let (one, other) = match lock.split(pass) {
         Ok(halves) => halves,
-        Err((_, pass)) => return act_often(rt, lock, pass, who),
+        Err(pass) => return act_often(rt, lock, pass, who),
     };
     let left = who.wrapping_mul(2);
     let front = move || -> (Pass<Acts>, Result<(), AllocError>)

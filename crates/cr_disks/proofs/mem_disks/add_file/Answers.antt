@@ -4,7 +4,7 @@ use Rattle.std.proofs.lemmas.Map.Text.{btree_map_updates_text}
 use Rattle.std.specs.Map.{lookup}
 use Rattle.std.specs.Str.{bytes_eq}
 use Rattle.cr_ports.specs.Shelving.{is_path}
-use Rattle.cr_disks.proofs.Paths.{absent_at, add_none}
+use Rattle.cr_ports.proofs.ByPath.{absent_at, add_none}
 use Rattle.cr_disks.proofs.mem_disks.add_file.Goals as goal
 
 pub returns-in-Ok-clause-files : goal.returns-in-Ok-clause-files

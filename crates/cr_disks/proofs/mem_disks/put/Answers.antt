@@ -4,7 +4,7 @@ use Rattle.std.proofs.lemmas.Map.Text.{btree_map_updates_text}
 use Rattle.std.specs.Map.{lookup}
 use Rattle.std.specs.Str.{bytes_eq}
 use Rattle.cr_ports.specs.Shelving.{is_path}
-use Rattle.cr_disks.proofs.Paths.{put_bytes}
+use Rattle.cr_ports.proofs.ByPath.{put_items}
 use Rattle.cr_disks.proofs.mem_disks.put.Goals as goal
 
 pub returns-in-Some : goal.returns-in-Some
@@ -12,7 +12,7 @@ returns-in-Some c =
     let path = c.args.path.now in
     let old = c.args.files.now in
     let new = c.get_mut.follows.lender c.args.bytes in
-    fun_ext (λ q. put_bytes (bytes_eq path q) c.args.bytes (lookup (is_path q) old.entries)
+    fun_ext (λ q. put_items (bytes_eq path q) c.args.bytes (lookup (is_path q) old.entries)
     (lookup (is_path q) new.entries)
     (btree_map_updates_text path old new (Some c.args.bytes) ((c.get_mut.follows.holds c.args.bytes).3 (search rules))
     q))

@@ -4,7 +4,7 @@ use Rattle.std.proofs.lemmas.Map.Text.{btree_map_updates_text}
 use Rattle.std.specs.Map.{lookup}
 use Rattle.std.specs.Str.{bytes_eq}
 use Rattle.cr_ports.specs.Shelving.{is_path}
-use Rattle.cr_ports.proofs.Shelving.{absent_at, add_none}
+use Rattle.cr_ports.proofs.ByPath.{absent_at, add_none}
 use Rattle.cr_ports.proofs.shelves.add_store.Goals as goal
 
 pub returns-in-Ok-clause-files : goal.returns-in-Ok-clause-files

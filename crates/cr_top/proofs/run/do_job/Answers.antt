@@ -10,8 +10,8 @@ use Rattle.cr_top.proofs.Named.{answers-named, does-named}
 use Rattle.cr_top.proofs.Serving.{serves-from}
 use Rattle.cr_top.proofs.run.do_job.Goals as goal
 
-pub returns-in-Some-clause-does : goal.returns-in-Some-clause-does
-returns-in-Some-clause-does g c =
+pub returns-in-Ok-clause-does : goal.returns-in-Ok-clause-does
+returns-in-Ok-clause-does g c =
     let outside = outside_of g.I.Source.faults g.O.Sink.taken g.O.Sink.faults g.C.Clock.coming g.C.Clock.faults in
     let o = outside c.args.input.now c.args.out.now c.args.clock.now in
     let o' = outside c.pipe-ending.new.input c.pipe-ending.new.out c.pipe-ending.new.clock in
@@ -20,8 +20,8 @@ returns-in-Some-clause-does g c =
     ap job_seen c.in-Pipe-None.is ∙ ap (λ t. pipe_job (option_map (λ x. x.now) t)) none in
     does-named _ _ _ _ _ _ (pipe_job None) _ _ _ seen (
       subst (λ (opening : History). ServesPipe g.I.Source.left g.I.Source.read_gives opening c.exit_of.result o o')
-          c.in-Some.ensures
-          (serves-from _ _ g.I.Source.left g.I.Source.read_gives c.in-Some.book.log c.exit_of.result _ _ _ o o'
+          c.in-Ok.ensures
+          (serves-from _ _ g.I.Source.left g.I.Source.read_gives c.in-Ok.book.log c.exit_of.result _ _ _ o o'
           c.exit_of.ensures c.pipe-ending.ensures.pipes),
       refl,
       refl,
@@ -40,8 +40,8 @@ from-nothing {I} opening exit exit' b o o' none is answers =
     subst (λ (x : Exit). (x ≡ exits.OutOfMemory) ⊎ AnswersAll [] x b o o') (sym is)
     (subst (λ (H : History). (exit' ≡ exits.OutOfMemory) ⊎ AnswersAll H exit' b o o') none answers)
 
-pub returns-in-Some-clause-answers : goal.returns-in-Some-clause-answers
-returns-in-Some-clause-answers g c =
+pub returns-in-Ok-clause-answers : goal.returns-in-Ok-clause-answers
+returns-in-Ok-clause-answers g c =
     let outside = outside_of g.I.Source.faults g.O.Sink.taken g.O.Sink.faults g.C.Clock.coming g.C.Clock.faults in
     let o = outside c.args.input.now c.args.out.now c.args.clock.now in
     let o' = outside c.pipe-ending.new.input c.pipe-ending.new.out c.pipe-ending.new.clock in
@@ -49,7 +49,7 @@ returns-in-Some-clause-answers g c =
     let seen : job_seen c.args.job ≡ pipe_job None =
     ap job_seen c.in-Pipe-None.is ∙ ap (λ t. pipe_job (option_map (λ x. x.now) t)) none in
     answers-named _ _ (pipe_job None) _ _ _ seen
-    (λ b left faultless. from-nothing _ _ _ b o o' c.in-Some.ensures c.exit_of.ensures
+    (λ b left faultless. from-nothing _ _ _ b o o' c.in-Ok.ensures c.exit_of.ensures
     (c.pipe-ending.ensures.answers b left faultless stays))
 
 pub returns-in-Pipe-Some-clause-answers : goal.returns-in-Pipe-Some-clause-answers
