@@ -24,8 +24,8 @@ import time
 
 from conference import beginnings, codes_of, post, raw
 from serve import LARGEST, SOON, Client, at_once, serving, upload, words_of
-from shim import DATE, MOMENT, SOCKETS, Orders, chosen, shim_for
-from store import LONG, expect, opening, register, request, rows, run_all, submit
+from shim import DATE, MOMENT, SOCKETS, Orders, shim_for
+from store import LONG, chosen, expect, opening, register, request, rows, run_all, submit
 
 # For how many seconds a request or an answer may go on, and how long a kept connection may ask nothing.
 TIMEOUT, IDLE = 60, 5

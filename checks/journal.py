@@ -34,11 +34,11 @@ from conference import EVERY_ROUTE, text_of
 from journal_file import EMPTY, Bad, Judged, NoJournal, Row, groups_of, rows_in, rows_of, spelled
 from model_views import view_lines
 from serve import SOON, Client, Server, serving
-from shim import FILES, MOMENT, AT_ONCE, Orders, Shim, chosen
+from shim import FILES, MOMENT, AT_ONCE, Orders, Shim
 from store import (
-    LASTING, PASSING, TAKEN_AGAIN, answers, ask, ended, expect, line_of, opening, read, register, request, run_all, said
-)
-from store import submit
+    LASTING, PASSING, TAKEN_AGAIN, answers, ask, chosen, ended, expect, line_of, opening, read, register, request,
+    run_all, said, submit,
+)  # fmt: skip
 from sync import NAMES, QUESTION, Kind, appends, each, registrations
 
 NO_JOURNAL = "the file is no journal"

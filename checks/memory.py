@@ -24,8 +24,8 @@ from conference import (
 )
 from edge import NO_TIME
 from serve import Client, serving
-from shim import DATE, MOMENT, Orders, chosen, in_turn, sample, shim_for
-from store import expect, register, request, rows, run_all
+from shim import DATE, MOMENT, Orders, in_turn, sample, shim_for
+from store import chosen, expect, register, request, rows, run_all
 
 MOST = 1_000
 NO_MEMORY = (

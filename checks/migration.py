@@ -27,10 +27,10 @@ import time
 
 from conference import BEGINNING, COMMITTEE, DEADLINES, DECIDING, RESPONSE, text_of
 from serve import APART
-from shim import FILES, Shim, chosen, in_turn, sample
+from shim import FILES, Shim, in_turn, sample
 from store import (
-    LAST_MOMENT, OTHER_TABLES, OTHER_VERSION, TABLES, VERSION, ask, expect, line_of, opened, read, register, request,
-    run_all, with_shim,
+    LAST_MOMENT, OTHER_TABLES, OTHER_VERSION, TABLES, VERSION, ask, chosen, expect, line_of, opened, read, register,
+    request, run_all, with_shim,
 )  # fmt: skip
 
 HERE = os.path.dirname(os.path.abspath(__file__))

@@ -14,8 +14,6 @@ import subprocess
 import sys
 import tempfile
 
-from store import program_named
-
 HERE = os.path.dirname(os.path.abspath(__file__))
 # As in shim.c, each a number of 64 bits.
 FIELDS = (
@@ -95,13 +93,6 @@ def shim_for(program, folder):
         print("left out: the program doesn't load the C library, so nothing stands between the two")
         sys.exit(0)
     return shim
-
-
-def chosen(checks, words):
-    """The checks that the words name, all where they name none, and the program."""
-    names = {check.__name__ for check in checks}
-    named = [check for check in checks if check.__name__ in words]
-    return named or checks, program_named([word for word in words if word not in names])
 
 
 def in_turn(act, numbers):

@@ -1,12 +1,12 @@
 #!/usr/bin/env python3
 """Tries `confd pipe --store FILE` on real files: what was answered is there, whatever happens.
 
-    python3 checks/store.py [PROGRAM]
+    python3 checks/store.py [CHECK..] [PROGRAM]
 
-PROGRAM is `confd` as `rt run` builds it (crates/confd/out/confd where none is named). Python 3 alone is
-needed, whose module `sqlite3` stands on SQLite 3.37 or later; and cc for the checks that refuse calls of the system
-(shim.py), which are left out where it is missing. Prints a line a check, and last `N passed, M failed`; ends with
-status 0 where none failed. Takes about a minute.
+PROGRAM is `confd` as `rt run` builds it (crates/confd/out/confd where none is named), and CHECK a name of CHECKS or
+CHECKS_BY_SHIM, all where none is told. Python 3 alone is needed, whose module `sqlite3` stands on SQLite 3.37 or
+later; and cc for the checks that refuse calls of the system (shim.py), which are left out where it is missing. Prints
+a line a check, and last `N passed, M failed`; ends with status 0 where none failed. The whole takes about a minute.
 """
 
 import contextlib
@@ -633,6 +633,13 @@ def program_named(words):
     return Program(os.path.abspath(path))
 
 
+def chosen(checks, words):
+    """The checks that the words name, all where they name none, and the program."""
+    names = {check.__name__ for check in checks}
+    named = [check for check in checks if check.__name__ in words]
+    return named or checks, program_named([word for word in words if word not in names])
+
+
 def run_all(checks, program):
     """Runs each check in a folder of its own, prints a line for each and how many passed, and ends with the status."""
     passed = failed = 0
@@ -660,4 +667,4 @@ def with_shim(checks):
 
 
 if __name__ == "__main__":
-    run_all(CHECKS + with_shim(CHECKS_BY_SHIM), program_named(sys.argv[1:]))
+    run_all(*chosen(CHECKS + with_shim(CHECKS_BY_SHIM), sys.argv[1:]))

@@ -17,8 +17,8 @@ import sys
 import tempfile
 
 from conference import CUT, beginnings, codes_of, text_of
-from shim import FILES, NO_FILES, chosen, in_turn, shim_for
-from store import LASTING, PASSING, TAKEN_AGAIN, answers, expect, register, request, rows, run_all
+from shim import FILES, NO_FILES, in_turn, shim_for
+from store import LASTING, PASSING, TAKEN_AGAIN, answers, chosen, expect, register, request, rows, run_all
 
 NAMES = [f"user{number}" for number in range(12)]
 QUESTION = request("GET", "/accounts")
