@@ -14,7 +14,7 @@ The rules are the rows in checks/planted/rules.
 Ends with status 0 where every one is refused. A build takes three processor minutes and more. So those of a
 topic are planted side by side in one copy, which is built once and run for each (checks/planted/switch.py); the
 few that can't be have one of their own, and those with cases that spend a quota, which run for a minute, have another.
-The whole takes some hour and a half of processors. JOBS=n has n at a time.
+The whole takes some two hours and a half of processors. JOBS=n has n at a time.
 """
 import concurrent.futures
 import contextlib
