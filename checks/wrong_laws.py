@@ -5,15 +5,16 @@ and looks which laws are false of each.
     checks/wrong_laws.py [WORD..]          computes, with no prover, which laws are false:
                                            those that each row names have to be
     checks/wrong_laws.py --check [WORD..]  only whether each text that is to be changed is there, once
-    checks/wrong_laws.py --try NAME..      plants each in a copy of cr_base, cr_history and cr_policy,
-                                           and runs `rt check` there
+    checks/wrong_laws.py --try NAME..      plants each in a copy of cr_base, cr_history, cr_policy and the crates
+                                           of these laws, and runs `rt check` there, of one behind the other
 
 A rule that definition, view and tables share is the same on both sides of the law that views suffice. What refuses it
 is what is said of rules a second time: of old the invariants of cr_history and that the small conference is legal, and
-since then the clauses of `law_permissions`, `law_first_told` and `law_goes_on` of cr_policy. They are computed of
-histories that the planted rules let come about: the small conference phase by phase, and twins of it; for nobody and
-nine users, each command, query and bulk of checks/planted/asked.py. Of the rules as they stand all have to hold. WORD
-picks rows by a word of their name, or a topic. Ends with status 0 where all were as due.
+since then the clauses of `law_permissions` and `law_goes_on` of cr_permissions and of `law_first_told` of
+cr_conference. They are computed of histories that the planted rules let come about: the small conference phase by
+phase, and twins of it; for nobody and nine users, each command, query and bulk of checks/planted/asked.py. Of the
+rules as they stand all have to hold. WORD picks rows by a word of their name, or a topic. Ends with status 0 where all
+were as due.
 """
 import concurrent.futures
 import functools
@@ -27,10 +28,11 @@ import traceback
 
 from planted import asked
 from planted.rows import TOP, lost, read
-from planted.specs import BUILT_IN, ENDS, History, Specs, applied, arity
+from planted.specs import BUILT_IN, ENDS, History, Specs, applied, arity, home
 
 sys.setrecursionlimit(50000)
-CRATES = ("cr_base", "cr_history", "cr_policy")
+LEAVES = ("cr_permissions", "cr_conference")
+CRATES = ("cr_base", "cr_history", "cr_policy", *LEAVES)
 NONE, some = asked.NONE, asked.some
 CALLERS = [NONE] + [some(n) for n in range(1, 10)]
 DIGESTS = {name: (n,) * 32 for n, name in enumerate(asked.NAMES)}
@@ -94,8 +96,8 @@ class Rules:
         # an answer that isn't a rule is told, whatever it is
         self.stand_in("cr_base.specs.Answering", answer_by=answer_by)
 
-    def get(self, module, name, crate="cr_policy"):
-        return self.specs.get(f"{crate}.specs.{module}", name)
+    def get(self, module, name, crate=None):
+        return self.specs.get(f"{crate or home(TOP, f'specs/{module}.antt')}.specs.{module}", name)
 
     def stand_in(self, module, **made):
         self.specs.module(module).made.update(made)
@@ -271,7 +273,8 @@ def by_computing(rows):
 
 
 def by_check(row):
-    """Plants a row in a copy and checks cr_policy there: what was said, and whether it was refused."""
+    """Plants a row in a copy and checks the crates of laws there, up to the first that is refused:
+    what was said, and whether one was."""
     with tempfile.TemporaryDirectory(prefix="wrong-law-") as room:
         for crate in CRATES:
             shutil.copytree(f"{TOP}/crates/{crate}", f"{room}/crates/{crate}", ignore=shutil.ignore_patterns("out"))
@@ -281,8 +284,11 @@ def by_check(row):
             file.write("".join(listed))
         shutil.copy(f"{TOP}/HANDLES", room)
         row.plant(room)
-        run = subprocess.run(["rt", "check", "--jobs", "1"], cwd=f"{room}/crates/cr_policy",
-                             capture_output=True, text=True)
+        for crate in LEAVES:
+            run = subprocess.run(["rt", "check", "--jobs", "1"], cwd=f"{room}/crates/{crate}",
+                                 capture_output=True, text=True)
+            if run.returncode:
+                break
     said = run.stdout + run.stderr
     places = sorted(set(re.findall(r"(\w+)\.antt:\d+:\d+: error: `([\w-]+)`", said)))
     return run.returncode != 0, " ".join(f"{file}.{name}" for file, name in places) or said.strip()[-300:]

@@ -7,7 +7,8 @@
                                              and each clause too
     checks/wrong_tables.py --all WORD..      computes every clause, and prints those that are false
     checks/wrong_tables.py --try NAME..      plants each in a copy of the repository
-                                             and runs `rt check` of cr_policy's law there
+                                             and runs `rt check` of the law there, which proves
+                                             what is below its crate first
 
 WORD picks the rows that have it in their name, or a topic. Clauses are computed for nobody and every user of the small
 conference, in each mode and phase, and of made-up histories that aren't legal; those by part on the values shown alone.
@@ -25,7 +26,9 @@ import tempfile
 from planted.rows import TOP, lost, read
 from planted.specs import BUILT_IN, MEMO, PAPERS, History, Specs, applied, arity
 
-POLICY = "crates/cr_policy"
+# which crate has a law
+CRATES = {"law_view_suffices": "cr_policy", "law_bounds": "cr_bounds", "law_response_bound": "cr_bounds",
+          "law_views": "cr_conference"}
 NOBODY, USERS = ("None",), [("Some", n) for n in range(1, 10)]
 PHASES = ["Submission", "Bidding", "Reviewing", "Response", "Discussion", "Notification", "Closed"]
 SKIPPING = [phase for phase in PHASES if phase != "Response"]
@@ -34,8 +37,8 @@ BUILT_IN["values"] = lambda xs: tuple(x for x in xs if x is not False and x != N
 
 
 def clauses(law):
-    """The clauses of a law of cr_policy: the definition of each by its name."""
-    with open(f"{TOP}/{POLICY}/src/lib.rt", encoding="utf-8") as file:
+    """The clauses of a law: the definition of each by its name."""
+    with open(f"{TOP}/crates/{CRATES[law]}/src/lib.rt", encoding="utf-8") as file:
         text = file.read().split(f"pub fn {law}()")[1].split("{}")[0]
     return dict(re.findall(r"ensures (\w+) \{ (\w+) \}", text))
 
@@ -157,7 +160,7 @@ def outside(mode, phases, ending):
 
 def small_conference(specs):
     """What the small conference is made of, and its histories in each mode and phase."""
-    of = lambda name: specs.get("cr_policy.specs.Conference", name)
+    of = lambda name: specs.get("cr_conference.specs.Conference", name)
     digests = {name: tuple([n] * 32) for n, name in enumerate("alice bob carol dave erin fay gus hal ivy".split())}
     asides = [{"tag": words(t), "to_pc": words("New."), "comment": words(c)}
               for t, c in (("a", "Take it."), ("b", "Leave it."))]
@@ -184,7 +187,7 @@ class Computed:
             self.digests, self.asides, self.verdicts, self.histories = (
                 plain.digests, plain.asides, plain.verdicts, plain.histories)
         else:
-            file = f"{POLICY}/specs/ViewBounds.antt"
+            file = "crates/cr_bounds/specs/ViewBounds.antt"
             with open(f"{TOP}/{file}", encoding="utf-8") as opened:
                 text = opened.read()
             told = "map seen (view u H) ≡ each_told u H (part u H) [] H"
@@ -207,9 +210,9 @@ class Computed:
         """Histories in which a form that is unheard has other grades and texts, and such without one that was written
         when the response had been opened; each with a user to whom they are to look the same."""
         is_author = self.specs.get("cr_base.specs.HistoryFacts", "is_author")
-        is_heard = self.specs.get("cr_policy.specs.ShownTo", "is_responded_to")
-        begins = self.specs.get("cr_policy.specs.ShownTo", "begins_response")
-        over = self.specs.get("cr_policy.specs.ShownTo", "is_past_discussion")
+        is_heard = self.specs.get("cr_bounds.specs.ShownTo", "is_responded_to")
+        begins = self.specs.get("cr_bounds.specs.ShownTo", "begins_response")
+        over = self.specs.get("cr_bounds.specs.ShownTo", "is_past_discussion")
         phase_of = self.specs.get("cr_base.specs.HistoryFacts", "phase_of")
         other = {"score": 5, "confidence": 1, "to_authors": words("other"), "to_pc": words("another")}
         for history in self.histories:
@@ -236,15 +239,15 @@ class Computed:
         if law == "law_response_bound":
             if name in ("unheard", "later"):
                 return self.holds_of_twins(name)
-            clause = self.specs.get("cr_policy.specs.ResponseBounds", LAWS[law][name])
+            clause = self.specs.get("cr_bounds.specs.ResponseBounds", LAWS[law][name])
             if name == "one":
                 return all(clause(u, p, o, history)
                            for history in self.histories for u in [NOBODY, *USERS] for p in PAPERS for o in (1, 2, 3))
             return all(self.holds_of(clause, history) for history in self.histories)
         if law == "law_bounds":
-            clause = self.specs.get("cr_policy.specs.ViewBounds", LAWS[law][name])
+            clause = self.specs.get("cr_bounds.specs.ViewBounds", LAWS[law][name])
             return all(self.holds_of(clause, history) for history in self.histories)
-        clause = self.specs.get("cr_policy.specs.ConferenceLaws", LAWS[law][name])
+        clause = self.specs.get("cr_conference.specs.ConferenceLaws", LAWS[law][name])
         a, b = self.asides
         if name == "asides":
             return all(applied(clause, self.digests, mode, a, b) for mode in MODES)
@@ -311,7 +314,8 @@ def by_check(row):
         row.plant(room)
         refused = []
         for law in sorted({law for law, _ in named(row)} | set(row.words("law"))):
-            run = subprocess.run(["rt", "check", "--only", law], cwd=f"{room}/{POLICY}", capture_output=True, text=True)
+            run = subprocess.run(["rt", "check", "--only", law], cwd=f"{room}/crates/{CRATES[law]}",
+                                 capture_output=True, text=True)
             said = (run.stdout + run.stderr).strip()
             refused.append((law, run.returncode != 0, said))
     return refused

@@ -157,7 +157,7 @@ class Module:
             made = space["made"]
             for code, (module, used) in writer.used.items():
                 space[code] = module.later(used, space, code)
-            if self.path == "cr_policy.Conference" and name in CONFERENCES:
+            if self.path == "cr_conference.Conference" and name in CONFERENCES:
                 made = made_once(made)
             elif (self.path, name) in REMEMBERED or self.path == "cr_base.HistoryFacts":
                 made = remembered(made)
@@ -181,7 +181,16 @@ class Module:
 
 # what is asked of a whole history again and again
 WHO = ("serves", "handles", "oversees", "leads", "discusses", "is_in_programme", "appears", "each_told")
-REMEMBERED = {("cr_policy.ShownTo", name) for name in WHO} | {("cr_policy.View", "view")}
+REMEMBERED = {("cr_bounds.ShownTo", name) for name in WHO} | {("cr_policy.View", "view")}
+
+
+# what has the views, and the laws of them
+VIEWS = ("cr_policy", "cr_bounds", "cr_conference", "cr_permissions")
+
+
+def home(top, file):
+    """Which of these crates has a file: `specs/ShownTo.antt`."""
+    return next(crate for crate in VIEWS if os.path.exists(os.path.join(top, "crates", crate, file)))
 
 
 CONFERENCES = {"before_bidding", "in_bidding", "in_reviewing", "in_discussion", "at_notification", "at_close"}
@@ -219,7 +228,7 @@ def kept(f, key, args, made=lambda answer: answer):
 
 
 class Specs:
-    """The specs of cr_base and cr_policy as they stand, or with other texts in some files;
+    """The specs of cr_base, cr_policy and the crates of laws on it as they stand, or with other texts in some files;
     what these don't touch is shared."""
 
     def __init__(self, top, changed=None, plain=None):

@@ -18,7 +18,6 @@ pub mod OpeningRows
 pub mod OpeningSpelling
 pub mod OpeningSubmissions
 pub mod OutcomeLaws
-pub mod PlanPostedLaws
 pub mod ViewLaws
 pub mod StopLaws
 pub mod StoreLaws

@@ -1,6 +1,5 @@
 pub mod Earlier
 pub mod Opening
-pub mod PlanPosted
 pub mod Reading
 pub mod BulkRebuilding
 pub mod Rebuilding

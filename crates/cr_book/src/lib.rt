@@ -19,5 +19,5 @@ pub use book::{Book, BookError};
 pub use cr_sights::ViewError;
 pub use cr_view::AnswerError;
 pub use empty::empty_book;
-pub use laws::{law_plan_posted, law_standing_by_tables};
+pub use laws::law_standing_by_tables;
 pub use opening::OpenError;

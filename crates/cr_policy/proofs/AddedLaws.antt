@@ -39,7 +39,8 @@ use Rattle.cr_base.specs.Drawn.{conflict_drawn, assignment_drawn, unassignment_d
 use Rattle.cr_base.specs.Drawn.{invitation_drawn, uninvitation_drawn, registration_drawn}
 use Rattle.cr_base.specs.History.{History, FormTold}
 use Rattle.cr_base.specs.HistoryFacts.{standing_of, phase_of, accounts_of, papers_of, number_of, ordinal_of, seats_of}
-use Rattle.cr_base.specs.HistoryFacts.{forms_of, own_forms_of, own_papers_of, own_bytes_of, own_comments_of, is_invited}
+use Rattle.cr_base.specs.HistoryFacts.{forms_of, own_forms_of, own_papers_of, own_bytes_of, own_comments_of}
+use Rattle.cr_base.specs.HistoryFacts.{is_invited}
 use Rattle.cr_base.specs.HistoryFacts.{is_written, response_of}
 use Rattle.cr_base.specs.Judging.{name_judged, conflict_judged, assignment_judged, unassignment_judged}
 use Rattle.cr_base.specs.Judging.{dismissal_judged, invitation_judged, uninvitation_judged}
@@ -58,7 +59,7 @@ use Rattle.cr_policy.specs.Judge.{judge}
 use Rattle.cr_policy.specs.Legal.{IsCaller, Legal}
 use Rattle.cr_policy.specs.Sentences.{user_named}
 use Rattle.cr_policy.specs.View.{view}
-use Rattle.cr_policy.proofs.SentenceLaws.{shown_of, told, forms, judged_on, judge-history, number-same}
+use Rattle.cr_policy.proofs.JudgedByHistory.{shown_of, told, forms, judged_on, judge-history, number-same}
 
 -- ---- groups
 

@@ -5,6 +5,7 @@ use Rattle.std.proofs.Common.{◌∙◌, ◌&&◌, Option, Some, None}
 use Rattle.std.specs.Prelude.{map, filter, unwrap_or}
 use Rattle.std.specs.List.{flat_map}
 use Rattle.std.proofs.lemmas.Bool.{true≢false}
+use Rattle.std.proofs.Math.Bool.{or-false}
 use Rattle.std.proofs.lemmas.List.{length-map}
 use Rattle.cr_base.specs.declared.entry.Entry.{Entry}
 use Rattle.cr_base.specs.declared.entry.Entry.TheVariants.{Registered, Named, PhaseSet, ModeSet, Uploaded}
@@ -29,13 +30,11 @@ use Rattle.cr_base.proofs.ListLaws.{turned}
 use Rattle.cr_policy.specs.Laws.{KeptFromView}
 use Rattle.cr_policy.specs.Part as part
 use Rattle.cr_policy.specs.Part.{Part, own_parts}
-use Rattle.cr_policy.specs.ShownTo.{where_known}
 use Rattle.cr_policy.specs.Sighting.{Sighting, where_shown}
 use Rattle.cr_policy.specs.Triggers.{Reader, reader, Around, position_of, ◌see◌, rows, shows}
 use Rattle.cr_policy.specs.View.{View, view, rows_at, is_seen, joined}
 use Rattle.cr_policy.specs.ViewFacts.{only}
 use Rattle.cr_policy.specs.ViewRetries.{shows_number, mark_shown, name_shown, receipt_shown, kept_shown, kept_in_view}
-use Rattle.cr_policy.proofs.BoundsParts.{key-one}
 use Rattle.cr_policy.proofs.BulkViews.{last-shows}
 use Rattle.cr_policy.proofs.StandingLaws.{accounts-seen}
 use Rattle.cr_policy.proofs.Tells.{own_seen, told_if}
@@ -105,6 +104,12 @@ module _ (u : Option ℕ) (H : History) (at : Around) (stamp : Stamp) (more : Bo
   abbrev shown : Entry → Sighting
   shown e = joined r at (stamped stamp more e)
 
+  -- no row of the table shows the key: its maker alone is shown it
+  pub key-shown : (e : Entry) → (shown e).key ≡ where_shown (is_number u stamp.maker) (Some stamp.key)
+  key-shown (Registered user name digest) =
+      ap (λ (b : Bool). where_shown b (Some stamp.key)) (or-false (is_number u stamp.maker))
+  key-shown e = ap (λ (b : Bool). where_shown b (Some stamp.key)) (or-false (is_number u stamp.maker))
+
   -- all that belongs to the whole of it is shown its maker
   own-part : (e : Entry) (p : Part) → own_parts p ≡ true → is_number u stamp.maker ≡ true
       → shows (rows_at r at (stamped stamp more e)) p ≡ true
@@ -163,16 +168,16 @@ module _ (u : Option ℕ) (H : History) (at : Around) (stamp : Stamp) (more : Bo
   line-same accounts number e = by (is_number u stamp.maker) refl
     where
       known : Bool → Option (Option RetryKey)
-      known b = where_known b stamp.key
+      known b = where_shown b (Some stamp.key)
 
       by : (b : Bool) → is_number u stamp.maker ≡ b
           → only (shows_number number (shown e).key) (line_shown accounts (shown e) ∷ [])
           ≡ only (b && has_number number stamp.key) (line_of accounts (stamped stamp more e) ∷ [])
       by false is =
           ap (λ (key : Option (Option RetryKey)). only (shows_number number key) (line_shown accounts (shown e) ∷ []))
-          (key-one u H at stamp more e ∙ ap known is)
+          (key-shown e ∙ ap known is)
       by true is =
-          let key : (shown e).key ≡ Some stamp.key = key-one u H at stamp more e ∙ ap known is in
+          let key : (shown e).key ≡ Some stamp.key = key-shown e ∙ ap known is in
           (λ i. only (shows_number number (key i))
           ((record { mark = mark_shown (key i); receipt = receipt-own accounts e is i }) ∷ []))
 

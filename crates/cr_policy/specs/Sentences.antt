@@ -4,6 +4,7 @@
 use Rattle.std.specs.Prelude.{ℕ, Bool, true, false, not, ◌&&◌, ◌||◌, ◌==◌, nat_le, List, [], ◌∷◌, Option, Some, None}
 use Rattle.std.specs.Prelude.{count_by}
 use Rattle.std.specs.List.{list_any}
+use Rattle.cr_base.specs.declared.bulk.BulkRow.{BulkRow}
 use Rattle.cr_base.specs.declared.reply.AccountLine.{AccountLine}
 use Rattle.cr_base.specs.declared.words.Decision.{Decision}
 use Rattle.cr_base.specs.declared.words.Decision.TheVariants.{Accept, Reject}
@@ -205,3 +206,7 @@ abbrev pub is_for_chairs_alone : List ℕ → Bool
 is_for_chairs_alone [] = false
 is_for_chairs_alone (b ∷ []) = false
 is_for_chairs_alone (b ∷ c ∷ rest) = b == 126 && c == 126
+
+-- a row of a bulk's file, of these four columns
+abbrev pub a_row : List ℕ → List ℕ → List ℕ → List ℕ → BulkRow
+a_row paper action user tag = record { paper = paper; action = action; user = user; tag = tag }

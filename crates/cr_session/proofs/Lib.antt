@@ -1,5 +1,4 @@
 pub mod TwoRunsLaws
-pub mod HiddenBytesLaws
 pub mod Answering
 pub mod Runs
 pub mod WishRuns

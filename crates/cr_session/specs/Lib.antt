@@ -1,7 +1,6 @@
 pub mod Told
 pub mod Answering
 pub mod TwoRuns
-pub mod HiddenBytes
 pub mod Replay
 pub mod Tries
 pub mod Passing

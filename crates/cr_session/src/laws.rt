@@ -4,7 +4,6 @@ ghost use Rattle.cr_lock.specs.Turns.{marks};
 ghost use Rattle.cr_session.specs.Tries.{tries_of};
 ghost use Rattle.cr_session.specs.Passing.{KnownPass, TakesTurns};
 ghost use Rattle.cr_session.specs.Replay.{JudgedWish, Ledger, Replays, lost_count};
-ghost use Rattle.cr_session.specs.HiddenBytes.{HiddenBytes};
 ghost use Rattle.cr_session.specs.Retries.{RetriesActOnce};
 ghost use Rattle.cr_session.specs.TwoRuns.{TwoRuns};
 
@@ -16,14 +15,6 @@ use cr_ports::Keeper;
 /// their turn.
 pub fn law_two_runs()
     ensures { TwoRuns }
-{}
-
-/// Two runs in which a user wishes the same at the same moments agree in every byte that she is answered where, at each
-/// of her wishes, what was done before differs only in what she isn't shown: where the histories meet the four
-/// conditions of cr_policy's `law_hidden_payload`, or one is the other without entries that show her nothing, or they
-/// come to be alike in several such steps. Whoever else may ask whatever else.
-pub fn law_hidden_bytes()
-    ensures { HiddenBytes }
 {}
 
 /// A command or a bulk that its caller sends again, with the number and the mark that it had, acts once. On every

@@ -14,10 +14,10 @@ use Rattle.cr_base.specs.Lists.{given, is_nothing, last, last_from, last_or}
 use Rattle.cr_base.specs.Drawn.{stamped}
 use Rattle.cr_base.specs.History.{History}
 use Rattle.cr_policy.specs.Sighting.{Sighting}
-use Rattle.cr_policy.specs.ShownTo.{is_told, each_told, where_known}
 use Rattle.cr_policy.specs.View.{View, view}
-use Rattle.cr_policy.proofs.BoundsWalk.{shown_to, view-told}
 use Rattle.cr_policy.proofs.Walk.{last_from-append}
+use Rattle.cr_bounds.specs.ShownTo.{is_told, each_told, where_known}
+use Rattle.cr_bounds.proofs.BoundsWalk.{shown_to, view-told}
 use Rattle.cr_told.specs.ToldParts.{agree}
 
 -- ---- one of the sightings

@@ -13,12 +13,12 @@ use Rattle.cr_base.specs.History.{History}
 use Rattle.cr_history.specs.Invariants.{Invariants, IsHeld}
 use Rattle.cr_policy.specs.Legal.{Legal}
 use Rattle.cr_policy.specs.Part.{Part}
-use Rattle.cr_policy.specs.ShownTo.{is_told, where_known}
 use Rattle.cr_policy.specs.Sighting.{Sighting}
 use Rattle.cr_policy.specs.View.{View, view}
 use Rattle.cr_policy.specs.ViewFacts.{is_kind}
-use Rattle.cr_policy.proofs.BoundsWalk.{shown_to}
 use Rattle.cr_policy.proofs.LegalLaws.{legal_invariants}
+use Rattle.cr_bounds.specs.ShownTo.{is_told, where_known}
+use Rattle.cr_bounds.proofs.BoundsWalk.{shown_to}
 use Rattle.cr_told.specs.ToldParts.{has, is_told as is_part_told, is_left_untold}
 use Rattle.cr_told.proofs.ToldEach.{at-sighting}
 use Rattle.cr_told.proofs.ToldMakers.{IsByAuthor, by-authors}

@@ -24,7 +24,8 @@ use Rattle.cr_base.specs.declared.words.Kind.{Kind}
 use Rattle.cr_base.specs.declared.words.Phase.TheVariants.{Bidding, Discussion}
 use Rattle.cr_base.specs.declared.words.Role.{Role}
 use Rattle.cr_base.specs.declared.words.Role.TheVariants.{Account, Member, Chair}
-use Rattle.cr_base.specs.Answering.{bidder_told, reviewer_told, comment_line, content_asked, content_by, reply_or_rule}
+use Rattle.cr_base.specs.Answering.{bidder_told, reviewer_told, comment_line, content_asked, content_by}
+use Rattle.cr_base.specs.Answering.{reply_or_rule}
 use Rattle.cr_base.specs.Answering.{upload_of}
 use Rattle.cr_base.specs.Checks.{judged, ◌breaks◌, reads_freely}
 use Rattle.cr_base.specs.Decisions.{is_published}
@@ -41,9 +42,6 @@ use Rattle.cr_base.proofs.LastLaws.{last_from-map}
 use Rattle.cr_history.specs.Invariants.{IsSubmitted, IsInOrder, InTurn}
 use Rattle.cr_policy.specs.Judge.{answer}
 use Rattle.cr_policy.specs.Legal.{Legal}
-use Rattle.cr_policy.specs.ShownTo.{is_on_committee, chairs_committee, is_past_submission, is_past_reviewing}
-use Rattle.cr_policy.specs.ShownTo.{is_past_discussion, hides_reviewers, names_reviewers, knows_writers, is_eligible}
-use Rattle.cr_policy.specs.ShownTo.{has_before_her, oversees, administers, discusses, is_answered, appears, where_known}
 use Rattle.cr_policy.specs.Sighting.{Sighting}
 use Rattle.cr_policy.specs.View.{View, view}
 use Rattle.cr_policy.specs.ViewFacts.{only, is_kind, role_in_view, label_shown, upload_shown, accounts_in_view}
@@ -52,16 +50,21 @@ use Rattle.cr_policy.specs.ViewFacts.{assigned_seen, unassigned_seen, done_seen,
 use Rattle.cr_policy.specs.ViewFacts.{own_bytes_seen, upload_seen, bids_in_view, seats_in_view, bid_in_view}
 use Rattle.cr_policy.specs.ViewFacts.{reviewers_in_view, is_written_in_view, comments_in_view, uploads_in_view}
 use Rattle.cr_policy.specs.ViewFacts.{response_seen, response_in_view}
-use Rattle.cr_policy.proofs.BoundsWords.{phase-words, mode-words}
-use Rattle.cr_policy.proofs.BoundsWalk.{shown_to}
 use Rattle.cr_policy.proofs.DecisionTells.{accepted-seen}
 use Rattle.cr_policy.proofs.LegalLaws.{legal_invariants}
 use Rattle.cr_policy.proofs.ResponseTells.{response-seen}
 use Rattle.cr_policy.proofs.StandingLaws.{papers-seen, standing_from_view}
 use Rattle.cr_policy.proofs.Walk.{only-true, only-false, map-flat_map, filter-flat_map}
+use Rattle.cr_bounds.specs.ShownTo.{is_on_committee, chairs_committee, is_past_submission, is_past_reviewing}
+use Rattle.cr_bounds.specs.ShownTo.{is_past_discussion, hides_reviewers, names_reviewers, knows_writers, is_eligible}
+use Rattle.cr_bounds.specs.ShownTo.{has_before_her, oversees, administers, discusses, is_answered, appears}
+use Rattle.cr_bounds.specs.ShownTo.{where_known}
+use Rattle.cr_bounds.proofs.BoundsWords.{phase-words, mode-words}
+use Rattle.cr_bounds.proofs.BoundsWalk.{shown_to}
 use Rattle.cr_told.specs.ToldPages.{page_told, shown_by, names_shown, is_clear}
 use Rattle.cr_told.specs.ToldLists.{name_shown, bids_listed, is_shown_done, knows_reviewers, reviewer_shown, is_left}
-use Rattle.cr_told.specs.ToldLists.{reviewers_listed, SeatsTold, PageListsTold, content_answered, contents_of, first_of}
+use Rattle.cr_told.specs.ToldLists.{reviewers_listed, SeatsTold, PageListsTold, content_answered, contents_of}
+use Rattle.cr_told.specs.ToldLists.{first_of}
 use Rattle.cr_told.specs.ToldLists.{ContentTold, ContentsTold, comments_answered, comment_shown_by, comments_listed}
 use Rattle.cr_told.specs.ToldLists.{CommentsTold, response_answered, ResponsesTold, AcceptedTold, own_shown, MeTold}
 use Rattle.cr_told.specs.ToldPublic.{role_shown}

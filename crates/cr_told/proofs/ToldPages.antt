@@ -35,9 +35,6 @@ use Rattle.cr_base.specs.Sources.{has_paper}
 use Rattle.cr_base.specs.Words.{is_member, is_chair, is_anonymous}
 use Rattle.cr_history.specs.Invariants.{IsSubmitted, IsInOrder, InTurn}
 use Rattle.cr_policy.specs.Legal.{Legal}
-use Rattle.cr_policy.specs.ShownTo.{is_on_committee, is_past_submission, hides_authors, has_conflict, visits}
-use Rattle.cr_policy.specs.ShownTo.{reads_visiting, has_before_her, is_told, serves, is_eligible, oversees, discusses}
-use Rattle.cr_policy.specs.ShownTo.{is_notified, is_in_programme, appears, where_known}
 use Rattle.cr_policy.specs.Sighting.{Sighting}
 use Rattle.cr_policy.specs.View.{View, view}
 use Rattle.cr_policy.specs.ViewFacts.{facts_in_view, shown_in_view, standing_in_view, is_accepted_in_view}
@@ -45,17 +42,21 @@ use Rattle.cr_policy.specs.ViewFacts.{title_in_view, abstract_in_view, authors_i
 use Rattle.cr_policy.specs.ViewFacts.{uploads_in_view, is_author_in_view, declared_in_view, own_bid_in_view}
 use Rattle.cr_policy.specs.ViewFacts.{ordinal_in_view, is_conflict_on_in_view, decision_in_view, only, upload_seen}
 use Rattle.cr_policy.specs.ViewFacts.{upload_shown}
-use Rattle.cr_policy.specs.ViewBounds.{part_shown}
-use Rattle.cr_policy.proofs.BoundsWords.{phase-words, mode-words}
 use Rattle.cr_policy.proofs.DecisionTells.{accepted-seen}
-use Rattle.cr_policy.proofs.BoundsTexts.{one-content}
-use Rattle.cr_policy.proofs.BoundsWalk.{shown_to, all-view}
 use Rattle.cr_policy.proofs.LegalLaws.{Legal-declared, legal_invariants}
 use Rattle.cr_policy.proofs.PageTells.{abstract-seen, authors-seen}
 use Rattle.cr_policy.proofs.ReviewerTells.{same_key}
 use Rattle.cr_policy.proofs.StandingLaws.{papers-seen, standing_from_view, seat-seen}
 use Rattle.cr_policy.proofs.Walk.{is_nothing-append, map-flat_map}
-use Rattle.cr_told.specs.ToldPages.{PagesTold, PageTold, page_told, key_in, page_answered, shown_on, shown_by, is_shown}
+use Rattle.cr_bounds.specs.ShownTo.{is_on_committee, is_past_submission, hides_authors, has_conflict, visits}
+use Rattle.cr_bounds.specs.ShownTo.{reads_visiting, has_before_her, is_told, serves, is_eligible, oversees, discusses}
+use Rattle.cr_bounds.specs.ShownTo.{is_notified, is_in_programme, appears, where_known}
+use Rattle.cr_bounds.specs.ViewBounds.{part_shown}
+use Rattle.cr_bounds.proofs.BoundsWords.{phase-words, mode-words}
+use Rattle.cr_bounds.proofs.BoundsTexts.{one-content}
+use Rattle.cr_bounds.proofs.BoundsWalk.{shown_to, all-view}
+use Rattle.cr_told.specs.ToldPages.{PagesTold, PageTold, page_told, key_in, page_answered, shown_on, shown_by}
+use Rattle.cr_told.specs.ToldPages.{is_shown}
 use Rattle.cr_told.specs.ToldPages.{writers_shown, is_shown_in_conflict, label_shown_of, own_bids_shown}
 use Rattle.cr_told.specs.ToldPages.{is_shown_accepted, names_shown, users_shown, is_clear, some_names}
 use Rattle.cr_told.proofs.ToldWords.{member-committee, chair-leads, chair-committee, accept-takes, visits-same}

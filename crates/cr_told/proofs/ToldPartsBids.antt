@@ -16,11 +16,11 @@ use Rattle.cr_history.specs.Invariants.{IsRegistered, IsSubmitted}
 use Rattle.cr_policy.specs.Legal.{Legal}
 use Rattle.cr_policy.specs.Part as part
 use Rattle.cr_policy.specs.Part.{Part}
-use Rattle.cr_policy.specs.ShownTo.{is_told, is_eligible, oversees, where_known}
 use Rattle.cr_policy.specs.Sighting.{Sighting}
 use Rattle.cr_policy.specs.View.{View, view}
 use Rattle.cr_policy.specs.ViewFacts.{only, is_user, accounts_in_view}
-use Rattle.cr_policy.proofs.BoundsWalk.{shown_to}
+use Rattle.cr_bounds.specs.ShownTo.{is_told, is_eligible, oversees, where_known}
+use Rattle.cr_bounds.proofs.BoundsWalk.{shown_to}
 use Rattle.cr_told.specs.ToldPages.{page_told, bids_shown_of, own_bids_shown, names_shown}
 use Rattle.cr_told.specs.ToldLists.{bids_listed}
 use Rattle.cr_told.specs.ToldParts.{has, agree, lists, is_name_of, is_told as is_part_told, is_left_untold}

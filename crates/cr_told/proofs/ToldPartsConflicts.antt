@@ -20,13 +20,13 @@ use Rattle.cr_history.specs.Invariants.{IsRegistered, IsSubmitted}
 use Rattle.cr_policy.specs.Legal.{Legal}
 use Rattle.cr_policy.specs.Part as part
 use Rattle.cr_policy.specs.Part.{Part}
-use Rattle.cr_policy.specs.ShownTo.{is_told, is_on_committee, chairs_committee, is_past_submission, oversees}
-use Rattle.cr_policy.specs.ShownTo.{where_known}
 use Rattle.cr_policy.specs.Sighting.{Sighting}
 use Rattle.cr_policy.specs.View.{View, view}
 use Rattle.cr_policy.specs.ViewFacts.{only, is_user, accounts_in_view, papers_in_view}
-use Rattle.cr_policy.proofs.BoundsWalk.{shown_to}
 use Rattle.cr_policy.proofs.StandingLaws.{papers-seen, standing_from_view}
+use Rattle.cr_bounds.specs.ShownTo.{is_told, is_on_committee, chairs_committee, is_past_submission, oversees}
+use Rattle.cr_bounds.specs.ShownTo.{where_known}
+use Rattle.cr_bounds.proofs.BoundsWalk.{shown_to}
 use Rattle.cr_told.specs.ToldPages.{page_told, is_shown_in_conflict, writers_shown, names_shown, users_shown}
 use Rattle.cr_told.specs.ToldParts.{has, lists, conflicts_given, is_name_of, is_told as is_part_told, is_left_untold}
 use Rattle.cr_told.proofs.ToldEach.{last-here, listed-here}

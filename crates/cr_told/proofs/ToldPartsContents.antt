@@ -21,13 +21,13 @@ use Rattle.cr_policy.specs.Judge.{answer}
 use Rattle.cr_policy.specs.Legal.{Legal}
 use Rattle.cr_policy.specs.Part as part
 use Rattle.cr_policy.specs.Part.{Part}
-use Rattle.cr_policy.specs.ShownTo.{where_known, has_before_her, appears, owns, is_superseded, is_told, each_told}
 use Rattle.cr_policy.specs.Sighting.{Sighting}
 use Rattle.cr_policy.specs.View.{View, view}
 use Rattle.cr_policy.specs.ViewFacts.{only, is_kind}
-use Rattle.cr_policy.proofs.BoundsWalk.{shown_to, view-told}
 use Rattle.cr_policy.proofs.LegalLaws.{legal_invariants}
 use Rattle.cr_policy.proofs.Walk.{only-false}
+use Rattle.cr_bounds.specs.ShownTo.{where_known, has_before_her, appears, owns, is_superseded, is_told, each_told}
+use Rattle.cr_bounds.proofs.BoundsWalk.{shown_to, view-told}
 use Rattle.cr_told.specs.ToldPages.{page_told, shown_by}
 use Rattle.cr_told.specs.ToldLists.{contents_of, content_answered, first_of}
 use Rattle.cr_told.specs.ToldParts.{has, agree, lists, is_told as is_part_told, is_left_untold}

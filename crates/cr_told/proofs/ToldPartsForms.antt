@@ -1,17 +1,18 @@
 -- Of forms each part that is shown, beside the label and the mark, is told or left out.
-use Rattle.std.proofs.Common.{◌≡◌, ◌≤◌, ℕ, zero, suc, Bool, true, false, List, [], ◌∷◌, ◌++◌, refl, sym, ap, ◌∙◌, ◌||◌}
+use Rattle.std.proofs.Common.{◌≡◌, ◌≤◌, ℕ, zero, suc, Bool, true, false, List, [], ◌∷◌, ◌++◌, refl, sym, ap, ◌∙◌}
+use Rattle.std.proofs.Common.{◌||◌}
 use Rattle.std.proofs.Common.{◌&&◌, Option, Some, None, eqb, arith}
 use Rattle.std.specs.Prelude.{not, map, IsTrue, nat_eq, unwrap_or, if◌then◌else◌}
 use Rattle.std.specs.Str.{bytes_eq}
 use Rattle.std.specs.List.{flat_map, list_any}
 use Rattle.std.proofs.lemmas.Bool.{true≢false, eq-eqb, eqb-true, eqb-false, or_left, or_right}
 use Rattle.std.proofs.lemmas.List.Folds.{list_any-append}
-use Rattle.cr_base.specs.declared.entry.Entry.TheVariants.{Reviewed}
-use Rattle.cr_base.specs.declared.entry.EntryKind.TheVariants as kinds
 use Rattle.std.specs.Prelude.{filter}
 use Rattle.std.proofs.lemmas.Bool.{and_from, and_parts}
 use Rattle.std.specs.Prelude.{is_some}
 use Rattle.std.proofs.Math.Bool.{or-false}
+use Rattle.cr_base.specs.declared.entry.Entry.TheVariants.{Reviewed}
+use Rattle.cr_base.specs.declared.entry.EntryKind.TheVariants as kinds
 use Rattle.cr_base.specs.declared.entry.EntryKind.{EntryKind}
 use Rattle.cr_base.specs.declared.page.Reviewer.{Reviewer}
 use Rattle.cr_base.specs.Rows.{kind_number}
@@ -19,20 +20,6 @@ use Rattle.cr_base.specs.Lists.{given, last_from}
 use Rattle.cr_base.specs.History.{form_told, whole_form}
 use Rattle.cr_base.specs.HistoryFacts.{role_of, standing_of, is_written}
 use Rattle.cr_base.specs.Page.{is_clear_chair}
-use Rattle.cr_policy.specs.ShownTo.{administers, chairs_committee, oversees, is_on_committee, is_past_submission}
-use Rattle.cr_policy.specs.ShownTo.{has_conflict, counts_form}
-use Rattle.cr_policy.specs.ViewFacts.{is_user}
-use Rattle.cr_policy.proofs.BoundsWords.{phase-words}
-use Rattle.cr_policy.proofs.ReviewerTells.{seat-seen_by_chair}
-use Rattle.cr_policy.proofs.ReviewTells.{written-seen}
-use Rattle.cr_told.specs.ToldPages.{shown_of, ordinal_by}
-use Rattle.cr_told.specs.ToldLists.{is_left, is_shown_done, reviewer_shown, reviewers_listed}
-use Rattle.cr_told.specs.ToldParts.{has_mark, is_taken_off, is_form_left}
-use Rattle.cr_told.proofs.ToldKnown.{AllOf, Each, all-of, known-own}
-use Rattle.cr_told.proofs.ToldLists.{leads-serves, page_lists_told}
-use Rattle.cr_told.proofs.ToldPlaces.{reviewing-begun}
-use Rattle.cr_told.proofs.ToldReports.{written}
-use Rattle.cr_told.proofs.ToldWords.{chair-leads}
 use Rattle.cr_base.specs.declared.entry.Stamp.{Stamp}
 use Rattle.cr_base.specs.declared.entry.Stamped.{Stamped}
 use Rattle.cr_base.specs.declared.form.Form.{Form}
@@ -46,27 +33,42 @@ use Rattle.cr_base.specs.HistoryFacts.{assigned_under}
 use Rattle.cr_base.specs.Phases.{is_from}
 use Rattle.cr_base.specs.declared.words.Phase.TheVariants.{Reviewing}
 use Rattle.cr_history.specs.Invariants.{IsSubmitted}
+use Rattle.cr_history.proofs.SeatAgreement.{seat-drawn, ordinal_of-tables}
+use Rattle.cr_policy.specs.ViewFacts.{is_user}
 use Rattle.cr_policy.specs.Legal.{Legal}
 use Rattle.cr_policy.specs.Part as part
 use Rattle.cr_policy.specs.Part.{Part}
-use Rattle.cr_policy.proofs.BoundsWalk.{shown_to}
-use Rattle.cr_policy.specs.ShownTo.{is_told, where_known, is_eligible, serves, visits, has_before_her, discusses}
-use Rattle.cr_policy.specs.ShownTo.{is_notified, is_past_reviewing, reads_review, reads_form, learns_form, is_discussed}
-use Rattle.cr_policy.specs.ShownTo.{is_reviewed, is_past_discussion, is_response_or_later, is_author_since_response}
-use Rattle.cr_policy.specs.ShownTo.{is_responded_to}
 use Rattle.cr_policy.specs.Sighting.{Sighting}
 use Rattle.cr_policy.specs.View.{View, view}
 use Rattle.cr_policy.specs.ViewFacts.{only, is_kind, discussion_seen, seats_in_view}
-use Rattle.cr_history.proofs.SeatAgreement.{seat-drawn, ordinal_of-tables}
+use Rattle.cr_policy.proofs.ReviewerTells.{seat-seen_by_chair}
+use Rattle.cr_policy.proofs.ReviewTells.{written-seen}
 use Rattle.cr_policy.proofs.LegalLaws.{legal_invariants}
 use Rattle.cr_policy.proofs.StandingLaws.{seat-seen}
 use Rattle.cr_policy.proofs.Walk.{is_nothing-append}
+use Rattle.cr_bounds.specs.ShownTo.{administers, chairs_committee, oversees, is_on_committee, is_past_submission}
+use Rattle.cr_bounds.specs.ShownTo.{has_conflict, counts_form}
+use Rattle.cr_bounds.specs.ShownTo.{is_told, where_known, is_eligible, serves, visits, has_before_her, discusses}
+use Rattle.cr_bounds.specs.ShownTo.{is_notified, is_past_reviewing, reads_review, reads_form, learns_form}
+use Rattle.cr_bounds.specs.ShownTo.{is_discussed}
+use Rattle.cr_bounds.specs.ShownTo.{is_reviewed, is_past_discussion, is_response_or_later, is_author_since_response}
+use Rattle.cr_bounds.specs.ShownTo.{is_responded_to}
+use Rattle.cr_bounds.proofs.BoundsWords.{phase-words}
+use Rattle.cr_bounds.proofs.BoundsWalk.{shown_to}
+use Rattle.cr_told.specs.ToldPages.{shown_of, ordinal_by}
+use Rattle.cr_told.specs.ToldLists.{is_left, is_shown_done, reviewer_shown, reviewers_listed}
+use Rattle.cr_told.specs.ToldParts.{has_mark, is_taken_off, is_form_left}
 use Rattle.cr_told.specs.ToldPages.{label_shown_of}
 use Rattle.cr_told.specs.ToldLists.{name_shown, knows_reviewers}
 use Rattle.cr_told.specs.ToldParts.{has, agree, lists, has_line, is_followed, scores_at, is_told as is_part_told}
 use Rattle.cr_told.specs.ToldParts.{is_left_untold}
 use Rattle.cr_told.specs.ToldReviews.{review_shown, forms_listed, own_forms_listed, reviews_listed}
 use Rattle.cr_told.specs.ToldReviews.{was_asked_to_respond, reviews_now, reviews_visiting, is_reviewing_now}
+use Rattle.cr_told.proofs.ToldKnown.{AllOf, Each, all-of, known-own}
+use Rattle.cr_told.proofs.ToldLists.{leads-serves, page_lists_told}
+use Rattle.cr_told.proofs.ToldPlaces.{reviewing-begun}
+use Rattle.cr_told.proofs.ToldReports.{written}
+use Rattle.cr_told.proofs.ToldWords.{chair-leads}
 use Rattle.cr_told.proofs.ToldEach.{last-there, last-here, listed-here, known}
 use Rattle.cr_told.proofs.ToldNames.{same-bytes}
 use Rattle.cr_told.proofs.ToldPlaces.{reviewing-on, known-some, own-so, number-is}

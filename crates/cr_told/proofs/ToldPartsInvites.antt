@@ -17,12 +17,12 @@ use Rattle.cr_history.specs.Invariants.{IsSubmitted}
 use Rattle.cr_policy.specs.Legal.{Legal}
 use Rattle.cr_policy.specs.Part as part
 use Rattle.cr_policy.specs.Part.{Part}
-use Rattle.cr_policy.specs.ShownTo.{is_on_committee}
 use Rattle.cr_policy.specs.Sighting.{Sighting}
 use Rattle.cr_policy.specs.View.{View, view}
 use Rattle.cr_policy.specs.ViewFacts.{only, is_user, papers_in_view}
-use Rattle.cr_policy.proofs.BoundsWalk.{shown_to}
 use Rattle.cr_policy.proofs.StandingLaws.{papers-seen}
+use Rattle.cr_bounds.specs.ShownTo.{is_on_committee}
+use Rattle.cr_bounds.proofs.BoundsWalk.{shown_to}
 use Rattle.cr_told.specs.ToldPages.{invitation_by, is_shown_invited}
 use Rattle.cr_told.specs.ToldParts.{has, lists, invited_given, is_told as is_part_told, is_left_untold}
 use Rattle.cr_told.specs.ToldPublic.{role_shown}

@@ -17,7 +17,8 @@ use Rattle.cr_base.specs.declared.words.Mode.{Mode}
 use Rattle.cr_base.specs.declared.words.Mode.TheVariants.{Blind}
 use Rattle.cr_base.specs.declared.words.Phase.{Phase}
 use Rattle.cr_base.specs.declared.deadline.PhaseDeadline.{PhaseDeadline}
-use Rattle.cr_base.specs.declared.words.Phase.TheVariants.{Setup, Submission, Bidding, Reviewing, Response, Discussion}
+use Rattle.cr_base.specs.declared.words.Phase.TheVariants.{Setup, Submission, Bidding, Reviewing, Response}
+use Rattle.cr_base.specs.declared.words.Phase.TheVariants.{Discussion}
 use Rattle.cr_base.specs.declared.words.Role.{Role}
 use Rattle.cr_base.specs.declared.words.Role.TheVariants.{Account}
 use Rattle.cr_base.specs.Lists.{is_nothing, is_number, last, last_or, listed}
@@ -30,11 +31,11 @@ use Rattle.cr_history.specs.Invariants.{IsRegistered, IsSubmitted}
 use Rattle.cr_policy.specs.Legal.{Legal}
 use Rattle.cr_policy.specs.Part as part
 use Rattle.cr_policy.specs.Part.{Part}
-use Rattle.cr_policy.specs.ShownTo.{maker_for}
 use Rattle.cr_policy.specs.Sighting.{Sighting}
 use Rattle.cr_policy.specs.View.{View, view}
 use Rattle.cr_policy.specs.ViewFacts.{only, is_user, is_kind, shows_phase, phase_in_view, mode_in_view}
-use Rattle.cr_policy.proofs.BoundsWalk.{shown_to}
+use Rattle.cr_bounds.specs.ShownTo.{maker_for}
+use Rattle.cr_bounds.proofs.BoundsWalk.{shown_to}
 use Rattle.cr_told.specs.ToldPages.{shown_on, writers_shown, writer_by, page_told}
 use Rattle.cr_told.specs.ToldParts.{is_name_of, has, accounts_answered, accounts_given, deadlines_answered}
 use Rattle.cr_told.specs.ToldParts.{has_deadline, agree, lists, same_mode, same_role, is_told as is_part_told}

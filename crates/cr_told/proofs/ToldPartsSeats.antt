@@ -21,16 +21,16 @@ use Rattle.cr_history.specs.Invariants.{IsRegistered, IsSubmitted}
 use Rattle.cr_policy.specs.Legal.{Legal}
 use Rattle.cr_policy.specs.Part as part
 use Rattle.cr_policy.specs.Part.{Part}
-use Rattle.cr_policy.specs.ShownTo.{is_told, is_on_committee, chairs_committee, is_past_submission, is_past_reviewing}
-use Rattle.cr_policy.specs.ShownTo.{has_conflict, hides_reviewers, where_known, is_eligible, visits, has_before_her}
-use Rattle.cr_policy.specs.ShownTo.{oversees, administers, discusses, is_party, is_answered}
 use Rattle.cr_policy.specs.Sighting.{Sighting}
 use Rattle.cr_policy.specs.View.{View, view}
 use Rattle.cr_policy.specs.ViewFacts.{only, is_kind, is_user, papers_in_view}
-use Rattle.cr_policy.proofs.BoundsWords.{phase-words}
-use Rattle.cr_policy.proofs.BoundsWalk.{shown_to}
 use Rattle.cr_policy.proofs.StandingLaws.{papers-seen}
 use Rattle.cr_policy.proofs.Walk.{only-true, only-false}
+use Rattle.cr_bounds.specs.ShownTo.{is_told, is_on_committee, chairs_committee, is_past_submission, is_past_reviewing}
+use Rattle.cr_bounds.specs.ShownTo.{has_conflict, hides_reviewers, where_known, is_eligible, visits, has_before_her}
+use Rattle.cr_bounds.specs.ShownTo.{oversees, administers, discusses, is_party, is_answered}
+use Rattle.cr_bounds.proofs.BoundsWords.{phase-words}
+use Rattle.cr_bounds.proofs.BoundsWalk.{shown_to}
 use Rattle.cr_told.specs.ToldPages.{page_told, label_shown_of, shown_of, shown_by, ordinal_by}
 use Rattle.cr_told.specs.ToldLists.{is_left, knows_reviewers, reviewer_shown, reviewers_listed, name_shown}
 use Rattle.cr_told.specs.ToldParts.{has, agree, lists, same_kind, assigned_given, is_taken_off, is_name_behind}

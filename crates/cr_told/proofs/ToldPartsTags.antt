@@ -22,12 +22,12 @@ use Rattle.cr_history.specs.Invariants.{IsSubmitted}
 use Rattle.cr_policy.specs.Legal.{Legal}
 use Rattle.cr_policy.specs.Part as part
 use Rattle.cr_policy.specs.Part.{Part}
-use Rattle.cr_policy.specs.ShownTo.{is_told, chairs_committee, is_eligible, is_committees, is_chairs, where_known}
 use Rattle.cr_policy.specs.Sighting.{Sighting}
 use Rattle.cr_policy.specs.View.{View, view}
 use Rattle.cr_policy.specs.ViewFacts.{only, is_kind, tag_shown, tag_seen, tags_in_view}
-use Rattle.cr_policy.proofs.BoundsWords.{for-chairs}
-use Rattle.cr_policy.proofs.BoundsWalk.{shown_to}
+use Rattle.cr_bounds.specs.ShownTo.{is_told, chairs_committee, is_eligible, is_committees, is_chairs, where_known}
+use Rattle.cr_bounds.proofs.BoundsWords.{for-chairs}
+use Rattle.cr_bounds.proofs.BoundsWalk.{shown_to}
 use Rattle.cr_told.specs.ToldPages.{page_told}
 use Rattle.cr_told.specs.ToldParts.{has, agree, lists, is_told as is_part_told, is_left_untold}
 use Rattle.cr_told.proofs.ToldKnown.{AllOf, Each, all-of, known-own}

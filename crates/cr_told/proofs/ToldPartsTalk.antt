@@ -26,18 +26,18 @@ use Rattle.cr_history.specs.Invariants.{IsRegistered, IsSubmitted, IsInOrder, In
 use Rattle.cr_policy.specs.Legal.{Legal}
 use Rattle.cr_policy.specs.Part as part
 use Rattle.cr_policy.specs.Part.{Part}
-use Rattle.cr_policy.specs.ShownTo.{is_notified, is_in_programme, is_decided_again, decides, is_past_discussion}
-use Rattle.cr_policy.specs.ShownTo.{learns_outcome, is_announced, reads_decision, takes, is_told, is_eligible}
-use Rattle.cr_policy.specs.ShownTo.{discusses, is_past_reviewing, where_known, knows_writers}
 use Rattle.cr_policy.specs.Sighting.{Sighting}
 use Rattle.cr_policy.specs.View.{View, view}
 use Rattle.cr_policy.specs.ViewFacts.{only, is_kind, label_shown, is_accepted_in_view, papers_in_view, facts_in_view}
 use Rattle.cr_policy.specs.ViewFacts.{shown_in_view}
-use Rattle.cr_policy.proofs.BoundsWords.{phase-words}
-use Rattle.cr_policy.proofs.BoundsWalk.{shown_to}
 use Rattle.cr_policy.proofs.DecisionTells.{accepted-seen}
 use Rattle.cr_policy.proofs.LegalLaws.{legal_invariants}
 use Rattle.cr_policy.proofs.StandingLaws.{papers-seen}
+use Rattle.cr_bounds.specs.ShownTo.{is_notified, is_in_programme, is_decided_again, decides, is_past_discussion}
+use Rattle.cr_bounds.specs.ShownTo.{learns_outcome, is_announced, reads_decision, takes, is_told, is_eligible}
+use Rattle.cr_bounds.specs.ShownTo.{discusses, is_past_reviewing, where_known, knows_writers}
+use Rattle.cr_bounds.proofs.BoundsWords.{phase-words}
+use Rattle.cr_bounds.proofs.BoundsWalk.{shown_to}
 use Rattle.cr_told.specs.ToldPages.{shown_on, is_shown_accepted, page_told}
 use Rattle.cr_told.specs.ToldLists.{comment_shown_by, comments_listed, name_shown}
 use Rattle.cr_told.specs.ToldPlaces.{has_key}

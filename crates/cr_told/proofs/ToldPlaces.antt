@@ -14,7 +14,8 @@ use Rattle.cr_base.specs.declared.entry.Entry.TheVariants.{Commented, Tagged, De
 use Rattle.cr_base.specs.declared.entry.Stamp.{Stamp}
 use Rattle.cr_base.specs.declared.entry.Stamped.{Stamped}
 use Rattle.cr_base.specs.declared.words.Phase.{Phase}
-use Rattle.cr_base.specs.declared.words.Phase.TheVariants.{Setup, Submission, Bidding, Reviewing, Response, Discussion}
+use Rattle.cr_base.specs.declared.words.Phase.TheVariants.{Setup, Submission, Bidding, Reviewing, Response}
+use Rattle.cr_base.specs.declared.words.Phase.TheVariants.{Discussion}
 use Rattle.cr_base.specs.declared.words.Phase.TheVariants.{Notification, Closed}
 use Rattle.cr_base.specs.Lists.{given, is_number}
 use Rattle.cr_base.specs.Drawn.{stamped}
@@ -23,18 +24,19 @@ use Rattle.cr_base.specs.HistoryFacts.{phase_of, mode_of, role_of, papers_of, is
 use Rattle.cr_base.specs.Phases.{is_from, is_phase, committee_works}
 use Rattle.cr_history.specs.Invariants.{Invariants, IsInOrder, InTurn, IsSubmitted, IsHeld}
 use Rattle.cr_policy.specs.Legal.{Legal}
-use Rattle.cr_policy.specs.ShownTo.{is_on_committee, chairs_committee, is_past_submission, is_past_reviewing}
-use Rattle.cr_policy.specs.ShownTo.{has_conflict, serves, is_eligible, visits, reads_visiting, has_before_her, oversees}
-use Rattle.cr_policy.specs.ShownTo.{discusses, is_party, is_answered, is_notified, is_author_since_response}
-use Rattle.cr_policy.specs.ShownTo.{is_responded_to, is_in_programme, is_told, where_known, is_committees, is_chairs}
-use Rattle.cr_policy.specs.ShownTo.{hides_reviewers, is_discussed, is_reviewed, is_decided_again}
 use Rattle.cr_policy.specs.Sighting.{Sighting}
 use Rattle.cr_policy.specs.View.{view}
 use Rattle.cr_policy.specs.ViewFacts.{is_user}
-use Rattle.cr_policy.proofs.BoundsWords.{phase-words}
-use Rattle.cr_policy.proofs.BoundsWalk.{shown_to}
 use Rattle.cr_policy.proofs.DecisionTells.{accepted-seen}
 use Rattle.cr_policy.proofs.LegalLaws.{legal_invariants}
+use Rattle.cr_bounds.specs.ShownTo.{is_on_committee, chairs_committee, is_past_submission, is_past_reviewing}
+use Rattle.cr_bounds.specs.ShownTo.{has_conflict, serves, is_eligible, visits, reads_visiting, has_before_her}
+use Rattle.cr_bounds.specs.ShownTo.{oversees}
+use Rattle.cr_bounds.specs.ShownTo.{discusses, is_party, is_answered, is_notified, is_author_since_response}
+use Rattle.cr_bounds.specs.ShownTo.{is_responded_to, is_in_programme, is_told, where_known, is_committees, is_chairs}
+use Rattle.cr_bounds.specs.ShownTo.{hides_reviewers, is_discussed, is_reviewed, is_decided_again}
+use Rattle.cr_bounds.proofs.BoundsWords.{phase-words}
+use Rattle.cr_bounds.proofs.BoundsWalk.{shown_to}
 use Rattle.cr_told.specs.ToldPages.{is_shown_accepted}
 use Rattle.cr_told.specs.ToldPlaces.{has_key, has_reviews, has_comments, has_response, is_placed, PlacesTold}
 use Rattle.cr_told.specs.ToldReviews.{is_reviewing_now, was_asked_to_respond, reviews_now, reviews_visiting}

@@ -1,5 +1,6 @@
 -- What everyone is shown, the answers on accounts, on the conference and on its deadlines tell.
-use Rattle.std.proofs.Common.{◌≡◌, ℕ, Bool, true, false, List, [], ◌∷◌, ◌++◌, length, refl, sym, ap, ◌∙◌, ◌&&◌, Option}
+use Rattle.std.proofs.Common.{◌≡◌, ℕ, Bool, true, false, List, [], ◌∷◌, ◌++◌, length, refl, sym, ap, ◌∙◌, ◌&&◌}
+use Rattle.std.proofs.Common.{Option}
 use Rattle.std.proofs.Common.{Some, None}
 use Rattle.std.specs.Prelude.{map, nat_le, not}
 use Rattle.std.specs.List.{flat_map}
@@ -14,7 +15,8 @@ use Rattle.cr_base.specs.declared.reply.AccountLine.{AccountLine}
 use Rattle.cr_base.specs.declared.reply.Reply.TheVariants as replies
 use Rattle.cr_base.specs.declared.words.Mode.TheVariants.{Blind}
 use Rattle.cr_base.specs.declared.words.Phase.{Phase}
-use Rattle.cr_base.specs.declared.words.Phase.TheVariants.{Setup, Submission, Bidding, Reviewing, Response, Discussion}
+use Rattle.cr_base.specs.declared.words.Phase.TheVariants.{Setup, Submission, Bidding, Reviewing, Response}
+use Rattle.cr_base.specs.declared.words.Phase.TheVariants.{Discussion}
 use Rattle.cr_base.specs.declared.words.Role.TheVariants.{Account}
 use Rattle.cr_base.specs.Deadlines.{phase_deadline, deadlines_told as told_of}
 use Rattle.cr_base.specs.History.{History, Registration}
@@ -25,8 +27,8 @@ use Rattle.cr_policy.specs.View.{view}
 use Rattle.cr_policy.specs.ViewFacts.{only, is_user, is_kind, shows_phase, phase_seen, mode_seen, deadline_seen}
 use Rattle.cr_policy.specs.ViewFacts.{paper_seen, role_seen, registration_seen, deadline_in_view, role_in_view}
 use Rattle.cr_policy.specs.ViewFacts.{accounts_in_view}
-use Rattle.cr_policy.proofs.BoundsWalk.{shown_to}
 use Rattle.cr_policy.proofs.Walk.{map-flat_map}
+use Rattle.cr_bounds.proofs.BoundsWalk.{shown_to}
 use Rattle.cr_told.specs.ToldPublic.{all_shown, phases_shown, deadlines_shown, role_by, role_shown, account_shown}
 use Rattle.cr_told.specs.ToldPublic.{AccountsTold, ConferenceTold, DeadlinesTold}
 use Rattle.cr_told.proofs.ToldShown.{readings}

@@ -22,7 +22,8 @@ use Rattle.cr_base.specs.HistoryFacts.{phase_of, role_of, is_author, assigned_un
 use Rattle.cr_base.specs.Labels.{by_labels, most_labels}
 use Rattle.cr_base.specs.Lists.{listed, last, last_or, is_number, total, until, since}
 use Rattle.cr_base.specs.Page.{shows_reviewer}
-use Rattle.cr_base.specs.Phases.{members_see_papers, chairs_see_reviewers, members_read_reviews, members_read_decisions}
+use Rattle.cr_base.specs.Phases.{members_see_papers, chairs_see_reviewers, members_read_reviews}
+use Rattle.cr_base.specs.Phases.{members_read_decisions}
 use Rattle.cr_base.specs.Phases.{letters_are_sent}
 use Rattle.cr_base.specs.Reports.{in_four, space, line_end, to_left, paper_mark, papers_end, scores_line}
 use Rattle.cr_base.specs.Reports.{is_seat_of_kind, decision_word, decisions_end, is_accepting, is_rejecting}
@@ -33,16 +34,16 @@ use Rattle.cr_base.specs.Sources.{Facts, Shown, has_paper}
 use Rattle.cr_base.specs.Words.{is_member, is_chair}
 use Rattle.cr_base.proofs.LastLaws.{last_from-map}
 use Rattle.cr_policy.specs.Sighting.{Sighting}
-use Rattle.cr_policy.specs.ShownTo.{where_known}
 use Rattle.cr_policy.specs.View.{View, view}
 use Rattle.cr_policy.specs.ViewFacts.{only, facts_in_view, shown_in_view, accounts_in_view, papers_in_view}
 use Rattle.cr_policy.specs.ViewFacts.{reviewers_in_view, last_form_in_view, seats_in_view, standing_in_view}
 use Rattle.cr_policy.specs.ViewFacts.{is_conflicted_in_view, is_written_in_view, done_seen, discussion_seen}
 use Rattle.cr_policy.specs.ViewFacts.{forms_discussed_in_view}
-use Rattle.cr_policy.proofs.BoundsWords.{phase-words}
-use Rattle.cr_policy.proofs.BoundsWalk.{shown_to}
 use Rattle.cr_policy.proofs.LegalLaws.{legal_invariants}
 use Rattle.cr_policy.proofs.StandingLaws.{papers-seen, standing_from_view}
+use Rattle.cr_bounds.specs.ShownTo.{where_known}
+use Rattle.cr_bounds.proofs.BoundsWords.{phase-words}
+use Rattle.cr_bounds.proofs.BoundsWalk.{shown_to}
 use Rattle.cr_told.specs.ToldLists.{name_shown, is_shown_done, knows_reviewers}
 use Rattle.cr_told.specs.ToldReports.{report_answered, is_hers_or_in_conflict, decision_shown, papers_clear}
 use Rattle.cr_told.specs.ToldReports.{papers_open, papers_text, scores_shown, scores_text, load_text, decisions_text}

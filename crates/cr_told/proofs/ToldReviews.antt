@@ -17,7 +17,8 @@ use Rattle.cr_base.specs.declared.reply.Rule.TheVariants as rules
 use Rattle.cr_base.specs.declared.review.ReviewLine.{ReviewLine}
 use Rattle.cr_base.specs.declared.standing.Standing.{Standing}
 use Rattle.cr_base.specs.declared.words.Phase.{Phase}
-use Rattle.cr_base.specs.declared.words.Phase.TheVariants.{Setup, Submission, Bidding, Reviewing, Response, Discussion}
+use Rattle.cr_base.specs.declared.words.Phase.TheVariants.{Setup, Submission, Bidding, Reviewing, Response}
+use Rattle.cr_base.specs.declared.words.Phase.TheVariants.{Discussion}
 use Rattle.cr_base.specs.declared.words.Phase.TheVariants.{Notification, Closed}
 use Rattle.cr_base.specs.Drawn.{stamped}
 use Rattle.cr_base.specs.Answering.{reply_or_rule}
@@ -35,24 +36,24 @@ use Rattle.cr_base.specs.Words.{is_member}
 use Rattle.cr_base.proofs.LastLaws.{last_from-map, listed-map}
 use Rattle.cr_history.specs.Invariants.{IsSubmitted, IsInOrder, InTurn}
 use Rattle.cr_policy.specs.Judge.{answer}
-use Rattle.cr_policy.specs.ShownTo.{is_on_committee, is_past_submission, is_past_reviewing, is_past_discussion}
-use Rattle.cr_policy.specs.ShownTo.{discusses, is_notified, is_author_since_response, is_responded_to, where_known}
-use Rattle.cr_policy.specs.ShownTo.{is_told, visits}
 use Rattle.cr_policy.specs.Sighting.{Sighting}
 use Rattle.cr_policy.specs.View.{View, view}
 use Rattle.cr_policy.specs.ViewFacts.{only, is_kind, form_shown, form_seen, own_form_seen, discussion_seen}
 use Rattle.cr_policy.specs.ViewFacts.{forms_in_view, own_forms_in_view, seats_in_view}
-use Rattle.cr_policy.specs.ViewBounds.{is_others}
 use Rattle.cr_policy.specs.ViewFacts.{facts_in_view, ordinal_in_view, had_response_in_view, opening_response_seen}
 use Rattle.cr_policy.specs.ViewFacts.{shows_phase}
-use Rattle.cr_policy.proofs.BoundsWords.{phase-words, response-tests}
-use Rattle.cr_policy.proofs.BoundsWalk.{shown_to, each-view}
-use Rattle.cr_policy.proofs.BoundsWritten.{responded-opened}
 use Rattle.cr_policy.proofs.Cuts.{flat_map-cut}
 use Rattle.cr_policy.proofs.LegalLaws.{legal_invariants}
-use Rattle.cr_policy.proofs.ResponseBoundLaws.{reviews-behind}
 use Rattle.cr_policy.proofs.StandingLaws.{standing_from_view, had_response-seen}
 use Rattle.cr_policy.proofs.Walk.{map-flat_map}
+use Rattle.cr_bounds.specs.ShownTo.{is_on_committee, is_past_submission, is_past_reviewing, is_past_discussion}
+use Rattle.cr_bounds.specs.ShownTo.{discusses, is_notified, is_author_since_response, is_responded_to, where_known}
+use Rattle.cr_bounds.specs.ShownTo.{is_told, visits}
+use Rattle.cr_bounds.specs.ViewBounds.{is_others}
+use Rattle.cr_bounds.proofs.BoundsWords.{phase-words, response-tests}
+use Rattle.cr_bounds.proofs.BoundsWalk.{shown_to, each-view}
+use Rattle.cr_bounds.proofs.BoundsWritten.{responded-opened}
+use Rattle.cr_bounds.proofs.ResponseBoundLaws.{reviews-behind}
 use Rattle.cr_told.specs.ToldPages.{label_shown_of}
 use Rattle.cr_told.specs.ToldLists.{name_shown, knows_reviewers}
 use Rattle.cr_told.specs.ToldReviews.{reviews_answered, review_shown, forms_listed, reviews_listed, is_reviewing_now}

@@ -14,14 +14,14 @@ use Rattle.cr_base.specs.Lists.{listed, last_from, last_or, is_number}
 use Rattle.cr_base.specs.History.{History, Upload}
 use Rattle.cr_policy.specs.Sighting.{Sighting}
 use Rattle.cr_policy.specs.View.{View, view}
-use Rattle.cr_policy.specs.ShownTo.{where_known}
 use Rattle.cr_policy.specs.ViewFacts.{only, is_user, is_kind, title_seen, abstract_seen, author_seen, conflict_seen}
 use Rattle.cr_policy.specs.ViewFacts.{ordinal_seen, own_bid_seen, bid_seen, accepted_seen, decision_seen, invite_seen}
 use Rattle.cr_policy.specs.ViewFacts.{is_invited_in_view, upload_seen, withdrawal_seen, authors_in_view}
 use Rattle.cr_policy.specs.ViewFacts.{is_conflict_on_in_view, ordinal_in_view, is_accepted_in_view, uploads_in_view}
 use Rattle.cr_policy.specs.ViewFacts.{is_withdrawn_in_view, upload_shown}
-use Rattle.cr_policy.proofs.BoundsWalk.{shown_to, each-view}
 use Rattle.cr_policy.proofs.Walk.{only-false, map-flat_map, last_from-append}
+use Rattle.cr_bounds.specs.ShownTo.{where_known}
+use Rattle.cr_bounds.proofs.BoundsWalk.{shown_to, each-view}
 use Rattle.cr_told.specs.ToldPages.{shown_on, shown_by, is_shown, writers_shown, is_shown_in_conflict, label_shown_of}
 use Rattle.cr_told.specs.ToldPages.{own_bids_shown, bids_shown_of, is_shown_accepted, writer_by, ordinal_by}
 use Rattle.cr_told.specs.ToldPages.{invitation_by, is_shown_invited}

@@ -14,12 +14,12 @@ use Rattle.cr_base.specs.Lists.{listed, is_number}
 use Rattle.cr_base.specs.History.{History}
 use Rattle.cr_base.specs.HistoryFacts.{mode_of, is_author}
 use Rattle.cr_history.specs.Invariants.{IsInOrder, InTurn}
-use Rattle.cr_policy.specs.ShownTo.{serves, reads_visiting, has_before_her, oversees, discusses, hides_authors}
-use Rattle.cr_policy.specs.ShownTo.{is_in_programme, appears, is_told, where_known, is_replaced, is_superseded}
 use Rattle.cr_policy.specs.Sighting.{Sighting}
 use Rattle.cr_policy.specs.View.{view}
 use Rattle.cr_policy.specs.ViewFacts.{only, upload_shown, upload_seen, uploads_in_view, response_seen}
-use Rattle.cr_policy.proofs.BoundsWalk.{shown_to, all-view}
+use Rattle.cr_bounds.specs.ShownTo.{serves, reads_visiting, has_before_her, oversees, discusses, hides_authors}
+use Rattle.cr_bounds.specs.ShownTo.{is_in_programme, appears, is_told, where_known, is_replaced, is_superseded}
+use Rattle.cr_bounds.proofs.BoundsWalk.{shown_to, all-view}
 use Rattle.cr_told.specs.ToldPages.{shown_on, writers_shown, writer_by}
 use Rattle.cr_told.proofs.ToldMakers.{IsByAuthor, by-authors, not-own}
 

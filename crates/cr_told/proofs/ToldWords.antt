@@ -8,7 +8,7 @@ use Rattle.cr_base.specs.declared.words.Role.TheVariants.{Account, Member, Chair
 use Rattle.cr_base.specs.History.{History}
 use Rattle.cr_base.specs.HistoryFacts.{role_of, is_invited, is_external}
 use Rattle.cr_base.specs.Words.{is_member, is_chair, is_accept}
-use Rattle.cr_policy.specs.ShownTo.{is_on_committee, chairs_committee, takes, visits}
+use Rattle.cr_bounds.specs.ShownTo.{is_on_committee, chairs_committee, takes, visits}
 
 pub member-committee : (role : Role) → is_member role ≡ is_on_committee role
 member-committee Account = refl

@@ -22,12 +22,12 @@ use Rattle.cr_base.specs.Sources.{name_in}
 use Rattle.cr_history.specs.Invariants.{IsSubmitted}
 use Rattle.cr_policy.specs.Judge.{answer}
 use Rattle.cr_policy.specs.Legal.{Legal}
-use Rattle.cr_policy.specs.ShownTo.{is_on_committee, chairs_committee, hides_reviewers, is_eligible, oversees}
-use Rattle.cr_policy.specs.ShownTo.{administers, discusses, is_answered, where_known}
 use Rattle.cr_policy.specs.Sighting.{Sighting}
 use Rattle.cr_policy.specs.View.{View, view}
 use Rattle.cr_policy.specs.ViewFacts.{only, is_kind, label_shown}
 use Rattle.cr_policy.specs.ViewFacts.{accounts_in_view, papers_in_view, tags_in_view}
+use Rattle.cr_bounds.specs.ShownTo.{is_on_committee, chairs_committee, hides_reviewers, is_eligible, oversees}
+use Rattle.cr_bounds.specs.ShownTo.{administers, discusses, is_answered, where_known}
 use Rattle.cr_told.specs.ToldPages.{shown_on, shown_by, writers_shown, is_shown_in_conflict, is_shown_invited}
 use Rattle.cr_told.specs.ToldPages.{label_shown_of}
 use Rattle.cr_told.specs.ToldPages.{bids_shown_of, is_shown_accepted, names_shown, is_clear, page_told}

@@ -22,11 +22,11 @@ use Rattle.cr_base.specs.Sources.{names_in}
 use Rattle.cr_history.specs.Invariants.{IsSubmitted}
 use Rattle.cr_policy.specs.Judge.{answer}
 use Rattle.cr_policy.specs.Legal.{Legal}
-use Rattle.cr_policy.specs.ShownTo.{is_on_committee, has_conflict, serves, is_eligible, visits, reads_visiting}
-use Rattle.cr_policy.specs.ShownTo.{oversees, discusses, is_notified, where_known}
 use Rattle.cr_policy.specs.Sighting.{Sighting}
 use Rattle.cr_policy.specs.View.{View, view}
 use Rattle.cr_policy.specs.ViewFacts.{only, is_user, is_kind, accounts_in_view}
+use Rattle.cr_bounds.specs.ShownTo.{is_on_committee, has_conflict, serves, is_eligible, visits, reads_visiting}
+use Rattle.cr_bounds.specs.ShownTo.{oversees, discusses, is_notified, where_known}
 
 -- ---- what a view shows
 

@@ -33,10 +33,10 @@ use Rattle.cr_policy.specs.Judge.{answer}
 use Rattle.cr_policy.specs.Legal.{Legal}
 use Rattle.cr_policy.specs.Part as part
 use Rattle.cr_policy.specs.Part.{Part}
-use Rattle.cr_policy.specs.ShownTo.{is_on_committee, chairs_committee, is_chairs, has_before_her}
 use Rattle.cr_policy.specs.Sighting.{Sighting}
 use Rattle.cr_policy.specs.View.{View, view}
 use Rattle.cr_policy.specs.ViewFacts.{only, is_user, is_kind, discussion_seen}
+use Rattle.cr_bounds.specs.ShownTo.{is_on_committee, chairs_committee, is_chairs, has_before_her}
 use Rattle.cr_told.specs.ToldPages.{shown_on, page_told, shown_of}
 use Rattle.cr_told.specs.ToldPages.{bids_shown_of, own_bids_shown, ordinal_by, invitation_by, is_shown_accepted}
 use Rattle.cr_told.specs.ToldLists.{name_shown, is_left, knows_reviewers, comments_answered, response_answered}

@@ -10,10 +10,10 @@ use Rattle.cr_base.specs.Lists.{is_number}
 use Rattle.cr_base.specs.History.{History}
 use Rattle.cr_policy.specs.Judge.{answer}
 use Rattle.cr_policy.specs.Legal.{Legal}
-use Rattle.cr_policy.specs.ShownTo.{is_eligible, has_before_her, oversees, discusses}
 use Rattle.cr_policy.specs.Sighting.{Sighting}
 use Rattle.cr_policy.specs.View.{view}
 use Rattle.cr_policy.specs.ViewFacts.{is_user}
+use Rattle.cr_bounds.specs.ShownTo.{is_eligible, has_before_her, oversees, discusses}
 use Rattle.cr_told.specs.ToldPages.{page_told}
 use Rattle.cr_told.specs.ToldLists.{comments_answered, response_answered}
 use Rattle.cr_told.specs.ToldReviews.{reviews_answered}

@@ -25,12 +25,12 @@ use Rattle.cr_base.specs.Reports.{paper_named_line, decision_named_line, letter_
 use Rattle.cr_history.specs.Invariants.{IsSubmitted}
 use Rattle.cr_policy.specs.Judge.{answer}
 use Rattle.cr_policy.specs.Legal.{Legal}
-use Rattle.cr_policy.specs.ShownTo.{is_on_committee, chairs_committee, is_past_submission}
-use Rattle.cr_policy.specs.ShownTo.{is_past_reviewing, serves, is_notified, where_known}
 use Rattle.cr_policy.specs.Sighting.{Sighting}
 use Rattle.cr_policy.specs.View.{View, view}
 use Rattle.cr_policy.specs.ViewFacts.{accounts_in_view, papers_in_view, discussion_seen}
 use Rattle.cr_policy.specs.ViewFacts.{reviewers_in_view, last_form_in_view, seats_in_view}
+use Rattle.cr_bounds.specs.ShownTo.{is_on_committee, chairs_committee, is_past_submission}
+use Rattle.cr_bounds.specs.ShownTo.{is_past_reviewing, serves, is_notified, where_known}
 use Rattle.cr_told.specs.ToldPages.{shown_on, is_shown, writers_shown, is_shown_in_conflict, is_shown_accepted}
 use Rattle.cr_told.specs.ToldLists.{name_shown, is_shown_done, knows_reviewers}
 use Rattle.cr_told.specs.ToldReviews.{forms_listed}

@@ -16,11 +16,11 @@ use Rattle.cr_base.specs.HistoryFacts.{phase_of, role_of, is_author, is_reviewer
 use Rattle.cr_history.specs.Invariants.{IsSubmitted}
 use Rattle.cr_policy.specs.Judge.{answer}
 use Rattle.cr_policy.specs.Legal.{Legal}
-use Rattle.cr_policy.specs.ShownTo.{is_on_committee, is_past_reviewing, is_eligible, reads_visiting, discusses}
-use Rattle.cr_policy.specs.ShownTo.{is_notified, where_known}
 use Rattle.cr_policy.specs.Sighting.{Sighting}
 use Rattle.cr_policy.specs.View.{View, view}
 use Rattle.cr_policy.specs.ViewFacts.{only, is_kind, discussion_seen, seats_in_view}
+use Rattle.cr_bounds.specs.ShownTo.{is_on_committee, is_past_reviewing, is_eligible, reads_visiting, discusses}
+use Rattle.cr_bounds.specs.ShownTo.{is_notified, where_known}
 use Rattle.cr_told.specs.ToldPages.{label_shown_of}
 use Rattle.cr_told.specs.ToldLists.{name_shown, knows_reviewers}
 

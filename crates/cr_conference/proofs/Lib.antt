@@ -1,0 +1,6 @@
+pub mod ConferenceProofs
+pub mod ConferenceSeen
+pub mod ConferenceVerdicts
+pub mod FirstToldLaws
+pub mod HiddenPairLaws
+pub mod HiddenPairProofs

@@ -1,0 +1,2 @@
+pub mod HiddenBytesLaws
+pub mod PlanPostedLaws

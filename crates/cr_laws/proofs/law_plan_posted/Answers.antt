@@ -1,0 +1,5 @@
+use Rattle.cr_laws.proofs.PlanPostedLaws.{plan-posted}
+use Rattle.cr_laws.proofs.law_plan_posted.Goals as goal
+
+pub returns : goal.returns
+returns c = plan-posted

@@ -1,0 +1,2 @@
+pub mod HiddenBytes
+pub mod PlanPosted

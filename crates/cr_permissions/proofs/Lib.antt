@@ -1,0 +1,11 @@
+pub mod GoesOnLaws
+pub mod KeptStamps
+pub mod MayBulkLaws
+pub mod MayDoLaws
+pub mod MayReadLaws
+pub mod MigrationLaws
+pub mod PhaseOrderLaws
+pub mod PlanRows
+pub mod PlanTakenLaws
+pub mod SentenceLaws
+pub mod SingleRowLaws

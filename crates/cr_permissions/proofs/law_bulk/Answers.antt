@@ -1,0 +1,5 @@
+use Rattle.cr_permissions.proofs.SingleRowLaws.{bulk_is_its_rows}
+use Rattle.cr_permissions.proofs.law_bulk.Goals as goal
+
+pub returns : goal.returns
+returns c = bulk_is_its_rows
