@@ -8,6 +8,7 @@ use Rattle.std.proofs.lemmas.List.{map-append}
 use Rattle.std.proofs.lemmas.List.Concat.{flat_map-append}
 use Rattle.std.proofs.lemmas.List.Elements.{All-nil, All-cons, All-append, All-same}
 use Rattle.std.proofs.lemmas.List.Folds.{list_any-append}
+use Rattle.std.proofs.Math.Bool.{or-true}
 use Rattle.cr_base.specs.declared.entry.Entry.{Entry}
 use Rattle.cr_base.specs.declared.entry.Entry.TheVariants.{Submitted, Reviewed}
 use Rattle.cr_base.specs.declared.entry.Stamp.{Stamp}
@@ -148,10 +149,6 @@ module _ (u : Option ℕ) (H : History) where
       ∙ ap (λ b. list_any (is_number u) (authors_of paper before)
       || (b || list_any (is_number u) (authors_of paper after))) own
       ∙ or-true (list_any (is_number u) (authors_of paper before))
-    where
-      or-true : (b : Bool) → (b || true) ≡ true
-      or-true true = refl
-      or-true false = refl
   writes-one before stamp more e after whole = tt
 
   -- and all of the history but the entry stands around it

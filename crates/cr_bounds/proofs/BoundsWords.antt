@@ -5,19 +5,14 @@ use Rattle.std.specs.Prelude.{not}
 use Rattle.std.specs.List.{list_any}
 use Rattle.std.proofs.lemmas.Bool.{true≢false, false≢true, and_right}
 use Rattle.cr_base.specs.declared.entry.Entry.{Entry}
-use Rattle.cr_base.specs.declared.entry.Entry.TheVariants.{Submitted, Revised, Uploaded, PhaseSet}
-use Rattle.cr_base.specs.declared.entry.Entry.TheVariants.{Reviewed, Decided}
+use Rattle.cr_base.specs.declared.entry.Entry.TheVariants.{Submitted, Revised, Uploaded, PhaseSet, Reviewed, Decided}
 use Rattle.cr_base.specs.declared.entry.Stamped.{Stamped}
 use Rattle.cr_base.specs.declared.words.Decision.{Decision}
 use Rattle.cr_base.specs.declared.words.Decision.TheVariants.{Accept, Reject}
 use Rattle.cr_base.specs.declared.words.Phase.{Phase}
-use Rattle.cr_base.specs.declared.words.Phase.TheVariants.{Setup, Submission, Bidding, Reviewing, Response}
-use Rattle.cr_base.specs.declared.words.Phase.TheVariants.{Discussion}
-use Rattle.cr_base.specs.declared.words.Phase.TheVariants.{Notification, Closed}
+use Rattle.cr_base.specs.declared.words.Phase.TheVariants.{Bidding, Response, Discussion, Notification, Closed}
 use Rattle.cr_base.specs.declared.words.Mode.{Mode}
-use Rattle.cr_base.specs.declared.words.Mode.TheVariants.{Overt, Blind, Anonymous}
 use Rattle.cr_base.specs.declared.words.Role.{Role}
-use Rattle.cr_base.specs.declared.words.Role.TheVariants.{Account, Member, Chair}
 use Rattle.cr_base.specs.Lists.{given, is_nothing, until}
 use Rattle.cr_base.specs.History.{History, all_told, opens, opens_discussion, opens_response, title_told, upload_told}
 use Rattle.cr_base.specs.History.{form_told, decision_told, whole_form}
@@ -33,20 +28,14 @@ use Rattle.cr_bounds.specs.ShownTo.{is_discussed, is_committees, is_chairs, give
 use Rattle.cr_bounds.specs.ShownTo.{is_superseded}
 
 pub member-committee : (role : Role) → is_member role ≡ is_on_committee role
-member-committee Account = refl
-member-committee Member = refl
-member-committee Chair = refl
+member-committee role = grind arith
 
 pub chair-leads : (role : Role) → is_chair role ≡ chairs_committee role
-chair-leads Account = refl
-chair-leads Member = refl
-chair-leads Chair = refl
+chair-leads role = grind arith
 
 -- a chair is on the committee
 pub chair-committee : (role : Role) → (is_on_committee role && is_chair role) ≡ is_chair role
-chair-committee Account = refl
-chair-committee Member = refl
-chair-committee Chair = refl
+chair-committee role = grind arith
 
 -- phases: what the bidding, the response, the discussion, the notification and the end begin, and that the discussion
 -- comes behind the bidding, and the notification behind the discussion
@@ -60,81 +49,7 @@ pub record PhaseWords (phase : Phase) : Type 0 where
   pub notification_later : (is_past_reviewing phase && is_past_discussion phase) ≡ is_past_discussion phase
 
 pub phase-words : (phase : Phase) → PhaseWords phase
-phase-words Setup = record {
-  bidding = refl;
-  response = refl;
-  discussion = refl;
-  notification = refl;
-  closed = refl;
-  discussion_later = refl;
-  notification_later = refl;
-}
-phase-words Submission =
-    record {
-      bidding = refl;
-      response = refl;
-      discussion = refl;
-      notification = refl;
-      closed = refl;
-      discussion_later = refl;
-      notification_later = refl;
-    }
-phase-words Bidding = record {
-  bidding = refl;
-  response = refl;
-  discussion = refl;
-  notification = refl;
-  closed = refl;
-  discussion_later = refl;
-  notification_later = refl;
-}
-phase-words Reviewing = record {
-  bidding = refl;
-  response = refl;
-  discussion = refl;
-  notification = refl;
-  closed = refl;
-  discussion_later = refl;
-  notification_later = refl;
-}
-phase-words Response = record {
-  bidding = refl;
-  response = refl;
-  discussion = refl;
-  notification = refl;
-  closed = refl;
-  discussion_later = refl;
-  notification_later = refl;
-}
-phase-words Discussion =
-    record {
-      bidding = refl;
-      response = refl;
-      discussion = refl;
-      notification = refl;
-      closed = refl;
-      discussion_later = refl;
-      notification_later = refl;
-    }
-phase-words Notification =
-    record {
-      bidding = refl;
-      response = refl;
-      discussion = refl;
-      notification = refl;
-      closed = refl;
-      discussion_later = refl;
-      notification_later = refl;
-    }
-phase-words Closed = record {
-  bidding = refl;
-  response = refl;
-  discussion = refl;
-  notification = refl;
-  closed = refl;
-  discussion_later = refl;
-  notification_later = refl;
-}
+phase-words phase = grind arith
 
 -- decisions: what is taken
 pub accept-takes : (decision : Option Decision) → is_accept decision ≡ takes decision
@@ -150,9 +65,7 @@ pub record ModeWords (mode : Mode) : Type 0 where
   pub never_both : (hides_reviewers mode && names_reviewers mode) ≡ false
 
 pub mode-words : (mode : Mode) → ModeWords mode
-mode-words Overt = record { authors = refl; reviewers = refl; named = refl; never_both = refl }
-mode-words Blind = record { authors = refl; reviewers = refl; named = refl; never_both = refl }
-mode-words Anonymous = record { authors = refl; reviewers = refl; named = refl; never_both = refl }
+mode-words mode = grind arith
 
 -- whom a tag is for
 pub for-committee : (tag : List ℕ) → is_for_all tag ≡ is_committees tag
@@ -216,14 +129,7 @@ none_in-decided p H = none-told (decision_told p) (decides p) one H
 
 -- what opens the discussion begins it, and so a form stands as the table says
 phase-discussion : (phase : Phase) → is_phase phase Discussion ≡ is_discussion phase
-phase-discussion Setup = refl
-phase-discussion Submission = refl
-phase-discussion Bidding = refl
-phase-discussion Reviewing = refl
-phase-discussion Response = refl
-phase-discussion Discussion = refl
-phase-discussion Notification = refl
-phase-discussion Closed = refl
+phase-discussion phase = grind arith
 
 opens-begins : (e : Entry) → opens Discussion e ≡ begins_discussion e
 opens-begins (PhaseSet phase) = phase-discussion phase
@@ -250,14 +156,7 @@ discussed-same p o before later =
 -- what opens the response begins it, and so of a form it is said alike that authors respond to it, where the response
 -- is opened in the whole history exactly where it is before the form or behind it
 phase-response : (phase : Phase) → is_phase phase Response ≡ is_response phase
-phase-response Setup = refl
-phase-response Submission = refl
-phase-response Bidding = refl
-phase-response Reviewing = refl
-phase-response Response = refl
-phase-response Discussion = refl
-phase-response Notification = refl
-phase-response Closed = refl
+phase-response phase = grind arith
 
 pub response-begins : (e : Entry) → opens Response e ≡ begins_response e
 response-begins (PhaseSet phase) = phase-response phase

@@ -46,7 +46,8 @@ use Rattle.cr_permissions.specs.MayBulk.{RowsAsSaid, is_of_herself, may_row, wit
 use Rattle.cr_permissions.specs.MayBulk.{BulksAsSaid}
 use Rattle.cr_permissions.proofs.KeptStamps.{ready-unnumbered, seen-unnumbered}
 use Rattle.cr_permissions.proofs.MayDoLaws.{permissions_as_said}
-use Rattle.cr_permissions.proofs.SentenceLaws.{none_broken, judged-none_broken, chair-same, in_committee-same}
+use Rattle.cr_permissions.proofs.SentenceLaws.{both-said, none_broken, judged-none_broken, chair-same}
+use Rattle.cr_permissions.proofs.SentenceLaws.{in_committee-same}
 
 -- ---- what rows ask for
 
@@ -222,7 +223,7 @@ module _ (stamp : Stamp) (H : History) (rows : List BulkRow) (legal : Legal H) (
       behind (judged (bulk_checks (facts.standing None)) tt)
       ∙ (λ i. (judged-none_broken (bulk_checks (facts.standing None)) tt
       ∙ ap (λ (facts : Facts). none_broken (bulk_checks (facts.standing None))) (facts-seen user' stamp.at H legal)
-      ∙ said (is_chair (role_of (Some user') H)) (chairs user' H) (committee_works (phase_of H)) (committee_at_work H)
+      ∙ both-said (is_chair (role_of (Some user') H)) (chairs user' H) (committee_works (phase_of H)) (committee_at_work H)
       (chair-same (role_of (Some user') H)) (in_committee-same (phase_of H))) i && rows-may i)
       ∙ together (chairs user' H) (committee_at_work H) (may_rows (unnumbered stamp) H rows)
     where
@@ -234,9 +235,6 @@ module _ (stamp : Stamp) (H : History) (rows : List BulkRow) (legal : Legal H) (
           ≡ (is_ok r && is_ok (seen stamp H 1 rows))
       behind (Err rule) = refl
       behind (Ok done) = of_rows (seen stamp H 1 rows)
-
-      said : (k k' c c' : Bool) → k ≡ k' → c ≡ c' → (not (not k) && (not (not c) && true)) ≡ (k' && c')
-      said k k' c c' hk hc = grind arith
 
       together : (a b c : Bool) → ((a && b) && c) ≡ (a && b && c)
       together a b c = grind arith

@@ -6,6 +6,7 @@ use Rattle.std.specs.List.{list_any, list_all}
 use Rattle.std.specs.Option.{option_map}
 use Rattle.std.proofs.lemmas.Bool.{eqb-true, true≢false}
 use Rattle.std.proofs.lemmas.Bool.Decides.{nat_tests}
+use Rattle.std.proofs.Math.Bool.{and-false}
 use Rattle.cr_base.specs.declared.command.Command.{Command}
 use Rattle.cr_base.specs.declared.command.Command.TheVariants as commands
 use Rattle.cr_base.specs.declared.entry.Stamp.{Stamp}
@@ -65,10 +66,10 @@ use Rattle.cr_permissions.specs.MayDo.{may_change, may_upload, may_declare, may_
 use Rattle.cr_permissions.specs.MayDo.{may_dismiss}
 use Rattle.cr_permissions.specs.MayDo.{may_invite, may_uninvite, has_written, may_unassign, may_review, may_respond}
 use Rattle.cr_permissions.specs.MayDo.{may_comment, may_tag, may_decide, may_do, is_accepted_from, PermissionsAsSaid}
-use Rattle.cr_permissions.proofs.SentenceLaws.{none_broken, judged-none_broken, phase-same, next-same, ahead-same}
-use Rattle.cr_permissions.proofs.SentenceLaws.{time-same, member-same, chair-same, in_committee-same, above-same}
-use Rattle.cr_permissions.proofs.SentenceLaws.{over-same, early-same, none-same, at-same, fewer, up_to, accepted-as}
-use Rattle.cr_permissions.proofs.SentenceLaws.{accepted-checks, by_name, all_somebody}
+use Rattle.cr_permissions.proofs.SentenceLaws.{both-said, none_broken, judged-none_broken, phase-same, next-same}
+use Rattle.cr_permissions.proofs.SentenceLaws.{ahead-same, time-same, member-same, chair-same, in_committee-same}
+use Rattle.cr_permissions.proofs.SentenceLaws.{above-same, over-same, early-same, none-same, at-same, fewer, up_to}
+use Rattle.cr_permissions.proofs.SentenceLaws.{accepted-as, accepted-checks, by_name, all_somebody}
 
 -- ---- conflicts
 
@@ -141,11 +142,7 @@ declared-said true false t w late by user same part is = by_user user.herself sa
 
 for_chairs-same : (tag : List ℕ) → is_for_chairs tag ≡ is_for_chairs_alone tag
 for_chairs-same [] = refl
-for_chairs-same (b ∷ []) = off (eqb b 126)
-  where
-    off : (t : Bool) → (t && false) ≡ false
-    off true = refl
-    off false = refl
+for_chairs-same (b ∷ []) = and-false (eqb b 126)
 for_chairs-same (b ∷ c ∷ rest) = refl
 
 -- ---- registrations, whoever calls, and whenever
@@ -189,21 +186,16 @@ module _ (w : ℕ) (H : History) (legal : Legal H) (m : ℕ) (key : Option Retry
   deadlines phase until =
       accepted-checks u H legal m key (commands.SetDeadline phase until)
       (deadline_checks (standing_of u None H) (phase_of H) phase) _ refl
-      ∙ said (is_chair (role_of u H)) (is_from (phase_of H) phase) (is_chairs (role_of u H)) (lasts_or_comes phase H)
+      ∙ both-said (is_chair (role_of u H)) (is_chairs (role_of u H)) (is_from (phase_of H) phase) (lasts_or_comes phase H)
       (chair-same (role_of u H)) (ahead-same phase (phase_of H))
-    where
-      said : (c n c' n' : Bool) → c ≡ c' → n ≡ n' → (not (not c) && (not (not n) && true)) ≡ (c' && n')
-      said c n c' n' hc hn = grind arith
 
   phases : (to : Phase) → is_ok (judge (view u H) (call_of u m key (commands.SetPhase to))) ≡ may_open w H to
   phases to =
       accepted-checks u H legal m key (commands.SetPhase to) (phase_checks (standing_of u None H) (phase_of H) to) _
       refl
-      ∙ said (is_chair (role_of u H)) (is_next (phase_of H) to) (is_chairs (role_of u H)) (comes_behind (phase_of H) to)
+      ∙ both-said (is_chair (role_of u H)) (is_chairs (role_of u H)) (is_next (phase_of H) to)
+      (comes_behind (phase_of H) to)
       (chair-same (role_of u H)) (next-same (phase_of H) to)
-    where
-      said : (c n c' n' : Bool) → c ≡ c' → n ≡ n' → (not (not c) && (not (not n) && true)) ≡ (c' && n')
-      said c n c' n' hc hn = grind arith
 
   bids : (paper : Option ℕ) (value : ℕ) → is_ok (judge (view u H) (call_of u m key (commands.Bid paper value)))
       ≡ of_some paper (may_bid w m H)
@@ -224,11 +216,8 @@ module _ (w : ℕ) (H : History) (legal : Legal H) (m : ℕ) (key : Option Retry
   modes : (to : Mode) → is_ok (judge (view u H) (call_of u m key (commands.SetMode to))) ≡ may_set_mode w H
   modes to =
       accepted-checks u H legal m key (commands.SetMode to) (mode_checks (standing_of u None H) (phase_of H)) _ refl
-      ∙ said (is_chair (role_of u H)) (mode_may_be_set (phase_of H)) (is_chairs (role_of u H)) (now Setup H)
+      ∙ both-said (is_chair (role_of u H)) (is_chairs (role_of u H)) (mode_may_be_set (phase_of H)) (now Setup H)
       (chair-same (role_of u H)) (phase-same Setup (phase_of H))
-    where
-      said : (c n c' n' : Bool) → c ≡ c' → n ≡ n' → (not (not c) && (not (not n) && true)) ≡ (c' && n')
-      said c n c' n' hc hn = grind arith
 
   -- what an author does with a paper
   by_author : (p : ℕ)

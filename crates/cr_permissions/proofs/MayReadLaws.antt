@@ -6,6 +6,7 @@ use Rattle.std.specs.List.{list_any}
 use Rattle.std.specs.Option.{option_map}
 use Rattle.std.proofs.lemmas.Bool.Decides.{nat_tests}
 use Rattle.std.specs.Option.{option_map_or}
+use Rattle.std.proofs.Math.Bool.{or-false}
 use Rattle.cr_base.specs.declared.command.Query.{Query}
 use Rattle.cr_base.specs.declared.command.Query.TheVariants as queries
 use Rattle.cr_base.specs.declared.report.Report.{Report}
@@ -48,9 +49,9 @@ use Rattle.cr_policy.proofs.LegalLaws.{Legal-answer, Legal-needs_login}
 use Rattle.cr_permissions.specs.MayRead.{has_version, may_read_reviews, may_read_comments, may_read_response}
 use Rattle.cr_permissions.specs.MayRead.{may_report}
 use Rattle.cr_permissions.specs.MayRead.{may_plan, reads_content, is_told, is_answered_to, ReadingAsSaid}
-use Rattle.cr_permissions.proofs.SentenceLaws.{none_broken, judged-both, member-same, chair-same, in_committee-same}
-use Rattle.cr_permissions.proofs.SentenceLaws.{over-same, discussed-same, reviewed-same, own-same, closed-same}
-use Rattle.cr_permissions.proofs.SentenceLaws.{begun-same, answered-as, answered-checks}
+use Rattle.cr_permissions.proofs.SentenceLaws.{both-said, none_broken, judged-both, member-same, chair-same}
+use Rattle.cr_permissions.proofs.SentenceLaws.{in_committee-same, over-same, discussed-same, reviewed-same, own-same}
+use Rattle.cr_permissions.proofs.SentenceLaws.{closed-same, begun-same, answered-as, answered-checks}
 
 -- ---- words
 
@@ -105,11 +106,7 @@ version-same false (Some version) us = by (last us)
     by : (o : Option Upload) → is_some (find (λ (u : Upload). eqb u.version version) (listed o))
         ≡ option_map_or (λ (u : Upload). eqb u.version version) o false
     by None = refl
-    by (Some x) = found-any version (x ∷ []) ∙ alone (eqb x.version version)
-      where
-        alone : (b : Bool) → (b || false) ≡ b
-        alone true = refl
-        alone false = refl
+    by (Some x) = found-any version (x ∷ []) ∙ or-false (eqb x.version version)
 
 -- ---- what is read by whoever calls, where no login is asked for
 
@@ -243,29 +240,25 @@ module _ (w : ℕ) (H : History) (legal : Legal H) where
           ≡ (t && (r && (a || ((m' && not (a || k)) && d'))))
       said t a k m m' d d' r hm hd = grind arith
 
-  -- a report, of a role and from a phase on
-  report-said : (k k' b b' : Bool) → k ≡ k' → b ≡ b' → (not (not k) && (not (not b) && true)) ≡ (k' && b')
-  report-said k k' b b' hk hb = grind arith
-
   reports-read : (report : Report) → is_told (answer u (view u H) (queries.Report report)) ≡ may_report w H report
   reports-read reports.Papers =
       answered-checks u H legal (queries.Report reports.Papers) refl
-      ∙ report-said (is_member (role_of u H)) (is_members (role_of u H)) (members_see_papers (phase_of H))
+      ∙ both-said (is_member (role_of u H)) (is_members (role_of u H)) (members_see_papers (phase_of H))
       (not (before_bidding H))
       (member-same (role_of u H)) (begun-same (phase_of H))
   reports-read reports.Scores =
       answered-checks u H legal (queries.Report reports.Scores) refl
-      ∙ report-said (is_member (role_of u H)) (is_members (role_of u H)) (members_read_reviews (phase_of H))
+      ∙ both-said (is_member (role_of u H)) (is_members (role_of u H)) (members_read_reviews (phase_of H))
       (from_discussion H)
       (member-same (role_of u H)) (discussed-same (phase_of H))
   reports-read reports.Load =
       answered-checks u H legal (queries.Report reports.Load) refl
-      ∙ report-said (is_chair (role_of u H)) (is_chairs (role_of u H)) (chairs_see_reviewers (phase_of H))
+      ∙ both-said (is_chair (role_of u H)) (is_chairs (role_of u H)) (chairs_see_reviewers (phase_of H))
       (not (before_bidding H))
       (chair-same (role_of u H)) (begun-same (phase_of H))
   reports-read reports.Decisions =
       answered-checks u H legal (queries.Report reports.Decisions) refl
-      ∙ report-said (is_member (role_of u H)) (is_members (role_of u H)) (members_read_decisions (phase_of H))
+      ∙ both-said (is_member (role_of u H)) (is_members (role_of u H)) (members_read_decisions (phase_of H))
       (from_discussion H)
       (member-same (role_of u H)) (discussed-same (phase_of H))
   reports-read (reports.Letter None) = answered-as u H legal (queries.Report (reports.Letter None))

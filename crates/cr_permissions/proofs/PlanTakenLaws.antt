@@ -6,8 +6,9 @@ use Rattle.std.proofs.Common.{Err}
 use Rattle.std.specs.Prelude.{filter, is_some, not, nat_le, nat_lt, IsOk}
 use Rattle.std.specs.List.{AllByRecursion, flat_map, list_all, list_any, slice_get}
 use Rattle.std.specs.Option.{option_map}
-use Rattle.std.proofs.lemmas.Bool.{and_parts, eq-eqb, eqb-true, not-false, or_right}
+use Rattle.std.proofs.lemmas.Bool.{and_parts, eq-eqb, eqb-true, not-false, or_right, not-true}
 use Rattle.std.proofs.lemmas.Bool.Decides.{nat_tests}
+use Rattle.std.proofs.Math.Bool.{and-false}
 use Rattle.cr_base.specs.declared.bulk.Broken.{Broken}
 use Rattle.cr_base.specs.declared.entry.Account.{Account}
 use Rattle.cr_base.specs.declared.entry.Entry.{Entry}
@@ -63,10 +64,6 @@ use Rattle.cr_permissions.specs.PlansTaken.{PlansTaken, row_of_pair}
 use Rattle.cr_permissions.proofs.PlanRows.{Apart, AreApart, Stays, bit, counted, ready, rows-taken}
 
 -- ---- what passes a test is not what doesn't
-
-not-true : (b : Bool) → not b ≡ true → b ≡ false
-not-true true h = sym h
-not-true false h = refl
 
 none-there : (o : Option ℕ) → is_some o ≡ false → o ≡ None
 none-there None h = refl
@@ -352,10 +349,6 @@ module _ (user at : ℕ) (key : Option RetryKey) (per_paper load : ℕ) (H : His
   apart-append [] ys hx hy h = hy
   apart-append (e ∷ xs) ys hx hy h =
       (AllByRecursion-append (λ (f : PlanPair). Apart e f) xs ys hx.0 h.0, apart-append xs ys hx.1 hy h.1)
-
-  and-false : (b : Bool) → (b && false) ≡ false
-  and-false true = refl
-  and-false false = refl
 
   of-other_users : (p : ℕ) (a : AccountLine) (bs : List AccountLine) → list_all (nat_lt a.user) (users bs) ≡ true
       → AllByRecursion (λ (f : PlanPair). Apart (pair p a) f) (map (pair p) bs)

@@ -49,6 +49,10 @@ abbrev pub none_broken : List Check → Bool
 none_broken [] = true
 none_broken (check ∷ checks) = not check.broken && none_broken checks
 
+-- of two, each of which a word of the sentences says
+pub both-said : (a a' b b' : Bool) → a ≡ a' → b ≡ b' → (not (not a) && (not (not b) && true)) ≡ (a' && b')
+both-said a a' b b' ha hb = grind arith
+
 -- a list of checks lets through exactly what breaks none of them
 pub judged-none_broken : {A : Type 0} (checks : List Check) (drawn : A)
     → is_ok (judged checks drawn) ≡ none_broken checks

@@ -4,7 +4,7 @@ use Rattle.std.proofs.Common.{Some, None, eqb, arith, length, ◌≤◌}
 use Rattle.std.specs.Prelude.{not, ◌==◌, map, is_some, unwrap_or, if◌then◌else◌}
 use Rattle.std.specs.List.{flat_map, list_any}
 use Rattle.std.proofs.lemmas.Bool.{eqb-true, eq-eqb, true≢false, or_parts, and_parts}
-use Rattle.std.proofs.Math.Bool.{or-false}
+use Rattle.std.proofs.Math.Bool.{or-false, and-false}
 use Rattle.std.proofs.lemmas.List.{length-map}
 use Rattle.std.proofs.lemmas.List.Folds.{list_any-append}
 use Rattle.cr_base.specs.declared.entry.Entry.{Entry}
@@ -84,10 +84,6 @@ keyed key true false gets said page value h is words = ap (λ b. where_told b va
 told-free : {A : Type 0} (said : Bool) (x : Option A) → (said ≡ false → x ≡ None) → where_told said x ≡ x
 told-free true x none = refl
 told-free false x none = sym (none refl)
-
-and-false : (b : Bool) → (b && false) ≡ false
-and-false true = refl
-and-false false = refl
 
 -- there is a last value where there is one
 last-some : {A : Type 0} (xs : List A) → is_some (last xs) ≡ not (is_nothing xs)

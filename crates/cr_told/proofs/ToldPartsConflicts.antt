@@ -4,7 +4,7 @@ use Rattle.std.proofs.Common.{Option, Some, eqb, arith}
 use Rattle.std.specs.Prelude.{not, map, filter, ◌==◌, IsTrue, unwrap_or, if◌then◌else◌}
 use Rattle.std.specs.Option.{option_map}
 use Rattle.std.specs.List.{flat_map, list_any}
-use Rattle.std.proofs.lemmas.Bool.{true≢false, eq-eqb, and_parts}
+use Rattle.std.proofs.lemmas.Bool.{true≢false, eq-eqb, and_parts, not-true}
 use Rattle.cr_base.specs.declared.entry.Entry.TheVariants.{Conflict}
 use Rattle.cr_base.specs.declared.entry.EntryKind.TheVariants as kinds
 use Rattle.cr_base.specs.declared.entry.Stamp.{Stamp}
@@ -175,7 +175,7 @@ module _ (u : Option ℕ) (H : History) (legal : Legal H) (before after : View) 
           (λ h. let first = and_parts (on && none && n) (not a) h in
           let second = and_parts (on && none) n first.0 in
           let third = and_parts on none second.0 in
-          hers second.1 (is-false a first.1) (in-conflict third.0 third.1)))
+          hers second.1 (not-true a first.1) (in-conflict third.0 third.1)))
           (implies (on && none && oversees u paper H)
           (lists (page_told (λ page. page.conflicts) u paper H) (is_name_of (Some user) u H))
           (λ h. let first = and_parts (on && none) (oversees u paper H) h in
@@ -202,10 +202,6 @@ module _ (u : Option ℕ) (H : History) (legal : Legal H) (before after : View) 
           implies : (x y : Bool) → (x ≡ true → y ≡ true) → (not x || y) ≡ true
           implies true y h = h refl
           implies false y h = refl
-
-          is-false : (b : Bool) → not b ≡ true → b ≡ false
-          is-false true h = absurd (true≢false (sym h))
-          is-false false h = refl
 
           final : (a n m w o me page said on none by-one : Bool) → (((n || m) || (a && w)) || o) ≡ true
               → (not (((on && none) && n) && not a) || me) ≡ true → (not ((on && none) && o) || page) ≡ true

@@ -4,7 +4,7 @@ use Rattle.std.proofs.Common.{Some, None, eqb, arith, fold}
 use Rattle.std.specs.Prelude.{not, map, filter, IsTrue, if◌then◌else◌}
 use Rattle.std.specs.Str.{bytes_eq}
 use Rattle.std.specs.List.{flat_map, list_any}
-use Rattle.std.proofs.lemmas.Bool.{true≢false, eq-eqb, or_left, or_right, or_parts, and_parts}
+use Rattle.std.proofs.lemmas.Bool.{true≢false, eq-eqb, or_left, or_right, or_parts, and_parts, not-true}
 use Rattle.std.proofs.lemmas.List.Concat.{flat_map-append}
 use Rattle.std.proofs.lemmas.List.Folds.{list_any-append}
 use Rattle.std.proofs.lemmas.List.Sums.{fold-append}
@@ -321,15 +321,11 @@ module _ (u : Option ℕ) (H : History) (legal : Legal H) (before after : View) 
           (λ h. let first = and_parts (on && not again && is_eligible u paper H) (not once-chair) h in
           let second = and_parts (on && not again) (is_eligible u paper H) first.0 in
           let third = and_parts on (not again) second.0 in
-          stands-on third.0 (is-false again third.1) second.1 (is-false once-chair first.1)))
+          stands-on third.0 (not-true again third.1) second.1 (not-true once-chair first.1)))
         where
           implies : (x y : Bool) → (x ≡ true → y ≡ true) → (not x || y) ≡ true
           implies true y h = h refl
           implies false y h = refl
-
-          is-false : (b : Bool) → not b ≡ true → b ≡ false
-          is-false true h = absurd (true≢false (sym h))
-          is-false false h = refl
 
           final : (on L X m h t k l : Bool) → (m || ((t && h) || (k && (h && l)))) ≡ true
               → (not (((on && not X) && h) && not ((m && k) && not l)) || L) ≡ true

@@ -5,7 +5,7 @@ use Rattle.std.specs.Prelude.{not, map, filter, ◌==◌, IsTrue, is_some, nat_e
 use Rattle.std.specs.Option.{option_and_then}
 use Rattle.std.specs.Str.{bytes_eq}
 use Rattle.std.specs.List.{flat_map, list_any}
-use Rattle.std.proofs.lemmas.Bool.{true≢false, eq-eqb, eqb-true, or_left, or_right, and_parts, or_parts}
+use Rattle.std.proofs.lemmas.Bool.{true≢false, eq-eqb, eqb-true, or_left, or_right, and_parts, or_parts, not-true}
 use Rattle.cr_base.specs.declared.comment.CommentLine.{CommentLine}
 use Rattle.cr_base.specs.declared.entry.Entry.{Entry}
 use Rattle.cr_base.specs.declared.entry.Entry.TheVariants.{Commented, Decided, Responded}
@@ -299,17 +299,13 @@ module _ (u : Option ℕ) (H : History) (legal : Legal H) (before after : View) 
                 taken Accept h = refl
                 taken Reject h = absurd (true≢false (sym h))
 
-                not-again : (b : Bool) → not b ≡ true → b ≡ false
-                not-again true h = absurd (true≢false (sym h))
-                not-again false h = refl
-
                 last-decision : decision_of paper H ≡ Some decision
                 last-decision =
                     ap (decision_of paper) (sym whole)
                     ∙ last-here (λ (e : Stamped). decision_told paper e.entry) earlier later
                     (stamped stamp more (Decided paper decision)) decision
                     (ap (λ b. given b decision) (eq-eqb paper paper refl))
-                    (none-decided paper later (not-again (is_decided_again paper later) parts.0))
+                    (none-decided paper later (not-true (is_decided_again paper later) parts.0))
 
             by : (there' : Bool) → (discusses u paper H || is_notified u paper H || is_in_programme paper H) ≡ there'
                 → (acc : Bool) → is_in_programme paper H ≡ acc

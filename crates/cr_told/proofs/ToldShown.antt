@@ -4,6 +4,7 @@ use Rattle.std.proofs.Common.{Some, None, eqb}
 use Rattle.std.specs.Prelude.{All, map, unwrap_or, if◌then◌else◌}
 use Rattle.std.specs.List.{flat_map}
 use Rattle.std.proofs.lemmas.List.Elements.{All-head, All-tail}
+use Rattle.std.proofs.Math.Bool.{or-true}
 use Rattle.cr_base.specs.declared.entry.Entry.{Entry}
 use Rattle.cr_base.specs.declared.entry.Entry.TheVariants.{Submitted, Coauthor, Revised, Uploaded, Conflict, Bid}
 use Rattle.cr_base.specs.declared.entry.Entry.TheVariants.{Assigned, Unassigned, Reviewed, Tagged, Decided, Invited}
@@ -202,10 +203,6 @@ module _ (u : Option ℕ) (p : ℕ) (H : History) where
           → later (last_from o (only same (if kind then true ∷ [] else [])))
           ≡ (unwrap_or o false || ((kind && same) || rest))
       one o true true rest later h = h (Some true) ∙ sym (or-true (unwrap_or o false))
-        where
-          or-true : (b : Bool) → (b || true) ≡ true
-          or-true true = refl
-          or-true false = refl
       one o false true rest later h = h o
       one o true false rest later h = h o
       one o false false rest later h = h o
