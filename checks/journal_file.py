@@ -1,21 +1,19 @@
-"""Reads and writes a journal's file, and judges its rows on the small model: written from docs/STORE.md
-and from nothing else.
+"""Reads and writes a journal's file (deploy/store_formats.py), and judges its rows on the small model: written from
+docs/STORE.md and from nothing else.
 
 No script of its own: journal.py and bench/journal_cost.py use it.
 """
 
-import collections
+import pathlib
 import re
+import sys
 
-from model import Conference, PHASES
+sys.path.append(str(pathlib.Path(__file__).resolve().parent.parent / "deploy"))
+from model import Conference, PHASES  # noqa: E402
+from store_formats import (  # noqa: E402, F401
+    EMPTY, NUMBERS, OPEN, TEXTS, NoJournal, Row, field, frame, groups_of, rows_in, rows_of, spelled,
+)  # fmt: skip
 
-MAGIC = b"CONFDJ01"
-CLOSED, OPEN = b"\0", b"\1"
-NUMBERS = "kind maker more at num n1 n2 n3 n4 n5".split()
-TEXTS = "mark b1 b2".split()
-Row = collections.namedtuple("Row", NUMBERS + TEXTS)
-# A journal of no group.
-EMPTY = MAGIC + CLOSED
 # 9999-12-31T23:59:59Z, behind which no row has a moment; the last number of a command, and the last of users and
 # papers.
 LAST_MOMENT, LAST_NUMBER, LAST_USER = 253_402_300_799, 10**18 - 1, 9_999
@@ -26,81 +24,6 @@ NUMBERED = [phase for phase in PHASES if phase != "response"] + ["response"]
 ROLES = {1: "member", 2: "chair"}
 # The most authors of a paper beside the one who submits it.
 COAUTHORS = 19
-
-
-class NoJournal(Exception):
-    """The bytes are no journal."""
-
-
-# ---- the file
-
-
-def number(n):
-    return n.to_bytes(8, "big")
-
-
-def field(content):
-    return number(len(content)) + content
-
-
-def spelled_row(row):
-    return b"".join(number(n) for n in row[: len(NUMBERS)]) + b"".join(field(text) for text in row[len(NUMBERS) :])
-
-
-def frame(rows):
-    """What is appended of a group: an open gate, and the payload behind its length."""
-    return OPEN + field(b"".join(spelled_row(row) for row in rows))
-
-
-def spelled(groups):
-    """The file of these groups."""
-    return MAGIC + b"".join(frame(rows) for rows in groups) + CLOSED
-
-
-class Bytes:
-    """Bytes that are read from left to right, with their ends as an error."""
-
-    def __init__(self, content):
-        self.content, self.at = content, 0
-
-    def take(self, n):
-        if len(self.content) - self.at < n:
-            raise NoJournal
-        self.at += n
-        return self.content[self.at - n : self.at]
-
-    def number(self):
-        return int.from_bytes(self.take(8), "big")
-
-    def is_over(self):
-        return self.at == len(self.content)
-
-    def row(self):
-        numbers = [self.number() for _ in NUMBERS]
-        return Row(*numbers, *(self.take(self.number()) for _ in TEXTS))
-
-
-def groups_of(content):
-    """The groups of a file, each a list of rows; what stands behind the closed gate isn't looked at."""
-    file, groups = Bytes(content), []
-    if file.take(len(MAGIC)) != MAGIC:
-        raise NoJournal
-    while file.take(1) == OPEN:
-        payload = Bytes(file.take(file.number()))
-        groups.append([])
-        while not payload.is_over():
-            groups[-1].append(payload.row())
-    return groups
-
-
-def rows_of(content):
-    """The rows of a file, in order."""
-    return [row for group in groups_of(content) for row in group]
-
-
-def rows_in(path):
-    with open(path, "rb") as file:
-        return rows_of(file.read())
 
 
 # ---- the rows
