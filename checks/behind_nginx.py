@@ -1,10 +1,10 @@
 #!/usr/bin/env python3
 """Tries `confd serve` behind nginx, with the configuration of deploy/nginx.conf.
 
-    python3 checks/behind_nginx.py [PROGRAM]
+    python3 checks/behind_nginx.py [CHECK..] [PROGRAM]
 
-PROGRAM is `confd` as `rt run` builds it (crates/confd/out/confd where none is named). Needs the Debian packages
-nginx-light and openssl, and is no part of the gate. Prints a line a check, and last `N passed, M failed`; ends with
+PROGRAM is `confd` as `rt run` builds it (crates/confd/out/confd if none is named), and CHECK a name of CHECKS. Needs the
+Debian packages nginx-light and openssl, and is no part of the gate. Prints a line a check, and last `N passed, M failed`; ends with
 status 0 where none failed. Takes less than a minute.
 """
 
@@ -20,7 +20,7 @@ import threading
 import time
 
 from serve import serving
-from store import expect, program_named, run_all
+from store import chosen, expect, run_all
 
 SECRET = "alice-secret-0123456789"
 HERE = os.path.dirname(os.path.abspath(__file__))
@@ -35,6 +35,9 @@ error_log {folder}/error.log;
 events {{ worker_connections 512; }}
 http {{
     access_log off;
+    # Clients of this check say which address is theirs.
+    set_real_ip_from 127.0.0.1;
+    real_ip_header X-Real-IP;
     client_body_temp_path {folder}/body;
     proxy_temp_path {folder}/proxy;
     include {folder}/server.conf;
@@ -48,8 +51,9 @@ def free_port():
         return probe.getsockname()[1]
 
 
-def configuration(folder, upstream, port):
-    """deploy/nginx.conf with the addresses, the certificate and its key of this run."""
+def configuration(folder, upstream, port, is_closed):
+    """deploy/nginx.conf with the addresses, the certificate and its key of this run, and if registration is closed
+    with the lines that close it."""
     with open(os.path.join(HERE, "../deploy/nginx.conf"), encoding="utf-8") as file:
         text = file.read()
     for old, new in (
@@ -60,11 +64,12 @@ def configuration(folder, upstream, port):
     ):
         expect(text.count(old) == 1, f"deploy/nginx.conf has no {old}")
         text = text.replace(old, new)
-    return text
+    expect(text.count("#- ") == 5, "deploy/nginx.conf has no lines that close registration")
+    return text.replace("#- ", "") if is_closed else text
 
 
 @contextlib.contextmanager
-def behind_nginx(program, folder):
+def behind_nginx(program, folder, is_closed=False):
     """The port at which nginx answers for a server of 64 workers."""
     subprocess.run(
         ["openssl", "req", "-x509", "-newkey", "rsa:2048", "-nodes", "-days", "1", "-subj", "/CN=review.example.org",
@@ -72,7 +77,7 @@ def behind_nginx(program, folder):
     port = free_port()
     with serving(program, os.path.join(folder, "store"), workers=64) as server:
         with open(f"{folder}/server.conf", "w", encoding="utf-8") as file:
-            file.write(configuration(folder, server.port, port))
+            file.write(configuration(folder, server.port, port, is_closed))
         with open(f"{folder}/nginx.conf", "w", encoding="utf-8") as file:
             file.write(AROUND.format(folder=folder))
         nginx = subprocess.Popen(["nginx", "-c", f"{folder}/nginx.conf", "-p", folder], stderr=subprocess.DEVNULL)
@@ -96,10 +101,12 @@ def unverified():
     return context
 
 
-def ask(port, method, path, who=None, body=None):
-    """The status and the content of one request over TLS."""
+def ask(port, method, path, who=None, body=None, client="192.0.2.1"):
+    """The status and the content of one request over TLS, from an address."""
     connection = http.client.HTTPSConnection("127.0.0.1", port, timeout=30, context=unverified())
-    fields = {} if who is None else {"Authorization": f"Bearer {who}.{SECRET}"}
+    fields = {"X-Real-IP": client}
+    if who is not None:
+        fields["Authorization"] = f"Bearer {who}.{SECRET}"
     connection.request(method, path, body, fields)
     answer = connection.getresponse()
     told = answer.status, answer.read().decode()
@@ -108,8 +115,13 @@ def ask(port, method, path, who=None, body=None):
     return told
 
 
-def registered(port, name):
-    return ask(port, "POST", "/register", body=json.dumps({"name": name, "secret": SECRET}))
+def registered(port, name, client="192.0.2.1"):
+    return ask(port, "POST", "/register", body=json.dumps({"name": name, "secret": SECRET}), client=client)
+
+
+def address(number):
+    """Addresses that differ."""
+    return f"198.51.{number // 256}.{number % 256}"
 
 
 def one_after_another(program, folder):
@@ -132,7 +144,7 @@ def many_at_once(program, folder):
         told = [None] * 200
 
         def act(number):
-            told[number] = registered(port, f"user-{number}")
+            told[number] = registered(port, f"user-{number}", address(number))
 
         threads = [threading.Thread(target=act, args=(number,)) for number in range(len(told))]
         for thread in threads:
@@ -146,10 +158,11 @@ def many_at_once(program, folder):
 def slow_clients(program, folder):
     """a hundred clients that send a part of a request and wait hold no worker"""
     with behind_nginx(program, folder) as port, contextlib.ExitStack() as held:
-        for _ in range(100):
+        for number in range(100):
             slow = held.enter_context(socket.create_connection(("127.0.0.1", port)))
             slow = held.enter_context(unverified().wrap_socket(slow))
-            slow.sendall(b"POST /register HTTP/1.1\r\nHost: c\r\nContent-Length: 60\r\n\r\n{")
+            head = f"POST /register HTTP/1.1\r\nHost: c\r\nX-Real-IP: {address(number)}\r\n"
+            slow.sendall(head.encode() + b"Content-Length: 60\r\n\r\n{")
         began = time.monotonic()
         expect(registered(port, "alice") == (201, '{"user":1}'), "register")
         expect(time.monotonic() - began < 5, "the answer took five seconds")
@@ -173,5 +186,73 @@ def too_large(program, folder):
         expect(ask(port, "POST", "/register", body="x" * 4_194_305)[0] == 413, "a byte more")
 
 
+# What deploy/nginx.conf allows one client at once, and after how many seconds one registration more.
+REGISTRATIONS, UPLOADS, REQUESTS = 10, 20, 20
+NEXT_REGISTRATION = 10
+
+
+def registrations(program, folder):
+    """from one address ten registrations, then one in ten seconds; from another, and of other requests, as many as
+    come"""
+    with behind_nginx(program, folder) as port:
+        began = time.monotonic()
+        codes = [registered(port, f"user-{number}")[0] for number in range(REGISTRATIONS + 2)]
+        expect(codes == [201] * REGISTRATIONS + [429] * 2, codes)
+        expect(registered(port, "other", "192.0.2.2")[0] == 201, "another address")
+        codes = {ask(port, "GET", "/phase")[0] for _ in range(100)}
+        expect(codes == {200}, f"reads: {codes}")
+        time.sleep(max(0, began + NEXT_REGISTRATION + 1 - time.monotonic()))
+        due = int((time.monotonic() - began) / NEXT_REGISTRATION)
+        codes = [registered(port, f"later-{number}")[0] for number in range(due + 2)]
+        expect(codes[:due] == [201] * due and codes[-1] == 429, f"later, {due} of them: {codes}")
+
+
+def networks(program, folder):
+    """addresses of one network of IPv6 are one client"""
+    with behind_nginx(program, folder) as port:
+        codes = [registered(port, f"user-{n}", f"2001:db8::{n:x}:1")[0] for n in range(REGISTRATIONS + 1)]
+        expect(codes == [201] * REGISTRATIONS + [429], codes)
+        expect(registered(port, "other", "2001:db8:0:1::1")[0] == 201, "another network")
+
+
+def uploads(program, folder):
+    """from one address twenty uploads at once, and reads of contents as many as come"""
+    with behind_nginx(program, folder) as port:
+        registered(port, "alice")
+        ask(port, "POST", "/phase", "alice", '{"phase":"submission"}')
+        ask(port, "POST", "/papers", "alice", '{"abstract":"","title":"Proofs"}')
+        codes = [ask(port, "PUT", "/papers/1/content", "alice", "x")[0] for _ in range(UPLOADS + 2)]
+        expect(codes[:UPLOADS] == [200] * UPLOADS and 429 in codes, codes)
+        codes = {ask(port, "GET", "/papers/1/content", "alice")[0] for _ in range(50)}
+        expect(codes == {200}, f"reads: {codes}")
+        told = ask(port, "PUT", "/papers/1/content", "alice", "x", client="192.0.2.2")
+        expect(told[0] == 200, f"another address: {told}")
+
+
+def at_a_time(program, folder):
+    """from one address twenty requests at a time"""
+    with behind_nginx(program, folder) as port, contextlib.ExitStack() as held:
+        for _ in range(REQUESTS):
+            slow = held.enter_context(socket.create_connection(("127.0.0.1", port)))
+            slow = held.enter_context(unverified().wrap_socket(slow))
+            slow.sendall(b"PUT /phase HTTP/1.1\r\nHost: c\r\nX-Real-IP: 192.0.2.1\r\nContent-Length: 60\r\n\r\n{")
+        time.sleep(1)
+        expect(ask(port, "GET", "/phase")[0] == 429, "one more")
+        expect(ask(port, "GET", "/phase", client="192.0.2.2")[0] == 200, "another address")
+
+
+def closed(program, folder):
+    """with the lines that close registration: 403, but from the addresses that they name, and all else is served"""
+    with behind_nginx(program, folder, is_closed=True) as port:
+        expect(registered(port, "alice")[0] == 201, "an address that is named")
+        expect(registered(port, "bob", "198.51.100.1")[0] == 403, "another address")
+        expect(ask(port, "POST", "/register?again", client="198.51.100.1")[0] == 403, "with a query")
+        expect(ask(port, "GET", "/me", "alice", client="198.51.100.1")[0] == 200, "another path")
+
+
+CHECKS = (
+    one_after_another, many_at_once, slow_clients, pauses, too_large, registrations, networks, uploads, at_a_time, closed,
+)  # fmt: skip
+
 if __name__ == "__main__":
-    run_all([one_after_another, many_at_once, slow_clients, pauses, too_large], program_named(sys.argv[1:]))
+    run_all(*chosen(CHECKS, sys.argv[1:]))
