@@ -1,0 +1,366 @@
+-- A command that is accepted is accepted with other texts, where the facts that its rules read are the same; and adds
+-- the same but for these.
+use Rattle.std.proofs.Common.{ℕ, Bool, true, false, cond, ◌≡◌, ◌≤◌, ◌+◌, suc, List, [], ◌∷◌, length, refl, sym}
+use Rattle.std.proofs.Common.{ap, subst, ◌∙◌, arith, Option, Some, None, Result, Ok, eqb}
+use Rattle.std.specs.Prelude.{is_none, is_some, unwrap_or, map, nat_lt}
+use Rattle.std.specs.List.{flat_map, list_any}
+use Rattle.std.specs.Option.{option_map}
+use Rattle.std.proofs.lemmas.Bool.Decides.{nat_tests}
+use Rattle.cr_base.specs.declared.command.Command.{Command}
+use Rattle.cr_base.specs.declared.command.Command.TheVariants.{Register, SetPhase, Submit, Revise, Upload, Withdraw}
+use Rattle.cr_base.specs.declared.command.Command.TheVariants.{Name, SetMode, SetConflict, Bid, Assign, Unassign}
+use Rattle.cr_base.specs.declared.command.Command.TheVariants.{Review, Comment, Tag, Decide, SetDeadline, Dismiss}
+use Rattle.cr_base.specs.declared.command.Command.TheVariants.{Invite, Uninvite, Respond}
+use Rattle.cr_base.specs.declared.entry.Entry.TheVariants as entries
+use Rattle.cr_base.specs.declared.entry.Stamp.{Stamp}
+use Rattle.cr_base.specs.declared.reply.Rule.{Rule}
+use Rattle.cr_base.specs.declared.words.Phase.{Phase}
+use Rattle.cr_base.specs.declared.words.Role.TheVariants.{Chair}
+use Rattle.cr_base.specs.Accounts.{chair_count}
+use Rattle.cr_base.specs.Checks.{Check, judged, of_role, register_checks, phase_checks, deadline_checks, submit_checks}
+use Rattle.cr_base.specs.Checks.{revise_checks, upload_checks, name_checks, mode_checks, conflict_checks, bid_checks}
+use Rattle.cr_base.specs.Checks.{assign_checks, unassign_checks, review_checks, respond_checks, comment_checks}
+use Rattle.cr_base.specs.Checks.{tag_checks, decide_checks, dismiss_checks, invite_checks, uninvite_checks}
+use Rattle.cr_base.specs.Drawn.{Drawn, stamped, grouped, registration, registration_drawn, phase_drawn}
+use Rattle.cr_base.specs.Drawn.{submission_drawn, revision_drawn, upload_drawn, withdrawal_drawn, naming_drawn}
+use Rattle.cr_base.specs.Drawn.{mode_drawn, conflict_drawn, bid_drawn, assignment_drawn, unassignment_drawn}
+use Rattle.cr_base.specs.Drawn.{review_drawn, response_drawn, comment_drawn, tag_drawn, decision_drawn, deadline_drawn}
+use Rattle.cr_base.specs.Drawn.{dismissal_drawn, invitation_drawn, uninvitation_drawn, besides}
+use Rattle.cr_base.specs.History.{History}
+use Rattle.cr_base.specs.Judging.{judge_by}
+use Rattle.cr_base.specs.Lists.{at_some, listed}
+use Rattle.cr_base.specs.Sources.{Facts, Shown, number_in, user_among, users_among}
+use Rattle.cr_base.specs.Sources.{role_among, paper_named, target_named, is_late}
+use Rattle.cr_base.specs.TagTexts.{is_for_chairs}
+use Rattle.cr_base.proofs.CheckLaws.{NoneBroken, judged-Ok, judged-none}
+use Rattle.cr_undeduced.specs.Payload.{Payload}
+use Rattle.cr_undeduced.proofs.Fill.{refilled}
+
+-- ---- what is filled into a command
+
+abbrev pub fill_command : Payload → Command → Command
+fill_command x (Register name digest) = Register name x.digest
+fill_command x (Submit title abstract authors) = Submit x.title x.abstract_ authors
+fill_command x (Revise paper title abstract) = Revise paper x.title x.abstract_
+fill_command x (Upload paper content) = Upload paper x.content
+fill_command x (Bid paper value) = Bid paper x.value
+fill_command x (Assign paper name kind) = Assign paper name x.kind
+fill_command x (Review paper form) = Review paper x.form
+fill_command x (Respond paper text) = Respond paper x.text
+fill_command x (Comment paper text) = Comment paper x.text
+fill_command x (Tag paper tag on) = Tag paper tag x.on
+fill_command x (Decide paper decision) = Decide paper x.decision
+fill_command x command = command
+
+-- it may be uploaded, if it is an upload
+abbrev pub HasRoom : Facts → Payload → Command → Type 0
+HasRoom facts x (Upload paper content) = facts.own_bytes + length x.content ≤ 67108864
+HasRoom facts x command = Unit {0}
+
+-- ---- the same for all that the rules of commands read
+
+pub record SameRead (facts facts' : Facts) (shown shown' : Shown) : Type 0 where
+  pub standing : (paper : Option ℕ) → facts.standing paper ≡ facts'.standing paper
+  pub accounts : facts.accounts ≡ facts'.accounts
+  pub papers : facts.papers ≡ facts'.papers
+  pub own_papers : facts.own_papers ≡ facts'.own_papers
+  pub own_ordinal : (p : ℕ) → facts.own_ordinal p ≡ facts'.own_ordinal p
+  pub own_forms : (p : ℕ) → length (facts.own_forms p) ≡ length (facts'.own_forms p)
+  pub own_comments : facts.own_comments ≡ facts'.own_comments
+  pub deadline : (phase : Phase) → facts.deadline phase ≡ facts'.deadline phase
+  pub withdrawn : (p : ℕ) → shown.withdrawn p ≡ shown'.withdrawn p
+  pub authors : (p : ℕ) → shown.authors p ≡ shown'.authors p
+  pub conflicts : (p : ℕ) → shown.conflicts p ≡ shown'.conflicts p
+  pub uploads : (p : ℕ) → length (shown.uploads p) ≡ length (shown'.uploads p)
+  pub ordinal : (v : Option ℕ) (p : ℕ) → shown.ordinal v p ≡ shown'.ordinal v p
+  pub labels : (p : ℕ) → shown.labels p ≡ shown'.labels p
+  pub invited : (v : Option ℕ) (p : ℕ) → shown.invited v p ≡ shown'.invited v p
+  pub written : (p o : ℕ) → shown.written p o ≡ shown'.written p o
+  pub comments : (p : ℕ) → length (shown.comments p) ≡ length (shown'.comments p)
+  pub response : (p : ℕ) → is_some (shown.response p) ≡ is_some (shown'.response p)
+
+-- accepted, and what is drawn is the same, filled in
+pub record Filled (r : Result Drawn Rule) (xs : ℕ → Payload) (given : Drawn) : Type 0 where
+  pub drawn : Drawn
+  pub is : r ≡ Ok drawn
+  pub group : drawn.group ≡ refilled xs given.group
+
+fills : (xs : ℕ → Payload) (checks checks' : List Check) (draws draws' given : Drawn)
+    → ◌≡◌ {A = Result Drawn Rule} (judged checks draws) (Ok given)
+    → checks ≡ checks' → draws'.group ≡ refilled xs draws.group → Filled (judged checks' draws') xs given
+fills xs checks checks' draws draws' given accepted path groups =
+    let k = judged-Ok checks draws given accepted in
+    record {
+      drawn = draws';
+      is = judged-none checks' draws' (subst NoneBroken path k.0);
+      group = groups ∙ ap (λ (d : Drawn). refilled xs d.group) k.1;
+    }
+
+-- ---- groups of several entries
+
+coauthors-filled : (xs : ℕ → Payload) (stamp : Stamp) (p : ℕ) (users : List ℕ)
+    → grouped stamp (map (λ (user : ℕ). entries.Coauthor p user) users)
+    ≡ refilled xs (grouped stamp (map (λ (user : ℕ). entries.Coauthor p user) users))
+coauthors-filled xs stamp p [] = refl
+coauthors-filled xs stamp p (u ∷ []) = refl
+coauthors-filled xs stamp p (u ∷ v ∷ users) =
+    ap (λ (g : History). stamped stamp true (entries.Coauthor p u) ∷ g)
+    (coauthors-filled (λ n. xs (suc n)) stamp p (v ∷ users))
+
+submission-filled : (xs : ℕ → Payload) (stamp : Stamp) (p : ℕ) (title abstract : List ℕ) (users : List ℕ)
+    → grouped stamp (entries.Submitted p (xs 0).title (xs 0).abstract_
+    ∷ map (λ (user : ℕ). entries.Coauthor p user) users)
+    ≡ refilled xs (grouped stamp (entries.Submitted p title abstract
+    ∷ map (λ (user : ℕ). entries.Coauthor p user) users))
+submission-filled xs stamp p title abstract [] = refl
+submission-filled xs stamp p title abstract (u ∷ users) =
+    ap (λ (g : History). stamped stamp true (entries.Submitted p (xs 0).title (xs 0).abstract_) ∷ g)
+    (coauthors-filled (λ n. xs (suc n)) stamp p (u ∷ users))
+
+registration-filled : (xs : ℕ → Payload) (stamp : Stamp) (n : ℕ) (name digest : List ℕ)
+    → grouped stamp (registration n name (xs 0).digest) ≡ refilled xs (grouped stamp (registration n name digest))
+registration-filled xs stamp n name digest = by (eqb n 1)
+  where
+    by : (b : Bool)
+        → grouped stamp (cond b (entries.Registered n name (xs 0).digest ∷ entries.Named n Chair ∷ [])
+        (entries.Registered n name (xs 0).digest ∷ []))
+        ≡ refilled xs (grouped stamp (cond b (entries.Registered n name digest ∷ entries.Named n Chair ∷ [])
+        (entries.Registered n name digest ∷ [])))
+    by true = refl
+    by false = refl
+
+-- what is no more than that isn't too much
+enough : (n : ℕ) → n ≤ 67108864 → nat_lt 67108864 n ≡ false
+enough n h = grind (arith, nat_tests)
+
+-- ---- all commands
+
+module _ (facts facts' : Facts) (shown shown' : Shown) (same : SameRead facts facts' shown shown') where
+  abbrev like : Facts
+  like = record facts' {
+    own_bytes = facts.own_bytes;
+    own_bid = facts.own_bid;
+    own_forms = facts.own_forms;
+    accepted = facts.accepted;
+    had_response = facts.had_response;
+  }
+
+  abbrev alike : Shown
+  alike = record shown' {
+    title = shown.title;
+    abstract_ = shown.abstract_;
+    declared = shown.declared;
+    uploads = shown.uploads;
+    bids = shown.bids;
+    reviewers = shown.reviewers;
+    assigned = shown.assigned;
+    last_form = shown.last_form;
+    early_form = shown.early_form;
+    forms_discussed = shown.forms_discussed;
+    comments = shown.comments;
+    response = shown.response;
+    tags = shown.tags;
+    decision = shown.decision;
+  }
+
+  F : facts ≡ like
+  F = λ i. record {
+    standing = λ paper. same.standing paper i;
+    accounts = same.accounts i;
+    papers = same.papers i;
+    own_papers = same.own_papers i;
+    own_bytes = facts.own_bytes;
+    own_bid = facts.own_bid;
+    own_ordinal = λ p. same.own_ordinal p i;
+    own_forms = facts.own_forms;
+    own_comments = same.own_comments i;
+    accepted = facts.accepted;
+    deadline = λ phase. same.deadline phase i;
+    had_response = facts.had_response;
+  }
+
+  S : shown ≡ alike
+  S = λ i. record {
+    title = shown.title;
+    abstract_ = shown.abstract_;
+    authors = λ p. same.authors p i;
+    conflicts = λ p. same.conflicts p i;
+    declared = shown.declared;
+    uploads = shown.uploads;
+    withdrawn = λ p. same.withdrawn p i;
+    bids = shown.bids;
+    reviewers = shown.reviewers;
+    ordinal = λ v p. same.ordinal v p i;
+    labels = λ p. same.labels p i;
+    assigned = shown.assigned;
+    invited = λ v p. same.invited v p i;
+    last_form = shown.last_form;
+    early_form = shown.early_form;
+    forms_discussed = shown.forms_discussed;
+    written = λ p o. same.written p o i;
+    comments = shown.comments;
+    response = shown.response;
+    tags = shown.tags;
+    decision = shown.decision;
+  }
+
+  -- the user of a name that may be none
+  abbrev target : Facts → Option (List ℕ) → Option ℕ
+  target f name = user_among f.accounts name
+
+  pub judged-filled : (stamp : Stamp) (xs : ℕ → Payload) (command : Command) (given : Drawn)
+      → HasRoom facts' (xs 0) command → judge_by facts shown stamp command ≡ Ok given
+      → Filled (judge_by facts' shown' stamp (fill_command (xs 0) command)) xs given
+  judged-filled stamp xs (Register name digest) given room accepted =
+      fills xs _ _ (registration_drawn stamp (length facts.accounts + 1) name digest)
+      (registration_drawn stamp (length facts'.accounts + 1) name (xs 0).digest) given accepted
+      (λ i. register_checks (is_some (number_in (F i).accounts name)) (length (F i).accounts))
+      ((λ i. (registration_drawn stamp (length (sym F i).accounts + 1) name (xs 0).digest).group)
+      ∙ registration-filled xs (record stamp { maker = length facts.accounts + 1 }) (length facts.accounts + 1) name
+      digest)
+  judged-filled stamp xs (SetPhase to) given room accepted =
+      fills xs _ _ (phase_drawn stamp to) (phase_drawn stamp to) given accepted
+      (λ i. phase_checks ((F i).standing None) ((F i).standing None).phase to) refl
+  judged-filled stamp xs (Submit title abstract authors) given room accepted =
+      fills xs _ _ (submission_drawn stamp (length facts.papers + 1) title abstract
+      (flat_map listed (users_among facts.accounts authors)))
+      (submission_drawn stamp (length facts'.papers + 1) (xs 0).title (xs 0).abstract_
+      (flat_map listed (users_among facts'.accounts authors))) given accepted
+      (λ i. submit_checks (list_any is_none (users_among (F i).accounts authors)) ((F i).standing None)
+      (length (F i).papers) (F i).own_papers (is_late (F i) stamp.at))
+      ((λ i. (submission_drawn stamp (length (sym F i).papers + 1) (xs 0).title (xs 0).abstract_
+      (flat_map listed (users_among (sym F i).accounts authors))).group)
+      ∙ submission-filled xs stamp (length facts.papers + 1) title abstract
+      (besides (stamp.maker ∷ []) (flat_map listed (users_among facts.accounts authors))))
+  judged-filled stamp xs (Revise paper title abstract) given room accepted =
+      fills xs _ _ (revision_drawn stamp (unwrap_or paper 0) title abstract)
+      (revision_drawn stamp (unwrap_or paper 0) (xs 0).title (xs 0).abstract_) given accepted
+      (λ i. revise_checks ((F i).standing paper) (paper_named (F i) (S i) paper) (is_late (F i) stamp.at)) refl
+  judged-filled stamp xs (Upload paper content) given room accepted =
+      let p : ℕ = unwrap_or paper 0 in
+      let k = judged-Ok
+      (upload_checks (facts.standing paper) (paper_named facts shown paper) facts.own_bytes (length content)
+      (is_late facts stamp.at))
+      (upload_drawn stamp p (length (shown.uploads p) + 1) content) given accepted in
+      let none = subst NoneBroken
+      (λ i. upload_checks ((F i).standing paper) (paper_named (F i) (S i) paper) facts.own_bytes (length content)
+      (is_late (F i) stamp.at)) k.0 in
+      record {
+        drawn = upload_drawn stamp p (length (shown'.uploads p) + 1) (xs 0).content;
+        is = judged-none
+            (upload_checks (facts'.standing paper) (paper_named facts' shown' paper) facts'.own_bytes
+            (length (xs 0).content) (is_late facts' stamp.at))
+            (upload_drawn stamp p (length (shown'.uploads p) + 1) (xs 0).content) (
+              none.0,
+              (
+                none.1.0,
+                (
+                  none.1.1.0,
+                  (
+                    none.1.1.1.0,
+                    (
+                      none.1.1.1.1.0,
+                      (enough (facts'.own_bytes + length (xs 0).content) room, tt),
+                    ),
+                  ),
+                ),
+              ),
+            );
+        group = (λ i. (upload_drawn stamp p (sym (same.uploads p) i + 1) (xs 0).content).group)
+            ∙ ap (λ (d : Drawn). refilled xs d.group) k.1;
+      }
+  judged-filled stamp xs (Withdraw paper) given room accepted =
+      fills xs _ _ (withdrawal_drawn stamp (unwrap_or paper 0)) (withdrawal_drawn stamp (unwrap_or paper 0)) given
+      accepted
+      (λ i. revise_checks ((F i).standing paper) (paper_named (F i) (S i) paper) (is_late (F i) stamp.at)) refl
+  judged-filled stamp xs (Name name role) given room accepted =
+      fills xs _ _ (naming_drawn stamp (unwrap_or (target facts name) 0) (unwrap_or name []) role)
+      (naming_drawn stamp (unwrap_or (target facts' name) 0) (unwrap_or name []) role) given accepted
+      (λ i. name_checks ((F i).standing None)
+      (option_map of_role (role_among (F i).accounts (user_among (F i).accounts name))) role)
+      (λ i. (naming_drawn stamp (unwrap_or (target (sym F i) name) 0) (unwrap_or name []) role).group)
+  judged-filled stamp xs (SetMode to) given room accepted =
+      fills xs _ _ (mode_drawn stamp to) (mode_drawn stamp to) given accepted
+      (λ i. mode_checks ((F i).standing None) ((F i).standing None).phase) refl
+  judged-filled stamp xs (SetConflict paper name on) given room accepted =
+      fills xs _ _ (conflict_drawn stamp (unwrap_or paper 0) (unwrap_or (target facts name) 0) on)
+      (conflict_drawn stamp (unwrap_or paper 0) (unwrap_or (target facts' name) 0) on) given accepted
+      (λ i. conflict_checks ((F i).standing paper) (paper_named (F i) (S i) paper)
+      (target_named (F i) (S i) (Some stamp.maker) paper (user_among (F i).accounts name)) on (is_late (F i) stamp.at))
+      (λ i. (conflict_drawn stamp (unwrap_or paper 0) (unwrap_or (target (sym F i) name) 0) on).group)
+  judged-filled stamp xs (Bid paper value) given room accepted =
+      fills xs _ _ (bid_drawn stamp (unwrap_or paper 0) value) (bid_drawn stamp (unwrap_or paper 0) (xs 0).value) given
+      accepted
+      (λ i. bid_checks ((F i).standing paper) (paper_named (F i) (S i) paper) (is_late (F i) stamp.at)) refl
+  judged-filled stamp xs (Assign paper name kind) given room accepted =
+      let p : ℕ = unwrap_or paper 0 in
+      fills xs _ _ (assignment_drawn stamp p (unwrap_or (target facts name) 0) kind (shown.labels p + 1))
+      (assignment_drawn stamp p (unwrap_or (target facts' name) 0) (xs 0).kind (shown'.labels p + 1)) given
+      accepted
+      (λ i. assign_checks ((F i).standing paper) (paper_named (F i) (S i) paper)
+      (target_named (F i) (S i) (Some stamp.maker) paper (user_among (F i).accounts name)) ((S i).labels p))
+      (λ i. (assignment_drawn stamp p (unwrap_or (target (sym F i) name) 0) (xs 0).kind ((sym S i).labels p + 1)).group)
+  judged-filled stamp xs (Unassign paper name) given room accepted =
+      let p : ℕ = unwrap_or paper 0 in
+      fills xs _ _
+      (unassignment_drawn stamp p (unwrap_or (target facts name) 0)
+      (unwrap_or (shown.ordinal (target facts name) p) 0))
+      (unassignment_drawn stamp p (unwrap_or (target facts' name) 0)
+      (unwrap_or (shown'.ordinal (target facts' name) p) 0)) given accepted
+      (λ i. unassign_checks ((F i).standing paper) (paper_named (F i) (S i) paper)
+      (target_named (F i) (S i) (Some stamp.maker) paper (user_among (F i).accounts name))
+      (at_some ((S i).written p) ((S i).ordinal (user_among (F i).accounts name) p)))
+      (λ i. (unassignment_drawn stamp p (unwrap_or (target (sym F i) name) 0)
+      (unwrap_or ((sym S i).ordinal (target (sym F i) name) p) 0)).group)
+  judged-filled stamp xs (Review paper form) given room accepted =
+      let p : ℕ = unwrap_or paper 0 in
+      fills xs _ _ (review_drawn stamp p (unwrap_or (facts.own_ordinal p) 0) (length (facts.own_forms p) + 1) form)
+      (review_drawn stamp p (unwrap_or (facts'.own_ordinal p) 0) (length (facts'.own_forms p) + 1) (xs 0).form) given
+      accepted
+      (λ i. review_checks ((F i).standing paper) (paper_named (F i) (S i) paper) (is_late (F i) stamp.at))
+      (λ i. (review_drawn stamp p (unwrap_or ((sym F i).own_ordinal p) 0) (sym (same.own_forms p) i + 1)
+      (xs 0).form).group)
+  judged-filled stamp xs (Respond paper text) given room accepted =
+      let p : ℕ = unwrap_or paper 0 in
+      fills xs _ _ (response_drawn stamp p text) (response_drawn stamp p (xs 0).text) given accepted
+      (λ i. respond_checks ((F i).standing paper) (paper_named (F i) (S i) paper) (same.response p i)
+      (is_late (F i) stamp.at)) refl
+  judged-filled stamp xs (Comment paper text) given room accepted =
+      let p : ℕ = unwrap_or paper 0 in
+      fills xs _ _ (comment_drawn stamp p (length (shown.comments p) + 1) (facts.own_ordinal p) text)
+      (comment_drawn stamp p (length (shown'.comments p) + 1) (facts'.own_ordinal p) (xs 0).text) given accepted
+      (λ i. comment_checks ((F i).standing paper) (paper_named (F i) (S i) paper) (F i).own_comments
+      (is_late (F i) stamp.at))
+      (λ i. (comment_drawn stamp p (sym (same.comments p) i + 1) ((sym F i).own_ordinal p) (xs 0).text).group)
+  judged-filled stamp xs (Tag paper tag on) given room accepted =
+      fills xs _ _ (tag_drawn stamp (unwrap_or paper 0) tag on) (tag_drawn stamp (unwrap_or paper 0) tag (xs 0).on)
+      given accepted
+      (λ i. tag_checks ((F i).standing paper) (paper_named (F i) (S i) paper) (is_for_chairs tag)) refl
+  judged-filled stamp xs (Decide paper decision) given room accepted =
+      fills xs _ _ (decision_drawn stamp (unwrap_or paper 0) decision)
+      (decision_drawn stamp (unwrap_or paper 0) (xs 0).decision) given accepted
+      (λ i. decide_checks ((F i).standing paper) (paper_named (F i) (S i) paper)) refl
+  judged-filled stamp xs (SetDeadline phase until) given room accepted =
+      fills xs _ _ (deadline_drawn stamp phase until) (deadline_drawn stamp phase until) given accepted
+      (λ i. deadline_checks ((F i).standing None) ((F i).standing None).phase phase) refl
+  judged-filled stamp xs (Dismiss name) given room accepted =
+      fills xs _ _ (dismissal_drawn stamp (unwrap_or (target facts name) 0) (unwrap_or name []))
+      (dismissal_drawn stamp (unwrap_or (target facts' name) 0) (unwrap_or name [])) given accepted
+      (λ i. dismiss_checks ((F i).standing None)
+      (option_map of_role (role_among (F i).accounts (user_among (F i).accounts name)))
+      (chair_count (F i).accounts))
+      (λ i. (dismissal_drawn stamp (unwrap_or (target (sym F i) name) 0) (unwrap_or name [])).group)
+  judged-filled stamp xs (Invite paper name) given room accepted =
+      fills xs _ _ (invitation_drawn stamp (unwrap_or paper 0) (unwrap_or (target facts name) 0))
+      (invitation_drawn stamp (unwrap_or paper 0) (unwrap_or (target facts' name) 0)) given accepted
+      (λ i. invite_checks ((F i).standing paper) (paper_named (F i) (S i) paper)
+      (target_named (F i) (S i) (Some stamp.maker) paper (user_among (F i).accounts name))
+      (at_some ((S i).invited (user_among (F i).accounts name)) paper))
+      (λ i. (invitation_drawn stamp (unwrap_or paper 0) (unwrap_or (target (sym F i) name) 0)).group)
+  judged-filled stamp xs (Uninvite paper name) given room accepted =
+      fills xs _ _ (uninvitation_drawn stamp (unwrap_or paper 0) (unwrap_or (target facts name) 0))
+      (uninvitation_drawn stamp (unwrap_or paper 0) (unwrap_or (target facts' name) 0)) given accepted
+      (λ i. uninvite_checks ((F i).standing paper) (paper_named (F i) (S i) paper)
+      (target_named (F i) (S i) (Some stamp.maker) paper (user_among (F i).accounts name))
+      (at_some ((S i).invited (user_among (F i).accounts name)) paper))
+      (λ i. (uninvitation_drawn stamp (unwrap_or paper 0) (unwrap_or (target (sym F i) name) 0)).group)

@@ -1,0 +1,4 @@
+pub mod Payload
+pub mod Undeducible
+pub mod MayHaveBeen
+pub mod HowOneCame

@@ -1,0 +1,62 @@
+//! Nothing that is hidden can be ruled out, by any group; and how somebody came to what she may see.
+//!
+//! The definitions stand in this crate's specs, over the views and the legal histories of `cr_policy` and the bounds of
+//! `cr_bounds`. No crate stands on this one. The functions here do nothing: each has a law as its contract.
+#![tactic(auto)]
+
+ghost use Rattle.cr_undeduced.specs.HowOneCame.{MembersCame, AuthorsCame, ReviewersCame, ExternalsCame, ConflictsCame};
+ghost use Rattle.cr_undeduced.specs.HowOneCame.{AcceptedCame, FormReadersCame};
+ghost use Rattle.cr_undeduced.specs.MayHaveBeen.{Inserted, LeftOut, BesidesUnseen};
+ghost use Rattle.cr_undeduced.specs.Undeducible.{OthersLegal, ShorterLegal, LooksAlike, GroupAlike};
+
+/// Of what nobody of a group was shown whenever they looked, they can rule out no value, though they tell each other
+/// all that they saw (nondeducibility: Sutherland, 1986). Take a legal history, any looks at it, each of a user or of
+/// an unauthenticated caller after so many entries, and for each of its places any other digest, title, abstract,
+/// content, bid, kind of seat, form, comment, response, switch of a tag and decision. The other history has these
+/// wherever the bounds give none of those who looked the part, all at once, part by part: it is legal, and at each of
+/// the looks the same is seen of it. What a part is shown for is said in the words of the bounds (`ShownTo`), so a
+/// trigger table that shows more is refused. One thing stays though nobody is shown it: where somebody looked at the
+/// notification or later, the last decision on each paper that there was then, since whether it is accepted everyone
+/// is shown.
+///
+/// The clause `legal` asks that the other values be within the bounds of commands, and that nobody have uploaded more
+/// than 64 MiB by them; `shorter` asks the former, and that no content be longer than the one whose place it takes.
+/// `looks` holds of every history, legal or not. `group` is that of a group who look at the end: each sees the same
+/// view. The conditions of the other values are of these alone, never of what is hidden.
+pub fn law_undeducible()
+    ensures legal { OthersLegal }
+    ensures shorter { ShorterLegal }
+    ensures looks { LooksAlike }
+    ensures group { GroupAlike }
+{}
+
+/// Revisions, bids, tags and decisions may have been made besides, or not: no rule reads what they tell, nor that they
+/// are there. Where a list of them, by commands without a number, would have been accepted in a legal history, what
+/// came of the commands and bulks that followed is legal behind them as well (`inserted`), with the same entries, and
+/// what came behind them is legal where they are left out (`left_out`). Whoever is told of none of them by the bounds
+/// sees the same with them and without, where the same papers are accepted (`unseen`): so from the notification on any
+/// sequence of decisions with the same last one looks the same to who is told of the last alone.
+pub fn law_may_have_been()
+    ensures inserted { Inserted }
+    ensures left_out { LeftOut }
+    ensures unseen { BesidesUnseen }
+{}
+
+/// How somebody came to be what lets her see or do, in each legal history. Each clause names the entry that made her
+/// so, between those before it and those behind it, so the row in a store; says by what right it was made, in the words
+/// of the sentences on who may do what; and that nothing behind it did otherwise. A member or a chair: named by a chair
+/// before the notification, the first user as she registers. An author: she submitted the paper in the submission, or
+/// one of its authors named her. A reviewer: assigned by a chair in no conflict with the paper while the committee
+/// worked, when she was in none herself. An external: invited by such a chair. One in declared conflict: declared by an
+/// author before the bidding, and from then on by herself or such a chair. An accepted paper: decided on so by such a
+/// chair in the discussion. And whoever is shown that another wrote a form on a paper is an author of it, from the
+/// response on, discusses it, or is a chair in no conflict with it; and came to be so.
+pub fn law_how_one_came()
+    ensures members { MembersCame }
+    ensures authors { AuthorsCame }
+    ensures reviewers { ReviewersCame }
+    ensures externals { ExternalsCame }
+    ensures conflicts { ConflictsCame }
+    ensures accepted { AcceptedCame }
+    ensures form_readers { FormReadersCame }
+{}
