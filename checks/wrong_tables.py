@@ -11,10 +11,12 @@
                                              what is below its crate first
 
 WORD picks the rows that have it in their name, or a topic. Clauses are computed for nobody and every user of the small
-conference, in each mode and phase, and of made-up histories that aren't legal; those by part on the values shown alone.
-The table as it stands is computed first, and every clause has to hold of it. Ends with status 0 where all were as due.
+conference, in each mode and phase, and of made-up histories that aren't legal; those by part on the values shown alone;
+that of looks with other values made up for each place. The table as it stands is computed first, and every clause has
+to hold of it. Ends with status 0 where all were as due.
 """
 import concurrent.futures
+import functools
 import os
 import random
 import re
@@ -28,11 +30,26 @@ from planted.specs import BUILT_IN, MEMO, PAPERS, History, Specs, applied, arity
 
 # which crate has a law
 CRATES = {"law_view_suffices": "cr_policy", "law_bounds": "cr_bounds", "law_response_bound": "cr_bounds",
-          "law_views": "cr_conference"}
+          "law_views": "cr_conference", "law_undeducible": "cr_undeduced", "law_may_have_been": "cr_undeduced"}
+CUTS = {}
+
+
+def cut(n, xs):
+    """The first n of the entries, the same value each time for a whole history."""
+    if not isinstance(xs, History):
+        return xs[:n]
+    if n >= len(xs):
+        return xs
+    if (id(xs), n) not in CUTS:
+        CUTS[id(xs), n] = (xs, History(xs[:n]))
+    return CUTS[id(xs), n][1]
+
+
 NOBODY, USERS = ("None",), [("Some", n) for n in range(1, 10)]
 PHASES = ["Submission", "Bidding", "Reviewing", "Response", "Discussion", "Notification", "Closed"]
 SKIPPING = [phase for phase in PHASES if phase != "Response"]
 MODES = [("Overt",), ("Blind",), ("Anonymous",)]
+BUILT_IN.update({"take": cut, "suc": lambda n: n + 1})
 BUILT_IN["values"] = lambda xs: tuple(x for x in xs if x is not False and x != NOBODY)
 
 
@@ -43,14 +60,15 @@ def clauses(law):
     return dict(re.findall(r"ensures (\w+) \{ (\w+) \}", text))
 
 
-LAWS = {law: clauses(law) for law in ("law_bounds", "law_response_bound", "law_views")}
-# of law_views, what rests on judgement and isn't computed
-UNCOMPUTED = {"legal"}
+LAWS = {law: clauses(law) for law in ("law_bounds", "law_response_bound", "law_views", "law_undeducible")}
+# what rests on judgement and isn't computed; and a clause that is one of looks at the end
+UNCOMPUTED = {"legal", "shorter", "group"}
 
 
 def named(row):
     """The law and the clauses that a row says are false."""
-    laws = (("clauses", "law_bounds"), ("response", "law_response_bound"), ("views", "law_views"))
+    laws = (("clauses", "law_bounds"), ("response", "law_response_bound"), ("views", "law_views"),
+            ("undeduced", "law_undeducible"))
     return [(law, clause) for word, law in laws for clause in row.words(word)]
 
 
@@ -158,6 +176,24 @@ def outside(mode, phases, ending):
     return stamped(entries)
 
 
+@functools.cache
+def other_payload(seed, place):
+    """Other values for what stands at a place of a history, whatever its kind."""
+    dice = random.Random(1000 * seed + place)
+    text = lambda: words(f"other {dice.randint(1000, 9999)}")
+    form = {"score": dice.randint(1, 5), "confidence": dice.randint(1, 5), "to_authors": text(), "to_pc": text()}
+    return {"digest": text(), "title": text(), "abstract_": text(), "content": text(), "value": dice.randint(0, 40),
+            "kind": (dice.choice(["Primary", "Secondary", "Pc"]),), "form": form, "text": text(),
+            "on": dice.random() < 0.5, "decision": (dice.choice(["Accept", "Reject"]),)}
+
+
+def looks_at(seed, history):
+    """Looks to try at a history: some users', each at the end; and those of two who look at two moments."""
+    n, users = len(history), [NOBODY, *USERS]
+    yield from ([{"who": users[(seed + step) % len(users)], "upto": n}] for step in (0, 3, 6))
+    yield [{"who": users[(seed + step) % len(users)], "upto": n * part // 4} for step in (1, 5) for part in (3, 4)]
+
+
 def small_conference(specs):
     """What the small conference is made of, and its histories in each mode and phase."""
     of = lambda name: specs.get("cr_conference.specs.Conference", name)
@@ -234,8 +270,23 @@ class Computed:
         view = self.specs.get("cr_policy.specs.View", "view")
         return all(view(u, history) == view(u, twin) for clause, u, history, twin in self.twins() if clause == name)
 
+    def holds_of_looks(self):
+        """Whether at each look the same is seen of a history and of the other one."""
+        otherwise = self.specs.get("cr_undeduced.specs.Undeducible", "otherwise")
+        view = self.specs.get("cr_policy.specs.View", "view")
+        for seed, history in enumerate(self.histories[::2]):
+            for looks in looks_at(seed, history):
+                other = otherwise(looks, lambda n: other_payload(seed, n), history)
+                for look in looks:
+                    seen, same = cut(look["upto"], history), History(other[:look["upto"]])
+                    if view(look["who"], seen) != view(look["who"], same):
+                        return False
+        return True
+
     def holds(self, law, name):
         """Whether the clause holds wherever it is computed."""
+        if law == "law_undeducible":
+            return self.holds_of_looks()
         if law == "law_response_bound":
             if name in ("unheard", "later"):
                 return self.holds_of_twins(name)
