@@ -9,8 +9,9 @@ from pathlib import Path
 
 TOP = Path(__file__).resolve().parent.parent
 
-# What refuses bytes that are no request: behind it nothing is read.
-CLOSING = ("head_too_large", "bad_http", "no_host", "length_required", "bad_length", "too_large")
+# What refuses bytes that are no request: behind it nothing is read. The first two come before a method is known.
+HEADLESS = ("head_too_large", "bad_http")
+CLOSING = (*HEADLESS, "no_host", "length_required", "bad_length", "too_large")
 CLOSED = {b'{"error":"%s"}' % name.encode() for name in CLOSING}
 USUAL = "Sun, 06 Nov 1994 08:49:37 GMT"
 ESCAPE = re.compile(rb"\\(?:([rn\\])|x([0-9A-Fa-f]{2})|\((\d+) ([^)]*)\))")
@@ -45,6 +46,10 @@ class Answer:
     def closes(self):
         """Whether it refuses bytes that are no request."""
         return self.content in CLOSED
+
+    def is_headless(self):
+        """Whether it refuses bytes whose method isn't known."""
+        return self.content in {b'{"error":"%s"}' % name.encode() for name in HEADLESS}
 
 
 @dataclass
@@ -125,14 +130,19 @@ def talks(lines):
     return told if is_pipe else told[1:]
 
 
-def request_at(sent, place):
-    """The request at this place, and where it ends."""
+def head_at(sent, place):
+    """The request whose head is at this place, without its body, and where the head ends."""
     start = SKIPPED.match(sent, place).end()
     end = END.search(sent, start).end()
     first, *rest = sent[start:end].decode("latin-1").replace("\r\n", "\n").strip("\n").split("\n")
     method, target, _ = first.split(" ")
     fields = [(name.lower(), value.strip(" \t")) for name, _, value in (line.partition(":") for line in rest)]
-    request = Request(method, target.encode("latin-1").decode(), fields, b"")
+    return Request(method, target.encode("latin-1").decode(), fields, b""), end
+
+
+def request_at(sent, place):
+    """The request at this place, and where it ends."""
+    request, end = head_at(sent, place)
     stop = end + int((request.values("content-length") or ["0"])[0])
     request.body = bytes(sent[end:stop])
     return request, stop
@@ -151,14 +161,16 @@ def cases(path):
 
 
 def exchanges_in(lines):
-    """Each answer that is due in a case, connection by connection: its line, its request, none where bytes are none,
-    and itself."""
+    """Each answer that is due in a case, connection by connection: its line, its request and itself. Of bytes that are
+    no request it is what their head says, and none if no method is known."""
     for talk in talks(lines):
         place = 0
         for number, due in talk.answers:
             request = None
             if not due[0].closes():
                 request, place = request_at(talk.sent, place)
+            elif not due[0].is_headless():
+                request, _ = head_at(talk.sent, place)
             for answer in due:
                 yield number, request, answer
 

@@ -22,7 +22,7 @@ import re
 import sys
 import urllib.parse
 
-from cases import TOP, exchanges
+from cases import HEADLESS, TOP, exchanges
 
 SYSTEM = "/usr/bin/python3"
 try:
@@ -101,6 +101,7 @@ class Compared:
         self.document, self.wrong = document, {}
         self.requests = self.answers = 0
         self.seen, self.contents, self.bodies = set(), {}, {}
+        self.elsewhere = set()
         self.known, self.done = {}, set()
 
     def say(self, where, what):
@@ -118,13 +119,13 @@ class Compared:
         told = (request.method, request.target, *request.fields, request.body) if request else ()
         key = (told, answer.status, *answer.fields.values(), answer.content, answer.is_head)
         self.answers += 1
-        self.requests += request is not None
+        self.requests += request is not None and not answer.closes()
         if key not in self.done:
             self.done.add(key)
             self.compare(where, request, answer)
 
     def compare(self, where, request, answer):
-        """A request and its answer: the operation is that of GET /phase where what came is no request."""
+        """A request and its answer: the operation is that of GET /phase if what came has no method."""
         path, names, method = "/phase", {}, "HEAD" if answer.is_head else "GET"
         if request:
             path, names = self.document.route(request.target.split("?")[0])
@@ -135,16 +136,18 @@ class Compared:
         if response is None:
             return
         self.answer(where, what, path, response, answer)
-        if request and operation:
+        if request and operation and not answer.closes():
             self.request(where, what, path, operation, names, request, answer)
 
     def response(self, where, what, path, operation, answer):
         """What the document has of an answer's status; of paths and methods that it hasn't, what it has of those."""
         told = operation["responses"] if operation else self.document.whole["x-answers-elsewhere"]
-        due = None if operation else "405" if path else "404"
+        due = None if operation or answer.closes() else "405" if path else "404"
         if answer.status not in told or due not in (None, answer.status):
             self.say(where, f"{what}: {answer.status} isn't declared")
             return None
+        if not operation:
+            self.elsewhere.add(("another method" if path else "another path", json.loads(answer.content)["error"]))
         if due == "405":
             told_methods = ", ".join(sorted(key.upper() for key in self.document.paths[path] if key != "parameters"))
             allow = answer.fields.get("Allow")
@@ -296,6 +299,13 @@ class Compared:
                 if status not in refusals and (what, status) not in statuses and not self.is_any(path, status):
                     yield f"{what}: no case shows {status}"
 
+    def unseen_elsewhere(self):
+        """The errors that no case shows of another method, or of another path."""
+        names = set(self.document.whole["x-errors-of-all"]) - set(HEADLESS)
+        for kind, other in (("another method", "no_route"), ("another path", "wrong_method")):
+            shown = {error for where, error in self.elsewhere if where == kind}
+            yield from (f"no case shows {name} of {kind}" for name in sorted((names - {other}) ^ shown))
+
     def is_any(self, path, status):
         """Whether a status of HEAD is one that GET has for bytes that are no request, or for want of memory, alone."""
         get = self.document.refusals(self.document.paths[path].get("get", {"responses": {}}))
@@ -346,7 +356,7 @@ def main():
             compared.exchange(f"{path.name}:{line}", request, answer)
     wrong += [f"{where}: {what}" for what, where in compared.wrong.items()]
     if not words and not wrong:
-        wrong += [*compared.unseen(), *compared.unseen_examples()]
+        wrong += [*compared.unseen(), *compared.unseen_elsewhere(), *compared.unseen_examples()]
     counted = f"{compared.requests} requests and {compared.answers} answers compared, {len(wrong)} wrong"
     print("\n".join(wrong + [counted]))
     return 1 if wrong else 0
