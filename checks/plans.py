@@ -166,11 +166,13 @@ def small_one(seed):
 
 
 def small(program, _folder):
-    """Small plans are the first of the greatest sum, or there is none."""
+    """Small plans are the first of the greatest sum, or there is none; /assign takes their rows, as they come or
+    shuffled."""
     for seed in range(SMALL):
         made, (who, per_paper, load) = small_one(seed)
         best = made.best(who, per_paper, load)
-        posted = [] if best is None else [raw("POST", "/assign", who, text_of(best))]
+        rows = random.Random(seed).sample(best, len(best)) if best and seed % 2 else best
+        posted = [] if best is None else [raw("POST", "/assign", who, text_of(rows))]
         found = told(program, made, plan(who, per_paper, load), *posted)
         expect(found[0] == due_plan(best), (seed, found[0], best))
         if posted:
