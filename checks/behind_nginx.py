@@ -3,9 +3,9 @@
 
     python3 checks/behind_nginx.py [CHECK..] [PROGRAM]
 
-PROGRAM is `confd` as `rt run` builds it (crates/confd/out/confd if none is named), and CHECK a name of CHECKS. Needs the
-Debian packages nginx-light and openssl, and is no part of the gate. Prints a line a check, and last `N passed, M failed`; ends with
-status 0 where none failed. Takes less than a minute.
+PROGRAM is `confd` as `rt run` builds it (crates/confd/out/confd if none is named), and CHECK a name of CHECKS. Needs
+the Debian packages nginx-light and openssl, and is no part of the gate. Prints a line a check, and last `N passed, M
+failed`; ends with status 0 if none failed. Takes some two minutes.
 """
 
 import contextlib
@@ -25,7 +25,7 @@ from store import chosen, expect, run_all
 SECRET = "alice-secret-0123456789"
 HERE = os.path.dirname(os.path.abspath(__file__))
 
-# What stands around a server's configuration in a folder of its own.
+# What a server's configuration needs around it, in a folder of its own.
 AROUND = """
 user root;
 worker_processes 4;
@@ -251,7 +251,8 @@ def closed(program, folder):
 
 
 CHECKS = (
-    one_after_another, many_at_once, slow_clients, pauses, too_large, registrations, networks, uploads, at_a_time, closed,
+    one_after_another, many_at_once, slow_clients, pauses, too_large, registrations, networks, uploads, at_a_time,
+    closed,
 )  # fmt: skip
 
 if __name__ == "__main__":

@@ -5,7 +5,7 @@
 
 The lines of UNIT that systemd makes seccomp filters of (FILTERS, and SystemCallFilter with SystemCallErrorNumber) are
 read from the file itself, by the meaning that systemd.exec(5) gives them; what its other lines do is left to checks of
-systemd. Needs libseccomp.so.2, which Debian's apt stands on, and systemd-analyze, which tells the groups of calls. Ends
+systemd. Needs libseccomp.so.2, which Debian's apt needs too, and systemd-analyze, which tells the groups of calls. Ends
 as COMMAND does; with a message where the filters can't be made. unit.py uses it.
 """
 
@@ -94,7 +94,7 @@ def settings(unit):
 
 
 def groups():
-    """The groups of calls by their names, each with what stands in it, as this machine's systemd has them."""
+    """The groups of calls by their names, each with what is in it, as this machine's systemd has them."""
     told, group = {}, None
     done = subprocess.run(["systemd-analyze", "syscall-filter"], capture_output=True, text=True, check=True)
     for line in done.stdout.splitlines():
@@ -129,7 +129,7 @@ def allowed(lines, known):
 
 
 def without_families(library, value):
-    """RestrictAddressFamilies=: sockets of these families alone."""
+    """RestrictAddressFamilies=: only sockets of these families."""
     named = {getattr(socket, word) for word in value.split()}
     made = Filter(library)
     for family in set(range(FAMILIES)) - named:

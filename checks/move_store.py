@@ -4,7 +4,7 @@
     python3 checks/move_store.py [CHECK..] [PROGRAM]
 
 PROGRAM is `confd` as `rt run` builds it (crates/confd/out/confd where none is named), and CHECK a name of CHECKS, all
-if none is told. Python 3 alone is needed. Prints a line a check, and last `N passed, M failed`; ends with status 0
+if none is told. Needs only Python 3. Prints a line a check, and last `N passed, M failed`; ends with status 0
 where none failed. Takes half a minute.
 """
 
@@ -63,7 +63,7 @@ def expect_refused(program, source, to, why, **more):
 
 
 def files_beside(path, but):
-    """The files in a path's folder but for one; none where there is no folder."""
+    """The files in a path's folder except one; none if there is no folder."""
     folder = os.path.dirname(path)
     return sorted(set(os.listdir(folder)) - {os.path.basename(but)}) if os.path.isdir(folder) else None
 

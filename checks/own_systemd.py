@@ -83,7 +83,7 @@ class Systemd:
         self.folder, self.leader, self.first = folder, leader, first
 
     def path(self, *names):
-        """Where a file of its room stands, or, of a path from the root, one as it sees it."""
+        """The path of a file in its room, or, given a path from the root, of that file as it sees it."""
         if os.path.isabs(names[0]):
             return f"/proc/{self.first}/root{names[0]}"
         return os.path.join(self.folder, *names)

@@ -4,8 +4,8 @@
     python3 checks/package.py [PROGRAM]
 
 PROGRAM is `confd` as `rt run` builds it (crates/confd/out/confd if none is named). Needs Debian's dpkg-dev and
-binutils; for the manual page man-db, and mandoc for a second reader of it. What isn't there on this machine is told in a
-line, and what needs it is left out. Prints a line a check, and last `N passed, M failed`; ends with status 0 where none
+binutils; for the manual page man-db, and mandoc for a second reader of it. What isn't there on this machine is told in
+a line, and what needs it is left out. Prints a line a check, and last `N passed, M failed`; ends with status 0 if none
 failed. Takes some seconds.
 """
 

@@ -1,9 +1,9 @@
 #!/usr/bin/env python3
-"""Prints confd(1): deploy/confd.1.in with the tables of docs/RUNNING.md and docs/STORE.md, so that each is written once.
+"""Prints confd(1): deploy/confd.1.in with the tables of docs/RUNNING.md and docs/STORE.md, which are written once.
 
     deploy/man_page.py DATE VERSION
 
-DATE is the page's. Python 3 alone is needed; ends with status 1 if a page has no such table.
+DATE is the page's. Needs only Python 3; ends with status 1 if a page has no such table.
 """
 
 import pathlib

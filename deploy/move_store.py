@@ -10,8 +10,8 @@ same of both for each user; so the move costs two openings a user. Until then ev
 beside it, which a kill may leave and the next move to TO removes. TO takes as much room on the disk as FROM, a
 database twice that meanwhile.
 
-The formats are those of docs/STORE.md. Python 3 with SQLite 3.37 or later is needed, and no package. Prints one line,
-and ends with status 0; if anything fails, with status 1 and what failed on standard error, and 2 if the words are wrong.
+The formats are those of docs/STORE.md. Needs Python 3 with SQLite 3.37 or later, and no package. Prints one line, and
+ends with status 0; if anything fails, with status 1 and what failed on standard error, and 2 if the words are wrong.
 """
 
 import argparse

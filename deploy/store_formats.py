@@ -65,7 +65,7 @@ def spelled_row(row):
 
 
 def frame(rows):
-    """What is appended of a group: an open gate, and the payload behind its length."""
+    """What is appended of a group: an open gate, the payload's length, and the payload."""
     return OPEN + field(b"".join(spelled_row(row) for row in rows))
 
 
