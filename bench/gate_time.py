@@ -4,7 +4,7 @@ crate by crate, in five parts: the crates' own proofs, their tests, the edits th
 programs (Rattle's back end, clang and Rattle's own compiler, linking), and running them and the tests. Prints a table
 in Markdown.
 
-    bench/gate_time.py rt ci --anew        from nothing
+    bench/gate_time.py rt ci               from nothing, as `rt ci --anew` where the kit keeps what passed
     bench/gate_time.py --pid 1234          joins a run that is under way
 
 The sum of all is exact: the kernel adds a process's time to its parent's when it ends. Whose it is, is looked up in
