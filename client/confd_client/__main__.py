@@ -1,0 +1,5 @@
+"""`python3 -m confd_client`: the command line."""
+
+from confd_client.cli import main
+
+main()

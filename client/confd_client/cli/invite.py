@@ -1,0 +1,48 @@
+"""`confd-client invite`: invites reviewers from outside the committee."""
+
+from __future__ import annotations
+
+from pathlib import Path
+
+import click
+
+from confd_client.cli.app import App, Command, Partly, pass_app
+from confd_client.credentials import NAME
+from confd_client.errors import AlreadyInvited, Refusal
+from confd_client.tables import read_table
+
+
+@click.command(cls=Command)
+@click.argument("file", type=click.Path(path_type=Path))
+@pass_app
+def command(app: App, file: Path) -> None:
+    """Invites those who aren't on the committee to papers, from FILE, which has the columns paper and user.
+
+    Who is invited reads the paper, and may be assigned to it as members are. Who is invited already stays so, and one
+    that is refused keeps no other from it. For chairs.
+
+    \b
+    Example:
+      confd-client invite externals.csv
+    """
+    wanted: list[tuple[int, int, str]] = []
+    for line in read_table(file, ("paper", "user")):
+        if not NAME.fullmatch(line["user"]):
+            raise line.wrong(f"user: {line['user']!r} is no name of a user")
+        wanted.append((line.number, line.whole("paper", 1, 9999), line["user"]))
+    invited = 0
+    refused: list[dict[str, object]] = []
+    for number, paper, user in app.track(wanted, "Inviting"):
+        try:
+            app.client.invite(paper, user)
+            invited += 1
+        except AlreadyInvited:
+            pass
+        except Refusal as error:
+            refused.append({"line": number, "paper": paper, "user": user, "error": error.name})
+    unchanged = len(wanted) - invited - len(refused)
+    app.emit({"invited": invited, "unchanged": unchanged, "refused": refused},
+             f"{invited} invited, {unchanged} were invited already")
+    if refused:
+        raise Partly(f"{len(refused)} of {len(wanted)} were refused: " + "; ".join(
+            f"{file}, line {each['line']}: {each['error']}" for each in refused))
