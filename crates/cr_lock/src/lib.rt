@@ -50,8 +50,9 @@
 //!
 //! # Not claimed
 //!
-//! A turn that waits looks at the gate for a moment and then sleeps, and whoever opens the gate wakes a sleeper:
-//! that is the word of the `Mutex`. Turns are taken in no order; a pass that slept twice asks the `Mutex` to be let
+//! A turn that waits looks at the gate again and again, and lets other threads run in between; where it stays shut for
+//! longer than they take it sleeps, and whoever opens the gate wakes a sleeper: that is the word of the `Mutex`. Turns
+//! are taken in no order; a pass that slept twice asks the `Mutex` to be let
 //! in ahead of those that come, which makes it rare that it waits long. No clause says any of this, nor that a turn
 //! is ever served: [`HistoryLock::turn`] promises what it promises if it returns. An act that never returns, or
 //! that waits for another turn of the same lock, stops all.

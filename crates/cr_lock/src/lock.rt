@@ -18,7 +18,7 @@ use atomic_table::{Refused, Seat, Shared, Table};
 use std::alloc::{AllocError, AllocFailed, Global};
 use std::marker::Model;
 use std::snapshot::Snapshot;
-use std::sync::{Mutex, Wait};
+use std::sync::{Mutex, MutexGuard, Wait};
 use std::thread;
 
 /// The word with the next ticket to be drawn.
@@ -35,6 +35,9 @@ const VALUE: usize = 0;
 
 /// The share of the first pass, and so of all passes together.
 const WHOLE: u64 = 64;
+
+/// How often a pass that finds the gate shut lets other threads run, before it sleeps there.
+const LOOKS: u32 = 64;
 
 /// The words and the slot, as the passes step on them.
 type Board<T> = Shared<
@@ -155,6 +158,18 @@ impl<T: Stands> HistoryLock<T> {
         pass.turns
     }
 
+    /// Waits until the gate is open, and shuts it. While it finds it shut it lets other threads run, whoever shut it
+    /// among them, and sleeps only where it is shut for longer: to wake a sleeper costs more than most turns.
+    fn pass_gate<R: Wait>(&self, rt: &R) -> MutexGuard<'_, ()> {
+        for _ in 0..LOOKS {
+            if let Some(gate) = self.gate.try_lock() {
+                return gate;
+            }
+            thread::yield_now();
+        }
+        self.gate.lock(rt)
+    }
+
     /// Waits until it is this pass's turn, calls the act on the value, and gives what the act answers.
     ///
     /// The act is lent a value `x` that stands for a history which begins with what the pass had seen, and leaves a
@@ -167,8 +182,9 @@ impl<T: Stands> HistoryLock<T> {
     ///
     /// A pass makes fewer than 2^40 turns, so all passes together draw fewer tickets than a word can count.
     ///
-    /// A turn that nobody else waits for costs six atomic steps, two of them the gate's, and no system call. Where
-    /// others sleep at the gate, it wakes one of them at its end.
+    /// A turn that nobody else waits for costs six atomic steps, two of them the gate's, and no system call. One that
+    /// finds the gate shut gives its processor up, 64 times at most before it sleeps there. Where others sleep, it wakes
+    /// one of them at its end.
     pub fn turn<A, F: FnOnce(&mut T) -> A, R: Wait>(&self, rt: &R, pass: &mut Pass<T>, act: F) -> A
         requires own { pass.old.lock ≡ self.now.lock }
         requires few { pass.old.turns < 2 ^ 40 }
@@ -189,7 +205,7 @@ impl<T: Stands> HistoryLock<T> {
             share: _,
             turns,
         } = pass;
-        let gate = self.gate.lock(rt);
+        let gate = self.pass_gate(rt);
         let mut value = wait_and_take(rt, shared, seat);
         let before = value.entries();
         let answer = act(&mut value);
