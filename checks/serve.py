@@ -380,22 +380,6 @@ def many_at_once(program, folder):
             expect(silent.ask(request("GET", "/phase"))[0] == 200, "the silent client's first request")
 
 
-def idle_clients(program, folder):
-    """Two clients that keep their connections and ask nothing hold two workers for five seconds, and no longer."""
-    with serving(program, os.path.join(folder, "store"), workers=2) as server, contextlib.ExitStack() as held:
-        clients = [held.enter_context(Client(server)) for _ in range(2)]
-        for client in clients:
-            expect(client.ask(request("GET", "/phase"))[0] == 200, "a client's first request")
-        time.sleep(IDLE - 2)
-        for client in clients:
-            expect(client.ask(request("GET", "/phase"))[0] == 200, "a request three seconds behind an answer")
-        begun = time.monotonic()
-        expect(ask_once(server, request("GET", "/phase"))[0] == 200, "the third client")
-        waited = time.monotonic() - begun
-        expect(IDLE - 1 < waited < IDLE + 3, f"the third client waited {waited:.1f} s")
-        expect(all(client.is_ended() for client in clients), "an idle client's connection goes on")
-
-
 def stopped(program, folder):
     """Stopped and continued while it waits: for a request, for its rest, to write and for a connection. All goes on."""
     store = os.path.join(folder, "store")
@@ -670,7 +654,7 @@ def timeouts(program, folder):
 
 
 CHECKS = [
-    one_client, library, dates, closing, drips, too_large, last_request, contents, many_at_once, idle_clients, stopped,
+    one_client, library, dates, closing, drips, too_large, last_request, contents, many_at_once, stopped,
     ends_by_itself, few_descriptors, refused_addresses, refused_words, held, killed,
 ]  # fmt: skip
 

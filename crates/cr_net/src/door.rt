@@ -2,14 +2,16 @@
 ghost use Rattle.std.specs.Prelude.{◌≡◌, ℕ, None};
 ghost use Rattle.cr_net.specs.Doors.{new_door};
 
+use crate::crowd::Crowd;
 use crate::reason::Reason;
-use crate::stream::{TcpSink, TcpSource, ends_of};
+use crate::shared::SharedStream;
+use crate::stream::{Ends, TcpSink, TcpSource, ends_of};
 use crate::time::{AGAIN, is_broken_off};
 use cr_ports::{Door, NextConnection, SystemClock};
 use std::alloc::Global;
 use std::io::{self, ErrorKind};
 use std::marker::Model;
-use std::net::{TcpListener, TcpStream};
+use std::net::TcpStream;
 use std::sync::Arc;
 use std::thread;
 use std::time::Duration;
@@ -27,7 +29,11 @@ const PAUSE: u64 = 100;
 pub struct TcpDoor {
     rt: HostRuntime,
     alloc: Global,
-    listener: Arc<TcpListener, Global>,
+    crowd: Arc<Crowd, Global>,
+    // Its number among the doors of the listener, from 0.
+    number: usize,
+    // Whether it is counted among those that wait for a connection.
+    waits: bool,
     left: u32,
     is_out: bool,
     faults: u64,
@@ -43,11 +49,12 @@ impl Model for TcpDoor {
 }
 
 impl TcpDoor {
-    /// A door that gives `left` connections.
+    /// The door of this number, which gives `left` connections.
     pub(crate) fn new(
         rt: &HostRuntime,
         alloc: Global,
-        listener: Arc<TcpListener, Global>,
+        crowd: Arc<Crowd, Global>,
+        number: usize,
         left: u32,
     ) -> TcpDoor
         ensures { result ≡ new_door left }
@@ -55,7 +62,9 @@ impl TcpDoor {
         TcpDoor {
             rt: *rt,
             alloc,
-            listener,
+            crowd,
+            number,
+            waits: false,
             left,
             is_out: false,
             faults: 0,
@@ -77,7 +86,7 @@ impl TcpDoor {
 
     /// Waits for one connection.
     fn accept_once(&self) -> io::Result<TcpStream> {
-        let (stream, _) = self.listener.accept()?;
+        let (stream, _) = self.crowd.listener.accept()?;
         Ok(stream)
     }
 
@@ -93,13 +102,13 @@ impl TcpDoor {
     }
 
     /// Takes one connection, as its two ends.
-    fn take(&self) -> io::Result<(TcpSource, TcpSink)> {
+    fn take(&self) -> io::Result<Ends> {
         let stream = self.accept()?;
-        ends_of(&self.rt, self.alloc, stream)
+        ends_of(&self.rt, self.alloc, stream, self.crowd.opened)
     }
 
     /// The same, tried again for a minute where it fails.
-    fn take_patiently(&self) -> Result<(TcpSource, TcpSink), ErrorKind> {
+    fn take_patiently(&self) -> Result<Ends, ErrorKind> {
         let mut last = ErrorKind::Other;
         for _ in 0..TRIES {
             match self.take() {
@@ -109,6 +118,37 @@ impl TcpDoor {
             thread::sleep(&self.rt, Duration::from_millis(PAUSE));
         }
         Err(last)
+    }
+
+    /// It is counted among the doors that wait, unless it has none to give.
+    fn begin_wait(&mut self)
+        ensures { self.new ≡ self.old }
+    {
+        if !self.waits && self.left > 0 {
+            self.waits = true;
+            self.crowd.begin_wait();
+        }
+    }
+
+    /// It is counted no more.
+    fn end_wait(&mut self)
+        ensures { self.new ≡ self.old }
+    {
+        if self.waits {
+            self.waits = false;
+            self.crowd.end_wait();
+        }
+    }
+
+    /// A connection was taken. It may give way to another, as long as this door can take one more.
+    fn note(&mut self, shared: Arc<SharedStream, Global>)
+        ensures { self.new ≡ self.old }
+    {
+        if self.left > 0 {
+            self.crowd.seat(self.number, Some(shared));
+        }
+        self.crowd.took();
+        self.end_wait();
     }
 }
 
@@ -133,13 +173,22 @@ impl Door for TcpDoor {
         if self.left == 0 {
             return NextConnection::Done;
         }
+        self.begin_wait();
         match self.take_patiently() {
-            Ok((source, sink)) => {
+            Ok(
+                Ends {
+                    source,
+                    sink,
+                    shared,
+                },
+            ) => {
                 self.left -= 1;
                 self.is_out = true;
+                self.note(shared);
                 NextConnection::Conn(source, sink, SystemClock::new(self.rt))
             }
             Err(kind) => {
+                self.end_wait();
                 self.faults = self.faults.saturating_add(1);
                 self.reason = Some(Reason::Taking(kind));
                 NextConnection::Failed
@@ -150,6 +199,8 @@ impl Door for TcpDoor {
     /// The client still sees the last answer, for which this takes a second at most.
     fn give_back(&mut self, source: TcpSource, _sink: TcpSink, _clock: SystemClock<HostRuntime>) {
         source.end();
+        self.crowd.seat(self.number, None);
+        self.begin_wait();
         self.is_out = false;
     }
 }

@@ -5,7 +5,9 @@ ghost use Rattle.cr_ports.specs.Doors.{shares};
 ghost use Rattle.cr_ports.specs.Opening.{FaultsAfterOpen};
 ghost use Rattle.cr_net.specs.Doors.{new_door};
 
+use crate::crowd::Crowd;
 use crate::door::TcpDoor;
+use crate::reaper::Reaper;
 use crate::reason::Reason;
 use cr_ports::{Gates, Opened, share};
 use std::alloc::{AllocError, Global};
@@ -13,18 +15,23 @@ use std::io::ErrorKind;
 use std::marker::Model;
 use std::net::{TcpListener, ToSocketAddrs};
 use std::sync::Arc;
+use std::thread::Threads;
+use std::time::Instant;
 
 /// Listens at loopback addresses alone, since secrets travel in the clear.
 ///
 /// Contracts see the count of faults.
 #[derive(Drop)]
-pub struct TcpGates {
+pub struct TcpGates<R> {
     rt: HostRuntime,
+    handle: R,
+    // What looks who waits, from an opening on until the doors are shut.
+    reaper: Option<Reaper>,
     faults: u64,
     reason: Option<Reason>,
 }
 
-impl Model for TcpGates {
+impl<R> Model for TcpGates<R> {
     ghost use Rattle.std.specs.Prelude.{ℕ};
 
     ghost Value = { ℕ };
@@ -32,13 +39,15 @@ impl Model for TcpGates {
     ghost view = { λ g. g.faults };
 }
 
-impl TcpGates {
-    /// Gates with no fault counted. They listen nowhere yet.
-    pub fn new(rt: &HostRuntime) -> TcpGates
+impl<R> TcpGates<R> {
+    /// Gates with no fault counted. They listen nowhere yet. `handle` is the same runtime, as one that may start threads.
+    pub fn new(rt: &HostRuntime, handle: R) -> TcpGates<R>
         ensures { result ≡ 0 }
     {
         TcpGates {
             rt: *rt,
+            handle,
+            reaper: None,
             faults: 0,
             reason: None,
         }
@@ -66,12 +75,14 @@ impl TcpGates {
         self.faults = self.faults.saturating_add(door.faults());
         self.reason = door.reason().or(self.reason);
     }
+}
 
+impl<R: Threads> TcpGates<R> {
     /// One door for each worker, all of which take connections of one listener.
     fn doors(
         &self,
         alloc: Global,
-        listener: &Arc<TcpListener, Global>,
+        crowd: &Arc<Crowd, Global>,
         workers: u32,
         connections: u32,
     ) -> Result<Vec<TcpDoor>, AllocError>
@@ -80,12 +91,41 @@ impl TcpGates {
     {
         let mut doors = Vec::with_capacity(alloc, workers as usize)?;
         'making: for i in 0..workers {
-            let theirs = Arc::try_clone(listener)?;
+            let theirs = Arc::try_clone(crowd)?;
             let left = share(i, workers, connections);
-            doors.push(TcpDoor::new(&self.rt, alloc, theirs, left))?;
+            let door = TcpDoor::new(&self.rt, alloc, theirs, i as usize, left);
+            doors.push(door)?;
         }
         Ok(doors)
     }
+
+    /// Has a thread look who waits, from here on. Whether one could be made.
+    fn watch(&mut self, crowd: &Arc<Crowd, Global>) -> bool
+        ensures { self.new ≡ self.old }
+    {
+        self.unwatch();
+        self.reaper = Reaper::start(&self.rt, &self.handle, crowd);
+        self.reaper.is_some()
+    }
+
+    /// Ends the thread, where there is one.
+    fn unwatch(&mut self)
+        ensures { self.new ≡ self.old }
+    {
+        if let Some(reaper) = self.reaper.take() {
+            reaper.end(&self.handle);
+        }
+    }
+}
+
+/// What so many doors of the listener share.
+fn crowd_of(
+    alloc: Global,
+    listener: TcpListener,
+    opened: Instant,
+    doors: u32,
+) -> Result<Arc<Crowd, Global>, AllocError> {
+    Ok(Arc::new(alloc, Crowd::new(alloc, listener, opened, doors)?)?)
 }
 
 /// Listens at the first of the addresses meant that can be listened at, up to the first that isn't loopback.
@@ -114,7 +154,7 @@ fn tell(rt: &HostRuntime, listener: &TcpListener) {
     }
 }
 
-impl Gates for TcpGates {
+impl<R: Threads> Gates for TcpGates<R> {
     type Door = TcpDoor;
 
     ghost faults = { λ g. g };
@@ -136,13 +176,19 @@ impl Gates for TcpGates {
             Ok(listener) => listener,
             Err(reason) => return self.failed(reason),
         };
-        let Ok(listener) = Arc::new(alloc, listener) else {
+        let Ok(opened) = Instant::now(&self.rt) else {
+            return self.failed(Reason::Watching);
+        };
+        let Ok(crowd) = crowd_of(alloc, listener, opened, workers) else {
             return Opened::OutOfMemory;
         };
-        let Ok(doors) = self.doors(alloc, &listener, workers, connections) else {
+        let Ok(doors) = self.doors(alloc, &crowd, workers, connections) else {
             return Opened::OutOfMemory;
         };
-        tell(&self.rt, &listener);
+        if !self.watch(&crowd) {
+            return self.failed(Reason::Watching);
+        }
+        tell(&self.rt, &crowd.listener);
         Opened::Doors(doors)
     }
 
@@ -155,5 +201,6 @@ impl Gates for TcpGates {
         'shutting: for door in doors.iter() {
             self.note(door);
         }
+        self.unwatch();
     }
 }

@@ -10,6 +10,8 @@ pub enum Reason {
     NotLoopback,
     /// The address is none, or can't be listened at.
     Listening(ErrorKind),
+    /// No thread could be made that looks who waits, or it had no clock.
+    Watching,
     /// No further connection could be taken for a minute.
     Taking(ErrorKind),
 }
@@ -21,6 +23,7 @@ impl fmt::Display for Reason {
                 "not a loopback address, and secrets must not cross a network in the clear",
             ),
             Reason::Listening(kind) => write!(f, "can't listen there: {kind}"),
+            Reason::Watching => f.write_str("no thread could be made that looks who waits there"),
             Reason::Taking(kind) => write!(f, "no connection could be taken for a minute: {kind}"),
         }
     }

@@ -4,6 +4,7 @@ ghost use Rattle.std.specs.Io.{ReadsAtMost, WritesAtMost};
 ghost use Rattle.cr_ports.specs.Count.{Rises};
 ghost use Rattle.cr_net.specs.Steps.{read_step, write_step};
 
+use crate::shared::SharedStream;
 use crate::time::{AGAIN, Span, is_broken_off};
 use cr_ports::{ReadStep, Sink, Source, WriteStep};
 use std::alloc::Global;
@@ -11,47 +12,61 @@ use std::io::{self, ErrorKind, Read, Write};
 use std::marker::Model;
 use std::net::{Shutdown, TcpStream};
 use std::sync::Arc;
-use std::sync::atomic::{AtomicBool, Ordering};
-use std::time::Duration;
+use std::time::{Duration, Instant};
 
-/// The seconds for a request to come whole, and for an answer to go.
-const LIMIT: u64 = 60;
+/// The milliseconds for a request to come whole, and for an answer to go.
+const LIMIT: u64 = 60_000;
 
-/// The seconds for a byte to come behind an answer.
-const IDLE: u64 = 5;
+/// The milliseconds for a byte to come behind an answer.
+const IDLE: u64 = 5_000;
 
-/// The seconds for the client to see the last answer.
-const ENDING: u64 = 1;
+/// The milliseconds for the client to see the last answer.
+const ENDING: u64 = 1_000;
 
-/// How many bytes are dropped in that time at most.
+/// The milliseconds after which a connection gives way to one that waits, where no byte came yet.
+const SILENT: u64 = 1_000;
+
+/// The same, where none came since the last answer.
+const BETWEEN: u64 = 100;
+
+/// The same, from when a request isn't whole with what came first of it.
+const WITHIN: u64 = 10_000;
+
+/// How many bytes are dropped at most behind the last answer.
 const MOST_DROPPED: usize = 8_388_608;
 
 /// How many of them at a time.
 const PIECE: usize = 16_384;
 
-/// What the two ends of a connection share.
+/// Both ends of a connection, and what they share.
 #[derive(Drop)]
-pub(crate) struct SharedStream {
-    stream: TcpStream,
-    // Whether a piece went out whole since the last read, and so an answer did: nobody reads in the midst of one.
-    answered: AtomicBool,
+pub(crate) struct Ends {
+    pub(crate) source: TcpSource,
+    pub(crate) sink: TcpSink,
+    pub(crate) shared: Arc<SharedStream, Global>,
 }
 
-/// The two ends of a stream that was opened just now. An error for lack of memory, or where the stream is gone; then
-/// it is closed.
+/// The two ends of a stream that was opened just now, at gates that were opened then. An error for lack of memory, or
+/// where the stream is gone; then it is closed.
 pub(crate) fn ends_of(
     rt: &HostRuntime,
     alloc: Global,
     stream: TcpStream,
-) -> io::Result<(TcpSource, TcpSink)> {
+    opened: Instant,
+) -> io::Result<Ends> {
     stream.set_nodelay(true)?;
-    let answered = AtomicBool::new(false);
-    let ours = Arc::new(alloc, SharedStream { stream, answered })?;
-    let theirs = Arc::try_clone(&ours)?;
-    Ok((TcpSource::new(rt, ours), TcpSink::new(rt, theirs)))
+    let shared = Arc::new(alloc, SharedStream::new(stream, opened))?;
+    let ours = Arc::try_clone(&shared)?;
+    let theirs = Arc::try_clone(&shared)?;
+    Ok(Ends {
+        source: TcpSource::new(rt, ours),
+        sink: TcpSink::new(rt, theirs),
+        shared,
+    })
 }
 
-/// What one end works with: what the two share, the time for what it is at, and its faults.
+/// What one end works with: what the two share, the time for what it is at, for how long a wait goes on where others
+/// wait for a connection, and its faults.
 ///
 /// Contracts see the count of faults.
 #[derive(Drop)]
@@ -59,6 +74,8 @@ struct Half {
     rt: HostRuntime,
     shared: Arc<SharedStream, Global>,
     time: Span,
+    // Nothing where it doesn't give way.
+    patience: Option<Span>,
     // The seconds that the socket was last told to wait at most at this end; 0 before.
     told: u64,
     faults: u64,
@@ -74,25 +91,25 @@ impl Model for Half {
 
 impl Half {
     /// An end whose time has not begun, with no fault counted.
-    fn new(rt: &HostRuntime, shared: Arc<SharedStream, Global>) -> Half
+    fn new(rt: &HostRuntime, shared: Arc<SharedStream, Global>, patience: Option<Span>) -> Half
         ensures { result ≡ 0 }
     {
         Half {
             rt: *rt,
             shared,
             time: Span::new(LIMIT),
+            patience,
             told: 0,
             faults: 0,
         }
     }
 
     /// How long the socket is to be told to wait at most: what is left of the time, which begins here where it
-    /// hasn't. Nothing where it was told that last, which spares a system call. An error past the time's end, or
-    /// where the clock can't be read.
-    fn to_tell(&mut self) -> io::Result<Option<Duration>>
+    /// hasn't. Nothing where it was told that last, which spares a system call. An error past the time's end.
+    fn to_tell(&mut self, now: Instant) -> io::Result<Option<Duration>>
         ensures { self.new ≡ self.old }
     {
-        let left = self.time.left(&self.rt)?;
+        let left = self.time.left(now);
         if left == 0 {
             return Err(ErrorKind::TimedOut.into());
         }
@@ -103,16 +120,30 @@ impl Half {
         Ok(Some(Duration::from_secs(left)))
     }
 
+    /// Notes from when on the wait that begins now gives way, if it does.
+    fn begin_wait(&mut self, now: Instant)
+        ensures { self.new ≡ self.old }
+    {
+        if let Some(patience) = &mut self.patience {
+            self.shared
+                .begin_wait(patience.end(self.shared.opened, now));
+        }
+    }
+
     /// One read, for which there is no more time than is left.
     fn read_once(&mut self, buf: &mut [u8]) -> io::Result<usize>
         ensures size { ReadsAtMost result buf.new }
         ensures length { length buf.new ≡ length buf.old }
         ensures same { self.new ≡ self.old }
     {
-        if let Some(most) = self.to_tell()? {
+        let now = Instant::now(&self.rt)?;
+        if let Some(most) = self.to_tell(now)? {
             self.shared.stream.set_read_timeout(Some(most))?;
         }
-        (&self.shared.stream).read(buf)
+        self.begin_wait(now);
+        let got = (&self.shared.stream).read(buf);
+        self.shared.end_wait();
+        got
     }
 
     /// The same, again where a signal broke it off.
@@ -135,7 +166,8 @@ impl Half {
         ensures size { WritesAtMost result piece.now }
         ensures same { self.new ≡ self.old }
     {
-        if let Some(most) = self.to_tell()? {
+        let now = Instant::now(&self.rt)?;
+        if let Some(most) = self.to_tell(now)? {
             self.shared.stream.set_write_timeout(Some(most))?;
         }
         (&self.shared.stream).write(piece)
@@ -192,10 +224,16 @@ fn write_step(took: &io::Result<usize>, len: usize) -> WriteStep
 /// connection and asks nothing holds its worker for 5 seconds. A connection's first request has the 60. A span may
 /// take some seconds more than is said.
 ///
+/// Where no door is free and another connection waits, a read that waits may be told the end of the stream: once no
+/// byte came for a second since the connection was taken, or for a tenth of one since the last answer, or where a
+/// request isn't whole ten seconds after the read that began it. What came before is read first.
+///
 /// Contracts see the count of faults.
 #[derive(Drop)]
 pub struct TcpSource {
     half: Half,
+    // Whether a byte came since the last answer.
+    has_begun: bool,
     is_ended: bool,
 }
 
@@ -210,7 +248,8 @@ impl Model for TcpSource {
 impl TcpSource {
     fn new(rt: &HostRuntime, shared: Arc<SharedStream, Global>) -> TcpSource {
         TcpSource {
-            half: Half::new(rt, shared),
+            half: Half::new(rt, shared, Some(Span::new(SILENT))),
+            has_begun: false,
             is_ended: false,
         }
     }
@@ -221,12 +260,18 @@ impl TcpSource {
         ensures length { length buf.new ≡ length buf.old }
         ensures same { self.new ≡ self.old }
     {
-        if self.half.shared.answered.swap(false, Ordering::SeqCst) {
+        if self.half.shared.take_answer() {
             self.half.time = Span::new(IDLE);
+            self.half.patience = Some(Span::new(BETWEEN));
+            self.has_begun = false;
         }
         let got = self.half.read_on(buf)?;
         // A byte has come, so from here on it is a request's time.
         self.half.time.lasts(LIMIT);
+        if !self.has_begun {
+            self.has_begun = true;
+            self.half.patience = Some(Span::new(WITHIN));
+        }
         Ok(got)
     }
 
@@ -237,6 +282,7 @@ impl TcpSource {
             return;
         }
         self.half.time = Span::new(ENDING);
+        self.half.patience = None;
         let mut piece = [0; PIECE];
         let mut dropped = 0;
         'dropping: while dropped < MOST_DROPPED {
@@ -287,7 +333,7 @@ impl Model for TcpSink {
 impl TcpSink {
     fn new(rt: &HostRuntime, shared: Arc<SharedStream, Global>) -> TcpSink {
         TcpSink {
-            half: Half::new(rt, shared),
+            half: Half::new(rt, shared, None),
         }
     }
 }
@@ -302,7 +348,7 @@ impl Sink for TcpSink {
         let step = write_step(&self.half.write_on(piece), piece.len());
         match step {
             WriteStep::Took(n) if n == piece.len() => {
-                self.half.shared.answered.store(true, Ordering::SeqCst);
+                self.half.shared.note_answer();
             }
             WriteStep::Took(_) => {}
             WriteStep::Failed => self.half.failed(),

@@ -14,7 +14,7 @@ pub(crate) fn is_broken_off<T>(answer: &io::Result<T>) -> bool {
     }
 }
 
-/// A span of time, which begins when it is first asked for what is left.
+/// A span of time, which begins when it is first asked for what is left, or for its end.
 #[derive(Clone, Copy)]
 pub(crate) struct Span {
     limit: Duration,
@@ -22,10 +22,10 @@ pub(crate) struct Span {
 }
 
 impl Span {
-    /// A span of so many seconds, not begun.
-    pub(crate) fn new(seconds: u64) -> Span {
+    /// A span of so many milliseconds, not begun.
+    pub(crate) fn new(millis: u64) -> Span {
         Span {
-            limit: Duration::from_secs(seconds),
+            limit: Duration::from_millis(millis),
             start: None,
         }
     }
@@ -35,18 +35,28 @@ impl Span {
         self.start = None;
     }
 
-    /// So many seconds from its begin on, which stays.
-    pub(crate) fn lasts(&mut self, seconds: u64) {
-        self.limit = Duration::from_secs(seconds);
+    /// So many milliseconds from its begin on, which stays.
+    pub(crate) fn lasts(&mut self, millis: u64) {
+        self.limit = Duration::from_millis(millis);
     }
 
-    /// The seconds that are left of it, a part of one counted whole, 0 past its end. An error only where the clock
-    /// can't be read.
-    pub(crate) fn left(&mut self, rt: &HostRuntime) -> io::Result<u64> {
-        let now = Instant::now(rt)?;
+    /// When it began: now, where it hadn't.
+    fn start(&mut self, now: Instant) -> Instant {
         let start = self.start.unwrap_or(now);
         self.start = Some(start);
-        Ok(whole_seconds(self.limit.saturating_sub(now.duration_since(start))))
+        start
+    }
+
+    /// The seconds that are left of it now, a part of one counted whole, 0 past its end.
+    pub(crate) fn left(&mut self, now: Instant) -> u64 {
+        let start = self.start(now);
+        whole_seconds(self.limit.saturating_sub(now.duration_since(start)))
+    }
+
+    /// How long after that moment it ends.
+    pub(crate) fn end(&mut self, since: Instant, now: Instant) -> Duration {
+        let start = self.start(now);
+        self.limit.saturating_add(start.duration_since(since))
     }
 }
 

@@ -9,7 +9,7 @@ ghost use Rattle.std.specs.Prelude.{◌≡◌};
 ghost use Rattle.std.specs.Process as ended;
 ghost use Rattle.cr_top.specs.Exits.{exit_status};
 
-use cr_net::TcpGates;
+use cr_net::{Reason, TcpGates};
 use cr_ports::{ReadSource, SystemClock, WriteSink};
 use cr_stores::FileShelf;
 use cr_top::{Exit, run_top};
@@ -52,7 +52,7 @@ fn tell(
     words: &[String],
     exit: Exit,
     shelf: &FileShelf,
-    gates: &TcpGates,
+    closed: Option<Reason>,
 ) -> io::Result<()> {
     let Named { store, address } = names_in(rt.alloc(), words);
     match exit {
@@ -70,7 +70,7 @@ fn tell(
             Some(reason) => eprintln!(rt; "confd: {store}: {reason}"),
             None => eprintln!(rt; "confd: {store}: the store could not be read"),
         },
-        Exit::ListenFault => match gates.reason() {
+        Exit::ListenFault => match closed {
             Some(reason) => eprintln!(rt; "confd: {address}: {reason}"),
             None => eprintln!(rt; "confd: {address}: no connections could be taken"),
         },
@@ -93,10 +93,10 @@ pub fn run<R: Threads + Wait + Sync>(rt: &HostRuntime, handle: &R) -> ExitCode {
     let mut input = ReadSource::new(rt.stdin());
     let mut out = WriteSink::new(rt.stdout());
     let mut shelf = FileShelf::new(rt);
-    let mut gates = TcpGates::new(rt);
+    let mut gates = TcpGates::new(rt, handle);
     let mut clock = SystemClock::new(*rt);
     let Ok(words) = words(rt) else {
-        let _ = tell(rt, &[], Exit::OutOfMemory, &shelf, &gates);
+        let _ = tell(rt, &[], Exit::OutOfMemory, &shelf, None);
         return status_of(Exit::OutOfMemory);
     };
     let exit = run_top(
@@ -110,6 +110,6 @@ pub fn run<R: Threads + Wait + Sync>(rt: &HostRuntime, handle: &R) -> ExitCode {
         &mut clock,
     );
     // The status says the same, so a line that can't be written is left out.
-    let _ = tell(rt, words.as_slice(), exit, &shelf, &gates);
+    let _ = tell(rt, words.as_slice(), exit, &shelf, gates.reason());
     status_of(exit)
 }

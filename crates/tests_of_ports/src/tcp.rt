@@ -4,9 +4,10 @@ use cr_net::{Reason, TcpGates};
 use cr_ports::{Gates, Opened};
 use std::alloc::Global;
 use std::test::Fail;
+use std::thread::Threads;
 
 /// How many doors were opened at this address; they are shut again.
-fn doors_at(alloc: Global, gates: &mut TcpGates, addr: &str) -> usize {
+fn doors_at<R: Threads>(alloc: Global, gates: &mut TcpGates<R>, addr: &str) -> usize {
     match gates.open(alloc, addr, 2, 3) {
         Opened::Doors(doors) => {
             let count = doors.len();
@@ -19,7 +20,7 @@ fn doors_at(alloc: Global, gates: &mut TcpGates, addr: &str) -> usize {
 
 #[test]
 fn loopback_alone(rt: HostRuntime) -> Result<(), Fail> {
-    let mut gates = TcpGates::new(&rt);
+    let mut gates = TcpGates::new(&rt, &rt);
     let opened = doors_at(rt.alloc(), &mut gates, "127.0.0.1:0");
     let reason = gates.reason();
     let refused = doors_at(rt.alloc(), &mut gates, "192.0.2.1:0");

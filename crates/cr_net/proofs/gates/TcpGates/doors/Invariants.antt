@@ -4,4 +4,4 @@ use Rattle.cr_net.specs.Doors.{new_door}
 use Rattle.cr_net.proofs.gates.TcpGates.doors.Given as goal
 
 abbrev pub invariant-making : goal.invariant-making
-invariant-making l = l.doors.items ≡ map new_door (shares_below l.i l.workers l.connections)
+invariant-making g l = l.doors.items ≡ map new_door (shares_below l.i l.workers l.connections)

@@ -4,4 +4,4 @@ use Rattle.cr_net.specs.Doors.{DoorSeen}
 use Rattle.cr_net.proofs.gates.TcpGatesGates.shut.Given as goal
 
 abbrev pub invariant-shutting : goal.invariant-shutting
-invariant-shutting l = Gains l.fn.self (sum_by (λ (d : DoorSeen). d.faults) (take l.door-index l.door-items)) l.self
+invariant-shutting g l = Gains l.fn.self (sum_by (λ (d : DoorSeen). d.faults) (take l.door-index l.door-items)) l.self
