@@ -18,7 +18,7 @@ use Rattle.cr_base.specs.History.{History, all_told, role_told, author_told, con
 use Rattle.cr_base.specs.History.{decision_told}
 use Rattle.cr_base.specs.HistoryFacts.{phase_of, role_of, is_author, is_conflicted, is_invited}
 use Rattle.cr_base.specs.HistoryFacts.{is_withdrawn, decision_of}
-use Rattle.cr_base.specs.Lists.{given, is_number, last}
+use Rattle.cr_base.specs.Lists.{is_number, last}
 use Rattle.cr_base.specs.Phases.{is_phase, is_from, committee_works, papers_may_be_accepted}
 use Rattle.cr_base.specs.Words.{is_member, is_chair, is_accept}
 use Rattle.cr_history.specs.Invariants.{IsInOrder, IsByChair, IsByRight, IsInPhase, IsOfMember, IsSeated, is_of_paper}
@@ -32,31 +32,14 @@ use Rattle.cr_permissions.proofs.SentenceLaws.{begun-same}
 use Rattle.cr_undeduced.specs.HowOneCame.{Came, NamedTo, CameToCommittee, MembersCame, MadeAuthor, AuthorsCame}
 use Rattle.cr_undeduced.specs.HowOneCame.{MadeReviewer, ReviewersCame, MadeExternal, ExternalsCame, MadeConflicted}
 use Rattle.cr_undeduced.specs.HowOneCame.{ConflictsCame, MadeAccepted, AcceptedCame}
-use Rattle.cr_undeduced.proofs.Splits.{LastTold, last-told, OneTold, one-told, in-turn}
+use Rattle.cr_undeduced.proofs.Splits.{LastTold, last-told, OneTold, one-told, in-turn, given-some, given-any}
+use Rattle.cr_undeduced.proofs.Splits.{told-else}
 
 -- each entry of a legal history is in order on those before it
 in_order : (H before : History) (e : Stamped) (after : History) → Legal H → H ≡ before ++ e ∷ after → IsInOrder before e
 in_order H before e after legal there = in-turn IsInOrder H before e after there (legal_invariants H legal).in_order
 
--- ---- what is given where a test holds
-
-given-some : {A : Type 0} (b : Bool) (x y : A) → last (given b x) ≡ Some y → (b ≡ true) × (x ≡ y)
-given-some true x y is = (refl, cc)
-given-some false x y is = cc
-
-given-any : {A : Type 0} (test : A → Bool) (b : Bool) (x : A) → list_any test (given b x) ≡ true
-    → (b ≡ true) × (test x ≡ true)
-given-any test true x is = (refl, by (test x) is)
-  where
-    by : (c : Bool) → (c || false) ≡ true → c ≡ true
-    by true h = refl
-    by false h = h
-given-any test false x is = cc
-
--- a value that isn't the one without an entry was told
-told-else : {A : Type 0} (else x : A) (o : Option A) → unwrap_or o else ≡ x → (else ≡ x → ⊥) → o ≡ Some x
-told-else else x None is other = absurd (other is)
-told-else else x (Some y) is other = ap (λ z. Some z) is
+-- ---- who it is
 
 number-is : (u v : ℕ) → is_number (Some u) v ≡ true → v ≡ u
 number-is u v is = sym (eqb-true u v is)

@@ -154,10 +154,12 @@ module _ (u : Option ℕ) (T : History) (at : Around) (stamp : Stamp) (more : Bo
             keeps e part.score score_for known.score form.score x.form.score within knows.score
             (λ told. score-one u T at stamp more e within) i;
         confidence =
-            keeps e part.confidence confidence_for known.confidence form.confidence x.form.confidence within knows.confidence
+            keeps e part.confidence confidence_for known.confidence form.confidence x.form.confidence within
+            knows.confidence
             (λ told. confidence-one u T at stamp more e within) i;
         to_authors =
-            keeps e part.to_authors to_authors_for known.to_authors form.to_authors x.form.to_authors within knows.to_authors
+            keeps e part.to_authors to_authors_for known.to_authors form.to_authors x.form.to_authors within
+            knows.to_authors
             (λ told. to_authors-one u T at stamp more e within) i;
         to_pc =
             keeps e part.to_pc to_pc_for known.to_pc form.to_pc x.form.to_pc within knows.to_pc

@@ -20,3 +20,5 @@ pub mod BesidesViews
 pub mod Splits
 pub mod CameLaws
 pub mod CameReaders
+pub mod DeducedNumbers
+pub mod DeducedChair

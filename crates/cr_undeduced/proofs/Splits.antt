@@ -2,11 +2,12 @@
 use Rattle.std.proofs.Common.{Bool, true, false, ◌≡◌, List, [], ◌∷◌, ◌++◌, refl, sym, ap, subst, ◌∙◌, ◌||◌, Option}
 use Rattle.std.proofs.Common.{Some}
 use Rattle.std.proofs.Common.{None, append_assoc, append-nil}
+use Rattle.std.specs.Prelude.{unwrap_or}
 use Rattle.std.specs.List.{flat_map, list_any}
 use Rattle.std.proofs.lemmas.List.Folds.{list_any-append}
 use Rattle.cr_base.specs.declared.entry.Stamped.{Stamped}
 use Rattle.cr_base.specs.History.{History}
-use Rattle.cr_base.specs.Lists.{is_nothing, last, last_from}
+use Rattle.cr_base.specs.Lists.{given, is_nothing, last, last_from}
 use Rattle.cr_history.specs.Invariants.{InTurn}
 
 -- ---- the last that is told
@@ -90,6 +91,26 @@ one-told told test (e ∷ H) is =
           tells = k.tells;
         }
 
+-- ---- what is given where a test holds
+
+pub given-some : {A : Type 0} (b : Bool) (x y : A) → last (given b x) ≡ Some y → (b ≡ true) × (x ≡ y)
+given-some true x y is = (refl, cc)
+given-some false x y is = cc
+
+pub given-any : {A : Type 0} (test : A → Bool) (b : Bool) (x : A) → list_any test (given b x) ≡ true
+    → (b ≡ true) × (test x ≡ true)
+given-any test true x is = (refl, by (test x) is)
+  where
+    by : (c : Bool) → (c || false) ≡ true → c ≡ true
+    by true h = refl
+    by false h = h
+given-any test false x is = cc
+
+-- a value that isn't the one without an entry was told
+pub told-else : {A : Type 0} (else x : A) (o : Option A) → unwrap_or o else ≡ x → (else ≡ x → ⊥) → o ≡ Some x
+told-else else x None is other = absurd (other is)
+told-else else x (Some y) is other = ap (λ z. Some z) is
+
 -- ---- what is so of each entry in its turn
 
 turn-from : (P : History → Stamped → Type 0) (first before : History) (e : Stamped) (after : History)
@@ -102,3 +123,9 @@ turn-from P first (d ∷ before) e after turn =
 pub in-turn : (P : History → Stamped → Type 0) (H before : History) (e : Stamped) (after : History)
     → H ≡ before ++ e ∷ after → InTurn P [] H → P before e
 in-turn P H before e after there turn = turn-from P [] before e after (subst (InTurn P []) there turn)
+
+-- of what stands ahead too
+pub turn-before : (P : History → Stamped → Type 0) (first before later : History) → InTurn P first (before ++ later)
+    → InTurn P first before
+turn-before P first [] later turn = tt
+turn-before P first (e ∷ before) later turn = (turn.0, turn-before P (first ++ e ∷ []) before later turn.1)

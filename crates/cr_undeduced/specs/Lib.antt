@@ -2,3 +2,4 @@ pub mod Payload
 pub mod Undeducible
 pub mod MayHaveBeen
 pub mod HowOneCame
+pub mod Deducible

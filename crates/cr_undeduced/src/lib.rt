@@ -4,6 +4,8 @@
 //! `cr_bounds`. No crate stands on this one. The functions here do nothing: each has a law as its contract.
 #![tactic(auto)]
 
+ghost use Rattle.cr_undeduced.specs.Deducible.{VersionsTell, FormNumbersTell, CommentNumbersTell, LabelsTell};
+ghost use Rattle.cr_undeduced.specs.Deducible.{OneChairActs};
 ghost use Rattle.cr_undeduced.specs.HowOneCame.{MembersCame, AuthorsCame, ReviewersCame, ExternalsCame, ConflictsCame};
 ghost use Rattle.cr_undeduced.specs.HowOneCame.{AcceptedCame, FormReadersCame};
 ghost use Rattle.cr_undeduced.specs.MayHaveBeen.{Inserted, LeftOut, BesidesUnseen};
@@ -59,4 +61,18 @@ pub fn law_how_one_came()
     ensures conflicts { ConflictsCame }
     ensures accepted { AcceptedCame }
     ensures form_readers { FormReadersCame }
+{}
+
+/// What a view tells though no part of it says so, of each legal history. A version's number tells whoever is shown it
+/// that so many contents were uploaded to the paper; a form's, that so many were written under its label; a comment's,
+/// that so many were written on the paper, also whoever wrote it and is no longer shown any other; and a label, that so
+/// many were given, so to a paper's authors that a letter left out among their reviews was given too. Where one user
+/// alone was ever named a chair, which everyone is shown, she made each entry that chairs alone make, though nobody is
+/// shown who made it. That is all that is stated, not all that there is.
+pub fn law_deducible()
+    ensures versions { VersionsTell }
+    ensures form_numbers { FormNumbersTell }
+    ensures comment_numbers { CommentNumbersTell }
+    ensures labels { LabelsTell }
+    ensures one_chair { OneChairActs }
 {}
