@@ -34,12 +34,12 @@ from conference import EVERY_ROUTE, text_of
 from journal_file import EMPTY, Bad, Judged, NoJournal, Row, groups_of, rows_in, rows_of, spelled
 from model_views import view_lines
 from serve import SOON, Client, Server, serving
-from shim import FILES, MOMENT, AT_ONCE, Orders, Shim
+from shim import FILES, MOMENT, AT_ONCE, Orders, Shim, cut_power
 from store import (
     LASTING, PASSING, TAKEN_AGAIN, answers, ask, chosen, ended, expect, line_of, opening, read, register, request,
     run_all, said, submit,
 )  # fmt: skip
-from sync import NAMES, QUESTION, Kind, appends, each, registrations
+from sync import JOURNAL, NAMES, QUESTION, appends, each, registrations
 
 NO_JOURNAL = "the file is no journal"
 BUSY = "another process has the file open"
@@ -67,11 +67,7 @@ def write(path, content):
 # ---- what stands in a file
 
 
-def names_in(path):
-    return [row.b1.decode() for row in rows_in(path) if row.kind == 1]
-
-
-JOURNAL = Kind("store.cj", names_in, FAILED, NO_ROOM)
+names_in = JOURNAL.names
 
 
 def bytes_of(program, folder):
@@ -477,16 +473,89 @@ def syncs(program, folder):
     each(2 * count, fail)
 
 
-def folder_synced(program, folder):
-    """Where the folder of a new journal can't be synced, status 6 and its line, and no byte is written;
-    the next start syncs it."""
-    with tempfile.TemporaryDirectory() as room:
-        due, _ = counted(program, WORDS, b"", "syncs", room)
-    out, status, err, _ = shim.run(program, WORDS, b"", folder, refuse_sync=1, error=errno.EIO)
+def opened_in_vain(program, room, content, **orders):
+    """The journal of these bytes, none where it is missing, isn't opened: status 6 and its line, and it stays."""
+    if content is not None:
+        write(named(room), content)
+    out, status, err, _ = shim.run(program, WORDS, QUESTION, room, **orders)
     expect((out, status, err) == (b"", 6, line_of("store.cj", FAILED)), f"{out[:80]}, status {status}, {err}")
-    expect(read(named(folder)) == b"", "bytes in a journal whose name may not last")
-    count, _ = counted(program, WORDS, b"", "syncs", folder)
-    expect(count == due, f"{count} syncs at the next start, {due} at one that makes the file")
+    expect(read(named(room)) == (content or b""), "other bytes than before")
+
+
+def openings(program, folder):
+    """Where the file or its folder can't be synced, or its pages can't be let go, at any start: status 6 and its line,
+    and the file stays; the next start tries anew."""
+    program.pipe(named(folder), opening())
+    content = read(named(folder))
+    for there in (None, b"", content):
+        for orders in ({"refuse_sync": 1}, {"refuse_sync": 2}, {"refuse_advice": 1}):
+            with tempfile.TemporaryDirectory() as room:
+                opened_in_vain(program, room, there, error=errno.EIO, **orders)
+                count, _ = counted(program, WORDS, QUESTION, "syncs", room)
+                expect(count == 3, f"{there}: {count} syncs at the next start")
+                expect(counted(program, WORDS, QUESTION, "advices", room)[0] == 1, "advice")
+
+
+def put_there(program, folder):
+    """A journal that was just put at its name, of which the disk has nothing yet, is opened and given a command, and
+    the power is cut: all of it is there."""
+    program.pipe(named(folder), opening())
+    content = read(named(folder))
+    with tempfile.TemporaryDirectory() as room:
+        media = os.path.join(room, "media")
+        os.mkdir(media)
+        write(named(room), content)
+        out, status, err, _ = shim.run(program, WORDS, register("bob"), room, media)
+        expect((status, [code for code, _ in answers(out)]) == (0, [201]), f"status {status}, {err}")
+        cut_power(room, media)
+        expect(os.path.exists(named(room)), "the file is gone")
+        expect(names_in(named(room)) == ["alice", "bob"], f"{names_in(named(room))}")
+
+
+LEFT = "; a part of a new journal is left: remove the file ahead of the next start"
+
+
+def not_made(program, room, reason, **orders):
+    """A journal can't be made: status 6 and its line, and no byte stays, or, where the cut is refused too, the line says
+    what to do."""
+    path, is_left = named(room), "refuse_truncate" in orders
+    out, status, err, _ = shim.run(program, WORDS, QUESTION, room, **orders)
+    due = line_of("store.cj", reason + LEFT if is_left else reason)
+    expect((out, status, err) == (b"", 6, due), f"{orders}: {out[:80]}, status {status}, {err}, due {due}")
+    if is_left:
+        os.remove(path)
+    else:
+        expect(read(path) == b"", f"{orders}: {read(path)} stays")
+    expect(program.pipe(path, b"") == ([], 0) and read(path) == EMPTY, f"{orders}: made at the next start: {read(path)}")
+
+
+def half_made(program, folder):
+    """A journal that is made: the write is refused, cut short, or made all the same; the sync is refused; and the cut to
+    nothing too. No byte of it stays, or the line says what to do; the next start makes it."""
+    no_room, failed = {"error": errno.ENOSPC, "scope": FILES}, {"error": errno.EIO}
+    tried = [(NO_ROOM, {"refuse_write": 1, **no_room}), (NO_ROOM, {"refuse_write": 1, "made": 1, **no_room})]
+    tried += [(NO_ROOM, {"refuse_write": 2, "most_write": size, **no_room}) for size in range(1, len(EMPTY))]
+    tried += [(FAILED, {"refuse_sync": 3, "lasts": lasts, **failed}) for lasts in (0, 1)]
+    for reason, orders in tried:
+        for cut in ({}, {"refuse_truncate": 1}):
+            with tempfile.TemporaryDirectory() as room:
+                not_made(program, room, reason, **orders, **cut)
+        # One that was there, which keeps its mode.
+        with tempfile.TemporaryDirectory() as room:
+            write(named(room), b"")
+            os.chmod(named(room), 0o620)
+            not_made(program, room, reason, **orders)
+            expect(stat.S_IMODE(os.stat(named(room)).st_mode) == 0o620, f"{orders}: the mode is another")
+
+    # A file that may have five bytes.
+    def limit():
+        signal.signal(signal.SIGXFSZ, signal.SIG_IGN)
+        resource.setrlimit(resource.RLIMIT_FSIZE, (5, resource.RLIM_INFINITY))
+
+    path = named(folder)
+    came = program.run(["pipe", "--store", path], QUESTION, preexec_fn=limit)
+    expect(came == (b"", 6, line_of(path, TOO_LARGE)), f"{came}")
+    expect(read(path) == b"" and program.pipe(path, b"") == ([], 0), f"{read(path)}")
 
 
 def writes(program, folder):
@@ -596,7 +665,7 @@ CHECKS = (
 )  # fmt: skip
 
 # Those that refuse calls of the system, by what cc builds.
-CHECKS_BY_SHIM = (syncs, folder_synced, writes, reads, ends, short, told_of_a_sync)
+CHECKS_BY_SHIM = (syncs, openings, put_there, half_made, writes, reads, ends, short, told_of_a_sync)
 shim = None
 
 

@@ -2,15 +2,19 @@
 
    Built by checks/shim.py and loaded ahead of the C library (LD_PRELOAD). SHIM_ORDERS names a file with the numbers
    below: what is counted is written there, what is to be done is read from there, and both sides may look while the
-   program runs. Without that file each call is handed on as it is.
+   program runs. Without that file each call is handed on as it is. SHIM_MEDIA names a folder in which it keeps what the
+   disk has of each file; without it nothing is kept.
 
-   A count starts when the shim is loaded. Nothing here takes memory. */
+   A count starts when the shim is loaded. Nothing here takes memory from the program's heap. */
 
 #define _GNU_SOURCE
+#include <dirent.h>
 #include <errno.h>
 #include <fcntl.h>
+#include <limits.h>
 #include <stdarg.h>
 #include <stdint.h>
+#include <stdio.h>
 #include <stdlib.h>
 #include <string.h>
 #include <sys/mman.h>
@@ -44,6 +48,10 @@ struct orders {
     uint64_t made;
     /* Where this is not 0, a read that is refused finds the end, and no error. */
     uint64_t ended;
+    /* Counted: files cut to a length, and advice on their pages; which of them is refused. */
+    uint64_t truncates, advices, refuse_truncate, refuse_advice;
+    /* Of how many bytes a page of the system's memory is; 0 is as 1. */
+    uint64_t page;
 };
 
 static struct orders none;
@@ -105,6 +113,140 @@ int posix_memalign(void **into, size_t align, size_t size) {
     return 0;
 }
 
+/* ---- what the disk has
+
+   Of each file that is written with pwrite: the bytes that the disk has, beside those that a read gives, which stand in
+   the file itself, as the system's memory has them. A page that is written is changed until a sync; one that succeeds
+   puts the changed pages on the disk, and one that fails leaves them readable and unchanged (Linux; Rebello et al., "Can
+   Applications Recover from fsync Failures?", ATC 2020). Advice lets go of the pages that aren't changed, so reads then
+   give what the disk has. A name is on the disk once its folder was synced. A file that the shim hasn't met is all
+   changed, and its name is not on the disk, as where it was copied there just now. */
+
+/* The longest file of which it is known what the disk has. */
+#define MOST (1 << 20)
+
+/* The order of these fields is that of Medium in shim.py. */
+struct medium {
+    /* How many bytes of the file the disk has, and whether it has the name. */
+    uint64_t length, is_named;
+    /* By byte: whether it may differ on the disk and is written there by the next sync; and what the disk has. */
+    uint8_t is_changed[MOST], bytes[MOST];
+};
+
+static off_t size_of(int file) {
+    struct stat about;
+    if (syscall(SYS_fstat, file, &about) != 0) return 0;
+    if (about.st_size > MOST) abort();
+    return about.st_size;
+}
+
+static void change(struct medium *medium, off_t at, off_t size) {
+    off_t page = orders->page > 1 ? (off_t)orders->page : 1;
+    off_t end = (at + size + page - 1) / page * page;
+    if (end > MOST) abort();
+    memset(medium->is_changed + at / page * page, 1, (size_t)(end - at / page * page));
+}
+
+/* The path of a file of this kind. Whether it is of it. */
+static int path_of(int file, mode_t kind, char *path) {
+    struct stat about;
+    char link[64];
+    if (syscall(SYS_fstat, file, &about) != 0 || (about.st_mode & S_IFMT) != kind) return 0;
+    snprintf(link, sizeof link, "/proc/self/fd/%d", file);
+    ssize_t size = readlink(link, path, PATH_MAX - 1);
+    if (size < 0) return 0;
+    path[size] = 0;
+    return 1;
+}
+
+/* The medium of that name, at hand; one that is missing is made where that is asked, else none is given. */
+static struct medium *medium_named(const char *name, int made) {
+    char path[PATH_MAX + 64];
+    snprintf(path, sizeof path, "%s/%s", getenv("SHIM_MEDIA"), name);
+    int file = open(path, O_RDWR | O_CLOEXEC | (made ? O_CREAT | O_EXCL : 0), 0600);
+    if (file < 0) return NULL;
+    if (made) syscall(SYS_ftruncate, file, sizeof(struct medium));
+    void *place = mmap(NULL, sizeof(struct medium), PROT_READ | PROT_WRITE, MAP_SHARED, file, 0);
+    syscall(SYS_close, file);
+    return place == MAP_FAILED ? NULL : place;
+}
+
+/* What the disk has of a file; none where nothing is kept. It stays at hand until the process ends, for eight files. */
+static struct medium *medium_of(int file) {
+    static struct { dev_t device; ino_t number; struct medium *medium; } met[8];
+    struct stat about;
+    char path[PATH_MAX];
+    if (getenv("SHIM_MEDIA") == NULL || !path_of(file, S_IFREG, path)) return NULL;
+    syscall(SYS_fstat, file, &about);
+    int i = 0;
+    for (; i < 8 && met[i].medium != NULL; i++)
+        if (met[i].device == about.st_dev && met[i].number == about.st_ino) return met[i].medium;
+    if (i == 8) abort();
+    const char *name = strrchr(path, '/') + 1;
+    struct medium *medium = medium_named(name, 0);
+    if (medium == NULL) {
+        medium = medium_named(name, 1);
+        if (medium != NULL) memset(medium->is_changed, 1, (size_t)size_of(file));
+    }
+    met[i].device = about.st_dev;
+    met[i].number = about.st_ino;
+    met[i].medium = medium;
+    return medium;
+}
+
+/* The names in this folder are on the disk from now on. */
+static void name_all(int folder) {
+    /* As getdents64 gives them. */
+    struct entry { uint64_t number; int64_t next; unsigned short size; unsigned char kind; char name[]; } *entry;
+    static char entries[1 << 16] __attribute__((aligned(8)));
+    syscall(SYS_lseek, folder, 0, SEEK_SET);
+    long size = syscall(SYS_getdents64, folder, entries, sizeof entries);
+    for (long at = 0; at < size; at += entry->size) {
+        entry = (struct entry *)(entries + at);
+        int file = entry->kind == DT_REG ? (int)syscall(SYS_openat, folder, entry->name, O_RDONLY | O_CLOEXEC) : -1;
+        if (file < 0) continue;
+        struct medium *medium = medium_of(file);
+        if (medium != NULL) medium->is_named = 1;
+        syscall(SYS_close, file);
+    }
+}
+
+/* A sync of this file, or of a folder, succeeded. */
+static void settle(int file) {
+    char path[PATH_MAX];
+    if (getenv("SHIM_MEDIA") == NULL) return;
+    if (path_of(file, S_IFDIR, path)) name_all(file);
+    struct medium *medium = medium_of(file);
+    if (medium == NULL) return;
+    off_t size = size_of(file);
+    for (off_t at = 0, end; at < MOST; at = end) {
+        end = at + 1;
+        if (!medium->is_changed[at]) continue;
+        while (end < MOST && medium->is_changed[end]) end++;
+        memset(medium->bytes + at, 0, (size_t)(end - at));
+        if (at < size) syscall(SYS_pread64, file, medium->bytes + at, (size_t)((end < size ? end : size) - at), at);
+    }
+    memset(medium->is_changed, 0, MOST);
+    medium->length = (uint64_t)size;
+}
+
+/* A sync of this file failed. */
+static void forget(int file) {
+    struct medium *medium = medium_of(file);
+    if (medium != NULL) memset(medium->is_changed, 0, MOST);
+}
+
+/* The pages that lie within this range, up to the end of the file where it has no size, are read from the disk. */
+static void read_anew(int file, off_t from, off_t size) {
+    struct medium *medium = medium_of(file);
+    if (medium == NULL) return;
+    off_t page = orders->page > 1 ? (off_t)orders->page : 1;
+    off_t whole = size_of(file);
+    off_t end = size == 0 ? whole : (from + size) / page * page;
+    for (off_t at = (from + page - 1) / page * page; at < end && at < whole; at++)
+        if (!medium->is_changed[at]) syscall(SYS_pwrite64, file, medium->bytes + at, 1, at);
+}
+
 /* ---- reads, writes and syncs */
 
 static int is_in_scope(int file) {
@@ -163,10 +305,17 @@ ssize_t write(int file, const void *from, size_t size) {
     return most < 0 ? -1 : syscall(SYS_write, file, from, (size_t)most);
 }
 
+static ssize_t put(int file, const void *from, size_t size, off_t at) {
+    struct medium *medium = medium_of(file);
+    ssize_t moved = syscall(SYS_pwrite64, file, from, size, at);
+    if (moved > 0 && medium != NULL) change(medium, at, moved);
+    return moved;
+}
+
 ssize_t pwrite(int file, const void *from, size_t size, off_t at) {
     ssize_t most = may_write(file, size);
-    if (most >= 0) return syscall(SYS_pwrite64, file, from, (size_t)most, at);
-    if (orders->made) syscall(SYS_pwrite64, file, from, size, at);
+    if (most >= 0) return put(file, from, (size_t)most, at);
+    if (orders->made) put(file, from, size, at);
     return refuse();
 }
 
@@ -197,13 +346,39 @@ ssize_t sendmsg(int file, const struct msghdr *message, int flags) {
 }
 
 static int sync_by(long call, int file) {
-    uint64_t at = count(&orders->syncs);
-    return is_refused(at, orders->refuse_sync) ? refuse() : (int)syscall(call, file);
+    if (is_refused(count(&orders->syncs), orders->refuse_sync)) {
+        forget(file);
+        return refuse();
+    }
+    int ended = (int)syscall(call, file);
+    if (ended == 0) settle(file);
+    return ended;
 }
 
 int fsync(int file) { return sync_by(SYS_fsync, file); }
 
 int fdatasync(int file) { return sync_by(SYS_fdatasync, file); }
+
+int ftruncate(int file, off_t size) {
+    if (is_refused(count(&orders->truncates), orders->refuse_truncate)) return refuse();
+    struct medium *medium = medium_of(file);
+    off_t old = medium == NULL ? 0 : size_of(file);
+    int ended = (int)syscall(SYS_ftruncate, file, size);
+    if (ended == 0 && medium != NULL && size < old) change(medium, size, old - size);
+    return ended;
+}
+
+int ftruncate64(int file, off_t size) { return ftruncate(file, size); }
+
+int posix_fadvise(int file, off_t at, off_t size, int advice) {
+    if (is_refused(count(&orders->advices), orders->refuse_advice)) return orders->error ? (int)orders->error : EIO;
+    int ended = (int)syscall(SYS_fadvise64, file, at, size, advice);
+    if (ended != 0) return errno;
+    if (advice == POSIX_FADV_DONTNEED) read_anew(file, at, size);
+    return 0;
+}
+
+int posix_fadvise64(int file, off_t at, off_t size, int advice) { return posix_fadvise(file, at, size, advice); }
 
 /* ---- time */
 

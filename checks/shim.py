@@ -20,9 +20,13 @@ FIELDS = (
     "allocations", "allocated", "reads", "writes", "syncs", "times",
     "refuse_allocation", "refuse_read", "refuse_write", "refuse_sync", "refuse_time", "lasts", "error",
     "most_read", "most_write", "speed", "ahead", "moment", "scope", "made", "ended",
+    "truncates", "advices", "refuse_truncate", "refuse_advice", "page",
 )  # fmt: skip
 # What `scope` may be: which descriptors reads and writes are counted on.
 EVERYWHERE, FILES, SOCKETS, NO_FILES = range(4)
+# What the disk has of a file begins with its length and whether it has the name, and ends in as many bytes as a file
+# may have, behind a byte for each that says whether it was changed.
+MEDIUM, MOST = "=QQ", 1 << 20
 # A moment, and its date (RFC 9110, section 5.6.7).
 MOMENT, DATE = 784_111_777, "Sun, 06 Nov 1994 08:49:37 GMT"
 # Runs at once.
@@ -63,17 +67,18 @@ class Shim:
         compile = ["cc", "-O2", "-Wall", "-Wextra", "-Werror", "-shared", "-fPIC", "-o", self.library]
         subprocess.run([*compile, os.path.join(HERE, "shim.c")], check=True)
 
-    def environment(self, orders):
-        """The environment of a process under these orders."""
-        return {**os.environ, "LD_PRELOAD": self.library, "SHIM_ORDERS": orders.path}
+    def environment(self, orders, media=None):
+        """The environment of a process under these orders, which keeps in the folder `media` what the disk has."""
+        kept = {} if media is None else {"SHIM_MEDIA": media}
+        return {**os.environ, "LD_PRELOAD": self.library, "SHIM_ORDERS": orders.path, **kept}
 
-    def run(self, program, words, text, folder, **numbers):
+    def run(self, program, words, text, folder, media=None, **numbers):
         """A run under such orders: what it wrote, its status, its standard error, and the orders with their counts.
 
         The time of day stands still, so that two runs write the same.
         """
         orders = Orders(os.path.join(folder, "orders"), **{"moment": MOMENT, **numbers})
-        out, status, err = program.run(words, text, env=self.environment(orders), cwd=folder)
+        out, status, err = program.run(words, text, env=self.environment(orders, media), cwd=folder)
         return out, status, err, orders
 
     def holds(self, program):
@@ -81,6 +86,21 @@ class Shim:
         with tempfile.TemporaryDirectory() as folder:
             orders = self.run(program, ["pipe"], b"", folder)[3]
             return orders.allocations > 0
+
+
+def cut_power(folder, media):
+    """The power is cut and comes back: each file is what the disk has of it, and gone where the disk has no name of it."""
+    for name in os.listdir(media):
+        path = os.path.join(folder, name)
+        with open(os.path.join(media, name), "r+b") as medium:
+            length, is_named = struct.unpack(MEDIUM, medium.read(struct.calcsize(MEDIUM)))
+            medium.write(bytes(MOST))
+            content = medium.read(length)
+        if not is_named:
+            os.remove(path)
+        elif name != "orders":
+            with open(path, "wb") as file:
+                file.write(content)
 
 
 def shim_for(program, folder):

@@ -11,13 +11,15 @@ and last `N passed, M failed`; ends with status 0 where none failed. Takes about
 
 import collections
 import errno
+import itertools
 import json
 import os
 import sys
 import tempfile
 
 from conference import CUT, beginnings, codes_of, text_of
-from shim import FILES, NO_FILES, in_turn, shim_for
+from journal_file import rows_in
+from shim import FILES, NO_FILES, cut_power, in_turn, shim_for
 from store import LASTING, PASSING, TAKEN_AGAIN, answers, chosen, expect, register, request, rows, run_all
 
 NAMES = [f"user{number}" for number in range(12)]
@@ -50,6 +52,14 @@ def names_in(store):
 # where there is no room.
 Kind = collections.namedtuple("Kind", "name names failed no_room")
 DATABASE = Kind("store", names_in, "disk I/O error", "database or disk is full")
+JOURNAL = Kind(
+    "store.cj",
+    lambda path: [row.b1.decode() for row in rows_in(path) if row.kind == 1],
+    *(f"{os.strerror(number)} (os error {number})" for number in (errno.EIO, errno.ENOSPC)),
+)
+# Of how many bytes a page of the system's memory is taken to be, and how many commands are given once confd was started
+# again.
+PAGES, GIVEN_AGAIN = (1, 512, 4096), (1, 4)
 
 
 def told(kind, program, folder):
@@ -122,6 +132,44 @@ def syncs(program, _folder):
         appends(DATABASE, program, folder, out, status, err, goes_on=False)
 
     each(2 * count, fail)
+
+
+def taken(names, out):
+    """Of these names those whose registrations were answered 201, or 409 since they are there."""
+    found = answers(out)
+    expect(len(found) == len(names) and all(code in (201, 409, 503) for code, _ in found), f"{found}")
+    return [name for name, (code, _) in zip(names, found) if code != 503]
+
+
+def failed_and_cut(kind, program, folder, number, page, many):
+    """Sync `number` fails; confd is started again and given `many` of the commands that are missing; the power is cut.
+
+    Each command that was answered is there, and nothing else.
+    """
+    media = os.path.join(folder, "media")
+    os.mkdir(media)
+    words, below = ["pipe", "--store", kind.name], {"media": media, "page": page, "error": errno.EIO}
+    names = NAMES[:6]
+    out, status, _, _ = shim.run(
+        program, words, b"".join(map(register, names)), folder, refuse_sync=number, **below
+    )
+    expect(status in (0, 6), f"status {status}")
+    kept = taken(names, out) if status == 0 else []
+    again = [name for name in NAMES if name not in kept][:many]
+    out, status, err, _ = shim.run(program, words, b"".join(map(register, again)), folder, **below)
+    expect(status == 0 and taken(again, out) == again, f"started again: status {status}, {err}, {out[-80:]}")
+    cut_power(folder, media)
+    now = told(kind, program, folder)
+    expect(now == kept + again, f"behind the cut there are {now}; {kept} were taken, then {again}")
+
+
+def lost_pages(program, _folder):
+    """A failed sync leaves what was written in memory alone, as Linux does; started again, confd goes on, and the power
+    is cut: what was answered is there, in journals and in databases."""
+    for kind in (JOURNAL, DATABASE):
+        count, _, _ = counted(program, ["pipe", "--store", kind.name], b"".join(map(register, NAMES[:6])), "syncs")
+        runs = list(itertools.product(range(1, count + 1), PAGES, GIVEN_AGAIN))
+        each(len(runs), lambda at, folder: failed_and_cut(kind, program, folder, *runs[at - 1]))
 
 
 def full(program, _folder):
@@ -212,7 +260,7 @@ def short(program, _folder):
             expect(rows(os.path.join(folder, "store")) == due[2], f"{orders}: the rows are others")
 
 
-CHECKS = (syncs, full, opening_reads, cut_reads, cut_writes, short)
+CHECKS = (syncs, lost_pages, full, opening_reads, cut_reads, cut_writes, short)
 
 
 def main():

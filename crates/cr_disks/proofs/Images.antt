@@ -76,3 +76,18 @@ write_follows at n s after base ranges = λ image left.
     reaches_push s.base s.ranges at n image
     (subst (λ (l : List (ℕ × ℕ)). Reaches s.base l image) ranges
     (subst (λ (l : List ℕ). Reaches l after.ranges image) base left))
+
+-- a write that was torn so puts what a stop may leave among what it then may
+pub push_reaches : (base : List ℕ) (ranges : List (ℕ × ℕ)) (at n : ℕ) (d image : List ℕ)
+    → Reaches base ranges d → Torn at n d image → Reaches base (ranges ++ (at, n) ∷ []) image
+push_reaches base [] at n d image same torn = (image, subst (λ (l : List ℕ). Torn at n l image) same torn, refl)
+push_reaches base (q ∷ ranges) at n d image r torn = (r.0, r.1, push_reaches r.0 ranges at n d image r.2 torn)
+
+-- what a read gives behind a write is among what a stop may leave, as it was before
+pub seen_written : (at n : ℕ) (piece old new : List ℕ) (s after : DiskState) → at ≤ length old → length piece ≤ n
+    → Holds old at piece new → after.base ≡ s.base → after.ranges ≡ s.ranges ++ (at, n) ∷ [] → left_in s old
+    → left_in after new
+seen_written at n piece old new s after inside few holds base ranges left =
+    subst (λ (b : List ℕ). Reaches b after.ranges new) (sym base)
+    (subst (λ (l : List (ℕ × ℕ)). Reaches s.base l new) (sym ranges)
+    (push_reaches s.base s.ranges at n old new left (holds_torn at n piece old new inside few holds)))

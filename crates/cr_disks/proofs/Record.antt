@@ -3,7 +3,8 @@ use Rattle.std.proofs.Common.{◌≡◌, ◌⊎◌, inl, inr, ◌∙◌, ℕ, �
 use Rattle.std.proofs.Common.{ap, subst, arith, length-append, length-drop}
 use Rattle.std.proofs.lemmas.List.{append-nil, take_all, take-append-le, drop-append-le, nil_from_length}
 use Rattle.cr_disks.specs.Disk.{Holds}
-use Rattle.cr_disks.specs.Held.{DiskState, after_call, put_by, put_by_all, settled, state_after, states_before}
+use Rattle.cr_disks.specs.Held.{DiskState, after_call, left_in, put_by, put_by_all, settled, state_after}
+use Rattle.cr_disks.specs.Held.{states_before}
 use Rattle.cr_disks.specs.declared.mem_disk.DiskCall.{DiskCall}
 use Rattle.cr_disks.specs.declared.mem_disk.DiskCall.TheVariants.{Wrote, Synced, SyncFailed}
 
@@ -101,9 +102,11 @@ module _ (call : DiskCall) (nothing : put_by call ≡ 0) where
       → put_by_all (calls ++ call ∷ []) ≡ length put
   sync-total put calls total = omega (arith, total, put-push calls call, nothing)
 
-pub is_sync : (call : DiskCall) → (call ≡ Synced) ⊎ (call ≡ SyncFailed)
-    → (put_by call ≡ 0) × ((s : DiskState) → (after_call call [] s).seen ≡ s.seen)
-is_sync call (inl is) = subst (λ (k : DiskCall). (put_by k ≡ 0) × ((s : DiskState) → (after_call k [] s).seen ≡ s.seen))
-    (sym is) (refl, λ s. refl)
-is_sync call (inr is) = subst (λ (k : DiskCall). (put_by k ≡ 0) × ((s : DiskState) → (after_call k [] s).seen ≡ s.seen))
-    (sym is) (refl, λ s. refl)
+-- what a sync does to the state
+abbrev pub IsSync : DiskCall → Type 0
+IsSync call = (put_by call ≡ 0) × ((s : DiskState) → (after_call call [] s).seen ≡ s.seen)
+    × ((s : DiskState) → left_in s s.seen → left_in (after_call call [] s) s.seen)
+
+pub is_sync : (call : DiskCall) → (call ≡ Synced) ⊎ (call ≡ SyncFailed) → IsSync call
+is_sync call (inl is) = subst IsSync (sym is) (refl, λ s. refl, λ s left. refl)
+is_sync call (inr is) = subst IsSync (sym is) (refl, λ s. refl, λ s left. left)

@@ -1,5 +1,5 @@
 -- Disks in memory, as contracts see them: the record of their calls, and what it comes to.
-use Rattle.std.specs.Prelude.{◌⊎◌, ℕ, ◌+◌, ◌||◌, ◌==◌, nat_lt, Bool}
+use Rattle.std.specs.Prelude.{◌⊎◌, ℕ, ◌+◌, ◌-◌, ◌||◌, ◌==◌, nat_lt, Bool}
 use Rattle.std.specs.Prelude.{List, [], ◌∷◌, ◌++◌, length, take, drop}
 use Rattle.std.specs.List.{list_any}
 use Rattle.cr_disks.specs.Past.{Reaches, HadBeen}
@@ -54,12 +54,13 @@ states_before (call ∷ others) bytes s =
 abbrev pub left_in : DiskState → List ℕ → Type 0
 left_in s image = Reaches s.base s.ranges image
 
--- a disk in memory: what it held at first, its calls, what these put there, what a read gives, which of its calls fail,
--- for how many more bytes and calls it has room, and its faults
+-- a disk in memory: what it held at first, its calls, what these put there, how many of the calls were there when it was
+-- opened, what a read gives, which of its own calls fail, for how many more bytes and calls it has room, and its faults
 pub record Held : Type 0 where
   pub first : List ℕ
   pub calls : List DiskCall
   pub put : List ℕ
+  pub begun : ℕ
   pub bytes : List ℕ
   pub failing : List ℕ
   pub room : ℕ
@@ -78,7 +79,7 @@ left_since_of disk t image = left_in (state_of disk) image ⊎ HadBeen left_in (
 
 -- its next write or sync is listed as one that fails
 abbrev pub fails_next : Held → Bool
-fails_next disk = list_any (λ call. call == length disk.calls) disk.failing
+fails_next disk = list_any (λ call. call == length disk.calls - disk.begun) disk.failing
 
 -- it has no room for another call, or for so many bytes
 abbrev pub is_full : Held → ℕ → Bool

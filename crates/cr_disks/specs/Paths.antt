@@ -1,18 +1,27 @@
 -- What stands at each path of disks in memory.
-use Rattle.std.specs.Prelude.{ℕ, List, [], Bool, is_some, Option, None, Some, String, Vec}
+use Rattle.std.specs.Prelude.{ℕ, List, [], Bool, cond, is_some, Option, None, Some, String}
 use Rattle.std.specs.Option.{option_map_or}
 use Rattle.std.specs.declared.alloc.Global.{Global}
 use Rattle.std.specs.Map.{lookup}
+use Rattle.std.specs.Str.{bytes_eq}
 use Rattle.cr_ports.specs.Shelving.{is_path}
-use Rattle.cr_disks.specs.Held.{Held, left_since_of}
+use Rattle.cr_disks.specs.Held.{DiskState, Held, left_since_of, settled, state_of}
 
--- what a map by path has, as it keeps it
+-- what a map by path has, as it keeps it: the disk that was shut last at each
 abbrev pub FilesByPath : Type 0
-FilesByPath = List (String Global × Vec ℕ Global)
+FilesByPath = List (String Global × Held)
 
 -- the bytes at a path, none where nothing stands
 abbrev pub bytes_at : FilesByPath → List ℕ → List ℕ
-bytes_at files path = option_map_or (λ bytes. bytes.items) (lookup (is_path path) files) []
+bytes_at files path = option_map_or (λ disk. disk.bytes) (lookup (is_path path) files) []
+
+-- what is there of them and what is synced, no bytes where nothing stands
+abbrev pub state_at : FilesByPath → List ℕ → DiskState
+state_at files path = option_map_or state_of (lookup (is_path path) files) (settled [])
+
+-- the states at each path, once this is that of one of them
+abbrev pub with_state : (List ℕ → DiskState) → List ℕ → DiskState → List ℕ → DiskState
+with_state states path state other = cond (bytes_eq path other) state (states other)
 
 abbrev pub has_file : FilesByPath → List ℕ → Bool
 has_file files path = is_some (lookup (is_path path) files)

@@ -12,7 +12,7 @@ pub struct DiskFailed;
 /// Bytes by offset, at most 2^62 of them. A stop of the machine leaves what was synced; of what was written since, any
 /// bytes may stand in its ranges.
 pub trait Disk {
-    /// Whether it tells what it holds, and what a stop may leave. The five below speak of a disk that does.
+    /// Whether it tells what it holds, and what a stop may leave. What stands below speaks of a disk that does.
     ghost tells: { Bool };
 
     /// The bytes that a read gives.
@@ -69,6 +69,10 @@ pub trait Disk {
         ensures time { IsTrue tells → Elapses (moment self.old) (moment self.new)
             (left_since self.old) (left_since self.new) (may_leave self.new) }
         ensures cause { HasCause (faults self.old) (faults self.new) result };
+
+    /// A law: what a read gives is among what a stop may leave.
+    fn law_may_leave_seen(&self)
+        ensures { IsTrue tells → may_leave self.now (seen self.now) };
 
     /// This moment is one of those since an earlier one.
     ghost counts_now: { (disk : Self) (t : ℕ) (image : List ℕ)

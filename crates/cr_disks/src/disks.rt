@@ -1,5 +1,5 @@
 //! What opens disks by their paths.
-ghost use Rattle.std.specs.Prelude.{◌≡◌, ◌↔◌, ℕ, List, IfOk, OnOk, IsTrue};
+ghost use Rattle.std.specs.Prelude.{◌≡◌, ◌≢◌, ◌⊎◌, ◌↔◌, [], ℕ, List, IfOk, OnOk, IsFalse, IsTrue};
 ghost use Rattle.cr_ports.specs.Count.{Gains};
 ghost use Rattle.cr_ports.specs.Keeping.{HasCause};
 ghost use Rattle.cr_disks.specs.Disk.{with_bytes};
@@ -8,6 +8,11 @@ use crate::disk::Disk;
 use cr_ports::KeeperError;
 
 /// Opens a disk over the bytes at a path, and takes it back.
+///
+/// From an opening on, a sync that succeeds does what `Disk` says, whatever befell the file before: a stop then leaves
+/// what a read gives, also where a sync failed ahead of the opening. So an opening takes nothing for synced: until a
+/// sync a stop may leave all that it might have left before. And what it shows has to be what a sync makes last, where a
+/// system goes on showing what a failed sync lost.
 pub trait Disks {
     /// What it opens. It may go to another thread.
     type Disk: Disk + Drop + Send;
@@ -15,6 +20,9 @@ pub trait Disks {
     /// The bytes at each path, none where nothing stands, where its disks tell theirs; those that are written stand
     /// there once the disk was shut.
     ghost files: { Self → List ℕ → List ℕ };
+
+    /// What a stop may leave at each path at which no disk is open.
+    ghost may_leave: { Self → List ℕ → List ℕ → Type 0 };
 
     /// Of which paths a disk may be taken back.
     ghost has_opened: { Self → List ℕ → Type 0 };
@@ -25,15 +33,20 @@ pub trait Disks {
     /// How often a call, or one of a disk that was shut, has failed.
     ghost faults: { Self → ℕ };
 
-    /// A disk over the bytes at the path, which has counted no fault.
+    /// A disk over the bytes at the path, which has counted no fault. A stop may leave of it what it might have left
+    /// before.
     ///
     /// `Failed` comes only where the count of faults rose, or stands at its last value, and `OutOfMemory` only where it
     /// is as it was.
     fn open(&mut self, path: &str) -> Result<Self::Disk, KeeperError>
         ensures found { IsTrue Self.Disk.tells → IfOk result (λ disk. Self.Disk.seen disk ≡ files self.old path.now) }
+        ensures stops { IsTrue Self.Disk.tells → IfOk result (λ disk. (image : List ℕ)
+            → Self.Disk.may_leave disk image ↔ may_leave self.old path.now image) }
         ensures fresh { IfOk result (λ disk. Self.Disk.faults disk ≡ 0) }
         ensures opened { OnOk result (has_opened self.new path.now) }
         ensures same { IsTrue Self.Disk.tells → files self.new ≡ files self.old }
+        ensures as_before { IsTrue Self.Disk.tells → (other image : List ℕ)
+            → may_leave self.new other image ↔ may_leave self.old other image }
         ensures cause { HasCause (faults self.old) (faults self.new) result };
 
     /// Takes back a disk that was opened at this path: its bytes then stand there. The count of faults rises by at
@@ -44,5 +57,24 @@ pub trait Disks {
             → files self.new ≡ with_bytes (files self.old) path.now (Self.Disk.seen disk) }
         ensures stops { IsTrue Self.Disk.tells → (t : ℕ) (image : List ℕ)
             → left self.new path.now t image ↔ Self.Disk.left_since disk t image }
+        ensures still { IsTrue Self.Disk.tells → (image : List ℕ)
+            → may_leave self.new path.now image ↔ Self.Disk.may_leave disk image }
+        ensures others { IsTrue Self.Disk.tells → (other image : List ℕ) → other ≢ path.now
+            → may_leave self.new other image ↔ may_leave self.old other image }
+        ensures count { Gains (faults self.old) (Self.Disk.faults disk) (faults self.new) };
+
+    /// Takes back a disk that was opened at this path, and takes its bytes away, so that none stand there. Answers
+    /// whether that could be done; where it couldn't, they stand there. A stop may leave none, or what it might have
+    /// left of the disk. The count of faults rises by at least the disk's. Takes no memory.
+    fn discard(&mut self, path: &str, disk: Self::Disk) -> bool
+        requires { has_opened self.old path.now }
+        ensures gone { IsTrue Self.Disk.tells → IsTrue result
+            → files self.new ≡ with_bytes (files self.old) path.now [] }
+        ensures kept { IsTrue Self.Disk.tells → IsFalse result
+            → files self.new ≡ with_bytes (files self.old) path.now (Self.Disk.seen disk) }
+        ensures still { IsTrue Self.Disk.tells → (image : List ℕ)
+            → may_leave self.new path.now image → (image ≡ []) ⊎ Self.Disk.may_leave disk image }
+        ensures others { IsTrue Self.Disk.tells → (other image : List ℕ) → other ≢ path.now
+            → may_leave self.new other image ↔ may_leave self.old other image }
         ensures count { Gains (faults self.old) (Self.Disk.faults disk) (faults self.new) };
 }

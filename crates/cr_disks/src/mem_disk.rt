@@ -32,14 +32,17 @@ pub enum DiskCall {
 }
 
 /// Bytes in memory, and a record of each write and each sync. It fails exactly at those of them that are listed, a
-/// write after half of its bytes, and where it has no room for a call or its bytes. No call takes memory.
+/// write after half of its bytes, and where it has no room for a call or its bytes. No call takes memory. One that is
+/// opened over the file of another has that one's record ahead of its own.
 ///
-/// Contracts see the record, the bytes, the list, the room and the count of faults.
+/// Contracts see the record, how many of its calls were there when it was opened, the bytes, the list, the room and the
+/// count of faults.
 #[derive(Drop)]
 pub struct MemDisk {
     first: Vec<u8>,
     calls: Vec<DiskCall>,
     put: Vec<u8>,
+    begun: usize,
     bytes: Vec<u8>,
     failing: Vec<u64>,
     room: usize,
@@ -49,7 +52,7 @@ pub struct MemDisk {
 
 impl Model for MemDisk {
     ghost use Rattle.std.specs.Prelude.{◌≡◌, ◌≤◌, ◌+◌, ◌^◌, length, vec_len, vec_capacity};
-    ghost use Rattle.cr_disks.specs.Held.{Held, put_by_all, settled, state_after};
+    ghost use Rattle.cr_disks.specs.Held.{Held, left_in, put_by_all, settled, state_after};
 
     ghost Value = { Held };
 
@@ -57,6 +60,7 @@ impl Model for MemDisk {
       first = d.first.items;
       calls = d.calls.items;
       put = d.put.items;
+      begun = d.begun;
       bytes = d.bytes.items;
       failing = d.failing.items;
       room = d.room;
@@ -70,7 +74,9 @@ impl Model for MemDisk {
         × (vec_len d.put + d.room ≤ vec_capacity d.put)
         × (vec_len d.bytes + d.room ≤ vec_capacity d.bytes)
         × (vec_len d.calls + d.calls_left ≤ vec_capacity d.calls)
-        × (length d.bytes.items + d.room ≤ 2 ^ 62) };
+        × (length d.bytes.items + d.room ≤ 2 ^ 62)
+        × (d.begun ≤ length d.calls.items)
+        × left_in (state_after d.calls.items d.put.items (settled d.first.items)) d.bytes.items };
 }
 
 /// Puts the piece over what stands at `at` and behind it.
@@ -132,6 +138,7 @@ impl MemDisk {
         ensures bytes { IfOk result (λ disk. disk.bytes ≡ first.items) }
         ensures calls { IfOk result (λ disk. disk.calls ≡ []) }
         ensures put { IfOk result (λ disk. disk.put ≡ []) }
+        ensures begun { IfOk result (λ disk. disk.begun ≡ 0) }
         ensures failing { IfOk result (λ disk. disk.failing ≡ failing.items) }
         ensures room { IfOk result (λ disk. disk.room ≡ room) }
         ensures calls_left { IfOk result (λ disk. disk.calls_left ≡ calls) }
@@ -143,6 +150,46 @@ impl MemDisk {
         let record = Vec::with_capacity(alloc, calls)?;
         Ok(MemDisk {
             first,
+            calls: record,
+            put,
+            begun: 0,
+            bytes,
+            failing,
+            room,
+            calls_left: calls,
+            faults: 0,
+        })
+    }
+
+    /// A disk over the file of this one, which goes on with its record: what a stop may leave of the one it may leave of
+    /// the other. Room, calls and those that fail, numbered from 0 behind the record, are as for a new one. The one
+    /// error is lack of memory.
+    pub(crate) fn reopened(
+        &self,
+        alloc: Global,
+        room: usize,
+        calls: usize,
+        failing: Vec<u64>,
+    ) -> Result<Self, AllocError>
+        requires { length self.now.bytes + room < 2 ^ 62 }
+        ensures bytes { IfOk result (λ disk. disk.bytes ≡ self.now.bytes) }
+        ensures state { IfOk result (λ disk. state_of disk ≡ state_of self.now) }
+        ensures faults { IfOk result (λ disk. disk.faults ≡ 0) }
+    {
+        let Some(all) = self.calls.len().checked_add(calls) else {
+            return Err(AllocError);
+        };
+        let mut first = Vec::with_capacity(alloc, self.first.len())?;
+        append_within(&mut first, &self.first);
+        let mut record = Vec::with_capacity(alloc, all)?;
+        let _ = record.extend_from_slice(&self.calls);
+        let mut put = Vec::with_capacity(alloc, self.put.len() + room)?;
+        append_within(&mut put, &self.put);
+        let mut bytes = Vec::with_capacity(alloc, self.bytes.len() + room)?;
+        append_within(&mut bytes, &self.bytes);
+        Ok(MemDisk {
+            first,
+            begun: record.len(),
             calls: record,
             put,
             bytes,
@@ -178,7 +225,8 @@ impl MemDisk {
     fn fails_next(&self) -> bool
         ensures { result ≡ fails_next self.now }
     {
-        self.failing.contains(&(self.calls.len() as u64))
+        self.failing
+            .contains(&((self.calls.len() - self.begun) as u64))
     }
 
     /// Whether there is no room for another call, or for so many bytes.
@@ -195,7 +243,7 @@ impl MemDisk {
         ensures faults { self.new.faults ≡ counted self.old.faults }
         ensures same { (self.new.first ≡ self.old.first) × (self.new.calls ≡ self.old.calls)
             × (self.new.put ≡ self.old.put) × (self.new.bytes ≡ self.old.bytes) × (self.new.failing ≡ self.old.failing)
-            × (self.new.room ≡ self.old.room) × (self.new.calls_left ≡ self.old.calls_left) }
+            × (self.new.begun ≡ self.old.begun) × (self.new.room ≡ self.old.room) × (self.new.calls_left ≡ self.old.calls_left) }
         ensures state { state_of self.new ≡ state_of self.old }
         ensures past { past_of self.new ≡ past_of self.old }
     {
@@ -208,6 +256,7 @@ impl MemDisk {
         requires inside { at ≤ length self.old.bytes }
         requires room { length piece.now ≤ self.old.room }
         requires calls { 0 < self.old.calls_left }
+        requires few { length piece.now ≤ len }
         ensures bytes { Holds self.old.bytes at piece.now self.new.bytes }
         ensures within { at + length piece.now ≤ 2 ^ 62 }
         ensures state { state_of self.new ≡ after_call (Wrote at (length piece.now) len) piece.now (state_of self.old) }
@@ -280,22 +329,11 @@ impl MemDisk {
         self.calls_left -= 1;
     }
 
-    /// Its bytes, and how many faults it has counted.
-    pub(crate) fn into_parts(self) -> (Vec<u8>, u64)
-        ensures bytes { result.0.items ≡ self.bytes }
-        ensures faults { result.1 ≡ self.faults }
+    /// How many faults it has counted.
+    pub(crate) fn faults(&self) -> u64
+        ensures { result ≡ self.now.faults }
     {
-        let MemDisk {
-            first: _,
-            calls: _,
-            put: _,
-            bytes,
-            failing: _,
-            room: _,
-            calls_left: _,
-            faults,
-        } = self;
-        (bytes, faults)
+        self.faults
     }
 
     /// The bytes that its writes put there, one after the other.
@@ -355,5 +393,9 @@ impl Disk for MemDisk {
         }
         self.record_sync(DiskCall::Synced);
         Ok(())
+    }
+
+    fn law_may_leave_seen(&self) {
+        let _bytes = &self.bytes;
     }
 }

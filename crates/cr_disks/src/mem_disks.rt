@@ -1,11 +1,11 @@
 //! Disks in memory, by their paths.
-ghost use Rattle.std.specs.Prelude.{◌≡◌, ◌↔◌, ◌<◌, ◌≤◌, ◌+◌, ◌^◌, ◌-◌};
-ghost use Rattle.std.specs.Prelude.{[], ℕ, List, IfOk, IsFalse, IsTrue, OnOk, length, min};
+ghost use Rattle.std.specs.Prelude.{◌≡◌, ◌≢◌, ◌⊎◌, ◌↔◌, ◌<◌, ◌≤◌, ◌+◌, ◌^◌, ◌-◌};
+ghost use Rattle.std.specs.Prelude.{[], ℕ, List, IfNone, IfOk, IfSome, IsFalse, IsTrue, OnOk, length, min};
 ghost use Rattle.cr_ports.specs.Count.{Gains};
 ghost use Rattle.cr_ports.specs.Keeping.{HasCause};
 ghost use Rattle.cr_disks.specs.Disk.{with_bytes};
-ghost use Rattle.cr_disks.specs.Held.{left_since_of};
-ghost use Rattle.cr_disks.specs.Paths.{bytes_at, has_file, left_of_last};
+ghost use Rattle.cr_disks.specs.Held.{left_in, left_since_of, settled, state_of};
+ghost use Rattle.cr_disks.specs.Paths.{bytes_at, has_file, left_of_last, state_at, with_state};
 
 use crate::disks::Disks;
 use crate::mem_disk::MemDisk;
@@ -15,13 +15,13 @@ use std::collections::BTreeMap;
 use std::marker::Model;
 use std::snapshot::Snapshot;
 
-/// Files in memory, by path. A disk over one has room for so many more bytes and calls, and fails at the calls that are
-/// listed.
+/// Files in memory, by path, each as the disk that was last shut there: what a stop might have left of that one it may
+/// still leave. A disk over one has room for so many more bytes and calls, and fails at the calls that are listed.
 ///
-/// Contracts see the bytes at each path, the list, the room, the count of faults, and the disk that was shut last.
+/// Contracts see the disk at each path, the list, the room, the count of faults, and the disk that was shut last.
 pub struct MemDisks {
     alloc: Global,
-    files: BTreeMap<String, Vec<u8>>,
+    files: BTreeMap<String, MemDisk>,
     failing: Vec<u64>,
     room: usize,
     calls: usize,
@@ -67,6 +67,7 @@ impl MemDisks {
     /// those of its file and for so many writes and syncs, and of these, numbered from 0, those in `failing` fail.
     pub fn new(alloc: Global, room: usize, calls: usize, failing: Vec<u64>) -> Self
         ensures files { bytes_at result.files ≡ (λ _. []) }
+        ensures states { state_at result.files ≡ (λ _. settled []) }
         ensures failing { result.failing ≡ failing.items }
         ensures room { (result.room ≡ room) × (result.calls ≡ calls) }
         ensures faults { result.faults ≡ 0 }
@@ -82,12 +83,22 @@ impl MemDisks {
         }
     }
 
+    /// The disk that was shut last at the path; one look-up.
+    fn file_at(&self, path: &str) -> Option<&MemDisk>
+        ensures bytes { IfSome result (λ disk. disk.now.bytes ≡ bytes_at self.now.files path.now) }
+        ensures state { IfSome result (λ disk. state_of disk.now ≡ state_at self.now.files path.now) }
+        ensures none { IfNone result ((bytes_at self.now.files path.now ≡ [])
+            × (state_at self.now.files path.now ≡ settled [])) }
+    {
+        self.files.get(path)
+    }
+
     /// The bytes that stand at the path; one look-up.
     pub fn bytes_at(&self, path: &str) -> &[u8]
         ensures { result.now ≡ bytes_at self.now.files path.now }
     {
-        match self.files.get(path) {
-            Some(bytes) => bytes.as_slice(),
+        match self.file_at(path) {
+            Some(disk) => disk.bytes(),
             None => &[],
         }
     }
@@ -96,6 +107,7 @@ impl MemDisks {
     fn make_file(&mut self, path: &str) -> Result<(), AllocError>
         ensures opened { OnOk result (IsTrue (has_file self.new.files path.now)) }
         ensures files { bytes_at self.new.files ≡ bytes_at self.old.files }
+        ensures states { state_at self.new.files ≡ state_at self.old.files }
         ensures failing { self.new.failing ≡ self.old.failing }
         ensures room { (self.new.room ≡ self.old.room) × (self.new.calls ≡ self.old.calls) }
         ensures faults { self.new.faults ≡ self.old.faults }
@@ -114,50 +126,68 @@ impl MemDisks {
         self.bytes_at(path).len() as u64 >= most
     }
 
-    /// A disk over a copy of the bytes at the path.
+    /// A disk over the file at the path.
     fn disk_at(&self, path: &str) -> Result<MemDisk, AllocError>
         requires { length (bytes_at self.now.files path.now) + self.now.room < 2 ^ 62 }
         ensures bytes { IfOk result (λ disk. disk.bytes ≡ bytes_at self.now.files path.now) }
+        ensures state { IfOk result (λ disk. state_of disk ≡ state_at self.now.files path.now) }
         ensures faults { IfOk result (λ disk. disk.faults ≡ 0) }
     {
-        let mut first = Vec::new(self.alloc);
-        first.extend_from_slice(self.bytes_at(path))?;
         let failing = self.failing.clone()?;
-        MemDisk::new(self.alloc, first, self.room, self.calls, failing)
+        match self.file_at(path) {
+            Some(disk) => disk.reopened(self.alloc, self.room, self.calls, failing),
+            None => {
+                let none = Vec::new(self.alloc);
+                MemDisk::new(self.alloc, none, self.room, self.calls, failing)
+            }
+        }
     }
 }
 
 /// Makes an empty file at a path where there is none.
 fn add_file(
     alloc: Global,
-    files: &mut BTreeMap<String, Vec<u8>>,
+    files: &mut BTreeMap<String, MemDisk>,
     path: &str,
 ) -> Result<(), AllocError>
     requires { IsFalse (has_file files.old.entries path.now) }
     ensures opened { OnOk result (IsTrue (has_file files.new.entries path.now)) }
     ensures files { bytes_at files.new.entries ≡ bytes_at files.old.entries }
+    ensures states { state_at files.new.entries ≡ state_at files.old.entries }
 {
     let name = String::from_str(alloc, path)?;
-    match files.insert(name, Vec::new(alloc)) {
+    let disk = MemDisk::new(alloc, Vec::new(alloc), 0, 0, Vec::new(alloc))?;
+    match files.insert(name, disk) {
         Ok(_) => Ok(()),
         Err(_) => Err(AllocError),
     }
 }
 
-/// Puts bytes at a path where there is a file.
-fn put(files: &mut BTreeMap<String, Vec<u8>>, path: &str, bytes: Vec<u8>)
+/// Puts a disk at a path where there is a file.
+fn put(files: &mut BTreeMap<String, MemDisk>, path: &str, disk: MemDisk)
     requires { IsTrue (has_file files.old.entries path.now) }
-    ensures { bytes_at files.new.entries ≡ with_bytes (bytes_at files.old.entries) path.now bytes.items }
+    ensures bytes { bytes_at files.new.entries ≡ with_bytes (bytes_at files.old.entries) path.now disk.bytes }
+    ensures states { state_at files.new.entries ≡ with_state (state_at files.old.entries) path.now (state_of disk) }
 {
     if let Some(file) = files.get_mut(path) {
-        *file = bytes;
+        *file = disk;
     }
+}
+
+/// Takes the file at a path away.
+fn take(files: &mut BTreeMap<String, MemDisk>, path: &str)
+    ensures bytes { bytes_at files.new.entries ≡ with_bytes (bytes_at files.old.entries) path.now [] }
+    ensures states { state_at files.new.entries ≡ with_state (state_at files.old.entries) path.now (settled []) }
+{
+    let _ = files.remove(path);
 }
 
 impl Disks for MemDisks {
     type Disk = MemDisk;
 
     ghost files = { λ d. bytes_at d.files };
+
+    ghost may_leave = { λ d path image. left_in (state_at d.files path) image };
 
     ghost has_opened = { λ d path. IsTrue (has_file d.files path) };
 
@@ -167,9 +197,13 @@ impl Disks for MemDisks {
 
     fn open(&mut self, path: &str) -> Result<MemDisk, KeeperError>
         ensures found { IfOk result (λ disk. disk.bytes ≡ bytes_at self.old.files path.now) }
+        ensures stops { IfOk result (λ disk. (image : List ℕ)
+            → left_in (state_of disk) image ↔ left_in (state_at self.old.files path.now) image) }
         ensures fresh { IfOk result (λ disk. disk.faults ≡ 0) }
         ensures opened { OnOk result (IsTrue (has_file self.new.files path.now)) }
         ensures same { bytes_at self.new.files ≡ bytes_at self.old.files }
+        ensures as_before { (other image : List ℕ)
+            → left_in (state_at self.new.files other) image ↔ left_in (state_at self.old.files other) image }
         ensures cause { HasCause self.old.faults self.new.faults result }
     {
         if self.is_too_long(path) {
@@ -190,10 +224,33 @@ impl Disks for MemDisks {
         ensures kept { bytes_at self.new.files ≡ with_bytes (bytes_at self.old.files) path.now disk.bytes }
         ensures count { Gains self.old.faults disk.faults self.new.faults }
         ensures stops { (t : ℕ) (image : List ℕ) → left_of_last self.new.last t image ↔ left_since_of disk t image }
+        ensures still { (image : List ℕ)
+            → left_in (state_at self.new.files path.now) image ↔ left_in (state_of disk) image }
+        ensures others { (other image : List ℕ) → other ≢ path.now
+            → left_in (state_at self.new.files other) image ↔ left_in (state_at self.old.files other) image }
     {
         self.last = Some(Snapshot::of(&disk));
-        let (bytes, faults) = disk.into_parts();
-        self.faults = self.faults.saturating_add(faults);
-        put(&mut self.files, path, bytes);
+        self.faults = self.faults.saturating_add(disk.faults());
+        put(&mut self.files, path, disk);
+    }
+
+    /// Takes the file away.
+    fn discard(&mut self, path: &str, disk: MemDisk) -> bool
+        requires { IsTrue (has_file self.old.files path.now) }
+        ensures gone { IsTrue result → bytes_at self.new.files ≡ with_bytes (bytes_at self.old.files) path.now [] }
+        ensures kept { IsFalse result
+            → bytes_at self.new.files ≡ with_bytes (bytes_at self.old.files) path.now disk.bytes }
+        ensures still { (image : List ℕ) → left_in (state_at self.new.files path.now) image
+            → (image ≡ []) ⊎ left_in (state_of disk) image }
+        ensures others { (other image : List ℕ) → other ≢ path.now
+            → left_in (state_at self.new.files other) image ↔ left_in (state_at self.old.files other) image }
+        ensures count { Gains self.old.faults disk.faults self.new.faults }
+
+        // It always can.
+        ensures can { IsTrue result }
+    {
+        self.faults = self.faults.saturating_add(disk.faults());
+        take(&mut self.files, path);
+        true
     }
 }

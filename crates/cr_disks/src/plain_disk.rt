@@ -142,4 +142,8 @@ impl Disk for PlainDisk {
     {
         Ok(())
     }
+
+    fn law_may_leave_seen(&self)
+        ensures { IsTrue false → ⊥ }
+    {}
 }

@@ -18,7 +18,7 @@ const MOST: u64 = 1 << 62;
 const AGAIN: u32 = 16;
 
 /// A file of the system, as a disk that doesn't tell its bytes. After a sync that failed each write and each sync
-/// fails: what the system then shows of the file may not be on the disk.
+/// fails: what the system then shows of the file may not be on the disk, and a second sync may succeed all the same.
 ///
 /// Contracts see the count of faults.
 #[derive(Drop)]
@@ -72,6 +72,13 @@ impl FileDisk {
     /// Whether a sync has failed, so that no further write is taken.
     pub fn is_over(&self) -> bool {
         self.is_over
+    }
+
+    /// Cuts the file to nothing, and syncs that where it can be. Whether it was cut.
+    pub(crate) fn cut(&self) -> bool {
+        let is_cut = self.file.set_len(0).is_ok();
+        let _ = self.file.sync_all();
+        is_cut
     }
 
     /// Closes the file. How many faults were counted.
@@ -167,4 +174,6 @@ impl Disk for FileDisk {
             }
         }
     }
+
+    fn law_may_leave_seen(&self) {}
 }

@@ -6,8 +6,9 @@ use crate::reason::Reason;
 use cr_disks::Disks;
 use cr_ports::KeeperError;
 use std::fs::{self, File, OpenOptions, TryLockError};
-use std::io::ErrorKind;
+use std::io::{self, ErrorKind};
 use std::marker::Model;
+use std::os::fd::AsRawFd;
 use std::os::unix::fs::OpenOptionsExt;
 use std::rt::HostRuntime;
 
@@ -59,32 +60,44 @@ fn sync_folder(rt: &HostRuntime, path: &str) -> Result<(), Reason> {
     }
 }
 
-/// Opens a file, which is made where it is missing, and tells how many bytes it has.
-fn open_or_make(rt: &HostRuntime, path: &str) -> Result<(File, u64), Reason> {
+/// Opens a file, which is made where it is missing.
+fn open_or_make(rt: &HostRuntime, path: &str) -> Result<File, Reason> {
     make_missing(rt, path)?;
-    let len = match fs::metadata(rt, path) {
-        Ok(found) if found.is_file() => found.len(),
+    match fs::metadata(rt, path) {
+        Ok(found) if found.is_file() => {}
         Ok(_) => return Err(Reason::NoFile),
         Err(error) => return Err(Reason::System(error)),
-    };
-    match OpenOptions::new().read(true).write(true).open(rt, path) {
-        Ok(file) => Ok((file, len)),
-        Err(error) => Err(Reason::System(error)),
     }
+    OpenOptions::new()
+        .read(true)
+        .write(true)
+        .open(rt, path)
+        .map_err(Reason::System)
 }
 
-/// Opens a file and holds it for this process. The folder of an empty one is synced, whoever made it: an earlier start
-/// may have been stopped, or refused, ahead of that.
+/// Syncs a file, and has the system let go of the pages that it keeps of it in memory, to its end: so reads give what
+/// the disk has. A sync that failed under an earlier process leaves pages that the disk lacks and that no later sync
+/// writes, since they count as written.
+fn settle(file: &File) -> io::Result<()> {
+    file.sync_all()?;
+    let advised = libc::posix_fadvise(file.as_raw_fd(), 0, 0, libc::POSIX_FADV_DONTNEED);
+    if advised != 0 {
+        return Err(io::Error::from_raw_os_error(advised));
+    }
+    Ok(())
+}
+
+/// Opens a file and holds it for this process, with all that it has on the disk, and its name too, whoever made it, or
+/// put it there: an earlier process may have been stopped, or refused, ahead of that.
 fn open_held(rt: &HostRuntime, path: &str) -> Result<File, Reason> {
-    let (file, len) = open_or_make(rt, path)?;
+    let file = open_or_make(rt, path)?;
     match file.try_lock() {
         Ok(()) => {}
         Err(TryLockError::WouldBlock) => return Err(Reason::Busy),
         Err(TryLockError::Error(error)) => return Err(Reason::System(error)),
     }
-    if len == 0 {
-        sync_folder(rt, path)?;
-    }
+    settle(&file).map_err(Reason::System)?;
+    sync_folder(rt, path)?;
     Ok(file)
 }
 
@@ -114,11 +127,14 @@ impl Disks for FileDisks {
 
     ghost left = { λ _ _ _ _. ⊥ };
 
+    ghost may_leave = { λ _ _ _. ⊥ };
+
     ghost has_opened = { λ _ _. ⊤ };
 
     ghost faults = { λ d. d };
 
-    /// Makes the file where it is missing, for its owner alone, and syncs the folder of one without bytes.
+    /// Makes the file where it is missing, for its owner alone. File and folder are synced, and reads give what the disk
+    /// has.
     fn open(&mut self, path: &str) -> Result<FileDisk, KeeperError> {
         match open_held(&self.rt, path) {
             Ok(file) => Ok(FileDisk::new(file)),
@@ -137,5 +153,12 @@ impl Disks for FileDisks {
     fn shut(&mut self, _path: &str, disk: FileDisk) {
         self.reason = disk.reason().or(self.reason);
         self.faults = self.faults.saturating_add(disk.into_faults());
+    }
+
+    /// Cuts the file to nothing, so that it keeps its owner and its mode, and closes it.
+    fn discard(&mut self, path: &str, disk: FileDisk) -> bool {
+        let is_cut = disk.cut();
+        self.shut(path, disk);
+        is_cut
     }
 }

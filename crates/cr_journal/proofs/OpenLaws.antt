@@ -1,9 +1,10 @@
 -- What the calls of an opening come to.
 use Rattle.std.proofs.Common.{◌≡◌, ◌∙◌, ℕ, ◌+◌, ◌<◌, ◌^◌, false, List, [], ◌∷◌, ◌++◌, take, drop, sym, ap, subst, arith}
-use Rattle.std.proofs.Common.{append_assoc}
+use Rattle.std.proofs.Common.{append_assoc, refl}
+use Rattle.std.proofs.lemmas.List.{append-nil}
 use Rattle.cr_base.specs.declared.row.Row.{Row}
 use Rattle.cr_disks.specs.Disk.{Only}
-use Rattle.cr_journal.specs.Grammar.{FitsGroup, payload}
+use Rattle.cr_journal.specs.Grammar.{FitsGroup, empty_journal, payload}
 use Rattle.cr_journal.specs.Keeping.{GateRead, IsAtGate, Keeps, rows_of}
 use Rattle.cr_journal.specs.declared.opening.Gate.{Gate}
 use Rattle.cr_journal.specs.declared.opening.Gate.TheVariants as gates
@@ -54,3 +55,16 @@ opened_keeps seen may_leave journal rows doubt off none s closed only = record {
     doubt = λ on. not_both journal.in_doubt off on;
   };
 }
+
+-- a new journal has its gate behind the magic, and no groups
+pub new_found : (file : List ℕ) (gate : ℕ) (rows : List Row) → gate ≡ 8 → file ≡ empty_journal
+    → (groups : List (List Row)) × IsAtGate file gate groups × GateRead gates.Closed (drop gate file)
+    × (rows ≡ rows ++ rows_of groups)
+new_found file gate rows at made = (
+  [],
+  subst (λ (n : ℕ). IsAtGate file n []) (sym at)
+      (subst (λ (l : List ℕ). IsAtGate l 8 []) (sym made)
+      (record { fit = tt; sized = tt; size = refl; before = refl })),
+  (0, [], omega arith, λ i. drop (at i) (made i)),
+  sym (append-nil rows),
+)

@@ -1,7 +1,8 @@
 -- What a shelf of journals tells of the rows at its paths.
-use Rattle.std.proofs.Common.{◌≡◌, ◌≢◌, inl, inr, ℕ, List, [], ◌∷◌, ◌++◌, Bool, true, false, Option, Some, None}
+use Rattle.std.proofs.Common.{◌≡◌, ◌≢◌, inl, inr, ℕ, List, [], ◌++◌, Bool, true, false, Option, Some, None}
 use Rattle.std.proofs.Common.{Result, Err, refl, sym, ap, subst, ◌∙◌}
-use Rattle.std.specs.Prelude.{IfSome, IsTrue}
+use Rattle.std.proofs.Math.Path.{fun_ext}
+use Rattle.std.specs.Prelude.{IfSome, IsFalse, IsTrue}
 use Rattle.cr_base.specs.declared.row.Row.{Row}
 use Rattle.cr_disks.specs.Disk.{with_bytes}
 use Rattle.cr_ports.specs.Shelving.{StandsAfter, StaysOpened}
@@ -28,29 +29,34 @@ told_same true old new path result is =
     inl (λ other. ap (λ (files : List ℕ → List ℕ). stored_rows (files other)) (is refl))
 told_same false old new path result is = inl (λ other. refl)
 
--- a file was given back with these bytes, its own where it had any
-pub told_failed : {K : Type 0} (b : Bool) (old mid new : List ℕ → List ℕ) (path seen : List ℕ)
-    → (IsTrue b → mid ≡ old) → (IsTrue b → old path ≢ [] → seen ≡ old path)
-    → (IsTrue b → new ≡ with_bytes mid path seen)
-    → StaysOpened {K = K} b path (Err Failed) (rows_at b old) (rows_at b new)
-told_failed {K} false old mid new path seen same spared put = inl (λ other. refl)
-told_failed {K} true old mid new path seen same spared put = go (old path) refl
-  where
-    is : new ≡ with_bytes old path seen
-    is = put refl ∙ ap (λ (files : List ℕ → List ℕ). with_bytes files path seen) (same refl)
+-- a file was given back with the bytes that it had
+pub as_were : (old mid new : List ℕ → List ℕ) (path seen : List ℕ) → mid ≡ old → seen ≡ old path
+    → new ≡ with_bytes mid path seen → new ≡ old
+as_were old mid new path seen same own put =
+    fun_ext (λ other. ap (λ (files : List ℕ → List ℕ). files other) put
+    ∙ (λ i. with_bytes (same i) path (own i) other)
+    ∙ cond_same path other old)
 
-    go : (bytes : List ℕ) → old path ≡ bytes
-        → StaysOpened {K = K} true path (Err Failed) (rows_at true old) (rows_at true new)
-    go [] none = inr (
-      refl,
-      refl,
-      ap stored_rows none,
-      λ other apart. ap stored_rows (ap (λ (files : List ℕ → List ℕ). files other) is ∙ cond_apart path other seen
-          (old other) apart),
-    )
-    go (b ∷ bytes) some = inl (λ other. ap stored_rows (ap (λ (files : List ℕ → List ℕ). files other) is
-        ∙ ap (λ (s : List ℕ). with_bytes old path s other) (spared refl (λ none. absurd (cc (none, some))))
-        ∙ cond_same path other old))
+-- a file that was empty was given back with none, or with these bytes
+pub put_some : (mid new : List ℕ → List ℕ) (path seen : List ℕ) (is_gone : Bool)
+    → (IsTrue is_gone → new ≡ with_bytes mid path []) → (IsFalse is_gone → new ≡ with_bytes mid path seen)
+    → (bytes : List ℕ) × (new ≡ with_bytes mid path bytes)
+put_some mid new path seen true gone kept = ([], gone refl)
+put_some mid new path seen false gone kept = (seen, kept refl)
+
+pub told_half : {K : Type 0} (b : Bool) (old mid new : List ℕ → List ℕ) (path : List ℕ)
+    → (IsTrue b → mid ≡ old) → (IsTrue b → old path ≡ [])
+    → (IsTrue b → (bytes : List ℕ) × (new ≡ with_bytes mid path bytes))
+    → StaysOpened {K = K} b path (Err Failed) (rows_at b old) (rows_at b new)
+told_half false old mid new path same none put = inl (λ other. refl)
+told_half true old mid new path same none put = inr (
+  refl,
+  refl,
+  ap stored_rows (none refl),
+  λ other apart. ap stored_rows (ap (λ (files : List ℕ → List ℕ). files other)
+      ((put refl).1 ∙ ap (λ (files : List ℕ → List ℕ). with_bytes files path (put refl).0) (same refl))
+      ∙ cond_apart path other (put refl).0 (old other) apart),
+)
 
 -- a keeper was shut
 pub told_after : (b : Bool) (old new : List ℕ → List ℕ) (path seen : List ℕ) (rows : List Row) (tried : List (List Row))

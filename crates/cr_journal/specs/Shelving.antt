@@ -5,12 +5,13 @@ use Rattle.cr_base.specs.declared.row.Row.{Row}
 use Rattle.cr_journal.specs.Grammar.{IsJournalOf}
 use Rattle.cr_journal.specs.Stored.{stored_rows}
 
--- its disks, how many files were no journals, whether the last that was to be opened is none, and the disk of the last
--- journal as it was when that was open
+-- its disks, how many files were no journals, whether the last that was to be opened is none, or was left half made, and
+-- the disk of the last journal as it was when that was open
 pub record Shelved (D F : Type 0) : Type 0 where
   pub disks : D
   pub refused : ℕ
   pub found_none : Bool
+  pub left_half_made : Bool
   pub last : Option F
 
 -- the moment at which that was open

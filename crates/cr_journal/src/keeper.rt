@@ -3,12 +3,13 @@ ghost use Rattle.std.specs.Prelude.{◌≡◌, ◌≢◌, ◌<◌, ◌≤◌, �
 ghost use Rattle.std.specs.Prelude.{Err, Some, false, true, vec_len, vec_capacity, IfOk, IfErr, OnOk, OnErr, IsTrue};
 ghost use Rattle.cr_base.specs.declared.row.Row.{Row};
 ghost use Rattle.cr_disks.specs.Disk.{Only};
+ghost use Rattle.cr_ports.specs.Count.{Rises};
 ghost use Rattle.cr_ports.specs.Stopping.{LeavesOnly, TriedAfter};
 ghost use Rattle.cr_ports.specs.Keeping.{HasCause, and_rows};
 ghost use Rattle.cr_journal.specs.Grammar.{empty_journal, field, payload, FitsGroup, IsJournalOf};
 ghost use Rattle.cr_journal.specs.Keeping.{Keeps, OpenCause, Opens, OpensTo, rows_of};
 ghost use Rattle.cr_journal.specs.Standing.{doubted};
-ghost use Rattle.cr_journal.specs.declared.opening.OpenError.TheVariants.{NoJournal};
+ghost use Rattle.cr_journal.specs.declared.opening.OpenError.TheVariants.{NoJournal, NotMade};
 
 use crate::opening::{OpenError, open_or_make};
 use crate::state::Journal;
@@ -160,7 +161,8 @@ impl<D: Disk> JournalKeeper<D> {
     /// A keeper of the rows that the disk's file has as a journal. An empty file becomes a journal of no rows. All of
     /// it is read, once it is synced.
     ///
-    /// `Failed` comes only where the disk failed, and `NoJournal` only where its bytes are no journal of any groups.
+    /// `Failed` comes only where the disk failed, which then has the bytes that it had; `NotMade` only where it failed and
+    /// had none, and may now have some; and `NoJournal` only where its bytes are no journal of any groups.
     pub fn open(alloc: Global, mut disk: D) -> Result<Self, (OpenError, D)>
         ensures found { IsTrue D.tells → IfOk result (λ k. (groups : List (List Row))
             × IsJournalOf groups (D.seen k.disk) × (rows_of groups ≡ k.rows)) }
@@ -168,11 +170,14 @@ impl<D: Disk> JournalKeeper<D> {
         ensures made { IsTrue D.tells → D.seen disk ≡ [] → IfOk result (λ k. D.seen k.disk ≡ empty_journal) }
         ensures durable { IsTrue D.tells → IfOk result (λ k. Only (D.seen k.disk) (D.may_leave k.disk)) }
         ensures settled { IfOk result (λ k. k.doubted ≡ []) }
-        ensures spared { IsTrue D.tells → D.seen disk ≢ [] → IfErr result (λ e. D.seen e.1 ≡ D.seen disk) }
+        ensures spared { IsTrue D.tells → IfErr result (λ e. e.0 ≢ NotMade → D.seen e.1 ≡ D.seen disk) }
+        ensures empty { IsTrue D.tells → IfErr result (λ e. e.0 ≡ NotMade → D.seen disk ≡ []) }
         ensures none { IsTrue D.tells → IfErr result (λ e. e.0 ≡ NoJournal → (D.seen disk ≢ [])
             × ((groups : List (List Row)) → IsJournalOf groups (D.seen disk) → ⊥)) }
         ensures steady { IfOk result (λ k. D.faults k.disk ≡ D.faults disk) }
-        ensures cause { IfErr result (λ e. OpenCause {T = ℕ} (D.faults disk) (D.faults e.1) (Err e.0)) }
+        ensures cause { IfErr result
+            (λ e. e.0 ≢ NotMade → OpenCause {T = ℕ} (D.faults disk) (D.faults e.1) (Err e.0)) }
+        ensures not_made { IfErr result (λ e. e.0 ≡ NotMade → Rises (D.faults disk) (D.faults e.1)) }
     {
         let mut rows = Vec::new(alloc);
         match open_or_make(alloc, &mut disk, &mut rows) {

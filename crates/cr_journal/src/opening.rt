@@ -1,12 +1,13 @@
 //! A journal out of a file.
 ghost use Rattle.std.specs.Prelude.{◌≡◌, ◌≢◌, ◌↔◌, ◌≤◌, ◌<◌, ◌+◌, ◌-◌, ◌^◌, ◌++◌, [], ◌∷◌, List, ℕ, length, take, drop};
-ghost use Rattle.std.specs.Prelude.{IfOk, OnOk, IsTrue, Ok, Err};
+ghost use Rattle.std.specs.Prelude.{IfOk, OnErr, OnOk, IsTrue, Ok, Err};
 ghost use Rattle.cr_base.specs.declared.row.Row.{Row};
 ghost use Rattle.cr_disks.specs.Disk.{Only, HasCause, ReadHasCause};
+ghost use Rattle.cr_ports.specs.Count.{Rises};
 ghost use Rattle.cr_ports.specs.Stream.{FillsWithin};
 ghost use Rattle.cr_journal.specs.Grammar.{magic, empty_journal, payload, FitsGroup, IsJournalOf};
 ghost use Rattle.cr_journal.specs.Keeping.{rows_of, IsAtGate, GateRead, OpenCause, ReadsOn};
-ghost use Rattle.cr_journal.specs.declared.opening.OpenError.TheVariants.{NoJournal};
+ghost use Rattle.cr_journal.specs.declared.opening.OpenError.TheVariants.{NoJournal, NotMade};
 ghost use Rattle.cr_journal.specs.declared.opening.Gate.TheVariants.{Closed, Open};
 
 use crate::reading::{number_at, read_rows};
@@ -20,6 +21,8 @@ use std::alloc::{AllocError, Global};
 pub enum OpenError {
     /// The disk failed, which it counted.
     Failed,
+    /// The disk failed while an empty file was made a journal, which it counted. What the file has may be none.
+    NotMade,
     /// The file is no journal.
     NoJournal,
     /// Out of memory.
@@ -162,6 +165,7 @@ fn read_payload<D: Disk>(
     ensures whole { IsTrue D.tells → result ≢ Err NoJournal }
     ensures seen { IsTrue D.tells → D.seen disk.new ≡ D.seen disk.old }
     ensures crash { IsTrue D.tells → (image : List ℕ) → D.may_leave disk.new image → D.may_leave disk.old image }
+    ensures reads { result ≢ Err NotMade }
     ensures cause { OpenCause (D.faults disk.old) (D.faults disk.new) result }
 {
     let mut bytes = Vec::new(alloc);
@@ -189,6 +193,7 @@ fn read_group<D: Disk>(
         → (group : List Row) → FitsGroup group → take len (drop at (D.seen disk.old)) ≡ payload group → ⊥ }
     ensures seen { IsTrue D.tells → D.seen disk.new ≡ D.seen disk.old }
     ensures crash { IsTrue D.tells → (image : List ℕ) → D.may_leave disk.new image → D.may_leave disk.old image }
+    ensures reads { result ≢ Err NotMade }
     ensures cause { OpenCause (D.faults disk.old) (D.faults disk.new) result }
 {
     let bytes = read_payload(alloc, disk, at, len)?;
@@ -216,6 +221,7 @@ fn read_groups<D: Disk>(
         → (groups : List (List Row)) → IsJournalOf groups (D.seen disk.old) → ⊥ }
     ensures seen { IsTrue D.tells → D.seen disk.new ≡ D.seen disk.old }
     ensures crash { IsTrue D.tells → (image : List ℕ) → D.may_leave disk.new image → D.may_leave disk.old image }
+    ensures reads { result ≢ Err NotMade }
     ensures cause { OpenCause (D.faults disk.old) (D.faults disk.new) result }
 {
     let mut at = 8;
@@ -246,13 +252,12 @@ fn begins<D: Disk>(disk: &mut D) -> Result<bool, DiskFailed>
 }
 
 /// Makes a journal of no groups of an empty file. The offset of its gate.
-fn make<D: Disk>(disk: &mut D) -> Result<u64, OpenError>
+fn make<D: Disk>(disk: &mut D) -> Result<u64, DiskFailed>
     requires { IsTrue D.tells → D.seen disk.old ≡ [] }
     ensures gate { IfOk result (λ gate. gate ≡ 8) }
     ensures made { IsTrue D.tells → OnOk result (D.seen disk.new ≡ empty_journal) }
     ensures durable { IsTrue D.tells → OnOk result (Only (D.seen disk.new) (D.may_leave disk.new)) }
-    ensures never { result ≢ Err NoJournal }
-    ensures cause { OpenCause (D.faults disk.old) (D.faults disk.new) result }
+    ensures cause { HasCause (D.faults disk.old) (D.faults disk.new) result }
 {
     disk.write_at(0, &[67, 79, 78, 70, 68, 74, 48, 49, 0])?;
     disk.sync()?;
@@ -276,6 +281,7 @@ fn read_all<D: Disk>(
         → (groups : List (List Row)) → IsJournalOf groups (D.seen disk.old) → ⊥ }
     ensures seen { IsTrue D.tells → D.seen disk.new ≡ D.seen disk.old }
     ensures durable { IsTrue D.tells → OnOk result (Only (D.seen disk.new) (D.may_leave disk.new)) }
+    ensures reads { result ≢ Err NotMade }
     ensures cause { OpenCause (D.faults disk.old) (D.faults disk.new) result }
 {
     disk.sync()?;
@@ -297,14 +303,20 @@ pub(crate) fn open_or_make<D: Disk>(
         × (rows.new.items ≡ rows.old.items ++ rows_of groups)) }
     ensures seen { IsTrue D.tells → D.seen disk.old ≢ [] → D.seen disk.new ≡ D.seen disk.old }
     ensures made { IsTrue D.tells → D.seen disk.old ≡ [] → OnOk result (D.seen disk.new ≡ empty_journal) }
+    ensures spared { IsTrue D.tells → OnErr result (result ≢ Err NotMade → D.seen disk.new ≡ D.seen disk.old) }
+    ensures empty { IsTrue D.tells → result ≡ Err NotMade → D.seen disk.old ≡ [] }
     ensures none { IsTrue D.tells → result ≡ Err NoJournal → (D.seen disk.old ≢ [])
         × ((groups : List (List Row)) → IsJournalOf groups (D.seen disk.old) → ⊥) }
     ensures durable { IsTrue D.tells → OnOk result (Only (D.seen disk.new) (D.may_leave disk.new)) }
-    ensures cause { OpenCause (D.faults disk.old) (D.faults disk.new) result }
+    ensures cause { result ≢ Err NotMade → OpenCause (D.faults disk.old) (D.faults disk.new) result }
+    ensures not_made { result ≡ Err NotMade → Rises (D.faults disk.old) (D.faults disk.new) }
 {
     let size = disk.len()?;
     if size == 0 {
-        return make(disk);
+        return match make(disk) {
+            Ok(gate) => Ok(gate),
+            Err(DiskFailed) => Err(OpenError::NotMade),
+        };
     }
     read_all(alloc, disk, size, rows)
 }

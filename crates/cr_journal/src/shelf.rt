@@ -23,13 +23,14 @@ use std::snapshot::Snapshot;
 /// Opens the files of disks as journals.
 ///
 /// Contracts see its disks, how many files were opened that are no journals, whether the last that was to be opened is
-/// none, and the disk of the journal that was opened last, as it was then.
+/// none, or was left half made, and the disk of the journal that was opened last, as it was then.
 #[derive(Drop)]
 pub struct JournalShelf<D: Disks> {
     alloc: Global,
     disks: D,
     refused: u64,
     found_none: bool,
+    left_half_made: bool,
     last: Option<Snapshot<D::Disk>>,
 }
 
@@ -44,6 +45,7 @@ impl<D: Disks> Model for JournalShelf<D> {
       disks = s.disks;
       refused = s.refused;
       found_none = s.found_none;
+      left_half_made = s.left_half_made;
       last = option_map (λ (disk : Snapshot D.Disk). disk.value) s.last;
     } };
 }
@@ -67,12 +69,14 @@ impl<D: Disks> JournalShelf<D> {
         ensures disks { result.disks ≡ disks }
         ensures refused { result.refused ≡ 0 }
         ensures none { IsFalse result.found_none }
+        ensures whole { IsFalse result.left_half_made }
     {
         JournalShelf {
             alloc,
             disks,
             refused: 0,
             found_none: false,
+            left_half_made: false,
             last: None,
         }
     }
@@ -90,6 +94,14 @@ impl<D: Disks> JournalShelf<D> {
     {
         self.found_none
     }
+
+    /// Whether the last file that it was to open was to be made a journal, which failed, and what was made of it could
+    /// not be taken away.
+    pub fn left_half_made(&self) -> bool
+        ensures { result ≡ self.now.left_half_made }
+    {
+        self.left_half_made
+    }
 }
 
 impl<D: Disks> Shelf for JournalShelf<D> {
@@ -105,7 +117,8 @@ impl<D: Disks> Shelf for JournalShelf<D> {
 
     ghost left = { λ s path image. D.left s.disks path (opened_at D.Disk.moment s) image };
 
-    /// A file that is missing or empty becomes a journal of no rows. All of it is read, once it is synced.
+    /// A file that is missing or empty becomes a journal of no rows, or stays empty where it can't be made one, unless
+    /// what was made can't be taken away again. All of it is read, once it is synced.
     fn open(&mut self, path: &str) -> Result<JournalKeeper<D::Disk>, KeeperError>
         ensures found { IfOk result (λ k. IfSome (rows_at D.Disk.tells (D.files self.old.disks) path.now)
             (λ there. Some k.rows ≡ Some there)) }
@@ -123,12 +136,20 @@ impl<D: Disks> Shelf for JournalShelf<D> {
             × IsJournalOf groups (D.Disk.seen k.disk) × (rows_of groups ≡ k.rows)) }
         ensures file { IsTrue D.Disk.tells → D.files self.old.disks path.now ≢ []
             → IfOk result (λ k. D.Disk.seen k.disk ≡ D.files self.old.disks path.now) }
+        // Once it is open a stop leaves what was read, whatever it might have left before.
+        ensures durable { IsTrue D.Disk.tells → IfOk result (λ k. Only (D.Disk.seen k.disk) (D.Disk.may_leave k.disk)) }
         ensures files { IsTrue D.Disk.tells → result ≢ Err Failed → D.files self.new.disks ≡ D.files self.old.disks }
 
         // It fails only where the disks or a disk failed, or where the file is no journal.
         ensures failed { result ≡ Err Failed → Rises (D.faults self.old.disks) (D.faults self.new.disks)
             ⊎ (Rises self.old.refused self.new.refused
             × (IsTrue D.Disk.tells → IsNoJournal (D.files self.old.disks path.now))) }
+
+        // Where it fails each file is as it was, unless it is told that a part of a new journal was left in an empty one.
+        ensures spared { IsTrue D.Disk.tells → result ≡ Err Failed → IsFalse self.new.left_half_made
+            → D.files self.new.disks ≡ D.files self.old.disks }
+        ensures half_made { IsTrue self.new.left_half_made → (result ≡ Err Failed)
+            × (IsTrue D.Disk.tells → D.files self.old.disks path.now ≡ []) }
 
         // Which of both it was stays known until the next file is to be opened.
         ensures none { IsTrue self.new.found_none → (result ≡ Err Failed) × Rises self.old.refused self.new.refused
@@ -137,6 +158,7 @@ impl<D: Disks> Shelf for JournalShelf<D> {
             × (result ≡ Err Failed → Rises (D.faults self.old.disks) (D.faults self.new.disks)) }
     {
         self.found_none = false;
+        self.left_half_made = false;
         let disk = self.disks.open(path)?;
         match JournalKeeper::open(self.alloc, disk) {
             Ok(keeper) => {
@@ -144,6 +166,10 @@ impl<D: Disks> Shelf for JournalShelf<D> {
                 Ok(keeper)
             }
             Err((OpenError::OutOfMemory, _)) => Err(KeeperError::OutOfMemory),
+            Err((OpenError::NotMade, disk)) => {
+                self.left_half_made = !self.disks.discard(path, disk);
+                Err(KeeperError::Failed)
+            }
             Err((error, disk)) => {
                 self.disks.shut(path, disk);
                 self.found_none = refuse(&mut self.refused, error);

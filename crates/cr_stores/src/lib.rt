@@ -73,7 +73,11 @@ impl FileShelf {
         if self.journals.found_none() {
             return Some(Reason::NoJournal);
         }
-        self.journals.disks().reason().map(Reason::File)
+        let reason = self.journals.disks().reason();
+        if self.journals.left_half_made() {
+            return reason.map(Reason::HalfMade);
+        }
+        reason.map(Reason::File)
     }
 }
 

@@ -8,6 +8,8 @@ pub enum Reason {
     Database(cr_sqlite::Reason),
     /// The file of a journal couldn't be had, read or written.
     File(cr_files::Reason),
+    /// A new journal couldn't be made, and what was made of it stayed.
+    HalfMade(cr_files::Reason),
     /// The bytes of the file are no journal.
     NoJournal,
 }
@@ -17,6 +19,10 @@ impl fmt::Display for Reason {
         match self {
             Reason::Database(reason) => write!(f, "{reason}"),
             Reason::File(reason) => write!(f, "{reason}"),
+            Reason::HalfMade(reason) => write!(
+                f,
+                "{reason}; a part of a new journal is left: remove the file ahead of the next start"
+            ),
             Reason::NoJournal => f.write_str("the file is no journal"),
         }
     }

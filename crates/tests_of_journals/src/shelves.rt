@@ -69,6 +69,28 @@ fn a_disk_that_fails_is_told(rt: HostRuntime) -> Result<(), Fail> {
         let mut shelf = JournalShelf::new(alloc, disks(alloc, failing));
         assert!(rt; keep_one(&mut shelf, "one.cj") == Err(KeeperError::Failed));
         assert!(rt; !shelf.found_none());
+        assert!(rt; !shelf.left_half_made());
+        assert!(rt; shelf.disks().bytes_at("one.cj").is_empty());
     }
+    Ok(())
+}
+
+/// How many calls the record of a disk over the file at the path has when it is opened.
+fn recorded(disks: &mut MemDisks, path: &str) -> Result<usize, KeeperError> {
+    let disk = disks.open(path)?;
+    let many = disk.calls().len();
+    disks.shut(path, disk);
+    Ok(many)
+}
+
+#[test]
+fn an_opening_takes_nothing_for_synced(rt: HostRuntime) -> Result<(), Fail> {
+    let alloc = rt.alloc();
+    let mut disks = disks(alloc, Vec::new(alloc));
+    assert!(rt; recorded(&mut disks, "one.cj") == Ok(0));
+    let written = write(&mut disks, "one.cj", b"a text").is_ok();
+    assert!(rt; written);
+    assert!(rt; recorded(&mut disks, "one.cj") == Ok(1));
+    assert_eq!(rt; disks.bytes_at("one.cj"), b"a text".as_slice());
     Ok(())
 }

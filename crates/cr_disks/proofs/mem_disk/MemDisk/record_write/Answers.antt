@@ -1,5 +1,8 @@
-use Rattle.std.proofs.Common.{◌≡◌, ◌≤◌, ◌∙◌, ap, arith, length}
-use Rattle.cr_disks.specs.Held.{Held, settled, state_after, states_before}
+use Rattle.std.proofs.Common.{◌≡◌, ◌≤◌, ◌∙◌, [], ◌∷◌, ap, arith, length, length-append, refl, subst, sym}
+use Rattle.cr_disks.specs.Held.{DiskState, Held, after_call, left_in, settled, state_after, states_before}
+use Rattle.cr_disks.specs.declared.mem_disk.DiskCall.{DiskCall}
+use Rattle.cr_disks.specs.declared.mem_disk.DiskCall.TheVariants.{Wrote}
+use Rattle.cr_disks.proofs.Images.{seen_written}
 use Rattle.cr_disks.proofs.Putting.{holds-length}
 use Rattle.cr_disks.proofs.Record.{write-past, write-seen, write-state, write-total}
 use Rattle.cr_disks.proofs.mem_disk.MemDisk.record_write.Goals as goal
@@ -13,6 +16,10 @@ invariant_of-self c =
     let bytes : length inside.bytes.items ≡ length c.args.self.now.bytes =
     ap (λ (d : Held). length d.bytes) c.self.view_is in
     let within : c.args.at ≤ length inside.bytes.items = omega (arith, bytes, c.requires.inside) in
+    let call : DiskCall = Wrote c.args.at (length c.args.piece.now) c.args.len in
+    let state : DiskState = state_after inside.calls.items inside.put.items (settled inside.first.items) in
+    let after = write-state inside.first.items inside.put.items c.args.piece.now inside.calls.items c.args.at c.args.len
+    inv.1 in
     rw (c.push_reserved.ensures.items, c.append_within.ensures.items) (
       write-seen inside.first.items inside.put.items c.args.piece.now inside.bytes.items c.put_over.new.bytes.items
           inside.calls.items c.args.at c.args.len inv.1 inv.0 c.put_over.ensures.holds,
@@ -28,6 +35,10 @@ invariant_of-self c =
         holds-length c.args.at c.args.piece.now inside.bytes.items c.put_over.new.bytes.items within
             c.put_over.ensures.holds,
       ),
+      omega (arith, inv.6, length-append inside.calls.items (call ∷ [])),
+      subst (λ (s : DiskState). left_in s c.put_over.new.bytes.items) (sym after)
+          (seen_written c.args.at c.args.len c.args.piece.now inside.bytes.items c.put_over.new.bytes.items state
+          (after_call call c.args.piece.now state) within c.requires.few c.put_over.ensures.holds refl refl inv.7),
     )
 
 pub returns-clause-within : goal.returns-clause-within
