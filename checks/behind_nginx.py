@@ -186,43 +186,56 @@ def too_large(program, folder):
         expect(ask(port, "POST", "/register", body="x" * 4_194_305)[0] == 413, "a byte more")
 
 
-# What deploy/nginx.conf allows one client at once, and after how many seconds one registration more.
-REGISTRATIONS, UPLOADS, REQUESTS = 10, 20, 20
-NEXT_REGISTRATION = 10
+# What deploy/nginx.conf allows one client at once, and after how many seconds one more.
+REGISTRATIONS, NEXT_REGISTRATION = 10, 10
+UPLOADS, NEXT_UPLOAD = 20, 3
+REQUESTS = 20
+
+
+def expect_limit(act, code, most, pause):
+    """The act is taken as often as is allowed at once, and once more for each such pause; then it is 429."""
+    began = time.monotonic()
+    codes = [act(number) for number in range(most)]
+    while codes[-1] == code and len(codes) < 10 * most:
+        codes.append(act(len(codes)))
+    allowed = most + (time.monotonic() - began) / pause + 1
+    expect(set(codes[:-1]) == {code} and codes[-1] == 429, f"{len(codes)} times: {codes[-3:]}")
+    expect(most <= len(codes) - 1 <= allowed, f"{len(codes) - 1} were taken")
 
 
 def registrations(program, folder):
     """from one address ten registrations, then one in ten seconds; from another, and of other requests, as many as
     come"""
     with behind_nginx(program, folder) as port:
-        began = time.monotonic()
-        codes = [registered(port, f"user-{number}")[0] for number in range(REGISTRATIONS + 2)]
-        expect(codes == [201] * REGISTRATIONS + [429] * 2, codes)
+        expect_limit(lambda n: registered(port, f"user-{n}")[0], 201, REGISTRATIONS, NEXT_REGISTRATION)
         expect(registered(port, "other", "192.0.2.2")[0] == 201, "another address")
         codes = {ask(port, "GET", "/phase")[0] for _ in range(100)}
         expect(codes == {200}, f"reads: {codes}")
-        time.sleep(max(0, began + NEXT_REGISTRATION + 1 - time.monotonic()))
-        due = int((time.monotonic() - began) / NEXT_REGISTRATION)
-        codes = [registered(port, f"later-{number}")[0] for number in range(due + 2)]
-        expect(codes[:due] == [201] * due and codes[-1] == 429, f"later, {due} of them: {codes}")
+        time.sleep(NEXT_REGISTRATION)
+        expect(registered(port, "later")[0] == 201, "later")
 
 
 def networks(program, folder):
     """addresses of one network of IPv6 are one client"""
     with behind_nginx(program, folder) as port:
-        codes = [registered(port, f"user-{n}", f"2001:db8::{n:x}:1")[0] for n in range(REGISTRATIONS + 1)]
-        expect(codes == [201] * REGISTRATIONS + [429], codes)
+        def act(number):
+            return registered(port, f"user-{number}", f"2001:db8::{number:x}:1")[0]
+
+        expect_limit(act, 201, REGISTRATIONS, NEXT_REGISTRATION)
         expect(registered(port, "other", "2001:db8:0:1::1")[0] == 201, "another network")
 
 
 def uploads(program, folder):
-    """from one address twenty uploads at once, and reads of contents as many as come"""
+    """from one address twenty uploads, then one in three seconds, and reads of contents as many as come"""
     with behind_nginx(program, folder) as port:
         registered(port, "alice")
         ask(port, "POST", "/phase", "alice", '{"phase":"submission"}')
         ask(port, "POST", "/papers", "alice", '{"abstract":"","title":"Proofs"}')
-        codes = [ask(port, "PUT", "/papers/1/content", "alice", "x")[0] for _ in range(UPLOADS + 2)]
-        expect(codes[:UPLOADS] == [200] * UPLOADS and 429 in codes, codes)
+
+        def act(_):
+            return ask(port, "PUT", "/papers/1/content", "alice", "x")[0]
+
+        expect_limit(act, 200, UPLOADS, NEXT_UPLOAD)
         codes = {ask(port, "GET", "/papers/1/content", "alice")[0] for _ in range(50)}
         expect(codes == {200}, f"reads: {codes}")
         told = ask(port, "PUT", "/papers/1/content", "alice", "x", client="192.0.2.2")
