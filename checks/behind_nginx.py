@@ -19,6 +19,7 @@ import sys
 import threading
 import time
 
+from own_systemd import has_come
 from serve import serving
 from store import chosen, expect, run_all
 
@@ -249,8 +250,8 @@ def at_a_time(program, folder):
             slow = held.enter_context(socket.create_connection(("127.0.0.1", port)))
             slow = held.enter_context(unverified().wrap_socket(slow))
             slow.sendall(b"PUT /phase HTTP/1.1\r\nHost: c\r\nX-Real-IP: 192.0.2.1\r\nContent-Length: 60\r\n\r\n{")
-        time.sleep(1)
-        expect(ask(port, "GET", "/phase")[0] == 429, "one more")
+        # nginx counts a request once it has read its head.
+        expect(has_come(lambda: ask(port, "GET", "/phase")[0] == 429), "one more")
         expect(ask(port, "GET", "/phase", client="192.0.2.2")[0] == 200, "another address")
 
 
