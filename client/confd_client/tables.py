@@ -5,12 +5,14 @@ from __future__ import annotations
 import contextlib
 import csv
 import io
+import os
 import sys
 from collections.abc import Iterable, Sequence
 from dataclasses import dataclass
 from pathlib import Path
 
 from confd_client.errors import BadFile
+from confd_client.files import FILE_MODE
 
 
 @dataclass(frozen=True)
@@ -83,15 +85,22 @@ def read_text(path: Path) -> str:
         raise BadFile(path, cause.strerror or "can't be read") from cause
 
 
+def _for_its_owner(path: str, flags: int) -> int:
+    """Opens a file, which only its owner may read if it is made by that."""
+    return os.open(path, flags, FILE_MODE)
+
+
 def write_table(path: Path, columns: Sequence[str], rows: Iterable[Sequence[object]]) -> None:
-    """Makes a file with these columns, or writes it anew; `-` stands for standard output. Raises `BadFile` where that
-    fails."""
+    """Makes a file with these columns, for its owner alone, or writes one anew; `-` stands for standard output. Raises
+    `BadFile` where that fails."""
     try:
         with contextlib.ExitStack() as stack:
-            is_out = str(path) == "-"
-            file = sys.stdout if is_out else stack.enter_context(open(path, "w", encoding="utf-8", newline=""))
+            file = sys.stdout if str(path) == "-" else stack.enter_context(
+                open(path, "w", encoding="utf-8", newline="", opener=_for_its_owner))
             written = csv.writer(file, lineterminator="\n")
             written.writerow(columns)
             written.writerows(rows)
+    except BrokenPipeError:
+        raise
     except OSError as cause:
         raise BadFile(path, cause.strerror or "can't be written") from cause

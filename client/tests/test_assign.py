@@ -77,6 +77,7 @@ def test_a_row_that_is_refused(server: Server, tmp_path: Path) -> None:
     assert (told["error"], told["rule"], told["line"]) == ("row_refused", "target_conflict", 549)
     rest = tmp_path / "plan.csv.rest"
     left = rest.read_text().splitlines()
+    assert rest.stat().st_mode & 0o777 == 0o600
     assert left[0] == "paper,action,user,tag" and len(left) - 1 + told["done"] == 548 and told["done"] > 0
     rest.write_text("\n".join(left[:-1]))
     assert server.call("alice", "assign", rest).status == 0

@@ -137,6 +137,7 @@ def test_the_command(server: Server, tmp_path: Path) -> None:
     assert done.status == 0 and "by the server" in done.err
     theirs = path.read_text()
     assert theirs.splitlines()[0] == "paper,action,user,tag" and len(theirs.splitlines()) == 5
+    assert path.stat().st_mode & 0o777 == 0o600
     told = server.call("alice", "--json", "plan", "--per-paper", 1, "--load", 2, "--own").json()
     assert (told["sum"], told["by"], len(told["rows"])) == (2 * 5 + 2 * 3, "this program", 4)
     told = server.call("alice", "--json", "plan", "--per-paper", 1, "--load", 2, "--leave-out", "bob").json()
