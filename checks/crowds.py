@@ -33,8 +33,8 @@ SILENT, BETWEEN, WITHIN = 1, 0.1, 10
 GOAL = 2
 # The same where somebody may at once, by how much a busy machine may be late.
 LATE = 0.9
-# How many come at once, and how many papers each of them submits.
-FEW, PAPERS = 8, 15
+# How many come at once, how many more than wait may give way on a busy machine, and how many papers each submits.
+FEW, MORE, PAPERS = 8, 2, 15
 PHASE = request("GET", "/phase")
 
 
@@ -111,10 +111,9 @@ def silent(program, folder):
         begun = time.monotonic()
         with crowd(server) as (clients, held):
             next_waits(server, held, GOAL, begun, SILENT)
-            expect(are_ended(clients) == 1, "one connection gives way to one")
-            for count in range(2, 5):
+            for _ in range(3):
                 next_waits(server, held, LATE)
-                expect(are_ended(clients) == count, "one connection gives way to one")
+            expect(4 <= are_ended(clients) <= 4 + MORE, f"{are_ended(clients)} gave way to 4")
 
 
 def polite(program, folder):
@@ -126,7 +125,7 @@ def polite(program, folder):
                 begun = time.monotonic()
                 still = [client for client in clients if asks(client)]
                 gone = len(clients) - len(still)
-                expect(gone == 3 * (turn > 0), f"{gone} gave way")
+                expect(3 <= gone <= 3 + MORE if turn > 0 else gone == 0, f"{gone} gave way to {3 * (turn > 0)}")
                 clients = still + [next_waits(server, held, LATE, begun, BETWEEN) for _ in range(3)]
                 time.sleep(4 * (turn < 2))
 
@@ -171,7 +170,7 @@ def as_many_as_wait(program, folder):
             expect(waited < GOAL, f"they waited {waited:.1f} s")
             time.sleep(BETWEEN / 2)
             count = are_ended(clients)
-            expect(FEW <= count <= FEW + FEW // 4, f"{count} gave way to {FEW}")
+            expect(FEW <= count <= FEW + MORE, f"{count} gave way to {FEW}")
 
 
 # ---- what is kept of those who don't
@@ -250,14 +249,20 @@ def asked_as_it_gives_way(program, folder):
 # ---- what it costs
 
 
+def may_trace():
+    """Whether strace is there, and may trace."""
+    words = ["strace", "-o", os.devnull, "true"]
+    return shutil.which("strace") is not None and subprocess.run(words, stderr=subprocess.DEVNULL).returncode == 0
+
+
 @contextlib.contextmanager
 def traced(process, folder):
-    """The lines of what strace tells of a process meanwhile, once it is over; none where it may not trace."""
+    """The lines of what strace tells of a process meanwhile, once it is over."""
     path, lines = os.path.join(folder, "calls"), []
     strace = subprocess.Popen(["strace", "-f", "-o", path, "-p", str(process.pid)], stderr=subprocess.PIPE)
     # It says how many threads it attached to, or why it can't.
-    expect(b"attached" in strace.stderr.readline(), "strace may not trace")
-    time.sleep(0.5)
+    told = strace.stderr.readline()
+    expect(b"attached" in told, f"{told}")
     yield lines
     strace.send_signal(signal.SIGINT)
     strace.communicate()
@@ -267,27 +272,29 @@ def traced(process, folder):
 
 def calls(program, folder):
     """A request costs two calls of the system, however long the client waits before it; clients that wait cost none."""
-    if shutil.which("strace") is None:
-        print("left out: there is no strace")
+    if not may_trace():
+        print("left out: there is no strace, or it may not trace")
         return
-    with serving(program, os.path.join(folder, "store"), workers=WORKERS) as server, crowd(server) as (clients, _):
-        expect(all(asks(client) for client in clients for _ in range(2)), "a client that found a worker")
-        with traced(server.process, folder) as idle:
-            time.sleep(2)
-        expect(all(asks(client) for client in clients), "a client that waited")
-        with traced(server.process, folder) as lines:
-            for turn in range(100):
-                expect(asks(clients[0]), "a client that asks on")
-                time.sleep(2 * BETWEEN * (turn % 20 == 0))
+    with serving(program, os.path.join(folder, "store"), workers=WORKERS) as server:
+        with crowd(server) as (clients, _):
+            expect(all(asks(client) for client in clients), "a client that found a worker")
+            with traced(server.process, folder) as idle:
+                time.sleep(2)
+        with Client(server) as client:
+            expect(asks(client) and asks(client), "a client that found a worker")
+            with traced(server.process, folder) as lines:
+                for turn in range(100):
+                    time.sleep(2 * BETWEEN * (turn % 20 == 0))
+                    expect(asks(client), "a client that asks on")
     # The thread that looks who waits at the listener is none of the workers.
     found = collections.Counter()
     for line in lines:
         call = re.match(r"\d+ +(?:<\.\.\. )?(\w+)", line)
         if call is not None and "unfinished" not in line:
             found[call.group(1)] += 1
-    due = {"recvfrom": 100, "sendto": 100}
-    expect(all(abs(found[name] - count) <= 1 for name, count in due.items()), f"{found}")
-    expect(sum(found.values()) - found["recvfrom"] - found["sendto"] <= 10, f"{found}")
+    counts = found.pop("recvfrom", 0), found.pop("sendto", 0)
+    expect(all(99 <= count <= 101 for count in counts), f"{counts} reads and writes for 100 requests")
+    expect(sum(found.values()) <= 20, f"other calls: {found}")
     expect(len(idle) <= 3 * WORKERS, f"{len(idle)} calls in two seconds in which nothing was asked")
 
 
