@@ -6,7 +6,7 @@
 PROGRAM is `confd` as `rt run` builds it (crates/confd/out/confd where none is named); CHECK is a name out of CHECKS,
 all where none is told. Needs Python 3, and `cc` for
 checks/shim.c, which lets the calls fail; without a `cc` it ends well with a line that says so. Prints a line a check,
-and last `N passed, M failed`; ends with status 0 where none failed. Takes about a quarter of a minute.
+and last `N passed, M failed`; ends with status 0 where none failed. Takes about half a minute.
 """
 
 import collections
