@@ -35,6 +35,8 @@ GOAL = 2
 LATE = 0.9
 # How many come at once, how many more than wait may give way on a busy machine, and how many papers each submits.
 FEW, MORE, PAPERS = 8, 2, 15
+# How often what depends on how fast clients come is tried at most.
+TURNS = 5
 PHASE = request("GET", "/phase")
 
 
@@ -107,13 +109,18 @@ def dripping(clients):
 
 def silent(program, folder):
     """Behind 64 clients that send nothing the next is answered once they did so for a second."""
-    with serving(program, os.path.join(folder, "store"), workers=WORKERS) as server:
-        begun = time.monotonic()
-        with crowd(server) as (clients, held):
-            next_waits(server, held, GOAL, begun, SILENT)
-            for _ in range(3):
-                next_waits(server, held, LATE)
-            expect(4 <= are_ended(clients) <= 4 + MORE, f"{are_ended(clients)} gave way to 4")
+    for turn in range(TURNS):
+        with serving(program, os.path.join(folder, f"store{turn}"), workers=WORKERS) as server:
+            begun = time.monotonic()
+            with crowd(server) as (clients, held):
+                # On a busy machine they may have come for so long that the next needn't wait, which tells little.
+                is_young = time.monotonic() - begun < SILENT / 2
+                next_waits(server, held, GOAL, begun, SILENT)
+                for _ in range(3):
+                    next_waits(server, held, LATE)
+                expect(4 <= are_ended(clients) <= 4 + MORE, f"{are_ended(clients)} gave way to 4")
+        if is_young:
+            return
 
 
 def polite(program, folder):
