@@ -4,7 +4,7 @@ use Rattle.std.proofs.Common.{length-append, refl, sym, ap, subst, ◌∙◌, ar
 use Rattle.std.specs.Prelude.{is_none, unwrap_or, not, nat_le, nat_lt, ◌||◌, ◌&&◌, map}
 use Rattle.std.specs.List.{flat_map, list_any}
 use Rattle.std.specs.Option.{option_map}
-use Rattle.std.proofs.lemmas.Bool.{leb-false, true≢false}
+use Rattle.std.proofs.lemmas.Bool.{leb-false, true≢false, not-false}
 use Rattle.std.proofs.lemmas.Bool.Decides.{nat_tests}
 use Rattle.std.proofs.lemmas.List.{append-nil, length-map}
 use Rattle.cr_base.specs.History.{FormTold}
@@ -19,35 +19,27 @@ use Rattle.cr_base.specs.declared.entry.Stamp.{Stamp}
 use Rattle.cr_base.specs.declared.target.Target.{Target}
 use Rattle.cr_base.specs.declared.words.Role.{Role}
 use Rattle.cr_base.specs.declared.words.Role.TheVariants as roles
-use Rattle.cr_base.specs.Accounts.{number_at, lines_of, chair_count}
+use Rattle.cr_base.specs.Accounts.{number_at, lines_of}
 use Rattle.cr_base.specs.Calls.{call_by, maker_of}
-use Rattle.cr_base.specs.Checks.{NamedPaper, of_role, register_checks, phase_checks, deadline_checks, submit_checks}
-use Rattle.cr_base.specs.Checks.{revise_checks, upload_checks, name_checks, mode_checks, conflict_checks, bid_checks}
-use Rattle.cr_base.specs.Checks.{assign_checks, unassign_checks, target_is, review_checks, respond_checks}
-use Rattle.cr_base.specs.Checks.{comment_checks, tag_checks, decide_checks, dismiss_checks, invite_checks}
-use Rattle.cr_base.specs.Checks.{uninvite_checks}
-use Rattle.cr_base.specs.Drawn.{Drawn, grouped, registration, registration_drawn, phase_drawn, submission_drawn}
-use Rattle.cr_base.specs.Drawn.{revision_drawn, upload_drawn, withdrawal_drawn, naming_drawn, mode_drawn}
-use Rattle.cr_base.specs.Drawn.{conflict_drawn, bid_drawn, assignment_drawn, unassignment_drawn, review_drawn}
-use Rattle.cr_base.specs.Drawn.{comment_drawn, tag_drawn, decision_drawn, deadline_drawn, dismissal_drawn}
-use Rattle.cr_base.specs.Drawn.{invitation_drawn, uninvitation_drawn, response_drawn}
+use Rattle.cr_base.specs.Checks.{NamedPaper, of_role, register_checks, target_is}
+use Rattle.cr_base.specs.Deeds.{Deed, deed_at, drawn_by}
+use Rattle.cr_base.specs.Drawn.{Drawn, grouped, registration, registration_drawn}
 use Rattle.cr_base.specs.Invites.{is_invited_in}
 use Rattle.cr_base.specs.Judging.{judge_by_role}
 use Rattle.cr_base.specs.Sources.{Facts, own_forms_in, standing_at, facts_of_tables, shown_in_tables, user_among}
 use Rattle.cr_base.specs.Sources.{users_among, role_among, has_paper, paper_named, target_named}
-use Rattle.cr_base.specs.Papers.{paper_count, paper_numbers, uploads_at, own_count, own_bytes}
-use Rattle.cr_base.specs.Lists.{listed, is_number, at_some}
+use Rattle.cr_base.specs.Papers.{paper_count, paper_numbers, own_count, own_bytes}
+use Rattle.cr_base.specs.Lists.{listed, is_number}
 use Rattle.cr_base.specs.Pairs.{users_tied_to}
-use Rattle.cr_base.specs.Reviews.{forms_in, is_written_in, written_told}
+use Rattle.cr_base.specs.Reviews.{forms_in, written_told}
 use Rattle.cr_base.specs.Seats.{labels_in, ordinal_in}
 use Rattle.cr_base.specs.Stage.{is_late_in}
-use Rattle.cr_base.specs.TagTexts.{is_for_chairs}
 use Rattle.cr_base.specs.Talk.{comments_in, comment_as_told, own_comments_in, response_in}
 use Rattle.cr_base.specs.Tables.{Tables, FitInTurn}
 use Rattle.cr_base.specs.Ties.{authors_in, AreWithin}
 use Rattle.cr_base.specs.Words.{is_member}
 use Rattle.cr_base.proofs.AccountLaws.{judge_by_role-register, registration-fits}
-use Rattle.cr_base.proofs.CheckLaws.{judged-Ok, judged-none}
+use Rattle.cr_base.proofs.CheckLaws.{NoneBroken, judged-Ok, judged-none}
 use Rattle.cr_base.proofs.CoauthorLaws.{users-within, submission-fits}
 use Rattle.cr_base.proofs.ListLaws.{length-numbers_from, role_among-lines_of}
 use Rattle.cr_base.proofs.TargetLaws.{is_none-asked, target_within, paper_within}
@@ -150,11 +142,7 @@ own-seat : (t : Tables) (user paper : Option ℕ) → not (has_paper (facts_of_t
     → ordinal_in t.seats user (unwrap_or paper 0) ≡ Some (unwrap_or (ordinal_in t.seats user (unwrap_or paper 0)) 0)
 own-seat t user None there reviews = absurd (true≢false there)
 own-seat t user (Some p) there reviews =
-    some-where (ordinal_in t.seats user p) (by (is_some (ordinal_in t.seats user p)) reviews)
-  where
-    by : (b : Bool) → not b ≡ false → b ≡ true
-    by true h = refl
-    by false h = absurd (true≢false h)
+    some-where (ordinal_in t.seats user p) (not-false (is_some (ordinal_in t.seats user p)) reviews)
 
 -- where the papers that have ties are there
 module _ (t : Tables) (within : AreWithin (paper_count t.papers) t.ties) (stamp : Stamp) where
@@ -169,10 +157,10 @@ module _ (t : Tables) (within : AreWithin (paper_count t.papers) t.ties) (stamp 
   abbrev late : Bool
   late = is_late_in t.stage stamp.at
 
-  -- what a user's command draws fits; a registration's is the same for all
-  pub judged-fits : (command : Command) (drawn : Drawn) → judge_by_role t (call_by stamp command) ≡ Ok drawn
-      → FitInTurn t drawn.group
-  judged-fits (Register name digest) drawn accepted =
+  -- what a new user's registration draws fits
+  registered-fits : (name digest : List ℕ) (drawn : Drawn)
+      → judge_by_role t (call_by stamp (Register name digest)) ≡ Ok drawn → FitInTurn t drawn.group
+  registered-fits name digest drawn accepted =
       let n : ℕ = length t.accounts in
       let checks = register_checks (is_some (number_at t.accounts name)) n in
       let k = judged-Ok checks (registration_drawn stamp (n + 1) name digest) drawn
@@ -180,53 +168,48 @@ module _ (t : Tables) (within : AreWithin (paper_count t.papers) t.ties) (stamp 
       subst (λ (d : Drawn). FitInTurn t d.group) k.1
       (registration-in_turn t stamp (n + 1) name digest
       (registration-fits t.accounts name digest (n + 1) (sym (judged-none checks (n + 1) k.0))))
-  judged-fits (SetPhase to) drawn accepted =
-      let k = judged-Ok (phase_checks (standing_at t (Some maker) None) t.stage.phase to) (phase_drawn stamp to) drawn
-      accepted in
-      subst (λ (d : Drawn). FitInTurn t d.group) k.1
+
+  abbrev deed_of : Command → Deed
+  deed_of command = deed_at (facts_of_tables t (Some maker)) (shown_in_tables t) stamp command
+
+  -- what a deed of which no rule is broken draws fits
+  deed-fits : (command : Command) → NoneBroken (deed_of command).checks
+      → FitInTurn t (drawn_by stamp (deed_of command)).group
+  deed-fits (Register name digest) none =
+      registered-fits name digest (drawn_by stamp (deed_of (Register name digest)))
+      (judged-none (deed_of (Register name digest)).checks (drawn_by stamp (deed_of (Register name digest))) none)
+  deed-fits (SetPhase to) none =
       (record { accounts = tt; papers = tt; ties = tt; seats = tt; reviews = tt; talk = tt }, tt)
-  judged-fits (Submit title abstract authors) drawn accepted =
+  deed-fits (Submit title abstract authors) none =
       let n : ℕ = length (paper_numbers t.papers) in
       let users : List (Option ℕ) = users_among (lines_of t.accounts) authors in
-      let k = judged-Ok
-      (submit_checks (list_any is_none users) (standing_at t (Some maker) None) n (own_count t.papers (Some maker))
-      late)
-      (submission_drawn stamp (n + 1) title abstract (flat_map listed users)) drawn accepted in
       let same : n ≡ paper_count t.papers = length-numbers_from 1 t.papers.papers in
-      let few : n < 9999 = leb-false 9999 n k.0.1.1.1.0 in
-      let own : own_count t.papers (Some maker) < 20 = leb-false 20 (own_count t.papers (Some maker)) k.0.1.1.1.1.0 in
-      subst (λ (d : Drawn). FitInTurn t d.group) k.1
-      (submission-fits t stamp (n + 1) title abstract (flat_map listed users)
+      let few : n < 9999 = leb-false 9999 n none.1.1.1.0 in
+      let own : own_count t.papers (Some maker) < 20 = leb-false 20 (own_count t.papers (Some maker)) none.1.1.1.1.0 in
+      submission-fits t stamp (n + 1) title abstract (flat_map listed users)
       (omega (arith, same), omega (arith, few), own)
       (within-before (paper_count t.papers) (n + 1) (ap (λ m. m + 1) same) t.ties.authors within.authors)
-      (users-within t.accounts authors))
-  judged-fits (Revise paper title abstract) drawn accepted =
-      let k = judged-Ok (revise_checks (standing_at t (Some maker) paper) (named paper) late)
-      (revision_drawn stamp (unwrap_or paper 0) title abstract) drawn accepted in
-      subst (λ (d : Drawn). FitInTurn t d.group) k.1 (
-        record {
-          accounts = tt;
-          papers = paper_within t.papers.papers paper k.0.0;
-          ties = tt;
-          seats = tt;
-          reviews = tt;
-          talk = tt;
-        },
-        tt,
-      )
-  judged-fits (Upload paper content) drawn accepted =
+      (users-within t.accounts authors)
+  deed-fits (Revise paper title abstract) none = (
+    record {
+      accounts = tt;
+      papers = paper_within t.papers.papers paper none.0;
+      ties = tt;
+      seats = tt;
+      reviews = tt;
+      talk = tt;
+    },
+    tt,
+  )
+  deed-fits (Upload paper content) none =
       let own : ℕ = own_bytes t.papers (Some maker) in
-      let p : ℕ = unwrap_or paper 0 in
-      let k = judged-Ok
-      (upload_checks (standing_at t (Some maker) paper) (named paper) own (length content) late)
-      (upload_drawn stamp p (length (uploads_at t.papers p) + 1) content) drawn accepted in
-      subst (λ (d : Drawn). FitInTurn t d.group) k.1 (
+      let p : ℕ = unwrap_or paper 0 in (
         record {
           accounts = tt;
           papers = (
-            paper_within t.papers.papers paper k.0.0,
+            paper_within t.papers.papers paper none.0,
             refl,
-            not-past 67108864 (own + length content) k.0.1.1.1.1.1.0,
+            not-past 67108864 (own + length content) none.1.1.1.1.1.0,
           );
           ties = tt;
           seats = tt;
@@ -238,29 +221,21 @@ module _ (t : Tables) (within : AreWithin (paper_count t.papers) t.ties) (stamp 
     where
       not-past : (most n : ℕ) → nat_lt most n ≡ false → n ≤ most
       not-past most n h = grind (arith, nat_tests, h)
-  judged-fits (Withdraw paper) drawn accepted =
-      let k = judged-Ok (revise_checks (standing_at t (Some maker) paper) (named paper) late)
-      (withdrawal_drawn stamp (unwrap_or paper 0)) drawn accepted in
-      subst (λ (d : Drawn). FitInTurn t d.group) k.1 (
+  deed-fits (Withdraw paper) none = (
+    record {
+      accounts = tt;
+      papers = paper_within t.papers.papers paper none.0;
+      ties = tt;
+      seats = tt;
+      reviews = tt;
+      talk = tt;
+    },
+    tt,
+  )
+  deed-fits (Name name role) none =
+      let target : Option ℕ = user_among (lines_of t.accounts) name in (
         record {
-          accounts = tt;
-          papers = paper_within t.papers.papers paper k.0.0;
-          ties = tt;
-          seats = tt;
-          reviews = tt;
-          talk = tt;
-        },
-        tt,
-      )
-  judged-fits (Name name role) drawn accepted =
-      let target : Option ℕ = user_among (lines_of t.accounts) name in
-      let k =
-      judged-Ok (name_checks (standing_at t (Some maker) None)
-      (option_map of_role (role_among (lines_of t.accounts) target)) role)
-      (naming_drawn stamp (unwrap_or target 0) (unwrap_or name []) role) drawn accepted in
-      subst (λ (d : Drawn). FitInTurn t d.group) k.1 (
-        record {
-          accounts = target-in t target of_role k.0.0;
+          accounts = target-in t target of_role none.0;
           papers = tt;
           ties = tt;
           seats = tt;
@@ -269,22 +244,14 @@ module _ (t : Tables) (within : AreWithin (paper_count t.papers) t.ties) (stamp 
         },
         tt,
       )
-  judged-fits (SetMode to) drawn accepted =
-      let k =
-      judged-Ok (mode_checks (standing_at t (Some maker) None) t.stage.phase) (mode_drawn stamp to) drawn accepted in
-      subst (λ (d : Drawn). FitInTurn t d.group) k.1
+  deed-fits (SetMode to) none =
       (record { accounts = tt; papers = tt; ties = tt; seats = tt; reviews = tt; talk = tt }, tt)
-  judged-fits (SetConflict paper name on) drawn accepted =
+  deed-fits (SetConflict paper name on) none =
       let facts : Facts = facts_of_tables t (Some maker) in
       let target : Option ℕ = user_among (lines_of t.accounts) name in
-      let k = judged-Ok
-      (conflict_checks (standing_at t (Some maker) paper) (paper_named facts (shown_in_tables t) paper)
-      (target_named facts (shown_in_tables t) (Some maker) paper target) on late)
-      (conflict_drawn stamp (unwrap_or paper 0) (unwrap_or target 0) on) drawn accepted in
-      let there = paper_within t.papers.papers paper k.0.0 in
-      subst (λ (d : Drawn). FitInTurn t d.group) k.1 (
+      let there = paper_within t.papers.papers paper none.0 in (
         record {
-          accounts = target-in t target _ k.0.1.0;
+          accounts = target-in t target _ none.1.0;
           papers = there;
           ties = tt;
           seats = tt;
@@ -293,38 +260,30 @@ module _ (t : Tables) (within : AreWithin (paper_count t.papers) t.ties) (stamp 
         },
         tt,
       )
-  judged-fits (Bid paper value) drawn accepted =
-      let k = judged-Ok (bid_checks (standing_at t (Some maker) paper) (named paper) late)
-      (bid_drawn stamp (unwrap_or paper 0) value) drawn accepted in
-      subst (λ (d : Drawn). FitInTurn t d.group) k.1 (
-        record {
-          accounts = tt;
-          papers = paper_within t.papers.papers paper k.0.0;
-          ties = tt;
-          seats = tt;
-          reviews = tt;
-          talk = tt;
-        },
-        tt,
-      )
-  judged-fits (Assign paper name kind) drawn accepted =
+  deed-fits (Bid paper value) none = (
+    record {
+      accounts = tt;
+      papers = paper_within t.papers.papers paper none.0;
+      ties = tt;
+      seats = tt;
+      reviews = tt;
+      talk = tt;
+    },
+    tt,
+  )
+  deed-fits (Assign paper name kind) none =
       let target : Option ℕ = user_among (lines_of t.accounts) name in
       let p : ℕ = unwrap_or paper 0 in
       let labels : ℕ = labels_in t.seats p in
-      let k = judged-Ok
-      (assign_checks (standing_at t (Some maker) paper) (named paper)
-      (target_named (facts_of_tables t (Some maker)) (shown_in_tables t) (Some maker) paper target) labels)
-      (assignment_drawn stamp p (unwrap_or target 0) kind (labels + 1)) drawn accepted in
-      let there = paper_within t.papers.papers paper k.0.0 in
-      let user = target-in t target _ k.0.1.0 in
+      let there = paper_within t.papers.papers paper none.0 in
+      let user = target-in t target _ none.1.0 in
       let free = none-where (ordinal_in t.seats (Some (unwrap_or target 0)) p)
-      (seat-named t (Some maker) paper target false k.0.1.0 k.0.0 k.0.1.1.1.1.1.1.1.1.0) in
-      subst (λ (d : Drawn). FitInTurn t d.group) k.1 (
+      (seat-named t (Some maker) paper target false none.1.0 none.0 none.1.1.1.1.1.1.1.1.0) in (
         record {
           accounts = user;
           papers = there;
           ties = tt;
-          seats = (refl, few labels k.0.1.1.1.1.1.1.1.1.1.0, free);
+          seats = (refl, few labels none.1.1.1.1.1.1.1.1.1.0, free);
           reviews = tt;
           talk = tt;
         },
@@ -333,83 +292,50 @@ module _ (t : Tables) (within : AreWithin (paper_count t.papers) t.ties) (stamp 
     where
       few : (n : ℕ) → nat_le 26 n ≡ false → n + 1 ≤ 26
       few n h = grind (arith, nat_tests, h)
-  judged-fits (Unassign paper name) drawn accepted =
+  deed-fits (Unassign paper name) none =
       let target : Option ℕ = user_among (lines_of t.accounts) name in
       let p : ℕ = unwrap_or paper 0 in
-      let k = judged-Ok
-      (unassign_checks (standing_at t (Some maker) paper) (named paper)
-      (target_named (facts_of_tables t (Some maker)) (shown_in_tables t) (Some maker) paper target)
-      (at_some (is_written_in t.reviews p) (ordinal_in t.seats target p)))
-      (unassignment_drawn stamp p (unwrap_or target 0) (unwrap_or (ordinal_in t.seats target p) 0)) drawn accepted in
-      let there = paper_within t.papers.papers paper k.0.0 in
-      let user = target-in t target _ k.0.1.0 in
+      let there = paper_within t.papers.papers paper none.0 in
+      let user = target-in t target _ none.1.0 in
       let taken =
-      seat-there t target p (seat-named t (Some maker) paper target true k.0.1.0 k.0.0
-      (not-false _ k.0.1.1.1.1.1.1.0)) _ k.0.1.0 in
-      subst (λ (d : Drawn). FitInTurn t d.group) k.1
+      seat-there t target p (seat-named t (Some maker) paper target true none.1.0 none.0
+      (not-false _ none.1.1.1.1.1.1.0)) _ none.1.0 in
       (record { accounts = user; papers = there; ties = tt; seats = taken; reviews = tt; talk = tt }, tt)
-    where
-      not-false : (b : Bool) → not b ≡ false → b ≡ true
-      not-false true h = refl
-      not-false false h = absurd (true≢false h)
-  judged-fits (Review paper form) drawn accepted =
+  deed-fits (Review paper form) none =
       let p : ℕ = unwrap_or paper 0 in
       let ordinal : ℕ = unwrap_or (ordinal_in t.seats (Some maker) p) 0 in
-      let k = judged-Ok
-      (review_checks (standing_at t (Some maker) paper) (named paper) late)
-      (review_drawn stamp p ordinal (length (own_forms_in t (Some maker) p) + 1) form) drawn accepted in
-      let there = paper_within t.papers.papers paper k.0.0 in
+      let there = paper_within t.papers.papers paper none.0 in
       let next =
       ap (λ (n : ℕ). n + 1) (own_forms-count t (Some maker) p ordinal
-      (own-seat t (Some maker) paper k.0.0 k.0.1.1.1.0)) in
-      subst (λ (d : Drawn). FitInTurn t d.group) k.1
+      (own-seat t (Some maker) paper none.0 none.1.1.1.0)) in
       (record { accounts = tt; papers = there; ties = tt; seats = tt; reviews = next; talk = tt }, tt)
-  judged-fits (Comment paper text) drawn accepted =
+  deed-fits (Comment paper text) none =
       let p : ℕ = unwrap_or paper 0 in
       let own : ℕ = own_comments_in t.talk (Some maker) in
-      let k = judged-Ok
-      (comment_checks (standing_at t (Some maker) paper) (named paper) own late)
-      (comment_drawn stamp p (length (map comment_as_told (comments_in t.talk p)) + 1)
-      (ordinal_in t.seats (Some maker) p) text) drawn accepted in
-      let there = paper_within t.papers.papers paper k.0.0 in
-      let next = ap (λ (n : ℕ). n + 1) (length-map (comments_in t.talk p) comment_as_told) in
-      subst (λ (d : Drawn). FitInTurn t d.group) k.1 (
+      let there = paper_within t.papers.papers paper none.0 in
+      let next = ap (λ (n : ℕ). n + 1) (length-map (comments_in t.talk p) comment_as_told) in (
         record {
           accounts = tt;
           papers = there;
           ties = tt;
           seats = tt;
           reviews = tt;
-          talk = (next, leb-false 1000 own k.0.1.1.1.1.1.1.0);
+          talk = (next, leb-false 1000 own none.1.1.1.1.1.1.0);
         },
         tt,
       )
-  judged-fits (Tag paper tag on) drawn accepted =
-      let k = judged-Ok (tag_checks (standing_at t (Some maker) paper) (named paper) (is_for_chairs tag))
-      (tag_drawn stamp (unwrap_or paper 0) tag on) drawn accepted in
-      let there = paper_within t.papers.papers paper k.0.0 in
-      subst (λ (d : Drawn). FitInTurn t d.group) k.1
+  deed-fits (Tag paper tag on) none =
+      let there = paper_within t.papers.papers paper none.0 in
       (record { accounts = tt; papers = there; ties = tt; seats = tt; reviews = tt; talk = tt }, tt)
-  judged-fits (Decide paper decision) drawn accepted =
-      let k = judged-Ok (decide_checks (standing_at t (Some maker) paper) (named paper))
-      (decision_drawn stamp (unwrap_or paper 0) decision) drawn accepted in
-      let there = paper_within t.papers.papers paper k.0.0 in
-      subst (λ (d : Drawn). FitInTurn t d.group) k.1
+  deed-fits (Decide paper decision) none =
+      let there = paper_within t.papers.papers paper none.0 in
       (record { accounts = tt; papers = there; ties = tt; seats = tt; reviews = tt; talk = tt }, tt)
-  judged-fits (SetDeadline phase until) drawn accepted =
-      let k = judged-Ok (deadline_checks (standing_at t (Some maker) None) t.stage.phase phase)
-      (deadline_drawn stamp phase until) drawn accepted in
-      subst (λ (d : Drawn). FitInTurn t d.group) k.1
+  deed-fits (SetDeadline phase until) none =
       (record { accounts = tt; papers = tt; ties = tt; seats = tt; reviews = tt; talk = tt }, tt)
-  judged-fits (Dismiss name) drawn accepted =
-      let target : Option ℕ = user_among (lines_of t.accounts) name in
-      let k = judged-Ok
-      (dismiss_checks (standing_at t (Some maker) None) (option_map of_role (role_among (lines_of t.accounts) target))
-      (chair_count (lines_of t.accounts)))
-      (dismissal_drawn stamp (unwrap_or target 0) (unwrap_or name [])) drawn accepted in
-      subst (λ (d : Drawn). FitInTurn t d.group) k.1 (
+  deed-fits (Dismiss name) none =
+      let target : Option ℕ = user_among (lines_of t.accounts) name in (
         record {
-          accounts = target-in t target of_role k.0.0;
+          accounts = target-in t target of_role none.0;
           papers = tt;
           ties = tt;
           seats = tt;
@@ -418,17 +344,11 @@ module _ (t : Tables) (within : AreWithin (paper_count t.papers) t.ties) (stamp 
         },
         tt,
       )
-  judged-fits (Invite paper name) drawn accepted =
+  deed-fits (Invite paper name) none =
       let target : Option ℕ = user_among (lines_of t.accounts) name in
-      let k = judged-Ok
-      (invite_checks (standing_at t (Some maker) paper) (named paper)
-      (target_named (facts_of_tables t (Some maker)) (shown_in_tables t) (Some maker) paper target)
-      (at_some (is_invited_in t.invites target) paper))
-      (invitation_drawn stamp (unwrap_or paper 0) (unwrap_or target 0)) drawn accepted in
-      let there = paper_within t.papers.papers paper k.0.0 in
-      subst (λ (d : Drawn). FitInTurn t d.group) k.1 (
+      let there = paper_within t.papers.papers paper none.0 in (
         record {
-          accounts = target-in t target _ k.0.1.0;
+          accounts = target-in t target _ none.1.0;
           papers = there;
           ties = tt;
           seats = tt;
@@ -437,17 +357,11 @@ module _ (t : Tables) (within : AreWithin (paper_count t.papers) t.ties) (stamp 
         },
         tt,
       )
-  judged-fits (Uninvite paper name) drawn accepted =
+  deed-fits (Uninvite paper name) none =
       let target : Option ℕ = user_among (lines_of t.accounts) name in
-      let k = judged-Ok
-      (uninvite_checks (standing_at t (Some maker) paper) (named paper)
-      (target_named (facts_of_tables t (Some maker)) (shown_in_tables t) (Some maker) paper target)
-      (at_some (is_invited_in t.invites target) paper))
-      (uninvitation_drawn stamp (unwrap_or paper 0) (unwrap_or target 0)) drawn accepted in
-      let there = paper_within t.papers.papers paper k.0.0 in
-      subst (λ (d : Drawn). FitInTurn t d.group) k.1 (
+      let there = paper_within t.papers.papers paper none.0 in (
         record {
-          accounts = target-in t target _ k.0.1.0;
+          accounts = target-in t target _ none.1.0;
           papers = there;
           ties = tt;
           seats = tt;
@@ -456,20 +370,23 @@ module _ (t : Tables) (within : AreWithin (paper_count t.papers) t.ties) (stamp 
         },
         tt,
       )
-  judged-fits (Respond paper text) drawn accepted =
+  deed-fits (Respond paper text) none =
       let p : ℕ = unwrap_or paper 0 in
-      let k = judged-Ok
-      (respond_checks (standing_at t (Some maker) paper) (named paper) (is_some (response_in t.talk p)) late)
-      (response_drawn stamp p text) drawn accepted in
-      let there = paper_within t.papers.papers paper k.0.0 in
-      subst (λ (d : Drawn). FitInTurn t d.group) k.1 (
+      let there = paper_within t.papers.papers paper none.0 in (
         record {
           accounts = tt;
           papers = there;
           ties = tt;
           seats = tt;
           reviews = tt;
-          talk = none-where (response_in t.talk p) k.0.1.1.1.1.1.0;
+          talk = none-where (response_in t.talk p) none.1.1.1.1.1.0;
         },
         tt,
       )
+
+  -- what a user's command draws fits; a registration's is the same for all
+  pub judged-fits : (command : Command) (drawn : Drawn) → judge_by_role t (call_by stamp command) ≡ Ok drawn
+      → FitInTurn t drawn.group
+  judged-fits command drawn accepted =
+      let k = judged-Ok (deed_of command).checks (drawn_by stamp (deed_of command)) drawn accepted in
+      subst (λ (d : Drawn). FitInTurn t d.group) k.1 (deed-fits command k.0)

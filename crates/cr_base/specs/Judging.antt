@@ -1,36 +1,25 @@
 -- The one judgement of commands: filled with the facts of a view it is `judge` of cr_policy, filled with those of the
 -- tables it is `judge_by_role`.
-use Rattle.std.specs.Prelude.{ℕ, Bool, ◌+◌, List, [], length, Option, Some, None, is_some, is_none, unwrap_or, Result}
+use Rattle.std.specs.Prelude.{ℕ, Bool, ◌+◌, List, length, Option, Some, None, is_none, unwrap_or, Result}
 use Rattle.std.specs.List.{flat_map, list_any}
 use Rattle.std.specs.Option.{option_map}
 use Rattle.cr_base.specs.declared.command.Call.{Call}
 use Rattle.cr_base.specs.declared.command.Command.{Command}
-use Rattle.cr_base.specs.declared.command.Command.TheVariants.{Register, SetPhase, Submit, Revise, Upload, Withdraw}
-use Rattle.cr_base.specs.declared.command.Command.TheVariants.{Name, SetMode, SetConflict, Bid, Assign, Unassign}
-use Rattle.cr_base.specs.declared.command.Command.TheVariants.{Review, Comment, Tag, Decide, SetDeadline}
-use Rattle.cr_base.specs.declared.command.Command.TheVariants.{Dismiss, Invite, Uninvite, Respond}
 use Rattle.cr_base.specs.declared.entry.Stamp.{Stamp}
-use Rattle.cr_base.specs.declared.form.Form.{Form}
 use Rattle.cr_base.specs.declared.reply.Rule.{Rule}
 use Rattle.cr_base.specs.declared.words.Kind.{Kind}
 use Rattle.cr_base.specs.declared.words.Role.{Role}
 use Rattle.cr_base.specs.Accounts.{chair_count}
 use Rattle.cr_base.specs.Calls.{stamp_of}
-use Rattle.cr_base.specs.Checks.{judged, of_role, register_checks, phase_checks, deadline_checks}
-use Rattle.cr_base.specs.Checks.{submit_checks, revise_checks, upload_checks}
-use Rattle.cr_base.specs.Checks.{name_checks, mode_checks, conflict_checks, bid_checks, assign_checks, unassign_checks}
-use Rattle.cr_base.specs.Checks.{review_checks, respond_checks, comment_checks, tag_checks, decide_checks}
-use Rattle.cr_base.specs.Checks.{dismiss_checks, invite_checks, uninvite_checks}
-use Rattle.cr_base.specs.Drawn.{Drawn, registration_drawn, phase_drawn, submission_drawn, revision_drawn, upload_drawn}
-use Rattle.cr_base.specs.Drawn.{withdrawal_drawn, naming_drawn, mode_drawn, conflict_drawn}
-use Rattle.cr_base.specs.Drawn.{bid_drawn, assignment_drawn, unassignment_drawn}
-use Rattle.cr_base.specs.Drawn.{review_drawn, comment_drawn, tag_drawn, decision_drawn, deadline_drawn}
-use Rattle.cr_base.specs.Drawn.{dismissal_drawn, invitation_drawn, uninvitation_drawn, response_drawn}
+use Rattle.cr_base.specs.Checks.{judged, of_role, submit_checks, name_checks, conflict_checks, assign_checks}
+use Rattle.cr_base.specs.Checks.{unassign_checks, dismiss_checks, invite_checks, uninvite_checks}
+use Rattle.cr_base.specs.Drawn.{Drawn, submission_drawn, naming_drawn, conflict_drawn, assignment_drawn}
+use Rattle.cr_base.specs.Drawn.{unassignment_drawn, dismissal_drawn, invitation_drawn, uninvitation_drawn}
+use Rattle.cr_base.specs.Deeds.{deed_at, judged_by}
 use Rattle.cr_base.specs.Lists.{listed, at_some}
-use Rattle.cr_base.specs.Sources.{Facts, Shown, number_in, user_among, users_among, role_among}
-use Rattle.cr_base.specs.Sources.{paper_named, target_named, is_late, facts_of_tables, shown_in_tables}
+use Rattle.cr_base.specs.Sources.{Facts, Shown, role_among, paper_named, target_named, is_late, facts_of_tables}
+use Rattle.cr_base.specs.Sources.{shown_in_tables}
 use Rattle.cr_base.specs.Tables.{Tables}
-use Rattle.cr_base.specs.TagTexts.{is_for_chairs}
 
 -- naming this user, if there is one
 abbrev pub name_judged : Facts → Stamp → Option ℕ → List ℕ → Role → Result Drawn Rule
@@ -96,88 +85,9 @@ uninvitation_judged facts shown stamp paper target =
     (target_named facts shown (Some stamp.maker) paper target) (at_some (shown.invited target) paper))
     (uninvitation_drawn stamp (unwrap_or paper 0) (unwrap_or target 0))
 
--- reviewing a paper, responding to its reviews, commenting on it, and turning a tag of it on or off
-abbrev pub review_judged : Facts → Shown → Stamp → Option ℕ → Form → Result Drawn Rule
-review_judged facts shown stamp paper form =
-    let p = unwrap_or paper 0 in
-    judged
-    (review_checks (facts.standing paper) (paper_named facts shown paper) (is_late facts stamp.at))
-    (review_drawn stamp p (unwrap_or (facts.own_ordinal p) 0) (length (facts.own_forms p) + 1) form)
-
-abbrev pub response_judged : Facts → Shown → Stamp → Option ℕ → List ℕ → Result Drawn Rule
-response_judged facts shown stamp paper text =
-    let p = unwrap_or paper 0 in
-    judged
-    (respond_checks (facts.standing paper) (paper_named facts shown paper) (is_some (shown.response p))
-    (is_late facts stamp.at))
-    (response_drawn stamp p text)
-
-abbrev pub comment_judged : Facts → Shown → Stamp → Option ℕ → List ℕ → Result Drawn Rule
-comment_judged facts shown stamp paper text =
-    let p = unwrap_or paper 0 in
-    judged
-    (comment_checks (facts.standing paper) (paper_named facts shown paper) facts.own_comments (is_late facts stamp.at))
-    (comment_drawn stamp p (length (shown.comments p) + 1) (facts.own_ordinal p) text)
-
-abbrev pub tag_judged : Facts → Shown → Stamp → Option ℕ → List ℕ → Bool → Result Drawn Rule
-tag_judged facts shown stamp paper tag on =
-    judged
-    (tag_checks (facts.standing paper) (paper_named facts shown paper) (is_for_chairs tag))
-    (tag_drawn stamp (unwrap_or paper 0) tag on)
-
 -- the first broken rule of a command's list, or what it adds under its call's stamp and its receipt
 abbrev pub judge_by : Facts → Shown → Stamp → Command → Result Drawn Rule
-judge_by facts shown stamp (Register name digest) =
-    judged
-    (register_checks (is_some (number_in facts.accounts name)) (length facts.accounts))
-    (registration_drawn stamp (length facts.accounts + 1) name digest)
-judge_by facts shown stamp (SetPhase to) =
-    judged (phase_checks (facts.standing None) (facts.standing None).phase to) (phase_drawn stamp to)
-judge_by facts shown stamp (Submit title abstract authors) =
-    submission_judged facts stamp (users_among facts.accounts authors) title abstract
-judge_by facts shown stamp (Revise paper title abstract) =
-    judged
-    (revise_checks (facts.standing paper) (paper_named facts shown paper) (is_late facts stamp.at))
-    (revision_drawn stamp (unwrap_or paper 0) title abstract)
-judge_by facts shown stamp (Upload paper content) =
-    judged
-    (upload_checks (facts.standing paper) (paper_named facts shown paper) facts.own_bytes (length content)
-    (is_late facts stamp.at))
-    (upload_drawn stamp (unwrap_or paper 0) (length (shown.uploads (unwrap_or paper 0)) + 1) content)
-judge_by facts shown stamp (Withdraw paper) =
-    judged
-    (revise_checks (facts.standing paper) (paper_named facts shown paper) (is_late facts stamp.at))
-    (withdrawal_drawn stamp (unwrap_or paper 0))
-judge_by facts shown stamp (Name name role) =
-    name_judged facts stamp (user_among facts.accounts name) (unwrap_or name []) role
-judge_by facts shown stamp (SetMode to) =
-    judged (mode_checks (facts.standing None) (facts.standing None).phase) (mode_drawn stamp to)
-judge_by facts shown stamp (SetConflict paper name on) =
-    conflict_judged facts shown stamp paper (user_among facts.accounts name) on
-judge_by facts shown stamp (Bid paper value) =
-    judged
-    (bid_checks (facts.standing paper) (paper_named facts shown paper) (is_late facts stamp.at))
-    (bid_drawn stamp (unwrap_or paper 0) value)
-judge_by facts shown stamp (Assign paper name kind) =
-    assignment_judged facts shown stamp paper (user_among facts.accounts name) kind
-judge_by facts shown stamp (Unassign paper name) =
-    unassignment_judged facts shown stamp paper (user_among facts.accounts name)
-judge_by facts shown stamp (Review paper form) = review_judged facts shown stamp paper form
-judge_by facts shown stamp (Comment paper text) = comment_judged facts shown stamp paper text
-judge_by facts shown stamp (Tag paper tag on) = tag_judged facts shown stamp paper tag on
-judge_by facts shown stamp (Decide paper decision) =
-    judged
-    (decide_checks (facts.standing paper) (paper_named facts shown paper))
-    (decision_drawn stamp (unwrap_or paper 0) decision)
-judge_by facts shown stamp (SetDeadline phase until) =
-    judged (deadline_checks (facts.standing None) (facts.standing None).phase phase) (deadline_drawn stamp phase until)
-judge_by facts shown stamp (Dismiss name) =
-    dismissal_judged facts stamp (user_among facts.accounts name) (unwrap_or name [])
-judge_by facts shown stamp (Invite paper name) =
-    invitation_judged facts shown stamp paper (user_among facts.accounts name)
-judge_by facts shown stamp (Uninvite paper name) =
-    uninvitation_judged facts shown stamp paper (user_among facts.accounts name)
-judge_by facts shown stamp (Respond paper text) = response_judged facts shown stamp paper text
+judge_by facts shown stamp command = judged_by stamp (deed_at facts shown stamp command)
 
 -- the judgement of a command by checks on the tables
 abbrev pub judge_by_role : Tables → Call → Result Drawn Rule

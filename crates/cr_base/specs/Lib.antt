@@ -7,6 +7,7 @@ pub mod Checks
 pub mod Deadlines
 pub mod Decisions
 pub mod Decoding
+pub mod Deeds
 pub mod Drawn
 pub mod Filed
 pub mod History

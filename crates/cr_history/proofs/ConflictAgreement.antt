@@ -5,6 +5,7 @@ use Rattle.std.specs.Prelude.{not}
 use Rattle.std.specs.List.{flat_map, list_any}
 use Rattle.std.proofs.lemmas.Bool.{eqb-true, ne_eqb, false≢true}
 use Rattle.std.proofs.lemmas.List.Folds.{list_any-append}
+use Rattle.std.proofs.Math.Bool.{or-false}
 use Rattle.cr_base.specs.declared.entry.Entry.{Entry}
 use Rattle.cr_base.specs.declared.entry.Entry.TheVariants.{Submitted, Coauthor, Revised, Withdrawn, Conflict}
 use Rattle.cr_base.specs.declared.entry.Stamped.{Stamped}
@@ -211,11 +212,7 @@ declared-from : (p v : ℕ) (before : History) (t : Tables) (H : History) → Fi
     → (has_pair (pair_of p v) t.ties.declared
     || is_among v (named_by (λ maker. is_author_in (tables_from t H).ties (Some maker) p) p H))
     ≡ has_pair (pair_of p v) (tables_from t H).ties.declared
-declared-from p v before t [] fits first = or_false (has_pair (pair_of p v) t.ties.declared)
-  where
-    or_false : (b : Bool) → (b || false) ≡ b
-    or_false true = refl
-    or_false false = refl
+declared-from p v before t [] fits first = or-false (has_pair (pair_of p v) t.ties.declared)
 declared-from p v before t (s ∷ H) fits first =
     let later : List ℕ = named_by (λ maker. is_author_in (tables_from (tables_after t s) H).ties (Some maker) p) p H in
     declared-entry p v t.ties s.stamp.maker s.entry (is_author_in (tables_from t (s ∷ H)).ties (Some s.stamp.maker) p)

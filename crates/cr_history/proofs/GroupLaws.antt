@@ -19,8 +19,8 @@ use Rattle.cr_base.specs.declared.entry.Stamped.{Stamped}
 use Rattle.cr_base.specs.declared.reply.AccountLine.{AccountLine}
 use Rattle.cr_base.specs.declared.retry.RetryKey.{RetryKey}
 use Rattle.cr_base.specs.declared.words.Phase.{Phase}
-use Rattle.cr_base.specs.declared.words.Phase.TheVariants.{Setup, Submission, Bidding, Reviewing, Response, Discussion}
-use Rattle.cr_base.specs.declared.words.Phase.TheVariants.{Notification, Closed}
+use Rattle.cr_base.specs.declared.words.Phase.TheVariants.{Setup, Submission, Bidding, Reviewing, Response}
+use Rattle.cr_base.specs.declared.words.Phase.TheVariants.{Discussion, Notification, Closed}
 use Rattle.cr_base.specs.declared.words.Mode.{Mode}
 use Rattle.cr_base.specs.declared.words.Mode.TheVariants.{Overt, Blind, Anonymous}
 use Rattle.cr_base.specs.declared.words.Role.{Role}
@@ -40,16 +40,21 @@ use Rattle.cr_base.specs.Papers.{IsPaper}
 use Rattle.cr_base.specs.Phases.{may_have_deadline}
 use Rattle.cr_base.specs.Reviews.{forms_in, written_told}
 use Rattle.cr_base.specs.Rows.{fields_of, shape_of, kind_of, key_number, key_mark, label_number, until_number}
-use Rattle.cr_base.specs.Rows.{IsBoundedEntry}
-use Rattle.cr_base.specs.Shapes.{InRange, HasText, key_in, user_range, paper_range, role_range, review_kind_range}
-use Rattle.cr_base.specs.Shapes.{decision_range, ordinal_range, some_ordinal_range, deadline_phase_range}
-use Rattle.cr_base.specs.Shapes.{some_deadline_range, unused}
+use Rattle.cr_base.specs.Rows.{IsBoundedEntry, Fields, fields}
+use Rattle.cr_base.specs.declared.shape.Shape.{Shape}
+use Rattle.cr_base.specs.declared.shape.Range.{Range}
+use Rattle.cr_base.specs.declared.shape.TextKind.{TextKind}
+use Rattle.cr_base.specs.declared.shape.TextKind.TheVariants.{Nothing}
+use Rattle.cr_base.specs.Shapes.{shape, InRange, HasText, key_in, user_range, paper_range, role_range}
+use Rattle.cr_base.specs.Shapes.{review_kind_range, decision_range, ordinal_range, some_ordinal_range}
+use Rattle.cr_base.specs.Shapes.{deadline_phase_range, some_deadline_range, unused}
 use Rattle.cr_base.specs.Tables.{no_tables, tables_of, Fits, FitInTurn}
 use Rattle.cr_base.specs.Talk.{comments_in, comment_as_told}
 use Rattle.cr_base.specs.Words.{phase_number, mode_number, role_number, review_kind_number, decision_number}
 use Rattle.cr_base.proofs.AccountLaws.{length-lines_of}
 use Rattle.cr_base.proofs.ListLaws.{length-numbers_from, list_any-numbers_from}
-use Rattle.cr_history.specs.Groups.{IsRuled, IsBoundedStamp, Adds, single, submitted, first_user, Grows, adds, goes_on}
+use Rattle.cr_history.specs.Groups.{IsRuled, IsBoundedStamp, Adds, single, submitted, first_user, Grows, adds}
+use Rattle.cr_history.specs.Groups.{goes_on}
 use Rattle.cr_history.specs.Invariants.{IsRegistered, IsMadeByUser, HasNextNumber, HasNewName, IsAboutThose}
 use Rattle.cr_history.specs.Invariants.{IsSubmitted, InTurn}
 use Rattle.cr_history.proofs.CallerLaws.{registered-from}
@@ -245,17 +250,33 @@ key-unmarked (Some key) bounded none = by (eqb key.number 0) refl none
 
 -- ---- bounds
 
--- what an entry tells beside its stamp and its mark is within the bounds of its kind
-record IsToldIn (e : Entry) : Type 0 where
-  pub n1 : InRange (shape_of (kind_of e)).n1 (fields_of e).n1
-  pub n2 : InRange (shape_of (kind_of e)).n2 (fields_of e).n2
-  pub n3 : InRange (shape_of (kind_of e)).n3 (fields_of e).n3
-  pub n4 : InRange (shape_of (kind_of e)).n4 (fields_of e).n4
-  pub n5 : InRange (shape_of (kind_of e)).n5 (fields_of e).n5
-  pub b1 : HasText (shape_of (kind_of e)).b1 (fields_of e).b1
-  pub b2 : HasText (shape_of (kind_of e)).b2 (fields_of e).b2
+-- these fields are within the bounds of a shape
+record IsToldFor (s : Shape) (f : Fields) : Type 0 where
+  pub n1 : InRange s.n1 f.n1
+  pub n2 : InRange s.n2 f.n2
+  pub n3 : InRange s.n3 f.n3
+  pub n4 : InRange s.n4 f.n4
+  pub n5 : InRange s.n5 f.n5
+  pub b1 : HasText s.b1 f.b1
+  pub b2 : HasText s.b2 f.b2
 
--- and so is all of it, where its stamp's maker and what a request brings are
+-- what an entry tells beside its stamp and its mark is within the bounds of its kind
+abbrev IsToldIn : Entry → Type 0
+IsToldIn e = IsToldFor (shape_of (kind_of e)) (fields_of e)
+
+-- fields of three numbers and two texts are, where each is; and those of two numbers, and of one
+told : {n1 n2 n3 : Range} {b1 b2 : TextKind} {a b c : ℕ} {x y : List ℕ} → InRange n1 a → InRange n2 b → InRange n3 c
+    → HasText b1 x → HasText b2 y → IsToldFor (shape n1 n2 n3 b1 b2) (fields a b c x y)
+told ha hb hc hx hy = record { n1 = ha; n2 = hb; n3 = hc; n4 = zero_in; n5 = zero_in; b1 = hx; b2 = hy }
+
+told_two : {n1 n2 : Range} {a b : ℕ} → InRange n1 a → InRange n2 b
+    → IsToldFor (shape n1 n2 unused Nothing Nothing) (fields a b 0 [] [])
+told_two ha hb = told ha hb zero_in refl refl
+
+told_one : {n1 : Range} {a : ℕ} → InRange n1 a → IsToldFor (shape n1 unused unused Nothing Nothing) (fields a 0 0 [] [])
+told_one ha = told_two ha zero_in
+
+-- and then its row is, where its stamp's maker and what a request brings are
 told-bounded : (stamp : Stamp) (more : Bool) (e : Entry) → InRange user_range stamp.maker → IsBoundedStamp stamp
     → IsToldIn e
     → IsBoundedEntry (stamped stamp more e)
@@ -301,122 +322,34 @@ module _ (H : History) (fits : FitInTurn no_tables H) where
       → Fits (tables_of H) (stamped stamp more (Coauthor paper user)) → IsToldIn (Coauthor paper user)
   coauthor-told stamp more paper user fit =
       let last = fit.papers.1 in
-      record {
-        n1 = paper_numbered paper (fit.papers.0, omega (arith, last));
-        n2 = account_numbered user fit.accounts;
-        n3 = zero_in;
-        n4 = zero_in;
-        n5 = zero_in;
-        b1 = refl;
-        b2 = refl;
-      }
+      told_two (paper_numbered paper (fit.papers.0, omega (arith, last))) (account_numbered user fit.accounts)
 
   told-in : (stamp : Stamp) (more : Bool) (e : Entry) → IsRuled H stamp.maker e
       → Fits (tables_of H) (stamped stamp more e) → IsToldIn e
   told-in stamp more (Registered user name digest) ruled fit =
       let next = fit.accounts.0 in
-      record {
-        n1 = (omega (arith, next), fit.accounts.1);
-        n2 = zero_in;
-        n3 = zero_in;
-        n4 = zero_in;
-        n5 = zero_in;
-        b1 = ruled.texts.0;
-        b2 = ruled.texts.1;
-      }
+      told (omega (arith, next), fit.accounts.1) zero_in zero_in ruled.texts.0 ruled.texts.1
   told-in stamp more (Named user to) ruled fit =
-      record {
-        n1 = account_numbered user fit.accounts;
-        n2 = raised_number _ to ruled.role;
-        n3 = zero_in;
-        n4 = zero_in;
-        n5 = zero_in;
-        b1 = refl;
-        b2 = refl;
-      }
+      told_two (account_numbered user fit.accounts) (raised_number _ to ruled.role)
   told-in stamp more (PhaseSet phase) ruled fit =
-      record {
-        n1 = (omega arith, phase_number-few phase);
-        n2 = zero_in;
-        n3 = zero_in;
-        n4 = zero_in;
-        n5 = zero_in;
-        b1 = refl;
-        b2 = refl;
-      }
+      told_one (omega arith, phase_number-few phase)
   told-in stamp more (ModeSet mode) ruled fit =
-      record {
-        n1 = (omega arith, mode_number-few mode);
-        n2 = zero_in;
-        n3 = zero_in;
-        n4 = zero_in;
-        n5 = zero_in;
-        b1 = refl;
-        b2 = refl;
-      }
+      told_one (omega arith, mode_number-few mode)
   told-in stamp more (Submitted paper title abstract) ruled fit =
       let next = fit.papers.0 in
-      record {
-        n1 = (omega (arith, next), fit.papers.1);
-        n2 = zero_in;
-        n3 = zero_in;
-        n4 = zero_in;
-        n5 = zero_in;
-        b1 = ruled.texts.0;
-        b2 = ruled.texts.1;
-      }
+      told (omega (arith, next), fit.papers.1) zero_in zero_in ruled.texts.0 ruled.texts.1
   told-in stamp more (Coauthor paper user) ruled fit = coauthor-told stamp more paper user fit
   told-in stamp more (Revised paper title abstract) ruled fit =
-      record {
-        n1 = paper_numbered paper fit.papers;
-        n2 = zero_in;
-        n3 = zero_in;
-        n4 = zero_in;
-        n5 = zero_in;
-        b1 = ruled.texts.0;
-        b2 = ruled.texts.1;
-      }
+      told (paper_numbered paper fit.papers) zero_in zero_in ruled.texts.0 ruled.texts.1
   told-in stamp more (Uploaded paper version content) ruled fit =
       let next = fit.papers.1 in
-      record {
-        n1 = paper_numbered paper fit.papers.0;
-        n2 = (omega (arith, next), tt);
-        n3 = zero_in;
-        n4 = zero_in;
-        n5 = zero_in;
-        b1 = ruled.texts;
-        b2 = refl;
-      }
+      told (paper_numbered paper fit.papers.0) (omega (arith, next), tt) zero_in ruled.texts refl
   told-in stamp more (Withdrawn paper) ruled fit =
-      record {
-        n1 = paper_numbered paper fit.papers;
-        n2 = zero_in;
-        n3 = zero_in;
-        n4 = zero_in;
-        n5 = zero_in;
-        b1 = refl;
-        b2 = refl;
-      }
+      told_one (paper_numbered paper fit.papers)
   told-in stamp more (Conflict paper user on) ruled fit =
-      record {
-        n1 = paper_numbered paper fit.papers;
-        n2 = account_numbered user fit.accounts;
-        n3 = (omega arith, bit_few on);
-        n4 = zero_in;
-        n5 = zero_in;
-        b1 = refl;
-        b2 = refl;
-      }
+      told (paper_numbered paper fit.papers) (account_numbered user fit.accounts) (omega arith, bit_few on) refl refl
   told-in stamp more (Bid paper value) ruled fit =
-      record {
-        n1 = paper_numbered paper fit.papers;
-        n2 = (omega arith, ruled.texts);
-        n3 = zero_in;
-        n4 = zero_in;
-        n5 = zero_in;
-        b1 = refl;
-        b2 = refl;
-      }
+      told_two (paper_numbered paper fit.papers) (omega arith, ruled.texts)
   told-in stamp more (Assigned paper user kind' ordinal) ruled fit =
       let next = fit.seats.0 in
       record {
@@ -430,15 +363,7 @@ module _ (H : History) (fits : FitInTurn no_tables H) where
       }
   told-in stamp more (Unassigned paper user ordinal) ruled fit =
       let drawn = seat-drawn H fits user paper ordinal fit.seats in
-      record {
-        n1 = paper_numbered paper fit.papers;
-        n2 = account_numbered user fit.accounts;
-        n3 = drawn;
-        n4 = zero_in;
-        n5 = zero_in;
-        b1 = refl;
-        b2 = refl;
-      }
+      told (paper_numbered paper fit.papers) (account_numbered user fit.accounts) drawn refl refl
   told-in stamp more (Reviewed paper ordinal version form) ruled fit =
       let next = fit.reviews in
       record {
@@ -452,85 +377,21 @@ module _ (H : History) (fits : FitInTurn no_tables H) where
       }
   told-in stamp more (Commented paper n ordinal text) ruled fit =
       let next = fit.talk.0 in
-      record {
-        n1 = paper_numbered paper fit.papers;
-        n2 = (omega (arith, next), tt);
-        n3 = label-few ordinal (λ o is. label_drawn stamp.maker paper o (ruled.seat ∙ is));
-        n4 = zero_in;
-        n5 = zero_in;
-        b1 = ruled.texts;
-        b2 = refl;
-      }
+      told (paper_numbered paper fit.papers) (omega (arith, next), tt) (label-few ordinal (λ o is. label_drawn stamp.maker paper o (ruled.seat ∙ is))) ruled.texts refl
   told-in stamp more (Tagged paper tag on) ruled fit =
-      record {
-        n1 = paper_numbered paper fit.papers;
-        n2 = (omega arith, bit_few on);
-        n3 = zero_in;
-        n4 = zero_in;
-        n5 = zero_in;
-        b1 = ruled.texts;
-        b2 = refl;
-      }
+      told (paper_numbered paper fit.papers) (omega arith, bit_few on) zero_in ruled.texts refl
   told-in stamp more (Decided paper decision) ruled fit =
-      record {
-        n1 = paper_numbered paper fit.papers;
-        n2 = decision_number-few decision;
-        n3 = zero_in;
-        n4 = zero_in;
-        n5 = zero_in;
-        b1 = refl;
-        b2 = refl;
-      }
+      told_two (paper_numbered paper fit.papers) (decision_number-few decision)
   told-in stamp more (DeadlineSet phase until) ruled fit =
-      record {
-        n1 = deadline_phase-few phase ruled.phase.1;
-        n2 = until-few until ruled.texts;
-        n3 = zero_in;
-        n4 = zero_in;
-        n5 = zero_in;
-        b1 = refl;
-        b2 = refl;
-      }
+      told_two (deadline_phase-few phase ruled.phase.1) (until-few until ruled.texts)
   told-in stamp more (Dismissed user) ruled fit =
-      record {
-        n1 = account_numbered user fit.accounts;
-        n2 = zero_in;
-        n3 = zero_in;
-        n4 = zero_in;
-        n5 = zero_in;
-        b1 = refl;
-        b2 = refl;
-      }
+      told_one (account_numbered user fit.accounts)
   told-in stamp more (Invited paper user) ruled fit =
-      record {
-        n1 = paper_numbered paper fit.papers;
-        n2 = account_numbered user fit.accounts;
-        n3 = zero_in;
-        n4 = zero_in;
-        n5 = zero_in;
-        b1 = refl;
-        b2 = refl;
-      }
+      told_two (paper_numbered paper fit.papers) (account_numbered user fit.accounts)
   told-in stamp more (Uninvited paper user) ruled fit =
-      record {
-        n1 = paper_numbered paper fit.papers;
-        n2 = account_numbered user fit.accounts;
-        n3 = zero_in;
-        n4 = zero_in;
-        n5 = zero_in;
-        b1 = refl;
-        b2 = refl;
-      }
+      told_two (paper_numbered paper fit.papers) (account_numbered user fit.accounts)
   told-in stamp more (Responded paper text) ruled fit =
-      record {
-        n1 = paper_numbered paper fit.papers;
-        n2 = zero_in;
-        n3 = zero_in;
-        n4 = zero_in;
-        n5 = zero_in;
-        b1 = ruled.texts;
-        b2 = refl;
-      }
+      told (paper_numbered paper fit.papers) zero_in zero_in ruled.texts refl
 
   -- who makes it has a number that a row can hold, the new user too
   made-in : (stamp : Stamp) (more : Bool) (e : Entry) → IsMadeByUser H stamp.maker e

@@ -1,6 +1,6 @@
 -- What an accepted command adds, by the rules on the history before it.
-use Rattle.std.proofs.Common.{ℕ, Bool, true, false, cond, ◌≡◌, ◌≤◌, ◌<◌, ◌+◌, arith, List, [], ◌∷◌, length, eqb, refl}
-use Rattle.std.proofs.Common.{sym, ap, subst, ◌∙◌, ◌||◌, ◌&&◌, Option, Some, None, Ok}
+use Rattle.std.proofs.Common.{ℕ, Bool, true, false, cond, ◌≡◌, ◌<◌, ◌+◌, arith, List, [], ◌∷◌, length, eqb, refl, sym}
+use Rattle.std.proofs.Common.{ap, subst, ◌∙◌, ◌||◌, ◌&&◌, Option, Some, None, Ok}
 use Rattle.std.specs.Prelude.{not, nat_le, is_some, is_none, unwrap_or}
 use Rattle.std.specs.List.{list_any, flat_map}
 use Rattle.std.specs.Option.{option_map}
@@ -14,45 +14,33 @@ use Rattle.cr_base.specs.declared.entry.Entry.TheVariants as entries
 use Rattle.cr_base.specs.declared.entry.Stamp.{Stamp}
 use Rattle.cr_base.specs.declared.entry.Entry.TheVariants.{Registered, Named, PhaseSet, ModeSet, Revised, Uploaded}
 use Rattle.cr_base.specs.declared.entry.Entry.TheVariants.{Withdrawn, Conflict, Assigned, Unassigned, Reviewed}
-use Rattle.cr_base.specs.declared.entry.Entry.TheVariants.{Commented, Tagged, Decided, DeadlineSet, Dismissed, Invited}
-use Rattle.cr_base.specs.declared.entry.Entry.TheVariants.{Uninvited, Responded}
-use Rattle.cr_base.specs.declared.form.Form.{Form}
+use Rattle.cr_base.specs.declared.entry.Entry.TheVariants.{Commented, Tagged, Decided, DeadlineSet, Dismissed}
+use Rattle.cr_base.specs.declared.entry.Entry.TheVariants.{Invited, Uninvited, Responded}
 use Rattle.cr_base.specs.declared.standing.Standing.{Standing}
 use Rattle.cr_base.specs.declared.target.Target.{Target}
-use Rattle.cr_base.specs.declared.words.Decision.{Decision}
 use Rattle.cr_base.specs.declared.words.Kind.{Kind}
-use Rattle.cr_base.specs.declared.words.Phase.TheVariants.{Bidding}
-use Rattle.cr_base.specs.declared.words.Phase.TheVariants.{Notification}
+use Rattle.cr_base.specs.declared.words.Phase.TheVariants.{Bidding, Notification}
 use Rattle.cr_base.specs.declared.words.Role.{Role}
 use Rattle.cr_base.specs.declared.words.Role.TheVariants.{Account, Chair}
 use Rattle.cr_base.specs.Lists.{at_some, is_number, listed}
 use Rattle.cr_base.specs.History.{History}
-use Rattle.cr_base.specs.HistoryFacts.{phase_of, role_of, accounts_of}
-use Rattle.cr_base.specs.HistoryFacts.{is_external}
-use Rattle.cr_base.specs.HistoryFacts.{standing_of}
+use Rattle.cr_base.specs.HistoryFacts.{phase_of, role_of, accounts_of, is_external, standing_of}
 use Rattle.cr_base.specs.Accounts.{chair_count}
 use Rattle.cr_base.specs.Page.{is_admitted}
-use Rattle.cr_base.specs.Phases.{is_from, is_next, mode_may_be_set, authors_have_declared}
-use Rattle.cr_base.specs.Phases.{conflicts_are_final, committee_works, bids_are_taken, reviews_are_written}
-use Rattle.cr_base.specs.Phases.{responses_are_written, comments_are_written, decisions_are_made}
+use Rattle.cr_base.specs.Phases.{is_from, is_next, mode_may_be_set, authors_have_declared, conflicts_are_final}
+use Rattle.cr_base.specs.Phases.{committee_works, bids_are_taken, reviews_are_written, responses_are_written}
+use Rattle.cr_base.specs.Phases.{comments_are_written, decisions_are_made}
 use Rattle.cr_base.specs.Words.{role_number, is_member, is_chair}
-use Rattle.cr_base.specs.Bounds.{IsForm, IsBoundedCommand}
-use Rattle.cr_base.specs.TagTexts.{is_tag, is_for_chairs}
-use Rattle.cr_base.specs.Texts.{IsName, IsCommentText}
-use Rattle.cr_base.specs.Checks.{Check, of_role, target_role, register_checks, phase_checks, deadline_checks}
-use Rattle.cr_base.specs.Checks.{submit_checks, revise_checks, upload_checks, name_checks, mode_checks, chair_checks}
-use Rattle.cr_base.specs.Checks.{conflict_checks, bid_checks, assign_checks, unassign_checks}
-use Rattle.cr_base.specs.Checks.{review_checks, respond_checks, comment_checks, tag_checks, decide_checks}
-use Rattle.cr_base.specs.Checks.{dismiss_checks, invite_checks, uninvite_checks}
-use Rattle.cr_base.specs.Drawn.{Drawn, grouped, registration_drawn, phase_drawn, submission_drawn, revision_drawn}
-use Rattle.cr_base.specs.Drawn.{upload_drawn, withdrawal_drawn, naming_drawn, mode_drawn, conflict_drawn, bid_drawn}
-use Rattle.cr_base.specs.Drawn.{assignment_drawn, unassignment_drawn, review_drawn, comment_drawn, tag_drawn}
-use Rattle.cr_base.specs.Drawn.{decision_drawn, deadline_drawn, dismissal_drawn, invitation_drawn, uninvitation_drawn}
-use Rattle.cr_base.specs.Drawn.{response_drawn}
+use Rattle.cr_base.specs.Bounds.{IsBoundedCommand}
+use Rattle.cr_base.specs.Texts.{IsName}
+use Rattle.cr_base.specs.Checks.{Check, of_role, target_role, register_checks, chair_checks, conflict_checks}
+use Rattle.cr_base.specs.Checks.{assign_checks, unassign_checks, invite_checks, uninvite_checks}
+use Rattle.cr_base.specs.Deeds.{Deed, deed_at, drawn_by}
+use Rattle.cr_base.specs.Drawn.{Drawn, grouped, registration_drawn}
 use Rattle.cr_base.specs.Judging.{judge_by}
 use Rattle.cr_base.specs.Sources.{Facts, Shown, number_in, user_among, users_among, role_among, paper_named}
 use Rattle.cr_base.specs.Sources.{target_named, is_late}
-use Rattle.cr_base.proofs.CheckLaws.{NoneBroken, judged-Ok}
+use Rattle.cr_base.proofs.CheckLaws.{NoneBroken, judged-Ok, judged-none}
 use Rattle.cr_base.proofs.FitLaws.{none-where, some-where}
 use Rattle.cr_base.proofs.TargetLaws.{is_none-asked, target_role-of}
 use Rattle.cr_history.specs.Invariants.{IsRegistered}
@@ -60,7 +48,7 @@ use Rattle.cr_history.specs.Groups.{IsRuled, IsBoundedStamp, Adds, single, submi
 use Rattle.cr_history.proofs.RuleFacts.{facts_of, role-among, users-registered, author-named, submitting, begun}
 use Rattle.cr_history.proofs.RuleFacts.{of-paper, named, case-ruled, is_told_all, TellsSeats}
 
--- ---- all commands
+-- ---- registrations
 
 pub registration-adds : (H : History) (stamp : Stamp) (facts : Facts) (shown : Shown) (name digest : List ℕ)
     (drawn : Drawn)
@@ -165,27 +153,11 @@ module _ (H : History) (stamp : Stamp) (shown : Shown) (bounds : IsBoundedStamp 
       (external_by p v k.role) refl refl k.held refl
       (outside-told p v k.role k.held) k.holds.1.1
 
-  -- ---- bids and assignments
+  -- ---- assignments
 
   -- a member in no conflict
   clear : (member conflicted : Bool) → member ≡ true → conflicted ≡ false → (member && not conflicted) ≡ true
   clear member conflicted hm hf = grind arith
-
-  bid-ruled : (paper : Option ℕ) (value : ℕ) → value ≤ 40
-      → NoneBroken (bid_checks (standing_of (Some maker) paper H) (paper_named facts shown paper) late)
-      → IsRuled H maker (entries.Bid (unwrap_or paper 0) value)
-  bid-ruled None value bounded none = absurd (true≢false none.0)
-  bid-ruled (Some p) value bounded none =
-      let by = standing_of (Some maker) (Some p) H in
-      record {
-        phase = not-false (bids_are_taken by.phase) none.1.1.1.0;
-        chair = tt;
-        role = tt;
-        member = tt;
-        right = clear (is_member by.role) by.conflicted (not-false (is_member by.role) none.1.0) none.1.1.0;
-        seat = tt;
-        texts = bounded;
-      }
 
   -- a chair who assigns or unassigns is told all of the paper's conflicts and reviewers
   chair-told : (p : ℕ) (withdrawn : Bool) → NoneBroken (chair_checks (standing_of (Some maker) (Some p) H) withdrawn)
@@ -318,16 +290,137 @@ module _ (H : History) (stamp : Stamp) (shown : Shown) (bounds : IsBoundedStamp 
         texts = tt;
       }
 
-  -- ---- reviews, comments, tags and decisions
+  -- ---- all commands
 
-  reviewed-ruled : (paper : Option ℕ) (version : ℕ) (form : Form) → IsForm form
-      → NoneBroken (review_checks (standing_of (Some maker) paper H) (paper_named facts shown paper) late)
-      → IsRuled H maker (Reviewed (unwrap_or paper 0) (unwrap_or (facts.own_ordinal (unwrap_or paper 0)) 0) version
-      form)
-  reviewed-ruled None version form bounded none = absurd (true≢false none.0)
-  reviewed-ruled (Some p) version form bounded none =
+  abbrev deed_of : Command → Deed
+  deed_of command = deed_at facts shown stamp command
+
+  -- what a deed of which no rule is broken adds
+  deed-adds : (command : Command) → IsBoundedCommand command → NoneBroken (deed_of command).checks
+      → Adds H (drawn_by stamp (deed_of command)).group
+  deed-adds (Register name digest) bounded none =
+      registration-adds H stamp facts shown name digest (drawn_by stamp (deed_of (Register name digest))) bounds bounded
+      (judged-none (deed_of (Register name digest)).checks (drawn_by stamp (deed_of (Register name digest))) none)
+  deed-adds (SetPhase to) bounded none =
+      single stamp (PhaseSet to) bounds registered tt
+      (record {
+        phase = not-false (is_next (phase_of H) to) none.1.0;
+        chair = not-false (is_chair standing.role) none.0;
+        role = tt;
+        member = tt;
+        right = tt;
+        seat = tt;
+        texts = tt;
+      })
+  deed-adds (Submit title abstract names) bounded none =
+      let n : ℕ = length facts.papers in
+      let users : List (Option ℕ) = users_among facts.accounts names in
+      let others : List ℕ = flat_map listed users in
+      submitted stamp (n + 1) title abstract others bounds registered
+      (record {
+        phase = submitting H maker none.1.0;
+        chair = tt;
+        role = tt;
+        member = tt;
+        right = tt;
+        seat = tt;
+        texts = (bounded.0, bounded.1);
+      }) (users-registered H names)
+  deed-adds (Revise paper title abstract) bounded none =
+      single stamp (Revised (unwrap_or paper 0) title abstract) bounds registered tt
+      (record {
+        phase = submitting H maker none.1.1.0;
+        chair = tt;
+        role = tt;
+        member = tt;
+        right = author-named H maker paper none.1.0;
+        seat = tt;
+        texts = bounded;
+      })
+  deed-adds (Upload paper content) bounded none =
+      let version : ℕ = length (shown.uploads (unwrap_or paper 0)) + 1 in
+      single stamp (Uploaded (unwrap_or paper 0) version content) bounds registered tt
+      (record {
+        phase = submitting H maker none.1.1.0;
+        chair = tt;
+        role = tt;
+        member = tt;
+        right = author-named H maker paper none.1.0;
+        seat = tt;
+        texts = bounded;
+      })
+  deed-adds (Withdraw paper) bounded none =
+      single stamp (Withdrawn (unwrap_or paper 0)) bounds registered tt
+      (record {
+        phase = submitting H maker none.1.1.0;
+        chair = tt;
+        role = tt;
+        member = tt;
+        right = author-named H maker paper none.1.0;
+        seat = tt;
+        texts = tt;
+      })
+  deed-adds (Name name role) bounded none =
+      let target : Option ℕ = user_among facts.accounts name in
+      let before : Option Role = role_among facts.accounts target in
+      let asked : Option Target = option_map of_role before in
+      let rises : role_number (target_role asked) < role_number role =
+      leb-false (role_number role) (role_number (target_role asked)) none.1.1.1.0 in
+      let there : is_none before ≡ false = sym (is_none-asked of_role before) ∙ none.0 in
+      single stamp (Named (unwrap_or target 0) role) bounds registered tt (record {
+        phase = none.1.1.0;
+        chair = or_left (is_chair standing.role) (eqb (length H) 1) (not-false (is_chair standing.role) none.1.0);
+        role = subst (λ (r : Role). role_number r < role_number role)
+            (target_role-of before ∙ (role-among H target there).0) rises;
+        member = tt;
+        right = tt;
+        seat = tt;
+        texts = tt;
+      })
+  deed-adds (SetMode to) bounded none =
+      single stamp (ModeSet to) bounds registered tt
+      (record {
+        phase = not-false (mode_may_be_set (phase_of H)) none.1.0;
+        chair = not-false (is_chair standing.role) none.0;
+        role = tt;
+        member = tt;
+        right = tt;
+        seat = tt;
+        texts = tt;
+      })
+  deed-adds (SetConflict paper name on) bounded none =
+      let target : Option ℕ = user_among facts.accounts name in
+      single stamp (Conflict (unwrap_or paper 0) (unwrap_or target 0) on) bounds registered tt
+      (conflict-ruled_for paper target on none)
+  deed-adds (Bid None value) bounded none = absurd (true≢false none.0)
+  deed-adds (Bid (Some p) value) bounded none =
       let by = standing_of (Some maker) (Some p) H in
-      record {
+      single stamp (entries.Bid p value) bounds registered tt
+      (record {
+        phase = not-false (bids_are_taken by.phase) none.1.1.1.0;
+        chair = tt;
+        role = tt;
+        member = tt;
+        right = clear (is_member by.role) by.conflicted (not-false (is_member by.role) none.1.0) none.1.1.0;
+        seat = tt;
+        texts = bounded;
+      })
+  deed-adds (Assign paper name kind) bounded none =
+      let target : Option ℕ = user_among facts.accounts name in
+      let labels : ℕ = shown.labels (unwrap_or paper 0) in
+      single stamp (Assigned (unwrap_or paper 0) (unwrap_or target 0) kind (labels + 1)) bounds registered tt
+      (assigned-ruled paper target kind (labels + 1) none)
+  deed-adds (Unassign paper name) bounded none =
+      let target : Option ℕ = user_among facts.accounts name in
+      let p : ℕ = unwrap_or paper 0 in
+      let ordinal : ℕ = unwrap_or (shown.ordinal target p) 0 in
+      single stamp (Unassigned p (unwrap_or target 0) ordinal) bounds registered tt
+      (unassigned-ruled paper target none)
+  deed-adds (Review None form) bounded none = absurd (true≢false none.0)
+  deed-adds (Review (Some p) form) bounded none =
+      let by = standing_of (Some maker) (Some p) H in
+      single stamp (Reviewed p (unwrap_or (facts.own_ordinal p) 0) (length (facts.own_forms p) + 1) form) bounds registered tt
+      (record {
         phase = not-false (reviews_are_written by.phase) none.1.1.1.1.0;
         chair = tt;
         role = tt;
@@ -335,15 +428,12 @@ module _ (H : History) (stamp : Stamp) (shown : Shown) (bounds : IsBoundedStamp 
         right = clear (is_admitted by) by.conflicted (not-false (is_admitted by) none.1.0) none.1.1.0;
         seat = some-where (facts.own_ordinal p) (not-false (is_some (facts.own_ordinal p)) none.1.1.1.0);
         texts = bounded;
-      }
-
-  commented-ruled : (paper : Option ℕ) (n own : ℕ) (text : List ℕ) → IsCommentText text
-      → NoneBroken (comment_checks (standing_of (Some maker) paper H) (paper_named facts shown paper) own late)
-      → IsRuled H maker (Commented (unwrap_or paper 0) n (facts.own_ordinal (unwrap_or paper 0)) text)
-  commented-ruled None n own text bounded none = absurd (true≢false none.0)
-  commented-ruled (Some p) n own text bounded none =
+      })
+  deed-adds (Comment None text) bounded none = absurd (true≢false none.0)
+  deed-adds (Comment (Some p) text) bounded none =
       let by = standing_of (Some maker) (Some p) H in
-      record {
+      single stamp (Commented p (length (shown.comments p) + 1) (facts.own_ordinal p) text) bounds registered tt
+      (record {
         phase = not-false (comments_are_written by.phase) none.1.1.1.0;
         chair = tt;
         role = tt;
@@ -351,15 +441,12 @@ module _ (H : History) (stamp : Stamp) (shown : Shown) (bounds : IsBoundedStamp 
         right = clear (is_member by.role) by.conflicted (not-false (is_member by.role) none.1.0) none.1.1.0;
         seat = refl;
         texts = bounded;
-      }
-
-  tagged-ruled : (paper : Option ℕ) (tag : List ℕ) (on : Bool) → is_tag tag ≡ true
-      → NoneBroken (tag_checks (standing_of (Some maker) paper H) (paper_named facts shown paper) (is_for_chairs tag))
-      → IsRuled H maker (Tagged (unwrap_or paper 0) tag on)
-  tagged-ruled None tag on bounded none = absurd (true≢false none.0)
-  tagged-ruled (Some p) tag on bounded none =
+      })
+  deed-adds (Tag None tag on) bounded none = absurd (true≢false none.0)
+  deed-adds (Tag (Some p) tag on) bounded none =
       let by = standing_of (Some maker) (Some p) H in
-      record {
+      single stamp (Tagged p tag on) bounds registered tt
+      (record {
         phase = not-false (committee_works by.phase) none.1.1.1.1.0;
         chair = tt;
         role = tt;
@@ -368,15 +455,12 @@ module _ (H : History) (stamp : Stamp) (shown : Shown) (bounds : IsBoundedStamp 
             (clear (is_member by.role) by.conflicted (not-false (is_member by.role) none.1.1.0) none.1.1.1.0, none.1.0);
         seat = tt;
         texts = bounded;
-      }
-
-  decided-ruled : (paper : Option ℕ) (decision : Decision)
-      → NoneBroken (decide_checks (standing_of (Some maker) paper H) (paper_named facts shown paper))
-      → IsRuled H maker (Decided (unwrap_or paper 0) decision)
-  decided-ruled None decision none = absurd (true≢false none.0)
-  decided-ruled (Some p) decision none =
+      })
+  deed-adds (Decide None decision) bounded none = absurd (true≢false none.0)
+  deed-adds (Decide (Some p) decision) bounded none =
       let by = standing_of (Some maker) (Some p) H in
-      record {
+      single stamp (Decided p decision) bounds registered tt
+      (record {
         phase = not-false (decisions_are_made by.phase) none.1.1.1.0;
         chair = not-false (is_chair by.role) none.1.0;
         role = tt;
@@ -384,248 +468,58 @@ module _ (H : History) (stamp : Stamp) (shown : Shown) (bounds : IsBoundedStamp 
         right = none.1.1.0;
         seat = tt;
         texts = tt;
-      }
-
-  pub command-adds : (command : Command) (drawn : Drawn) → IsBoundedCommand command
-      → judge_by facts shown stamp command ≡ Ok drawn → Adds H drawn.group
-  command-adds (Register name digest) drawn bounded accepted =
-      registration-adds H stamp facts shown name digest drawn bounds bounded accepted
-  command-adds (SetPhase to) drawn bounded accepted =
-      let k = judged-Ok (phase_checks standing (phase_of H) to) (phase_drawn stamp to) drawn accepted in
-      subst (λ (d : Drawn). Adds H d.group) k.1
-      (single stamp (PhaseSet to) bounds registered tt
+      })
+  deed-adds (SetDeadline phase until) bounded none =
+      single stamp (DeadlineSet phase until) bounds registered tt
       (record {
-        phase = not-false (is_next (phase_of H) to) k.0.1.0;
-        chair = not-false (is_chair standing.role) k.0.0;
-        role = tt;
-        member = tt;
-        right = tt;
-        seat = tt;
-        texts = tt;
-      }))
-  command-adds (Submit title abstract names) drawn bounded accepted =
-      let n : ℕ = length facts.papers in
-      let users : List (Option ℕ) = users_among facts.accounts names in
-      let others : List ℕ = flat_map listed users in
-      let k = judged-Ok (submit_checks (list_any is_none users) standing n facts.own_papers late)
-      (submission_drawn stamp (n + 1) title abstract others) drawn accepted in
-      subst (λ (d : Drawn). Adds H d.group) k.1
-      (submitted stamp (n + 1) title abstract others bounds registered
-      (record {
-        phase = submitting H maker k.0.1.0;
-        chair = tt;
-        role = tt;
-        member = tt;
-        right = tt;
-        seat = tt;
-        texts = (bounded.0, bounded.1);
-      }) (users-registered H names))
-  command-adds (Revise paper title abstract) drawn bounded accepted =
-      let k = judged-Ok (revise_checks (standing_of (Some maker) paper H) (paper_named facts shown paper) late)
-      (revision_drawn stamp (unwrap_or paper 0) title abstract) drawn accepted in
-      subst (λ (d : Drawn). Adds H d.group) k.1
-      (single stamp (Revised (unwrap_or paper 0) title abstract) bounds registered tt
-      (record {
-        phase = submitting H maker k.0.1.1.0;
-        chair = tt;
-        role = tt;
-        member = tt;
-        right = author-named H maker paper k.0.1.0;
-        seat = tt;
-        texts = bounded;
-      }))
-  command-adds (Upload paper content) drawn bounded accepted =
-      let version : ℕ = length (shown.uploads (unwrap_or paper 0)) + 1 in
-      let k =
-      judged-Ok (upload_checks (standing_of (Some maker) paper H) (paper_named facts shown paper) facts.own_bytes
-      (length content) late) (upload_drawn stamp (unwrap_or paper 0) version content) drawn accepted in
-      subst (λ (d : Drawn). Adds H d.group) k.1
-      (single stamp (Uploaded (unwrap_or paper 0) version content) bounds registered tt
-      (record {
-        phase = submitting H maker k.0.1.1.0;
-        chair = tt;
-        role = tt;
-        member = tt;
-        right = author-named H maker paper k.0.1.0;
-        seat = tt;
-        texts = bounded;
-      }))
-  command-adds (Withdraw paper) drawn bounded accepted =
-      let k = judged-Ok (revise_checks (standing_of (Some maker) paper H) (paper_named facts shown paper) late)
-      (withdrawal_drawn stamp (unwrap_or paper 0)) drawn accepted in
-      subst (λ (d : Drawn). Adds H d.group) k.1
-      (single stamp (Withdrawn (unwrap_or paper 0)) bounds registered tt
-      (record {
-        phase = submitting H maker k.0.1.1.0;
-        chair = tt;
-        role = tt;
-        member = tt;
-        right = author-named H maker paper k.0.1.0;
-        seat = tt;
-        texts = tt;
-      }))
-  command-adds (Name name role) drawn bounded accepted =
-      let target : Option ℕ = user_among facts.accounts name in
-      let before : Option Role = role_among facts.accounts target in
-      let asked : Option Target = option_map of_role before in
-      let k = judged-Ok (name_checks standing asked role)
-      (naming_drawn stamp (unwrap_or target 0) (unwrap_or name []) role) drawn accepted in
-      let rises : role_number (target_role asked) < role_number role =
-      leb-false (role_number role) (role_number (target_role asked)) k.0.1.1.1.0 in
-      let there : is_none before ≡ false = sym (is_none-asked of_role before) ∙ k.0.0 in
-      subst (λ (d : Drawn). Adds H d.group) k.1
-      (single stamp (Named (unwrap_or target 0) role) bounds registered tt (record {
-        phase = k.0.1.1.0;
-        chair = or_left (is_chair standing.role) (eqb (length H) 1) (not-false (is_chair standing.role) k.0.1.0);
-        role = subst (λ (r : Role). role_number r < role_number role)
-            (target_role-of before ∙ (role-among H target there).0) rises;
-        member = tt;
-        right = tt;
-        seat = tt;
-        texts = tt;
-      }))
-  command-adds (SetMode to) drawn bounded accepted =
-      let k = judged-Ok (mode_checks standing (phase_of H)) (mode_drawn stamp to) drawn accepted in
-      subst (λ (d : Drawn). Adds H d.group) k.1
-      (single stamp (ModeSet to) bounds registered tt
-      (record {
-        phase = not-false (mode_may_be_set (phase_of H)) k.0.1.0;
-        chair = not-false (is_chair standing.role) k.0.0;
-        role = tt;
-        member = tt;
-        right = tt;
-        seat = tt;
-        texts = tt;
-      }))
-  command-adds (SetConflict paper name on) drawn bounded accepted =
-      let target : Option ℕ = user_among facts.accounts name in
-      let k = judged-Ok (checks paper target on) (conflict_drawn stamp (unwrap_or paper 0) (unwrap_or target 0) on)
-      drawn accepted in
-      subst (λ (d : Drawn). Adds H d.group) k.1
-      (single stamp (Conflict (unwrap_or paper 0) (unwrap_or target 0) on) bounds registered tt
-      (conflict-ruled_for paper target on k.0))
-  command-adds (Bid paper value) drawn bounded accepted =
-      let k = judged-Ok (bid_checks (standing_of (Some maker) paper H) (paper_named facts shown paper) late)
-      (bid_drawn stamp (unwrap_or paper 0) value) drawn accepted in
-      subst (λ (d : Drawn). Adds H d.group) k.1
-      (single stamp (entries.Bid (unwrap_or paper 0) value) bounds registered tt (bid-ruled paper value bounded k.0))
-  command-adds (Assign paper name kind) drawn bounded accepted =
-      let target : Option ℕ = user_among facts.accounts name in
-      let labels : ℕ = shown.labels (unwrap_or paper 0) in
-      let k =
-      judged-Ok (assign_checks (standing_of (Some maker) paper H) (paper_named facts shown paper) (asked paper target)
-      labels)
-      (assignment_drawn stamp (unwrap_or paper 0) (unwrap_or target 0) kind (labels + 1)) drawn accepted in
-      subst (λ (d : Drawn). Adds H d.group) k.1
-      (single stamp (Assigned (unwrap_or paper 0) (unwrap_or target 0) kind (labels + 1)) bounds registered tt
-      (assigned-ruled paper target kind (labels + 1) k.0))
-  command-adds (Unassign paper name) drawn bounded accepted =
-      let target : Option ℕ = user_among facts.accounts name in
-      let p : ℕ = unwrap_or paper 0 in
-      let ordinal : ℕ = unwrap_or (shown.ordinal target p) 0 in
-      let k =
-      judged-Ok (unassign_checks (standing_of (Some maker) paper H) (paper_named facts shown paper)
-      (asked paper target) (under_label paper target))
-      (unassignment_drawn stamp p (unwrap_or target 0) ordinal) drawn accepted in
-      subst (λ (d : Drawn). Adds H d.group) k.1
-      (single stamp (Unassigned p (unwrap_or target 0) ordinal) bounds registered tt
-      (unassigned-ruled paper target k.0))
-  command-adds (Review paper form) drawn bounded accepted =
-      let p : ℕ = unwrap_or paper 0 in
-      let ordinal : ℕ = unwrap_or (facts.own_ordinal p) 0 in
-      let version : ℕ = length (facts.own_forms p) + 1 in
-      let k = judged-Ok (review_checks (standing_of (Some maker) paper H) (paper_named facts shown paper) late)
-      (review_drawn stamp p ordinal version form) drawn accepted in
-      subst (λ (d : Drawn). Adds H d.group) k.1
-      (single stamp (Reviewed p ordinal version form) bounds registered tt
-      (reviewed-ruled paper version form bounded k.0))
-  command-adds (Comment paper text) drawn bounded accepted =
-      let p : ℕ = unwrap_or paper 0 in
-      let n : ℕ = length (shown.comments p) + 1 in
-      let k =
-      judged-Ok (comment_checks (standing_of (Some maker) paper H) (paper_named facts shown paper) facts.own_comments
-      late)
-      (comment_drawn stamp p n (facts.own_ordinal p) text) drawn accepted in
-      subst (λ (d : Drawn). Adds H d.group) k.1
-      (single stamp (Commented p n (facts.own_ordinal p) text) bounds registered tt
-      (commented-ruled paper n facts.own_comments text bounded k.0))
-  command-adds (Tag paper tag on) drawn bounded accepted =
-      let k =
-      judged-Ok (tag_checks (standing_of (Some maker) paper H) (paper_named facts shown paper) (is_for_chairs tag))
-      (tag_drawn stamp (unwrap_or paper 0) tag on) drawn accepted in
-      subst (λ (d : Drawn). Adds H d.group) k.1
-      (single stamp (Tagged (unwrap_or paper 0) tag on) bounds registered tt (tagged-ruled paper tag on bounded k.0))
-  command-adds (Decide paper decision) drawn bounded accepted =
-      let k = judged-Ok (decide_checks (standing_of (Some maker) paper H) (paper_named facts shown paper))
-      (decision_drawn stamp (unwrap_or paper 0) decision) drawn accepted in
-      subst (λ (d : Drawn). Adds H d.group) k.1
-      (single stamp (Decided (unwrap_or paper 0) decision) bounds registered tt (decided-ruled paper decision k.0))
-  command-adds (SetDeadline phase until) drawn bounded accepted =
-      let k =
-      judged-Ok (deadline_checks standing (phase_of H) phase) (deadline_drawn stamp phase until) drawn accepted in
-      subst (λ (d : Drawn). Adds H d.group) k.1
-      (single stamp (DeadlineSet phase until) bounds registered tt
-      (record {
-        phase = (not-false (is_from (phase_of H) phase) k.0.1.0, bounded.0);
-        chair = not-false (is_chair standing.role) k.0.0;
+        phase = (not-false (is_from (phase_of H) phase) none.1.0, bounded.0);
+        chair = not-false (is_chair standing.role) none.0;
         role = tt;
         member = tt;
         right = tt;
         seat = tt;
         texts = bounded.1;
-      }))
-  command-adds (Dismiss name) drawn bounded accepted =
+      })
+  deed-adds (Dismiss name) bounded none =
       let target : Option ℕ = user_among facts.accounts name in
       let before : Option Role = role_among facts.accounts target in
       let asked : Option Target = option_map of_role before in
-      let k = judged-Ok (dismiss_checks standing asked (chair_count facts.accounts))
-      (dismissal_drawn stamp (unwrap_or target 0) (unwrap_or name [])) drawn accepted in
-      let there : is_none before ≡ false = sym (is_none-asked of_role before) ∙ k.0.0 in
-      subst (λ (d : Drawn). Adds H d.group) k.1
-      (single stamp (Dismissed (unwrap_or target 0)) bounds registered tt (record {
-        phase = k.0.1.1.0;
-        chair = not-false (is_chair standing.role) k.0.1.0;
+      let there : is_none before ≡ false = sym (is_none-asked of_role before) ∙ none.0 in
+      single stamp (Dismissed (unwrap_or target 0)) bounds registered tt (record {
+        phase = none.1.1.0;
+        chair = not-false (is_chair standing.role) none.1.0;
         role =
             subst (λ (r : Role). (is_member r ≡ true)
             × ((is_chair r && nat_le (chair_count (accounts_of H)) 1) ≡ false))
             (target_role-of before ∙ (role-among H target there).0)
-            (not-false (is_member (target_role asked)) k.0.1.1.1.0, k.0.1.1.1.1.0);
+            (not-false (is_member (target_role asked)) none.1.1.1.0, none.1.1.1.1.0);
         member = tt;
         right = tt;
         seat = tt;
         texts = tt;
-      }))
-  command-adds (Invite paper name) drawn bounded accepted =
+      })
+  deed-adds (Invite paper name) bounded none =
       let target : Option ℕ = user_among facts.accounts name in
-      let k =
-      judged-Ok (invite_checks (standing_of (Some maker) paper H) (paper_named facts shown paper) (asked paper target)
-      (at_some (shown.invited target) paper))
-      (invitation_drawn stamp (unwrap_or paper 0) (unwrap_or target 0)) drawn accepted in
-      subst (λ (d : Drawn). Adds H d.group) k.1
-      (single stamp (Invited (unwrap_or paper 0) (unwrap_or target 0)) bounds registered tt
-      (invited-ruled paper target k.0))
-  command-adds (Uninvite paper name) drawn bounded accepted =
+      single stamp (Invited (unwrap_or paper 0) (unwrap_or target 0)) bounds registered tt
+      (invited-ruled paper target none)
+  deed-adds (Uninvite paper name) bounded none =
       let target : Option ℕ = user_among facts.accounts name in
-      let k =
-      judged-Ok (uninvite_checks (standing_of (Some maker) paper H) (paper_named facts shown paper)
-      (asked paper target) (at_some (shown.invited target) paper))
-      (uninvitation_drawn stamp (unwrap_or paper 0) (unwrap_or target 0)) drawn accepted in
-      subst (λ (d : Drawn). Adds H d.group) k.1
-      (single stamp (Uninvited (unwrap_or paper 0) (unwrap_or target 0)) bounds registered tt
-      (uninvited-ruled paper target k.0))
-  command-adds (Respond paper text) drawn bounded accepted =
+      single stamp (Uninvited (unwrap_or paper 0) (unwrap_or target 0)) bounds registered tt
+      (uninvited-ruled paper target none)
+  deed-adds (Respond paper text) bounded none =
       let p : ℕ = unwrap_or paper 0 in
-      let k =
-      judged-Ok (respond_checks (standing_of (Some maker) paper H) (paper_named facts shown paper)
-      (is_some (shown.response p)) late)
-      (response_drawn stamp p text) drawn accepted in
-      subst (λ (d : Drawn). Adds H d.group) k.1
-      (single stamp (Responded p text) bounds registered tt (record {
-        phase = not-false (responses_are_written (phase_of H)) k.0.1.1.0;
+      single stamp (Responded p text) bounds registered tt (record {
+        phase = not-false (responses_are_written (phase_of H)) none.1.1.0;
         chair = tt;
         role = tt;
         member = tt;
-        right = author-named H maker paper k.0.1.0;
+        right = author-named H maker paper none.1.0;
         seat = tt;
         texts = bounded;
-      }))
+      })
+
+  pub command-adds : (command : Command) (drawn : Drawn) → IsBoundedCommand command
+      → judge_by facts shown stamp command ≡ Ok drawn → Adds H drawn.group
+  command-adds command drawn bounded accepted =
+      let k = judged-Ok (deed_of command).checks (drawn_by stamp (deed_of command)) drawn accepted in
+      subst (λ (d : Drawn). Adds H d.group) k.1 (deed-adds command bounded k.0)

@@ -1,18 +1,12 @@
 -- No rule reads the number of a command, nor its moment but for whether it is too late. So under a stamp without a
 -- number, and with another moment that is as late, all is judged as it is under its own.
 use Rattle.std.proofs.Common.{ℕ, Bool, true, false, cond, ◌≡◌, ◌+◌, List, [], ◌∷◌, ◌++◌, length, refl, sym, ap, subst}
-use Rattle.std.proofs.Common.{◌∙◌, Option, Some, None, Result, Ok, Err}
-use Rattle.std.specs.Prelude.{is_none, is_some, unwrap_or, map}
-use Rattle.std.specs.List.{flat_map, list_any}
-use Rattle.std.specs.Option.{option_map}
+use Rattle.std.proofs.Common.{◌∙◌, Some, None, Result, Ok, Err}
+use Rattle.std.specs.Prelude.{map}
 use Rattle.cr_base.specs.declared.bulk.Broken.{Broken}
 use Rattle.cr_base.specs.declared.bulk.BulkRow.{BulkRow}
 use Rattle.cr_base.specs.declared.command.Call.{Call}
 use Rattle.cr_base.specs.declared.command.Command.{Command}
-use Rattle.cr_base.specs.declared.command.Command.TheVariants.{Register, SetPhase, Submit, Revise, Upload, Withdraw}
-use Rattle.cr_base.specs.declared.command.Command.TheVariants.{Name, SetMode, SetConflict, Bid, Assign, Unassign}
-use Rattle.cr_base.specs.declared.command.Command.TheVariants.{Review, Comment, Tag, Decide, SetDeadline, Dismiss}
-use Rattle.cr_base.specs.declared.command.Command.TheVariants.{Invite, Uninvite, Respond}
 use Rattle.cr_base.specs.declared.entry.Entry.{Entry}
 use Rattle.cr_base.specs.declared.entry.Entry.TheVariants as entries
 use Rattle.cr_base.specs.declared.entry.Stamp.{Stamp}
@@ -23,27 +17,15 @@ use Rattle.cr_base.specs.declared.reply.Rule.TheVariants as rules
 use Rattle.cr_base.specs.Bulk.{entries_of, row_command, row_judged, row_told_judged, turns_own_conflict, and_rows}
 use Rattle.cr_base.specs.Bulk.{and_behind, rows_judged, bulk_of_rows, bulk_behind, bulk_checks, bulk_by_role}
 use Rattle.cr_base.specs.Bulk.{tables_basis}
-use Rattle.cr_base.specs.Accounts.{chair_count}
 use Rattle.cr_base.specs.Calls.{BulkCall, stamp_by, stamp_of, call_of}
-use Rattle.cr_base.specs.Checks.{Check, judged, of_role, register_checks, phase_checks, deadline_checks}
-use Rattle.cr_base.specs.Checks.{submit_checks}
-use Rattle.cr_base.specs.Checks.{revise_checks, upload_checks, name_checks, mode_checks, conflict_checks, bid_checks}
-use Rattle.cr_base.specs.Checks.{assign_checks, unassign_checks, review_checks, respond_checks, comment_checks}
-use Rattle.cr_base.specs.Checks.{tag_checks, decide_checks, dismiss_checks, invite_checks, uninvite_checks}
-use Rattle.cr_base.specs.Drawn.{Drawn, stamped, grouped, registration, registration_drawn, phase_drawn, submission}
-use Rattle.cr_base.specs.Drawn.{submission_drawn, revision_drawn, upload_drawn, withdrawal_drawn, naming_drawn}
-use Rattle.cr_base.specs.Drawn.{mode_drawn, conflict_drawn, bid_drawn, assignment_drawn, unassignment_drawn}
-use Rattle.cr_base.specs.Drawn.{review_drawn, response_drawn, comment_drawn, tag_drawn, decision_drawn}
-use Rattle.cr_base.specs.Drawn.{deadline_drawn}
-use Rattle.cr_base.specs.Drawn.{dismissal_drawn, invitation_drawn, uninvitation_drawn}
+use Rattle.cr_base.specs.Checks.{Check, judged}
+use Rattle.cr_base.specs.Drawn.{Drawn, stamped, grouped}
 use Rattle.cr_base.specs.History.{History, all_told}
 use Rattle.cr_base.specs.Judging.{judge_by, judge_by_role}
-use Rattle.cr_base.specs.Lists.{at_some, listed}
-use Rattle.cr_base.specs.Sources.{Facts, Shown, facts_of_tables, shown_in_tables, number_in, user_among, users_among}
-use Rattle.cr_base.specs.Sources.{role_among, paper_named, target_named, is_late}
+use Rattle.cr_base.specs.Sources.{Facts, Shown, facts_of_tables, shown_in_tables, is_late}
 use Rattle.cr_base.specs.Stage.{StageState, is_late_in, stage_after}
-use Rattle.cr_base.specs.TagTexts.{is_for_chairs}
 use Rattle.cr_base.specs.Tables.{Tables, tables_after, tables_from, tables_of}
+use Rattle.cr_base.specs.Deeds.{Deed, deed, deed_at, drawn_by, judged_by}
 use Rattle.cr_policy.specs.Legal.{unnumbered}
 use Rattle.cr_policy.proofs.BulkLaws.{RowDraws, row-draws, row-told, seen, IsReady, rows-same}
 use Rattle.cr_policy.proofs.BulkViews.{LeavesStanding}
@@ -143,109 +125,12 @@ module _ (time : ℕ → ℕ) where
   -- where it is too late at the moment that is kept exactly where it was at its own
   module _ (facts : Facts) (shown : Shown) (stamp : Stamp)
       (same : is_late facts (time stamp.at) ≡ is_late facts stamp.at) where
-    -- of what asks whether it is too late, last
-    late-kept : (checks : Bool → List Check) (drawn : Drawn)
-        → judged (checks (is_late facts (time stamp.at))) (kept_drawn drawn)
-        ≡ kept_result (judged (checks (is_late facts stamp.at)) drawn)
-    late-kept checks drawn = ap (λ (late : Bool). judged (checks late) (kept_drawn drawn)) same
-        ∙ judged-kept (checks (is_late facts stamp.at)) drawn
-
     judge_by-kept : (command : Command) → judge_by facts shown (kept stamp) command
         ≡ kept_result (judge_by facts shown stamp command)
-    judge_by-kept (Register name digest) =
-        let n : ℕ = length facts.accounts in
-        grouped-judged (register_checks (is_some (number_in facts.accounts name)) n) (record stamp { maker = n + 1 })
-        (registration (n + 1) name digest) (registration_drawn stamp (n + 1) name digest) refl
-    judge_by-kept (SetPhase to) =
-        judged-kept (phase_checks (facts.standing None) (facts.standing None).phase to) (phase_drawn stamp to)
-    judge_by-kept (Submit title abstract authors) =
-        let users : List (Option ℕ) = users_among facts.accounts authors in
-        let n : ℕ = length facts.papers in
-        let drawn : Drawn = submission_drawn stamp (n + 1) title abstract (flat_map listed users) in
-        let checks : Bool → List Check =
-        submit_checks (list_any is_none users) (facts.standing None) n facts.own_papers in
-        ap (λ (late : Bool). judged (checks late)
-        (submission_drawn (kept stamp) (n + 1) title abstract (flat_map listed users))) same
-        ∙ grouped-judged (checks (is_late facts stamp.at)) stamp
-        (submission stamp.maker (n + 1) title abstract (flat_map listed users)) drawn refl
-    judge_by-kept (Revise paper title abstract) =
-        late-kept (revise_checks (facts.standing paper) (paper_named facts shown paper))
-        (revision_drawn stamp (unwrap_or paper 0) title abstract)
-    judge_by-kept (Upload paper content) =
-        late-kept (upload_checks (facts.standing paper) (paper_named facts shown paper) facts.own_bytes
-        (length content))
-        (upload_drawn stamp (unwrap_or paper 0) (length (shown.uploads (unwrap_or paper 0)) + 1) content)
-    judge_by-kept (Withdraw paper) =
-        late-kept (revise_checks (facts.standing paper) (paper_named facts shown paper))
-        (withdrawal_drawn stamp (unwrap_or paper 0))
-    judge_by-kept (Name name role) =
-        let target : Option ℕ = user_among facts.accounts name in
-        judged-kept (name_checks (facts.standing None) (option_map of_role (role_among facts.accounts target)) role)
-        (naming_drawn stamp (unwrap_or target 0) (unwrap_or name []) role)
-    judge_by-kept (SetMode to) =
-        judged-kept (mode_checks (facts.standing None) (facts.standing None).phase) (mode_drawn stamp to)
-    judge_by-kept (SetConflict paper name on) =
-        let target : Option ℕ = user_among facts.accounts name in
-        late-kept (conflict_checks (facts.standing paper) (paper_named facts shown paper)
-        (target_named facts shown (Some stamp.maker) paper target) on)
-        (conflict_drawn stamp (unwrap_or paper 0) (unwrap_or target 0) on)
-    judge_by-kept (Bid paper value) =
-        late-kept (bid_checks (facts.standing paper) (paper_named facts shown paper))
-        (bid_drawn stamp (unwrap_or paper 0) value)
-    judge_by-kept (Assign paper name kind) =
-        let target : Option ℕ = user_among facts.accounts name in
-        let labels : ℕ = shown.labels (unwrap_or paper 0) in
-        judged-kept (assign_checks (facts.standing paper) (paper_named facts shown paper)
-        (target_named facts shown (Some stamp.maker) paper target) labels)
-        (assignment_drawn stamp (unwrap_or paper 0) (unwrap_or target 0) kind (labels + 1))
-    judge_by-kept (Unassign paper name) =
-        let target : Option ℕ = user_among facts.accounts name in
-        let p : ℕ = unwrap_or paper 0 in
-        judged-kept
-        (unassign_checks (facts.standing paper) (paper_named facts shown paper)
-        (target_named facts shown (Some stamp.maker) paper target)
-        (at_some (shown.written p) (shown.ordinal target p)))
-        (unassignment_drawn stamp p (unwrap_or target 0) (unwrap_or (shown.ordinal target p) 0))
-    judge_by-kept (Review paper form) =
-        let p : ℕ = unwrap_or paper 0 in
-        late-kept (review_checks (facts.standing paper) (paper_named facts shown paper))
-        (review_drawn stamp p (unwrap_or (facts.own_ordinal p) 0) (length (facts.own_forms p) + 1) form)
-    judge_by-kept (Respond paper text) =
-        let p : ℕ = unwrap_or paper 0 in
-        late-kept (respond_checks (facts.standing paper) (paper_named facts shown paper) (is_some (shown.response p)))
-        (response_drawn stamp p text)
-    judge_by-kept (Comment paper text) =
-        let p : ℕ = unwrap_or paper 0 in
-        late-kept (comment_checks (facts.standing paper) (paper_named facts shown paper) facts.own_comments)
-        (comment_drawn stamp p (length (shown.comments p) + 1) (facts.own_ordinal p) text)
-    judge_by-kept (Tag paper tag on) =
-        judged-kept (tag_checks (facts.standing paper) (paper_named facts shown paper) (is_for_chairs tag))
-        (tag_drawn stamp (unwrap_or paper 0) tag on)
-    judge_by-kept (Decide paper decision) =
-        judged-kept (decide_checks (facts.standing paper) (paper_named facts shown paper))
-        (decision_drawn stamp (unwrap_or paper 0) decision)
-    judge_by-kept (Dismiss name) =
-        let target : Option ℕ = user_among facts.accounts name in
-        judged-kept (dismiss_checks (facts.standing None) (option_map of_role (role_among facts.accounts target))
-        (chair_count facts.accounts))
-        (dismissal_drawn stamp (unwrap_or target 0) (unwrap_or name []))
-    judge_by-kept (Invite paper name) =
-        let target : Option ℕ = user_among facts.accounts name in
-        judged-kept
-        (invite_checks (facts.standing paper) (paper_named facts shown paper)
-        (target_named facts shown (Some stamp.maker) paper target)
-        (at_some (shown.invited target) paper))
-        (invitation_drawn stamp (unwrap_or paper 0) (unwrap_or target 0))
-    judge_by-kept (Uninvite paper name) =
-        let target : Option ℕ = user_among facts.accounts name in
-        judged-kept
-        (uninvite_checks (facts.standing paper) (paper_named facts shown paper)
-        (target_named facts shown (Some stamp.maker) paper target)
-        (at_some (shown.invited target) paper))
-        (uninvitation_drawn stamp (unwrap_or paper 0) (unwrap_or target 0))
-    judge_by-kept (SetDeadline phase until) =
-        judged-kept (deadline_checks (facts.standing None) (facts.standing None).phase phase)
-        (deadline_drawn stamp phase until)
+    judge_by-kept command =
+        let d : Deed = deed_at facts shown stamp command in
+        ap (λ (late : Bool). judged_by (kept stamp) (deed facts shown stamp.maker late command)) same
+        ∙ grouped-judged d.checks (record stamp { maker = d.maker }) d.entries (drawn_by stamp d) refl
 
     -- so is a row's
     row-kept : (row : BulkRow) → row_judged facts shown (kept stamp) row

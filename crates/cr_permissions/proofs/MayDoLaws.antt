@@ -1,7 +1,7 @@
 -- A command is accepted exactly where its sentence holds.
 use Rattle.std.proofs.Common.{ℕ, Bool, true, false, cond, ◌≡◌, ◌+◌, List, [], ◌∷◌, length, eqb, refl, sym, ap, ◌∙◌}
 use Rattle.std.proofs.Common.{◌||◌, ◌&&◌, arith, Option, Some, None}
-use Rattle.std.specs.Prelude.{count_by, not, nat_le, nat_lt, is_ok, is_some, is_none, unwrap_or}
+use Rattle.std.specs.Prelude.{count_by, not, nat_le, nat_lt, is_ok, is_some, is_none}
 use Rattle.std.specs.List.{list_any, list_all}
 use Rattle.std.specs.Option.{option_map}
 use Rattle.std.proofs.lemmas.Bool.{eqb-true, true≢false}
@@ -16,7 +16,6 @@ use Rattle.cr_base.specs.declared.words.Decision.{Decision}
 use Rattle.cr_base.specs.declared.target.Target.{Target}
 use Rattle.cr_base.specs.declared.words.Kind.{Kind}
 use Rattle.cr_base.specs.declared.words.Mode.{Mode}
-use Rattle.cr_base.specs.declared.reply.Rule.TheVariants as rules
 use Rattle.cr_base.specs.declared.retry.RetryKey.{RetryKey}
 use Rattle.cr_base.specs.declared.standing.Standing.{Standing}
 use Rattle.cr_base.specs.declared.words.Phase.{Phase}
@@ -27,27 +26,19 @@ use Rattle.cr_base.specs.declared.words.Role.TheVariants.{Account, Member, Chair
 use Rattle.cr_base.specs.declared.reply.AccountLine.{AccountLine}
 use Rattle.cr_base.specs.Accounts.{chair_count}
 use Rattle.cr_base.specs.Calls.{stamp_by, call_of}
-use Rattle.cr_base.specs.Checks.{Check, ◌breaks◌, judged, NamedPaper, phase_checks, deadline_checks, mode_checks}
-use Rattle.cr_base.specs.Checks.{submit_checks, revise_checks, upload_checks, of_role, register_checks, name_checks}
-use Rattle.cr_base.specs.Checks.{own_checks, other_checks, conflict_case, conflict_checks, assign_checks}
-use Rattle.cr_base.specs.Checks.{unassign_checks, bid_checks, review_checks, respond_checks, comment_checks}
-use Rattle.cr_base.specs.Checks.{tag_checks}
-use Rattle.cr_base.specs.Checks.{decide_checks, dismiss_checks, invite_checks, uninvite_checks}
-use Rattle.cr_base.specs.Drawn.{Drawn, naming_drawn, conflict_drawn, assignment_drawn, unassignment_drawn}
-use Rattle.cr_base.specs.Drawn.{dismissal_drawn, invitation_drawn, uninvitation_drawn}
-use Rattle.cr_base.specs.Judging.{name_judged, conflict_judged, assignment_judged, unassignment_judged}
-use Rattle.cr_base.specs.Judging.{dismissal_judged, invitation_judged, uninvitation_judged}
+use Rattle.cr_base.specs.Checks.{NamedPaper, revise_checks, of_role, name_checks, own_checks, other_checks}
+use Rattle.cr_base.specs.Checks.{conflict_case, conflict_checks, assign_checks, unassign_checks, dismiss_checks}
+use Rattle.cr_base.specs.Checks.{invite_checks, uninvite_checks}
 use Rattle.cr_base.specs.Lists.{at_some, is_number}
 use Rattle.cr_base.specs.History.{History}
 use Rattle.cr_base.specs.HistoryFacts.{standing_of, phase_of, deadline_of, role_of, is_conflicted, is_withdrawn}
 use Rattle.cr_base.specs.HistoryFacts.{is_author, is_reviewer, authors_of, papers_of, ordinal_of, seats_of}
-use Rattle.cr_base.specs.HistoryFacts.{accounts_of}
-use Rattle.cr_base.specs.HistoryFacts.{number_of, is_external, is_invited, is_written, response_of, own_comments_of}
-use Rattle.cr_base.specs.HistoryFacts.{own_bytes_of, own_papers_of}
+use Rattle.cr_base.specs.HistoryFacts.{accounts_of, number_of, is_external, is_invited, is_written, response_of}
+use Rattle.cr_base.specs.HistoryFacts.{own_comments_of, own_bytes_of, own_papers_of}
 use Rattle.cr_base.specs.Phases.{is_phase, is_from, is_next, mode_may_be_set, accepts_submissions, papers_may_change}
 use Rattle.cr_base.specs.Phases.{authors_have_declared, conflicts_are_final, roles_are_final, committee_works}
 use Rattle.cr_base.specs.Phases.{bids_are_taken, responses_are_written, comments_are_written, decisions_are_made}
-use Rattle.cr_base.specs.Sources.{number_in, users_among, role_among, paper_named, is_late}
+use Rattle.cr_base.specs.Sources.{number_in, users_among, role_among, paper_named, is_late, target_named}
 use Rattle.cr_base.specs.Tables.{tables_of}
 use Rattle.cr_base.specs.TagTexts.{is_for_chairs}
 use Rattle.cr_base.specs.Words.{is_member, is_chair, role_number}
@@ -63,13 +54,13 @@ use Rattle.cr_policy.proofs.LegalLaws.{Legal-told}
 use Rattle.cr_policy.proofs.JudgedByHistory.{shown_of, number-same}
 use Rattle.cr_permissions.specs.MayDo.{may_register, may_name, may_set_mode, may_open, may_set_deadline, may_submit}
 use Rattle.cr_permissions.specs.MayDo.{may_change, may_upload, may_declare, may_take_back, may_bid, may_assign}
-use Rattle.cr_permissions.specs.MayDo.{may_dismiss}
-use Rattle.cr_permissions.specs.MayDo.{may_invite, may_uninvite, has_written, may_unassign, may_review, may_respond}
-use Rattle.cr_permissions.specs.MayDo.{may_comment, may_tag, may_decide, may_do, is_accepted_from, PermissionsAsSaid}
-use Rattle.cr_permissions.proofs.SentenceLaws.{both-said, none_broken, judged-none_broken, phase-same, next-same}
-use Rattle.cr_permissions.proofs.SentenceLaws.{ahead-same, time-same, member-same, chair-same, in_committee-same}
-use Rattle.cr_permissions.proofs.SentenceLaws.{above-same, over-same, early-same, none-same, at-same, fewer, up_to}
-use Rattle.cr_permissions.proofs.SentenceLaws.{accepted-as, accepted-checks, by_name, all_somebody}
+use Rattle.cr_permissions.specs.MayDo.{may_dismiss, may_invite, may_uninvite, has_written, may_unassign, may_review}
+use Rattle.cr_permissions.specs.MayDo.{may_respond, may_comment, may_tag, may_decide, may_do, is_accepted_from}
+use Rattle.cr_permissions.specs.MayDo.{PermissionsAsSaid}
+use Rattle.cr_permissions.proofs.SentenceLaws.{both-said, none_broken, phase-same, next-same, ahead-same, time-same}
+use Rattle.cr_permissions.proofs.SentenceLaws.{member-same, chair-same, in_committee-same, above-same, over-same}
+use Rattle.cr_permissions.proofs.SentenceLaws.{early-same, none-same, at-same, fewer, up_to, accepted-checks, by_name}
+use Rattle.cr_permissions.proofs.SentenceLaws.{all_somebody}
 
 -- ---- conflicts
 
@@ -152,7 +143,6 @@ module _ (u : Option ℕ) (H : History) (legal : Legal H) (m : ℕ) (key : Optio
       ≡ may_register H name
   registrations name digest =
       accepted-checks u H legal m key (commands.Register name digest)
-      (register_checks (is_some (number_in (accounts_of H) name)) (length (accounts_of H))) _ refl
       ∙ said (is_some (number_in (accounts_of H) name)) (is_none (number_of name H))
       (nat_le 9999 (length (accounts_of H))) (nat_lt (length (accounts_of H)) 9999)
       (none-same (number_in (accounts_of H) name) ∙ ap (λ (o : Option ℕ). is_none o) (number-same u H legal name))
@@ -185,24 +175,21 @@ module _ (w : ℕ) (H : History) (legal : Legal H) (m : ℕ) (key : Option Retry
       → is_ok (judge (view u H) (call_of u m key (commands.SetDeadline phase until))) ≡ may_set_deadline w H phase
   deadlines phase until =
       accepted-checks u H legal m key (commands.SetDeadline phase until)
-      (deadline_checks (standing_of u None H) (phase_of H) phase) _ refl
       ∙ both-said (is_chair (role_of u H)) (is_chairs (role_of u H)) (is_from (phase_of H) phase) (lasts_or_comes phase H)
       (chair-same (role_of u H)) (ahead-same phase (phase_of H))
 
   phases : (to : Phase) → is_ok (judge (view u H) (call_of u m key (commands.SetPhase to))) ≡ may_open w H to
   phases to =
-      accepted-checks u H legal m key (commands.SetPhase to) (phase_checks (standing_of u None H) (phase_of H) to) _
-      refl
+      accepted-checks u H legal m key (commands.SetPhase to)
       ∙ both-said (is_chair (role_of u H)) (is_chairs (role_of u H)) (is_next (phase_of H) to)
       (comes_behind (phase_of H) to)
       (chair-same (role_of u H)) (next-same (phase_of H) to)
 
   bids : (paper : Option ℕ) (value : ℕ) → is_ok (judge (view u H) (call_of u m key (commands.Bid paper value)))
       ≡ of_some paper (may_bid w m H)
-  bids None value = accepted-as u H legal m key (commands.Bid None value)
+  bids None value = accepted-checks u H legal m key (commands.Bid None value)
   bids (Some p) value =
       accepted-checks u H legal m key (commands.Bid (Some p) value)
-      (bid_checks (standing_of u (Some p) H) (paper_named (facts_of u H) (shown_of H) (Some p)) late) _ refl
       ∙ said (is_paper p H) (is_member (role_of u H)) (is_conflicted u p H) (bids_are_taken (phase_of H)) late
       (is_withdrawn p H)
       (is_members (role_of u H)) (now Bidding H) (in_time m H) (member-same (role_of u H))
@@ -215,7 +202,7 @@ module _ (w : ℕ) (H : History) (legal : Legal H) (m : ℕ) (key : Option Retry
 
   modes : (to : Mode) → is_ok (judge (view u H) (call_of u m key (commands.SetMode to))) ≡ may_set_mode w H
   modes to =
-      accepted-checks u H legal m key (commands.SetMode to) (mode_checks (standing_of u None H) (phase_of H)) _ refl
+      accepted-checks u H legal m key (commands.SetMode to)
       ∙ both-said (is_chair (role_of u H)) (is_chairs (role_of u H)) (mode_may_be_set (phase_of H)) (now Setup H)
       (chair-same (role_of u H)) (phase-same Setup (phase_of H))
 
@@ -236,28 +223,24 @@ module _ (w : ℕ) (H : History) (legal : Legal H) (m : ℕ) (key : Option Retry
   revisions : (paper : Option ℕ) (title abstract : List ℕ)
       → is_ok (judge (view u H) (call_of u m key (commands.Revise paper title abstract)))
       ≡ of_some paper (may_change w m H)
-  revisions None title abstract = accepted-as u H legal m key (commands.Revise None title abstract)
+  revisions None title abstract = accepted-checks u H legal m key (commands.Revise None title abstract)
   revisions (Some p) title abstract =
       accepted-checks u H legal m key (commands.Revise (Some p) title abstract)
-      (revise_checks (standing_of u (Some p) H) (paper_named (facts_of u H) (shown_of H) (Some p)) late) _ refl
       ∙ by_author p
 
   withdrawals : (paper : Option ℕ) → is_ok (judge (view u H) (call_of u m key (commands.Withdraw paper)))
       ≡ of_some paper (may_change w m H)
-  withdrawals None = accepted-as u H legal m key (commands.Withdraw None)
+  withdrawals None = accepted-checks u H legal m key (commands.Withdraw None)
   withdrawals (Some p) =
       accepted-checks u H legal m key (commands.Withdraw (Some p))
-      (revise_checks (standing_of u (Some p) H) (paper_named (facts_of u H) (shown_of H) (Some p)) late) _ refl
       ∙ by_author p
 
   uploads : (paper : Option ℕ) (content : List ℕ)
       → is_ok (judge (view u H) (call_of u m key (commands.Upload paper content)))
       ≡ of_some paper (may_upload w m H (length content))
-  uploads None content = accepted-as u H legal m key (commands.Upload None content)
+  uploads None content = accepted-checks u H legal m key (commands.Upload None content)
   uploads (Some p) content =
       accepted-checks u H legal m key (commands.Upload (Some p) content)
-      (upload_checks (standing_of u (Some p) H) (paper_named (facts_of u H) (shown_of H) (Some p)) (own_bytes_of u H)
-      (length content) late) _ refl
       ∙ said (is_paper p H) (is_author u p H) (papers_may_change (phase_of H)) late (is_withdrawn p H)
       (now Submission H) (in_time m H)
       (nat_lt 67108864 (own_bytes_of u H + length content)) (nat_le (own_bytes_of u H + length content) 67108864)
@@ -270,10 +253,9 @@ module _ (w : ℕ) (H : History) (legal : Legal H) (m : ℕ) (key : Option Retry
 
   reviewing : (paper : Option ℕ) (form : Form) → is_ok (judge (view u H) (call_of u m key (commands.Review paper form)))
       ≡ of_some paper (may_review w m H)
-  reviewing None form = accepted-as u H legal m key (commands.Review None form)
+  reviewing None form = accepted-checks u H legal m key (commands.Review None form)
   reviewing (Some p) form =
       accepted-checks u H legal m key (commands.Review (Some p) form)
-      (review_checks (standing_of u (Some p) H) (paper_named (facts_of u H) (shown_of H) (Some p)) late) _ refl
       ∙ said (is_paper p H) (is_member (role_of u H) || is_external u p H) (is_conflicted u p H) (is_reviewer u p H)
       (is_phase (phase_of H) Reviewing)
       (is_phase (phase_of H) Discussion) late (is_withdrawn p H)
@@ -289,11 +271,9 @@ module _ (w : ℕ) (H : History) (legal : Legal H) (m : ℕ) (key : Option Retry
 
   responding : (paper : Option ℕ) (text : List ℕ)
       → is_ok (judge (view u H) (call_of u m key (commands.Respond paper text))) ≡ of_some paper (may_respond w m H)
-  responding None text = accepted-as u H legal m key (commands.Respond None text)
+  responding None text = accepted-checks u H legal m key (commands.Respond None text)
   responding (Some p) text =
       accepted-checks u H legal m key (commands.Respond (Some p) text)
-      (respond_checks (standing_of u (Some p) H) (paper_named (facts_of u H) (shown_of H) (Some p))
-      (is_some (response_of p H)) late) _ refl
       ∙ said (is_paper p H) (is_author u p H) (responses_are_written (phase_of H)) late (is_withdrawn p H)
       (is_some (response_of p H))
       (now Response H) (in_time m H) (is_none (response_of p H))
@@ -310,11 +290,9 @@ module _ (w : ℕ) (H : History) (legal : Legal H) (m : ℕ) (key : Option Retry
 
   comments : (paper : Option ℕ) (text : List ℕ)
       → is_ok (judge (view u H) (call_of u m key (commands.Comment paper text))) ≡ of_some paper (may_comment w m H)
-  comments None text = accepted-as u H legal m key (commands.Comment None text)
+  comments None text = accepted-checks u H legal m key (commands.Comment None text)
   comments (Some p) text =
       accepted-checks u H legal m key (commands.Comment (Some p) text)
-      (comment_checks (standing_of u (Some p) H) (paper_named (facts_of u H) (shown_of H) (Some p))
-      (own_comments_of u H) late) _ refl
       ∙ said (is_paper p H) (is_member (role_of u H)) (is_conflicted u p H) (comments_are_written (phase_of H)) late
       (is_withdrawn p H)
       (nat_le 1000 (own_comments_of u H)) (is_members (role_of u H)) (now Discussion H) (in_time m H)
@@ -328,11 +306,9 @@ module _ (w : ℕ) (H : History) (legal : Legal H) (m : ℕ) (key : Option Retry
 
   tags : (paper : Option ℕ) (tag : List ℕ) (on : Bool)
       → is_ok (judge (view u H) (call_of u m key (commands.Tag paper tag on))) ≡ of_some paper (may_tag w H tag)
-  tags None tag on = accepted-as u H legal m key (commands.Tag None tag on)
+  tags None tag on = accepted-checks u H legal m key (commands.Tag None tag on)
   tags (Some p) tag on =
       accepted-checks u H legal m key (commands.Tag (Some p) tag on)
-      (tag_checks (standing_of u (Some p) H) (paper_named (facts_of u H) (shown_of H) (Some p)) (is_for_chairs tag)) _
-      refl
       ∙ said (is_paper p H) (is_for_chairs tag) (is_for_chairs_alone tag) (is_chair (role_of u H))
       (is_member (role_of u H)) (is_conflicted u p H)
       (committee_works (phase_of H)) (is_withdrawn p H) (is_chairs (role_of u H)) (is_members (role_of u H))
@@ -346,10 +322,9 @@ module _ (w : ℕ) (H : History) (legal : Legal H) (m : ℕ) (key : Option Retry
 
   decisions : (paper : Option ℕ) (decision : Decision)
       → is_ok (judge (view u H) (call_of u m key (commands.Decide paper decision))) ≡ of_some paper (may_decide w H)
-  decisions None decision = accepted-as u H legal m key (commands.Decide None decision)
+  decisions None decision = accepted-checks u H legal m key (commands.Decide None decision)
   decisions (Some p) decision =
       accepted-checks u H legal m key (commands.Decide (Some p) decision)
-      (decide_checks (standing_of u (Some p) H) (paper_named (facts_of u H) (shown_of H) (Some p))) _ refl
       ∙ said (is_paper p H) (is_chair (role_of u H)) (is_conflicted u p H) (decisions_are_made (phase_of H))
       (is_withdrawn p H)
       (is_chairs (role_of u H)) (now Discussion H) (chair-same (role_of u H)) (phase-same Discussion (phase_of H))
@@ -363,8 +338,6 @@ module _ (w : ℕ) (H : History) (legal : Legal H) (m : ℕ) (key : Option Retry
       → is_ok (judge (view u H) (call_of u m key (commands.Submit title abstract names))) ≡ may_submit w m H names
   submissions title abstract names =
       accepted-checks u H legal m key (commands.Submit title abstract names)
-      (submit_checks (list_any is_none (users_among (accounts_of H) names)) (standing_of u None H)
-      (length (papers_of H)) (own_papers_of u H) late) _ refl
       ∙ said (list_any is_none (users_among (accounts_of H) names)) (list_all (λ name. is_somebody name H) names)
       (accepts_submissions (phase_of H)) (now Submission H) late (in_time m H) (nat_le 9999 (length (papers_of H)))
       (nat_lt (length (papers_of H)) 9999)
@@ -380,22 +353,20 @@ module _ (w : ℕ) (H : History) (legal : Legal H) (m : ℕ) (key : Option Retry
       → is_ok (judge (view u H) (call_of u m key (commands.Name name role))) ≡ of_some (user_named name H)
       (may_name w H role)
   namings name role =
-      accepted-as u H legal m key (commands.Name name role)
+      accepted-checks u H legal m key (commands.Name name role)
       ∙ by_name u H legal (λ (target : Option ℕ).
-      is_ok (name_judged (facts_of u H) stamp target (unwrap_or name []) role)) (may_name w H role) name refl each
+      none_broken (name_checks (standing_of u None H) (option_map of_role (role_among (accounts_of H) target)) role)) (may_name w H role) name refl each
     where
       said : (c c' o o' b b' : Bool) → c ≡ c' → o ≡ o' → not b ≡ b'
           → (not (not c) && (not o && (not b && true))) ≡ (c' && not o' && b')
       said c c' o o' b b' hc ho hb = grind arith
 
       each : (v : ℕ) → role_among (accounts_of H) (Some v) ≡ Some (role_of (Some v) H)
-          → is_ok (name_judged (facts_of u H) stamp (Some v) (unwrap_or name []) role) ≡ may_name w H role v
+          → none_broken (name_checks (standing_of u None H) (option_map of_role (role_among (accounts_of H) (Some v))) role)
+          ≡ may_name w H role v
       each v is =
           ap
-          (λ (o : Option Role). is_ok (judged (name_checks (standing_of u None H) (option_map of_role o) role)
-          (naming_drawn stamp v (unwrap_or name []) role))) is
-          ∙ judged-none_broken (name_checks (standing_of u None H) (Some (of_role (role_of (Some v) H))) role)
-          (naming_drawn stamp v (unwrap_or name []) role)
+          (λ (o : Option Role). none_broken (name_checks (standing_of u None H) (option_map of_role o) role)) is
           ∙ said (is_chair (role_of u H)) (is_chairs (role_of u H)) (roles_are_final (phase_of H)) (is_over H)
           (nat_le (role_number role) (role_number (role_of (Some v) H))) (is_above role (role_of (Some v) H))
           (chair-same (role_of u H)) (over-same (phase_of H)) (above-same role (role_of (Some v) H))
@@ -403,9 +374,9 @@ module _ (w : ℕ) (H : History) (legal : Legal H) (m : ℕ) (key : Option Retry
   dismissals : (name : Option (List ℕ)) → is_ok (judge (view u H) (call_of u m key (commands.Dismiss name)))
       ≡ of_some (user_named name H) (may_dismiss w H)
   dismissals name =
-      accepted-as u H legal m key (commands.Dismiss name)
+      accepted-checks u H legal m key (commands.Dismiss name)
       ∙ by_name u H legal (λ (target : Option ℕ).
-      is_ok (dismissal_judged (facts_of u H) stamp target (unwrap_or name []))) (may_dismiss w H) name refl each
+      none_broken (dismiss_checks (standing_of u None H) (option_map of_role (role_among (accounts_of H) target)) (chair_count (accounts_of H)))) (may_dismiss w H) name refl each
     where
       said : (c c' o o' b b' k k' l l' : Bool) → c ≡ c' → o ≡ o' → b ≡ b' → k ≡ k' → not l ≡ l'
           → (not (not c) && (not o && (not (not b) && (not (k && l) && true)))) ≡ (c' && not o' && b' && (not k' || l'))
@@ -418,14 +389,12 @@ module _ (w : ℕ) (H : History) (legal : Legal H) (m : ℕ) (key : Option Retry
       more n = grind (arith, nat_tests)
 
       each : (v : ℕ) → role_among (accounts_of H) (Some v) ≡ Some (role_of (Some v) H)
-          → is_ok (dismissal_judged (facts_of u H) stamp (Some v) (unwrap_or name [])) ≡ may_dismiss w H v
+          → none_broken (dismiss_checks (standing_of u None H) (option_map of_role (role_among (accounts_of H) (Some v)))
+          (chair_count (accounts_of H))) ≡ may_dismiss w H v
       each v is =
           ap
           (λ (o : Option Role).
-          is_ok (judged (dismiss_checks (standing_of u None H) (option_map of_role o) (chair_count (accounts_of H)))
-          (dismissal_drawn stamp v (unwrap_or name [])))) is
-          ∙ judged-none_broken (dismiss_checks (standing_of u None H) (Some (of_role (role_of (Some v) H)))
-          (chair_count (accounts_of H))) (dismissal_drawn stamp v (unwrap_or name []))
+          none_broken (dismiss_checks (standing_of u None H) (option_map of_role o) (chair_count (accounts_of H)))) is
           ∙ said (is_chair (role_of u H)) (is_chairs (role_of u H)) (roles_are_final (phase_of H)) (is_over H)
           (is_member (role_of (Some v) H)) (is_members (role_of (Some v) H)) (is_chair (role_of (Some v) H))
           (is_chairs (role_of (Some v) H))
@@ -454,15 +423,8 @@ module _ (w : ℕ) (H : History) (legal : Legal H) (m : ℕ) (key : Option Retry
   abbrev named : ℕ → NamedPaper
   named p = paper_named (facts_of (Some w) H) (shown_of H) (Some p)
 
-  -- where nobody has the name, no command goes
-  nobody : (p : ℕ) (rest : List Check) (drawn : Drawn)
-      → is_ok (judged (not (is_paper p H) breaks rules.NoPaper ∷ true breaks rules.NoUser ∷ rest) drawn) ≡ false
-  nobody p rest drawn = judged-none_broken (not (is_paper p H) breaks rules.NoPaper ∷ true breaks rules.NoUser ∷ rest)
-      drawn ∙ off (is_paper p H)
-    where
-      off : (t : Bool) → (not (not t) && false) ≡ false
-      off true = refl
-      off false = refl
+  abbrev asked : ℕ → Option ℕ → Option Target
+  asked p target = target_named (facts_of (Some w) H) (shown_of H) (Some w) (Some p) target
 
   -- who is declared in conflict
   clash-same : (p v : ℕ) → (user_at p v Account).conflicted ≡ is_conflicted (Some v) p H
@@ -476,23 +438,20 @@ module _ (w : ℕ) (H : History) (legal : Legal H) (m : ℕ) (key : Option Retry
   declarations : (paper : Option ℕ) (name : Option (List ℕ))
       → is_ok (judge (view (Some w) H) (call_of (Some w) m key (commands.SetConflict paper name true)))
       ≡ of_some paper (λ p. of_some (user_named name H) (may_declare w m H p))
-  declarations None name = accepted-as (Some w) H legal m key (commands.SetConflict None name true)
+  declarations None name = accepted-checks (Some w) H legal m key (commands.SetConflict None name true)
   declarations (Some p) name =
-      accepted-as (Some w) H legal m key (commands.SetConflict (Some p) name true)
+      accepted-checks (Some w) H legal m key (commands.SetConflict (Some p) name true)
       ∙ by_name (Some w) H legal (λ (target : Option ℕ).
-      is_ok (conflict_judged (facts_of (Some w) H) (shown_of H) stamp (Some p) target true))
-      (may_declare w m H p) name (nobody p [] (conflict_drawn stamp p 0 true)) each
+      none_broken (conflict_checks (by p) (named p) (asked p target) true late))
+      (may_declare w m H p) name (and-false (not (not (is_paper p H)))) each
     where
       each : (v : ℕ) → role_among (accounts_of H) (Some v) ≡ Some (role_of (Some v) H)
-          → is_ok (conflict_judged (facts_of (Some w) H) (shown_of H) stamp (Some p) (Some v) true)
+          → none_broken (conflict_checks (by p) (named p) (asked p (Some v)) true late)
           ≡ may_declare w m H p v
       each v is =
           ap
           (λ (o : Option Role).
-          is_ok (judged (conflict_checks (by p) (named p) (option_map (user_at p v) o) true late)
-          (conflict_drawn stamp p v true))) is
-          ∙ judged-none_broken (conflict_checks (by p) (named p) (Some (user_at p v (role_of (Some v) H))) true late)
-          (conflict_drawn stamp p v true)
+          none_broken (conflict_checks (by p) (named p) (option_map (user_at p v) o) true late)) is
           ∙ declared-said (authors_have_declared (phase_of H)) (conflicts_are_final (phase_of H)) (is_paper p H)
           (is_withdrawn p H) late (by p)
           (user_at p v (role_of (Some v) H)) (same_user v) (has_part v p H) (part-same p v)
@@ -521,26 +480,23 @@ module _ (w : ℕ) (H : History) (legal : Legal H) (m : ℕ) (key : Option Retry
   taken_back : (paper : Option ℕ) (name : Option (List ℕ))
       → is_ok (judge (view (Some w) H) (call_of (Some w) m key (commands.SetConflict paper name false)))
       ≡ of_some paper (λ p. of_some (user_named name H) (may_take_back w H p))
-  taken_back None name = accepted-as (Some w) H legal m key (commands.SetConflict None name false)
+  taken_back None name = accepted-checks (Some w) H legal m key (commands.SetConflict None name false)
   taken_back (Some p) name =
-      accepted-as (Some w) H legal m key (commands.SetConflict (Some p) name false)
+      accepted-checks (Some w) H legal m key (commands.SetConflict (Some p) name false)
       ∙ by_name (Some w) H legal (λ (target : Option ℕ).
-      is_ok (conflict_judged (facts_of (Some w) H) (shown_of H) stamp (Some p) target false))
-      (may_take_back w H p) name (nobody p [] (conflict_drawn stamp p 0 false)) each
+      none_broken (conflict_checks (by p) (named p) (asked p target) false late))
+      (may_take_back w H p) name (and-false (not (not (is_paper p H)))) each
     where
       said : (x m m' a : Bool) → m ≡ m' → (x && (not (not m) && (not a && true))) ≡ (x && m' && not a)
       said x m m' a hm = grind arith
 
       each : (v : ℕ) → role_among (accounts_of H) (Some v) ≡ Some (role_of (Some v) H)
-          → is_ok (conflict_judged (facts_of (Some w) H) (shown_of H) stamp (Some p) (Some v) false)
+          → none_broken (conflict_checks (by p) (named p) (asked p (Some v)) false late)
           ≡ may_take_back w H p v
       each v is =
           ap
           (λ (o : Option Role).
-          is_ok (judged (conflict_checks (by p) (named p) (option_map (user_at p v) o) false late)
-          (conflict_drawn stamp p v false))) is
-          ∙ judged-none_broken (conflict_checks (by p) (named p) (Some (user_at p v (role_of (Some v) H))) false late)
-          (conflict_drawn stamp p v false)
+          none_broken (conflict_checks (by p) (named p) (option_map (user_at p v) o) false late)) is
           ∙ chair-checks p (not (not (is_member (role_of (Some v) H) || is_external (Some v) p H))
           && (not (is_author (Some v) p H) && true))
           ∙ said (stands p H && administers w p H && committee_at_work H)
@@ -550,27 +506,24 @@ module _ (w : ℕ) (H : History) (legal : Legal H) (m : ℕ) (key : Option Retry
   assignments : (paper : Option ℕ) (name : Option (List ℕ)) (kind : Kind)
       → is_ok (judge (view (Some w) H) (call_of (Some w) m key (commands.Assign paper name kind)))
       ≡ of_some paper (λ p. of_some (user_named name H) (may_assign w H p))
-  assignments None name kind = accepted-as (Some w) H legal m key (commands.Assign None name kind)
+  assignments None name kind = accepted-checks (Some w) H legal m key (commands.Assign None name kind)
   assignments (Some p) name kind =
-      accepted-as (Some w) H legal m key (commands.Assign (Some p) name kind)
+      accepted-checks (Some w) H legal m key (commands.Assign (Some p) name kind)
       ∙ by_name (Some w) H legal (λ (target : Option ℕ).
-      is_ok (assignment_judged (facts_of (Some w) H) (shown_of H) stamp (Some p) target kind))
-      (may_assign w H p) name (nobody p [] (assignment_drawn stamp p 0 kind 0)) each
+      none_broken (assign_checks (by p) (named p) (asked p target) (length (seats_of p H))))
+      (may_assign w H p) name (and-false (not (not (is_paper p H)))) each
     where
       said : (x m m' c c' r q q' : Bool) → m ≡ m' → c ≡ c' → not q ≡ q'
           → (x && (not (not m) && (not c && (not r && (not q && true))))) ≡ (x && (m' && not c') && not r && q')
       said x m m' c c' r q q' hm hc hq = grind arith
 
       each : (v : ℕ) → role_among (accounts_of H) (Some v) ≡ Some (role_of (Some v) H)
-          → is_ok (assignment_judged (facts_of (Some w) H) (shown_of H) stamp (Some p) (Some v) kind)
+          → none_broken (assign_checks (by p) (named p) (asked p (Some v)) (length (seats_of p H)))
           ≡ may_assign w H p v
       each v is =
           ap
           (λ (o : Option Role).
-          is_ok (judged (assign_checks (by p) (named p) (option_map (user_at p v) o) (length (seats_of p H)))
-          (assignment_drawn stamp p v kind (length (seats_of p H) + 1)))) is
-          ∙ judged-none_broken (assign_checks (by p) (named p) (Some (user_at p v (role_of (Some v) H)))
-          (length (seats_of p H))) (assignment_drawn stamp p v kind (length (seats_of p H) + 1))
+          none_broken (assign_checks (by p) (named p) (option_map (user_at p v) o) (length (seats_of p H)))) is
           ∙ chair-checks p (not (not (is_member (role_of (Some v) H) || is_external (Some v) p H))
           && (not ((user_at p v Account).conflicted)
           && (not (is_reviewer (Some v) p H) && (not (nat_le 26 (length (seats_of p H))) && true))))
@@ -583,29 +536,24 @@ module _ (w : ℕ) (H : History) (legal : Legal H) (m : ℕ) (key : Option Retry
   unassignments : (paper : Option ℕ) (name : Option (List ℕ))
       → is_ok (judge (view (Some w) H) (call_of (Some w) m key (commands.Unassign paper name)))
       ≡ of_some paper (λ p. of_some (user_named name H) (may_unassign w H p))
-  unassignments None name = accepted-as (Some w) H legal m key (commands.Unassign None name)
+  unassignments None name = accepted-checks (Some w) H legal m key (commands.Unassign None name)
   unassignments (Some p) name =
-      accepted-as (Some w) H legal m key (commands.Unassign (Some p) name)
+      accepted-checks (Some w) H legal m key (commands.Unassign (Some p) name)
       ∙ by_name (Some w) H legal (λ (target : Option ℕ).
-      is_ok (unassignment_judged (facts_of (Some w) H) (shown_of H) stamp (Some p) target))
-      (may_unassign w H p) name (nobody p [] (unassignment_drawn stamp p 0 0)) each
+      none_broken (unassign_checks (by p) (named p) (asked p target) (at_some (λ o. is_written p o H) (ordinal_of target p H))))
+      (may_unassign w H p) name (and-false (not (not (is_paper p H)))) each
     where
       said : (x r f f' : Bool) → f ≡ f' → (x && (not (not r) && (not f && true))) ≡ (x && r && not f')
       said x r f f' hf = grind arith
 
       each : (v : ℕ) → role_among (accounts_of H) (Some v) ≡ Some (role_of (Some v) H)
-          → is_ok (unassignment_judged (facts_of (Some w) H) (shown_of H) stamp (Some p) (Some v))
+          → none_broken (unassign_checks (by p) (named p) (asked p (Some v)) (at_some (λ o. is_written p o H) (ordinal_of (Some v) p H)))
           ≡ may_unassign w H p v
       each v is =
           ap
           (λ (o : Option Role).
-          is_ok
-          (judged (unassign_checks (by p) (named p) (option_map (user_at p v) o)
-          (at_some (λ o. is_written p o H) (ordinal_of (Some v) p H)))
-          (unassignment_drawn stamp p v (unwrap_or (ordinal_of (Some v) p H) 0)))) is
-          ∙ judged-none_broken (unassign_checks (by p) (named p) (Some (user_at p v (role_of (Some v) H)))
-          (at_some (λ o. is_written p o H) (ordinal_of (Some v) p H)))
-          (unassignment_drawn stamp p v (unwrap_or (ordinal_of (Some v) p H) 0))
+          none_broken (unassign_checks (by p) (named p) (option_map (user_at p v) o)
+          (at_some (λ o. is_written p o H) (ordinal_of (Some v) p H)))) is
           ∙ chair-checks p (not (not (is_reviewer (Some v) p H))
           && (not (at_some (λ o. is_written p o H) (ordinal_of (Some v) p H)) && true))
           ∙ said (stands p H && administers w p H && committee_at_work H) (is_reviewer (Some v) p H)
@@ -615,26 +563,23 @@ module _ (w : ℕ) (H : History) (legal : Legal H) (m : ℕ) (key : Option Retry
   invitations : (paper : Option ℕ) (name : Option (List ℕ))
       → is_ok (judge (view (Some w) H) (call_of (Some w) m key (commands.Invite paper name)))
       ≡ of_some paper (λ p. of_some (user_named name H) (may_invite w H p))
-  invitations None name = accepted-as (Some w) H legal m key (commands.Invite None name)
+  invitations None name = accepted-checks (Some w) H legal m key (commands.Invite None name)
   invitations (Some p) name =
-      accepted-as (Some w) H legal m key (commands.Invite (Some p) name)
+      accepted-checks (Some w) H legal m key (commands.Invite (Some p) name)
       ∙ by_name (Some w) H legal (λ (target : Option ℕ).
-      is_ok (invitation_judged (facts_of (Some w) H) (shown_of H) stamp (Some p) target))
-      (may_invite w H p) name (nobody p [] (invitation_drawn stamp p 0)) each
+      none_broken (invite_checks (by p) (named p) (asked p target) (is_invited target p H)))
+      (may_invite w H p) name (and-false (not (not (is_paper p H)))) each
     where
       said : (x m m' c c' i : Bool) → m ≡ m' → c ≡ c'
           → (x && (not m && (not c && (not i && true)))) ≡ (x && not m' && not c' && not i)
       said x m m' c c' i hm hc = grind arith
 
       each : (v : ℕ) → role_among (accounts_of H) (Some v) ≡ Some (role_of (Some v) H)
-          → is_ok (invitation_judged (facts_of (Some w) H) (shown_of H) stamp (Some p) (Some v)) ≡ may_invite w H p v
+          → none_broken (invite_checks (by p) (named p) (asked p (Some v)) (is_invited (Some v) p H)) ≡ may_invite w H p v
       each v is =
           ap
           (λ (o : Option Role).
-          is_ok (judged (invite_checks (by p) (named p) (option_map (user_at p v) o) (is_invited (Some v) p H))
-          (invitation_drawn stamp p v))) is
-          ∙ judged-none_broken (invite_checks (by p) (named p) (Some (user_at p v (role_of (Some v) H)))
-          (is_invited (Some v) p H)) (invitation_drawn stamp p v)
+          none_broken (invite_checks (by p) (named p) (option_map (user_at p v) o) (is_invited (Some v) p H))) is
           ∙ chair-checks p (not (is_member (role_of (Some v) H))
           && (not ((user_at p v Account).conflicted) && (not (is_invited (Some v) p H) && true)))
           ∙ said (stands p H && administers w p H && committee_at_work H) (is_member (role_of (Some v) H))
@@ -645,26 +590,23 @@ module _ (w : ℕ) (H : History) (legal : Legal H) (m : ℕ) (key : Option Retry
   uninvitations : (paper : Option ℕ) (name : Option (List ℕ))
       → is_ok (judge (view (Some w) H) (call_of (Some w) m key (commands.Uninvite paper name)))
       ≡ of_some paper (λ p. of_some (user_named name H) (may_uninvite w H p))
-  uninvitations None name = accepted-as (Some w) H legal m key (commands.Uninvite None name)
+  uninvitations None name = accepted-checks (Some w) H legal m key (commands.Uninvite None name)
   uninvitations (Some p) name =
-      accepted-as (Some w) H legal m key (commands.Uninvite (Some p) name)
+      accepted-checks (Some w) H legal m key (commands.Uninvite (Some p) name)
       ∙ by_name (Some w) H legal (λ (target : Option ℕ).
-      is_ok (uninvitation_judged (facts_of (Some w) H) (shown_of H) stamp (Some p) target))
-      (may_uninvite w H p) name (nobody p [] (uninvitation_drawn stamp p 0)) each
+      none_broken (uninvite_checks (by p) (named p) (asked p target) (is_invited target p H)))
+      (may_uninvite w H p) name (and-false (not (not (is_paper p H)))) each
     where
       said : (x i r : Bool) → (x && (not (not i) && (not r && true))) ≡ (x && i && not r)
       said x i r = grind arith
 
       each : (v : ℕ) → role_among (accounts_of H) (Some v) ≡ Some (role_of (Some v) H)
-          → is_ok (uninvitation_judged (facts_of (Some w) H) (shown_of H) stamp (Some p) (Some v))
+          → none_broken (uninvite_checks (by p) (named p) (asked p (Some v)) (is_invited (Some v) p H))
           ≡ may_uninvite w H p v
       each v is =
           ap
           (λ (o : Option Role).
-          is_ok (judged (uninvite_checks (by p) (named p) (option_map (user_at p v) o) (is_invited (Some v) p H))
-          (uninvitation_drawn stamp p v))) is
-          ∙ judged-none_broken (uninvite_checks (by p) (named p) (Some (user_at p v (role_of (Some v) H)))
-          (is_invited (Some v) p H)) (uninvitation_drawn stamp p v)
+          none_broken (uninvite_checks (by p) (named p) (option_map (user_at p v) o) (is_invited (Some v) p H))) is
           ∙ chair-checks p (not (not (is_invited (Some v) p H)) && (not (is_reviewer (Some v) p H) && true))
           ∙ said (stands p H && administers w p H && committee_at_work H) (is_invited (Some v) p H)
           (is_reviewer (Some v) p H)

@@ -1,6 +1,6 @@
 -- The words of the sentences against those that the lists of checks read, and what is accepted and answered by them.
-use Rattle.std.proofs.Common.{ℕ, Bool, true, false, cond, ◌≡◌, List, [], ◌∷◌, eqb, refl, sym, ap, ◌∙◌, ◌||◌}
-use Rattle.std.proofs.Common.{◌&&◌, arith, Option, Some, None, Result, Err}
+use Rattle.std.proofs.Common.{ℕ, Bool, true, false, cond, ◌≡◌, List, [], ◌∷◌, eqb, refl, sym, ap, ◌∙◌, ◌||◌, ◌&&◌}
+use Rattle.std.proofs.Common.{arith, Option, Some, None, Result, Err}
 use Rattle.std.specs.Prelude.{not, map, nat_le, nat_lt, is_ok, is_some, is_none, find}
 use Rattle.std.specs.List.{list_any, list_all}
 use Rattle.std.specs.Option.{option_map}
@@ -15,19 +15,18 @@ use Rattle.cr_base.specs.declared.reply.Rule.{Rule}
 use Rattle.cr_base.specs.declared.retry.RetryKey.{RetryKey}
 use Rattle.cr_base.specs.declared.words.Phase.{Phase}
 use Rattle.cr_base.specs.declared.words.Phase.TheVariants.{Setup, Submission, Bidding, Reviewing, Response}
-use Rattle.cr_base.specs.declared.words.Phase.TheVariants.{Discussion}
-use Rattle.cr_base.specs.declared.words.Phase.TheVariants.{Notification, Closed}
+use Rattle.cr_base.specs.declared.words.Phase.TheVariants.{Discussion, Notification, Closed}
 use Rattle.cr_base.specs.declared.words.Role.{Role}
 use Rattle.cr_base.specs.declared.words.Role.TheVariants.{Account, Member, Chair}
 use Rattle.cr_base.specs.Answering.{query_checks, reply_or_rule, told_by, answer_by}
-use Rattle.cr_base.specs.Calls.{call_of}
+use Rattle.cr_base.specs.Calls.{call_of, stamp_of}
 use Rattle.cr_base.specs.Checks.{Check, judged}
 use Rattle.cr_base.specs.Deadlines.{is_past}
+use Rattle.cr_base.specs.Deeds.{Deed, deed_at, drawn_by}
 use Rattle.cr_base.specs.Drawn.{Drawn}
 use Rattle.cr_base.specs.Lists.{at_some}
 use Rattle.cr_base.specs.History.{History, Registration, all_told, registration_told}
-use Rattle.cr_base.specs.HistoryFacts.{role_of}
-use Rattle.cr_base.specs.HistoryFacts.{accounts_of, number_of}
+use Rattle.cr_base.specs.HistoryFacts.{role_of, accounts_of, number_of}
 use Rattle.cr_base.specs.Phases.{is_phase, is_from, is_next, committee_works}
 use Rattle.cr_base.specs.Sources.{number_in, user_among, users_among, role_among}
 use Rattle.cr_base.specs.Words.{is_member, is_chair, role_number}
@@ -39,7 +38,7 @@ use Rattle.cr_policy.specs.Judge.{answer}
 use Rattle.cr_policy.specs.Sentences.{is_it, comes_behind, meets, lasts_or_comes_in, is_members, is_chairs, is_above}
 use Rattle.cr_policy.specs.Sentences.{of_some, user_named, is_somebody}
 use Rattle.cr_policy.proofs.LegalLaws.{Legal-answer}
-use Rattle.cr_policy.proofs.JudgedByHistory.{shown_of, facts-same, shown-same, judged_on, judge-history, number-same}
+use Rattle.cr_policy.proofs.JudgedByHistory.{shown_of, facts-same, shown-same, judge-history, number-same}
 use Rattle.cr_permissions.specs.MayRead.{is_told}
 
 -- ---- lists of checks
@@ -294,16 +293,13 @@ module _ (H : History) where
 
 module _ (u : Option ℕ) (H : History) (legal : Legal H) where
   module _ (m : ℕ) (key : Option RetryKey) where
-    pub accepted-as : (command : Command) → is_ok (judge (view u H) (call_of u m key command))
-        ≡ is_ok (judged_on u H legal m key command)
-    accepted-as command = ap (λ (r : Result Drawn Rule). is_ok r) (judge-history u H legal m key command)
-
-    -- and accepts what breaks none of these checks
-    pub accepted-checks : (command : Command) (checks : List Check) (drawn : Drawn)
-        → judged_on u H legal m key command ≡ judged checks drawn
-        → is_ok (judge (view u H) (call_of u m key command)) ≡ none_broken checks
-    accepted-checks command checks drawn is =
-        accepted-as command ∙ ap (λ (r : Result Drawn Rule). is_ok r) is ∙ judged-none_broken checks drawn
+    -- a command is accepted exactly where its deed breaks no rule
+    pub accepted-checks : (command : Command) → is_ok (judge (view u H) (call_of u m key command))
+        ≡ none_broken (deed_at (facts_of u H) (shown_of H) (stamp_of (call_of u m key command)) command).checks
+    accepted-checks command =
+        let d : Deed = deed_at (facts_of u H) (shown_of H) (stamp_of (call_of u m key command)) command in
+        ap (λ (r : Result Drawn Rule). is_ok r) (judge-history u H legal m key command)
+        ∙ judged-none_broken d.checks (drawn_by (stamp_of (call_of u m key command)) d)
 
   -- ---- those named
 

@@ -1,6 +1,5 @@
 -- Judgement of a legal history by the facts of the history.
-use Rattle.std.proofs.Common.{ℕ, ◌≡◌, List, length, sym, ap, ◌∙◌}
-use Rattle.std.proofs.Common.{Option, Result}
+use Rattle.std.proofs.Common.{ℕ, ◌≡◌, List, length, sym, ap, ◌∙◌, Option, Result}
 use Rattle.cr_base.specs.declared.command.Command.{Command}
 use Rattle.cr_base.specs.declared.entry.Stamp.{Stamp}
 use Rattle.cr_base.specs.declared.reply.AccountLine.{AccountLine}
@@ -10,10 +9,9 @@ use Rattle.cr_base.specs.Calls.{stamp_of, call_of}
 use Rattle.cr_base.specs.Drawn.{Drawn}
 use Rattle.cr_base.specs.Judging.{judge_by}
 use Rattle.cr_base.specs.History.{History}
-use Rattle.cr_base.specs.HistoryFacts.{is_withdrawn, authors_of, uploads_of, ordinal_of, seats_of}
-use Rattle.cr_base.specs.HistoryFacts.{accounts_of, number_of, is_invited, is_written, comments_of, response_of}
-use Rattle.cr_base.specs.Sources.{Shown, number_in, facts_of_tables}
-use Rattle.cr_base.specs.Sources.{shown_in_tables}
+use Rattle.cr_base.specs.HistoryFacts.{is_withdrawn, authors_of, uploads_of, ordinal_of, seats_of, accounts_of}
+use Rattle.cr_base.specs.HistoryFacts.{number_of, is_invited, is_written, comments_of, response_of}
+use Rattle.cr_base.specs.Sources.{Shown, number_in, facts_of_tables, shown_in_tables}
 use Rattle.cr_base.specs.Tables.{tables_of}
 use Rattle.cr_base.proofs.AccountLaws.{number_in-lines_of}
 use Rattle.cr_history.specs.Laws.{AreTold, AreFormsTold}
