@@ -11,31 +11,17 @@ is asked the same of tables with the same rows and an index for each question. N
 """
 
 import json
-import os
 import sqlite3
 import subprocess
 import sys
 import time
 
-RUNS = 5
+from lib.program import program_named
+from lib.timing import RUNS, least, machine
+from lib.wire import move_to, register, request
+
 AUTHORS, MEMBERS, PAPERS = 500, 500, 9_999
 EACH = 10  # bids, and assignments, a member
-
-
-def request(method, path, who=None, body=None):
-    """One request as bytes; `who` is a name, whose secret is made of it."""
-    lines = [f"{method} {path} HTTP/1.1", "Host: c"]
-    if who is not None:
-        lines.append(f"Authorization: Bearer {who}.{who}-secret-0123456789")
-    content = b""
-    if body is not None:
-        content = json.dumps(body, separators=(",", ":")).encode()
-        lines.append(f"Content-Length: {len(content)}")
-    return "\r\n".join(lines).encode() + b"\r\n\r\n" + content
-
-
-def register(name):
-    return request("POST", "/register", body={"name": name, "secret": f"{name}-secret-0123456789"})
 
 
 def paper_of(member, turn):
@@ -48,34 +34,18 @@ def conference(authors, members, papers, each):
     opening = [register("alice")]
     opening += [register(f"author-{n}") for n in range(authors)] + [register(f"member-{n}") for n in range(members)]
     opening += [request("POST", "/members", "alice", {"name": f"member-{n}", "role": "member"}) for n in range(members)]
-    opening.append(request("POST", "/phase", "alice", {"phase": "submission"}))
+    opening.append(move_to("submission"))
     opening += [
         request("POST", "/papers", f"author-{p % authors}", {"abstract": "We prove.", "title": "Proofs"})
         for p in range(papers)
     ]
-    opening.append(request("POST", "/phase", "alice", {"phase": "bidding"}))
+    opening.append(move_to("bidding"))
     turns = [(n, paper_of(n, t)) for n in range(members) for t in range(each)]
     bids = [request("PUT", f"/papers/{p}/bid", f"member-{n}", {"bid": n % 41 - 20}) for n, p in turns]
     seats = [
         request("POST", f"/papers/{p}/reviewers", "alice", {"kind": "pc", "user": f"member-{n}"}) for n, p in turns
     ]
     return b"".join(opening), b"".join(bids), b"".join(seats), len(turns)
-
-
-def run(program, text):
-    """The seconds that one run over these bytes takes."""
-    with open(os.devnull, "wb") as nowhere:
-        began = time.perf_counter()
-        child = subprocess.Popen([program, "pipe"], stdin=subprocess.PIPE, stdout=nowhere)
-        child.communicate(text)
-        spent = time.perf_counter() - began
-    if child.returncode != 0:
-        sys.exit(f"{program} pipe ended with {child.returncode}")
-    return spent
-
-
-def least(program, text):
-    return min(run(program, text) for _ in range(RUNS))
 
 
 def last_answer(program, text):
@@ -143,19 +113,10 @@ def peer(count):
     return spent["page"] / count * 1e6, spent["me"] / count * 1e6
 
 
-def model():
-    with open("/proc/cpuinfo") as lines:
-        names = [line.split(":", 1)[1].strip() for line in lines if line.startswith("model name")]
-    return names[0] if names else "unknown"
-
-
 def main():
-    here = os.path.dirname(os.path.abspath(__file__))
-    program = sys.argv[1] if len(sys.argv) > 1 else f"{here}/../crates/confd/out/confd"
+    program = program_named(sys.argv[1:2]).path
     count = int(sys.argv[2]) if len(sys.argv) > 2 else 150_000
-    if not os.access(program, os.X_OK):
-        sys.exit(f"{program} isn't there: run `rt run` in crates/confd, or name a program")
-    print(f"{time.strftime('%Y-%m-%d')}, {os.cpu_count()} processors, {model()}")
+    print(machine())
     small = measure(program, "small", (1, 2, 1, 1), count)
     large = measure(program, "large", (AUTHORS, MEMBERS, PAPERS, EACH), count)
     ratios = [f"{one / other:.2f}" for one, other in zip(large, small)]

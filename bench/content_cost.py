@@ -19,9 +19,12 @@ import tempfile
 import threading
 import time
 
-from serve_speed import HERE, Client, confd, free_port, load, machine, request, running, secret_of
+from lib.program import program_named
+from lib.server import free_port
+from lib.timing import machine, peak_memory
+from lib.wire import LARGEST, move_to, register, submit, upload
+from serve_speed import Client, confd, load, running
 
-SIZE = 4_194_304
 USERS = 25
 EACH = 16
 TIMES = 32
@@ -46,21 +49,6 @@ http {{
 """
 
 
-def upload(who, paper, content):
-    """An upload as bytes, its head and its content."""
-    head = (f"PUT /papers/{paper}/content HTTP/1.1\r\nHost: c\r\nAuthorization: Bearer {who}.{secret_of(who)}\r\n"
-            f"Content-Length: {len(content)}\r\n\r\n")
-    return head.encode(), content
-
-
-def register(name):
-    return request("POST", "/register", body={"name": name, "secret": secret_of(name)})
-
-
-def submit(who):
-    return request("POST", "/papers", who, {"abstract": "We prove.", "title": "Proofs"})
-
-
 def accepted(answer, wanted):
     if answer[0] != wanted:
         sys.exit(f"answered {answer[0]}: {answer[1][:80]!r}")
@@ -72,35 +60,33 @@ def uploads_a_second(port):
     """Bytes a second of uploads, one after another on one connection, of two users with a paper each."""
     client = Client(port)
     accepted(client.ask(register("alice")), 201)
-    accepted(client.ask(request("POST", "/phase", "alice", {"phase": "submission"})), 200)
-    content = os.urandom(SIZE)
+    accepted(client.ask(move_to("submission")), 200)
+    content = os.urandom(LARGEST)
     users = [f"u{number}" for number in range(TIMES // EACH)]
     for name in users:
         accepted(client.ask(register(name)), 201)
-        accepted(client.ask(submit(name)), 201)
+        accepted(client.ask(submit(name, "Proofs", "We prove.")), 201)
     began = time.perf_counter()
     for number in range(TIMES):
-        head, body = upload(users[number // EACH], number // EACH + 1, content)
-        client.socket.sendall(head)
-        accepted(client.ask(body), 200)
-    return TIMES * SIZE / (time.perf_counter() - began)
+        accepted(client.ask(upload(users[number // EACH], number // EACH + 1, content)), 200)
+    return TIMES * LARGEST / (time.perf_counter() - began)
 
 
 def speed(program, folder):
     port = free_port()
     with confd(program, os.path.join(folder, "speed.store"), port, 8):
         up = uploads_a_second(port)
-        down = [load(port, "/papers/1/content", connections, threads, "u0") * SIZE for connections, threads in LOADS]
+        down = [load(port, "/papers/1/content", connections, threads, "u0") * LARGEST for connections, threads in LOADS]
     port = free_port()
     os.makedirs(os.path.join(folder, "files"))
     with open(os.path.join(folder, "files", "content"), "wb") as file:
-        file.write(os.urandom(SIZE))
+        file.write(os.urandom(LARGEST))
     conf = os.path.join(folder, "nginx.conf")
     with open(conf, "w", encoding="utf-8") as file:
         file.write(NGINX.format(folder=folder, port=port))
     os.chmod(folder, 0o755)
     with running(["nginx", "-c", conf, "-g", "daemon off;"], port):
-        peer = [load(port, "/content", connections, threads) * SIZE for connections, threads in LOADS]
+        peer = [load(port, "/content", connections, threads) * LARGEST for connections, threads in LOADS]
     print(f"uploads of 4 MiB, kept in a store, on one connection: {up / 1e6:,.0f} MB a second")
     for (connections, _), ours, theirs in zip(LOADS, down, peer):
         print(f"downloads of 4 MiB, connections {connections}: {ours / 1e6:,.0f} MB a second; "
@@ -108,14 +94,6 @@ def speed(program, folder):
 
 
 # ---- memory
-
-def peak(pid):
-    """The most memory that a process has had, in bytes."""
-    with open(f"/proc/{pid}/status", encoding="ascii") as status:
-        for line in status:
-            if line.startswith("VmHWM:"):
-                return int(line.split()[1]) * 1024
-    return 0
 
 
 def drained(stream):
@@ -136,31 +114,31 @@ def pipe(words, pieces, count):
     process.stdin.flush()
     most, settled = 0, 0
     while settled < 20:
-        now = peak(process.pid)
+        now = peak_memory(process.pid)
         settled = settled + 1 if now == most else 0
         most = max(most, now)
         time.sleep(0.1)
     process.stdin.close()
     while process.poll() is None:
-        most = max(most, peak(process.pid))
+        most = max(most, peak_memory(process.pid))
         time.sleep(0.01)
     reading.join()
     if process.returncode != 0:
         sys.exit(f"{words} ended with {process.returncode}")
-    return most / (count * SIZE), time.perf_counter() - began
+    return most / (count * LARGEST), time.perf_counter() - began
 
 
 def all_uploads():
     """A chair, 25 authors with a paper each, and 16 uploads of each."""
     yield register("alice")
-    yield request("POST", "/phase", "alice", {"phase": "submission"})
-    content = os.urandom(SIZE)
+    yield move_to("submission")
+    content = os.urandom(LARGEST)
     for number in range(USERS):
         who = f"u{number}"
         yield register(who)
-        yield submit(who)
+        yield submit(who, "Proofs", "We prove.")
         for _ in range(EACH):
-            yield from upload(who, number + 1, content)
+            yield upload(who, number + 1, content)
 
 
 def memory(program, folder):
@@ -172,17 +150,17 @@ def memory(program, folder):
     process = subprocess.Popen([program, "pipe", "--store", store], stdin=subprocess.DEVNULL, stdout=subprocess.DEVNULL)
     most = 0
     while process.poll() is None:
-        most = max(most, peak(process.pid))
+        most = max(most, peak_memory(process.pid))
         time.sleep(0.005)
     seconds = time.perf_counter() - began
     if process.returncode != 0:
         sys.exit(f"opening ended with {process.returncode}")
     print(f"{count} uploads of 4 MiB: {without:.2f} times their bytes at most without a store, {kept:.2f} with one")
-    print(f"opening that store: {most / (count * SIZE):.2f} times their bytes at most, in {seconds:.1f} s")
+    print(f"opening that store: {most / (count * LARGEST):.2f} times their bytes at most, in {seconds:.1f} s")
 
 
 def main():
-    program = os.path.abspath(sys.argv[1] if len(sys.argv) > 1 else os.path.join(HERE, "../crates/confd/out/confd"))
+    program = program_named(sys.argv[1:2]).path
     place = sys.argv[2] if len(sys.argv) > 2 else None
     print(machine())
     with tempfile.TemporaryDirectory(dir=place) as folder:

@@ -21,9 +21,7 @@ before is taken off, of a row's what the opening of the same store without these
 """
 
 import argparse
-import contextlib
 import math
-import os
 import random
 import sqlite3
 import subprocess
@@ -32,7 +30,11 @@ import tempfile
 import threading
 import time
 
-from assignment_cost import AUTHORS, MEMBERS, PAPERS, conference, model, request
+from assignment_cost import AUTHORS, MEMBERS, PAPERS, conference
+from lib.database import opened as opened_by_sqlite
+from lib.program import program_named
+from lib.timing import machine, peak_memory
+from lib.wire import move_to, request
 
 SEED = 37
 PART = 10 if "--tenth" in sys.argv else 1
@@ -52,6 +54,12 @@ PUT = "insert or replace into t values (?1, 0, ?2, ?3)"
 ADD = "insert into t select ?1, coalesce(max(n), 0) + 1, ?2, ?3 from t where paper = ?1"
 KINDS = {"bid": ("bidding", "paper, user", PUT), "comment": ("discussion", "paper, n", ADD),
          "tag": ("bidding", "paper, what", PUT)}  # of each its phase, and SQLite's key and insertion
+
+
+def programs_of(options):
+    """The program to be measured and, where one is named, the one before it, each by its name."""
+    before = {"before": program_named([options.before]).path} if options.before else {}
+    return {"confd": program_named(options.program).path, **before}
 
 
 def started(program, *words):
@@ -76,15 +84,10 @@ def spent(child, text=b"", refusals=0):
     return time.clock_gettime(~child.pid << 3 | 2)  # the processor clock of that process
 
 
-def moved(phase):
-    """The request that moves the conference on to this phase."""
-    return request("POST", "/phase", "alice", {"phase": phase})
-
-
 def opening(phase):
     """The requests that lead to this phase, from the bidding on, with all people and papers."""
     later = PHASES[PHASES.index("bidding") + 1:PHASES.index(phase) + 1]
-    return conference(AUTHORS, MEMBERS, COUNT, 1)[0] + b"".join(moved(name) for name in later)
+    return conference(AUTHORS, MEMBERS, COUNT, 1)[0] + b"".join(move_to(name) for name in later)
 
 
 def pairs(count, others):
@@ -188,7 +191,7 @@ def opened(program, store):
 def make_store(program, store, rows):
     """Makes a store of these rows, in tables that the program makes."""
     opened(program, store)
-    with contextlib.closing(sqlite3.connect(store)) as file, file:
+    with opened_by_sqlite(store) as file:
         names = [name for (name,) in file.execute("SELECT name FROM sqlite_schema WHERE type = 'table'")]
         for table, kinds in TABLES.items():
             name = next(name for name in names if name.partition("_")[0] == table)
@@ -237,7 +240,7 @@ def filled():
     for group in groups:
         dice.shuffle(group)
     start = [opening("bidding"), *conflicts, *bids, *seats]
-    steps = [*start, moved("reviewing"), *forms, moved("discussion"), *comments]
+    steps = [*start, move_to("reviewing"), *forms, move_to("discussion"), *comments]
     # An entry for each account, for the chair's role and each member's, for each paper and for each of four phases.
     records = 1 + AUTHORS + MEMBERS + 1 + MEMBERS + COUNT + 4 + sum(map(len, groups))
     return b"".join(steps), records, COUNT * len("ProofsWe prove.") + len(forms) * 1_000 + len(comments) * 100
@@ -253,8 +256,7 @@ def memory(programs, runs):
         for _ in range(runs):
             with started(program) as child:
                 spent(child, asked)
-                with open(f"/proc/{child.pid}/status") as lines:
-                    most = [int(line.split()[1]) for line in lines if line.startswith("VmHWM")][0] * 1024
+                most = peak_memory(child.pid)
                 least[name] = min(most, least.get(name, most))
         print(f"|{name}|{least[name] / 1e6:.1f}|{(least[name] - 1.5 * texts) / records:.0f}|", flush=True)
     allowed, most = 1.5 * texts + 300 * records, least["confd"]
@@ -264,19 +266,15 @@ def memory(programs, runs):
 def main():
     """Measures the parts that the words name."""
     parts = {"commands": commands, "stores": stores, "memory": memory}
-    here = os.path.dirname(os.path.abspath(__file__))
     words = argparse.ArgumentParser()
-    words.add_argument("program", nargs="?", default=f"{here}/../crates/confd/out/confd")
+    words.add_argument("program", nargs="*")
     words.add_argument("--before")
     words.add_argument("--parts", default=",".join(parts))
     words.add_argument("--tenth", action="store_true")
     words.add_argument("--runs", type=int, default=3)
     options = words.parse_args()
-    programs = {"confd": options.program, **({"before": options.before} if options.before else {})}
-    for program in programs.values():
-        if not os.access(program, os.X_OK):
-            sys.exit(f"{program} isn't there: run `rt run` in crates/confd, or name a program")
-    print(f"{time.strftime('%Y-%m-%d')}, {os.cpu_count()} processors, {model()}", flush=True)
+    programs = programs_of(options)
+    print(machine(), flush=True)
     for name in options.parts.split(","):
         parts[name](programs, options.runs)
 

@@ -8,38 +8,28 @@ whatever else the machine is doing, so that two builds can be compared while pro
 hundred rows, each by what a run with so many of them takes more than one without; and the opening of a store with 2,000
 bids. Needs Debian's valgrind.
 """
-import json
 import os
 import re
 import subprocess
 import sys
 import tempfile
 
+from lib.wire import move_to, raw, register, request
+
 PAPERS = 200
-
-
-def request(method, path, user=None, body=None):
-    """The bytes of a request; a body that isn't bytes is sent as JSON."""
-    head = [f"{method} {path} HTTP/1.1", "Host: c"]
-    if user:
-        head.append(f"Authorization: Bearer {user}.{user}-secret-000001")
-    text = b"" if body is None else body if isinstance(body, bytes) else json.dumps(body).encode()
-    if body is not None:
-        head.append(f"Content-Length: {len(text)}")
-    return "\r\n".join(head).encode() + b"\r\n\r\n" + text
 
 
 def conference():
     """Three members, and the papers of as many authors as they need, in the bidding."""
     authors = [f"u{n}" for n in range(PAPERS // 20)]
     names = ["alice", "bob", "carol", "dave", *authors]
-    made = [request("POST", "/register", None, {"name": name, "secret": f"{name}-secret-000001"}) for name in names]
+    made = [register(name) for name in names]
     made += [request("POST", "/members", "alice", {"name": name, "role": "member"}) for name in names[1:4]]
-    made.append(request("POST", "/phase", "alice", {"phase": "submission"}))
+    made.append(move_to("submission"))
     for n in range(PAPERS):
         paper = {"title": f"T{n}", "abstract": "a" * 200, "authors": []}
         made.append(request("POST", "/papers", authors[n // 20], paper))
-    return made + [request("POST", "/phase", "alice", {"phase": "bidding"})]
+    return made + [move_to("bidding")]
 
 
 def bid(n):
@@ -50,7 +40,7 @@ def bid(n):
 def bulk(n):
     """A hundred tags, one on each paper; another one in each bulk."""
     rows = "".join(f"{paper},tag,,t{n}\n" for paper in range(1, 101))
-    return request("POST", "/assign", "alice", f"paper,action,user,tag\n{rows}".encode())
+    return raw("POST", "/assign", "alice", f"paper,action,user,tag\n{rows}".encode())
 
 
 def taken(program, requests, store=None):

@@ -19,11 +19,11 @@ import sys
 import tempfile
 import time
 
-from store_cost import COMMITS, conference, fill, processor, register, request, run
-
-TOP = os.path.dirname(os.path.dirname(os.path.abspath(__file__)))
-sys.path.append(os.path.join(TOP, "checks"))
-from journal_file import Row, frame, rows_in  # noqa: E402
+from lib.journal_file import Row, frame, rows_in
+from lib.program import program_named
+from lib.timing import machine
+from lib.wire import opening as begun, register
+from store_cost import COMMITS, conference, fill, run
 
 KINDS = {"journal": ".cj", "database": ""}
 
@@ -74,7 +74,7 @@ def commits(program, folder):
     def measure(kind):
         with tempfile.TemporaryDirectory(dir=folder) as room:
             path = os.path.join(room, f"commits{KINDS[kind]}")
-            run(program, path, register("alice") + request("POST", "/phase", "alice", {"phase": "submission"}))
+            run(program, path, begun())
             none, _ = run(program, path, b"")
             spent, _ = run(program, path, b"".join(register(f"user{n}") for n in range(options.commits)))
             return options.commits / (spent - none)
@@ -102,18 +102,16 @@ def main():
     words.add_argument("--rows", type=int, default=1_000_000)
     words.add_argument("--commits", type=int, default=COMMITS)
     words.add_argument("--turns", type=int, default=5)
-    words.add_argument("program", nargs="?", default=os.path.join(TOP, "crates", "confd", "out", "confd"))
+    words.add_argument("program", nargs="?")
     words.add_argument("folder", nargs="?")
     options = words.parse_args()
-    if not os.path.exists(options.program):
-        sys.exit(f"{options.program}: build it first, with `rt run` in crates/confd")
+    program = program_named([options.program] if options.program else []).path
     with tempfile.TemporaryDirectory(dir=options.folder) as folder:
         disk = subprocess.run(["df", "--output=fstype", folder],
                               capture_output=True, text=True, check=False).stdout.split()[-1:]
-        print(f"{time.strftime('%Y-%m-%d')}, {os.cpu_count()} processors, {processor()}, {' '.join(disk)}, "
-              f"{syncs(folder):,.0f} syncs a second")
-        commits(options.program, folder)
-        opening(options.program, folder)
+        print(f"{machine()}, {' '.join(disk)}, {syncs(folder):,.0f} syncs a second")
+        commits(program, folder)
+        opening(program, folder)
 
 
 if __name__ == "__main__":

@@ -15,65 +15,31 @@ as the median of the nine.
 import http.client
 import http.server
 import json
-import os
 import statistics
 import subprocess
 import sys
 import threading
 import time
 
-RUNS = 5
+from lib.program import program_named
+from lib.timing import RUNS, least, machine, peak_memory, seconds, timed
+from lib.wire import move_to, register, request, submit
+
 TURNS = 9
 ABSTRACT = ("We prove what we can. " * 228)[:5000]
 PAPERS_EACH = 20
 SUBMISSIONS = 9_000
 
 
-def request(method, path, who=None, body=None):
-    """One request as bytes; `who` is a name, whose secret is made of it."""
-    lines = [f"{method} {path} HTTP/1.1", "Host: c"]
-    if who is not None:
-        lines.append(f"Authorization: Bearer {who}.{who}-secret-0123456789")
-    content = b""
-    if body is not None:
-        content = json.dumps(body, separators=(",", ":")).encode()
-        lines.append(f"Content-Length: {len(content)}")
-    return "\r\n".join(lines).encode() + b"\r\n\r\n" + content
-
-
-def register(name):
-    return request("POST", "/register", body={"name": name, "secret": f"{name}-secret-0123456789"})
-
-
-def submit(name, abstract):
-    return request("POST", "/papers", name, {"abstract": abstract, "title": "Proofs"})
-
-
 def conference(abstract):
     """A chair, an author with one paper, and the phase in which papers come."""
-    opens = request("POST", "/phase", "alice", {"phase": "submission"})
-    return register("alice") + register("erin") + opens + submit("erin", abstract)
-
-
-def run(program, text):
-    """The seconds that one run over these bytes takes."""
-    with open(os.devnull, "wb") as nowhere:
-        began = time.perf_counter()
-        child = subprocess.Popen([program, "pipe"], stdin=subprocess.PIPE, stdout=nowhere)
-        child.communicate(text)
-        spent = time.perf_counter() - began
-    if child.returncode != 0:
-        sys.exit(f"{program} pipe ended with {child.returncode}")
-    return spent
-
-
-def answers(program, text):
-    return subprocess.run([program, "pipe"], input=text, stdout=subprocess.PIPE, check=True).stdout
+    return register("alice") + register("erin") + move_to("submission") + submit("erin", "Proofs", abstract)
 
 
 def check(program, abstract):
     """Sees that the page is told with its abstract, so that the right thing is measured."""
-    told = answers(program, conference(abstract) + request("GET", "/papers/1", "erin"))
+    text = conference(abstract) + request("GET", "/papers/1", "erin")
+    told = subprocess.run([program, "pipe"], input=text, stdout=subprocess.PIPE, check=True).stdout
     page = json.loads(told[told.rindex(b"\r\n\r\n") + 4 :])
     if page["abstract"] != abstract:
         sys.exit("the page has another abstract than was submitted")
@@ -84,9 +50,7 @@ def page_cost(program, abstract, pages):
     """Microseconds that one page takes more than no page."""
     base = conference(abstract)
     whole = base + request("GET", "/papers/1", "erin") * pages
-    without = min(run(program, base) for _ in range(RUNS))
-    spent = min(run(program, whole) for _ in range(RUNS))
-    return (spent - without) / pages * 1e6
+    return (least(program, whole) - least(program, base)) / pages * 1e6
 
 
 def compared(programs, pages):
@@ -97,7 +61,7 @@ def compared(programs, pages):
         costs = [[], []]
         for _ in range(TURNS):
             for program, found in zip(programs, costs):
-                found.append((run(program, whole) - run(program, base)) / pages * 1e6)
+                found.append((seconds(program, whole) - seconds(program, base)) / pages * 1e6)
         before, now = map(statistics.median, costs)
         print(f"a page with an abstract of {len(abstract):,} bytes: before {before:.2f} us, now {now:.2f}, "
               f"{now - before:+.2f}")
@@ -106,14 +70,12 @@ def compared(programs, pages):
 def peer_json(pages):
     """Microseconds in which Python's json module makes the same page, its head not counted."""
     page = {"abstract": ABSTRACT, "authors": ["erin"], "paper": 1, "title": "Proofs"}
-    best = None
-    for _ in range(RUNS):
-        began = time.perf_counter()
+
+    def act():
         for _ in range(pages):
             json.dumps(page, separators=(",", ":"), ensure_ascii=False).encode()
-        spent = time.perf_counter() - began
-        best = spent if best is None else min(best, spent)
-    return best / pages * 1e6
+
+    return timed(act, RUNS) / pages * 1e6
 
 
 class Page(http.server.BaseHTTPRequestHandler):
@@ -152,8 +114,8 @@ def memory(program):
     pieces = [register("alice")]
     authors = [f"author-{n}" for n in range(SUBMISSIONS // PAPERS_EACH)]
     pieces += [register(name) for name in authors]
-    pieces.append(request("POST", "/phase", "alice", {"phase": "submission"}))
-    pieces += [submit(name, ABSTRACT) for name in authors for _ in range(PAPERS_EACH)]
+    pieces.append(move_to("submission"))
+    pieces += [submit(name, "Proofs", ABSTRACT) for name in authors for _ in range(PAPERS_EACH)]
     pieces.append(request("GET", "/phase"))
     child = subprocess.Popen([program, "pipe"], stdin=subprocess.PIPE, stdout=subprocess.PIPE)
 
@@ -171,32 +133,21 @@ def memory(program):
         if not more:
             sys.exit("not every abstract was taken")
         told = (told + more)[-200_000:]
-    with open(f"/proc/{child.pid}/status") as lines:
-        most = [int(line.split()[1]) for line in lines if line.startswith("VmHWM")][0]
+    most = peak_memory(child.pid)
     feeder.join()
     child.stdin.close()
     child.wait()
-    return most * 1024
-
-
-def model():
-    with open("/proc/cpuinfo") as lines:
-        names = [line.split(":", 1)[1].strip() for line in lines if line.startswith("model name")]
-    return names[0] if names else "unknown"
+    return most
 
 
 def main():
-    here = os.path.dirname(os.path.abspath(__file__))
     words = sys.argv[1:]
     before = None
     if words[:1] == ["--before"] and len(words) > 1:
-        before, words = words[1], words[2:]
-    program = words[0] if words else f"{here}/../crates/confd/out/confd"
+        before, words = program_named(words[1:2]).path, words[2:]
+    program = program_named(words[:1]).path
     pages = int(words[1]) if len(words) > 1 else 20_000
-    for named in (program, before or program):
-        if not os.access(named, os.X_OK):
-            sys.exit(f"{named} isn't there: run `rt run` in crates/confd, or name a program")
-    print(f"{time.strftime('%Y-%m-%d')}, {os.cpu_count()} processors, {model()}")
+    print(machine())
     size = check(program, ABSTRACT)
     if before is not None:
         check(before, ABSTRACT)

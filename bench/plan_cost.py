@@ -15,16 +15,14 @@ few, one in twelve, the others none, which a search among some thousand of input
 dearest.
 """
 
-import os
 import random
 import resource
 import sys
 import time
 
-sys.path.insert(0, os.path.join(os.path.dirname(os.path.abspath(__file__)), "..", "checks"))
-
-from plans import Planned, plan, told  # noqa: E402
-from store import program_named, register  # noqa: E402
+from lib.planned import Planned, plan, told
+from lib.program import program_named
+from lib.wire import register
 
 TIMES = 20
 DICE = random.Random(1)

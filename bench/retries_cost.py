@@ -17,22 +17,17 @@ Times are processor time, the kernel's for the program among it; each is the lea
 
 import argparse
 import hashlib
-import os
 import random
-import sys
 import time
 
-from assignment_cost import MEMBERS, model, register, request
-from growth_cost import COUNT, PART, SEED, opening, spent, started, told_goal
+from assignment_cost import MEMBERS
+from growth_cost import COUNT, PART, SEED, opening, programs_of, spent, started, told_goal
+from lib.timing import machine
+from lib.wire import LARGEST, move_to, numbered, register, request, upload
 
 LEVELS, MORE = [0, 10_000 // PART, 200_000 // PART], 5_000 // PART
 SORTS = ["a bid without a number", "the same by a number", "that again", "another by that number"]
-LARGEST, UPLOADS, UPLOADERS = 4_194_304, 5, 8  # an upload's bytes; of each kind so many by each of so many authors
-
-
-def numbered(text, number):
-    """A request with the number of a command."""
-    return text.replace(b"\r\n\r\n", f"\r\nCommand-Number: {number}\r\n\r\n".encode(), 1)
+UPLOADS, UPLOADERS = 5, 8  # of each kind so many uploads by each of so many authors
 
 
 def bids():
@@ -51,10 +46,10 @@ def costs_of_bids(program, start, asked, has_numbers):
     with started(program) as child:
         spent(child, start)
         for level in LEVELS:
-            used = spent(child, b"".join(numbered(bid, n) if has_numbers else bid for n, bid, _ in asked[at:level]))
+            used = spent(child, b"".join(numbered(n, bid) if has_numbers else bid for n, bid, _ in asked[at:level]))
             at = max(at, level) + MORE
             some = asked[at - MORE : at]
-            by_number, others = [numbered(bid, n) for n, bid, _ in some], [numbered(other, n) for n, _, other in some]
+            by_number, others = [numbered(n, bid) for n, bid, _ in some], [numbered(n, other) for n, _, other in some]
             texts = [[bid for _, bid, _ in some], by_number, by_number, others]
             for sort, text in zip(found, texts):
                 now = spent(child, b"".join(text), MORE if text is others else 0)
@@ -83,12 +78,9 @@ def uploads():
     """The requests that lead to a paper of each uploader, and an upload to each."""
     content = random.Random(SEED).randbytes(LARGEST)
     names = [f"author-{n}" for n in range(UPLOADERS)]
-    start = ([register(name) for name in ["alice", *names]]
-             + [request("POST", "/phase", "alice", {"phase": "submission"})])
+    start = [register(name) for name in ["alice", *names]] + [move_to("submission")]
     start += [request("POST", "/papers", name, {"abstract": "", "title": "Proofs"}) for name in names]
-    ends = f"\r\nContent-Length: {LARGEST}\r\n\r\n".encode() + content
-    return b"".join(start), [request("PUT", f"/papers/{p}/content", name)[:-4] + ends
-                             for p, name in enumerate(names, 1)]
+    return b"".join(start), [upload(name, p, content) for p, name in enumerate(names, 1)]
 
 
 def costs_of_uploads(program, start, plain):
@@ -99,7 +91,7 @@ def costs_of_uploads(program, start, plain):
         for has_number in (False, True, True):
             for number in range(1, UPLOADS + 1):
                 for text in plain:
-                    now = spent(child, numbered(text, number) if has_number else text)
+                    now = spent(child, numbered(number, text) if has_number else text)
             found.append(now - used)
             used = now
     return found
@@ -121,20 +113,16 @@ def of_uploads(program, runs):
 
 
 def main():
-    here = os.path.dirname(os.path.abspath(__file__))
     words = argparse.ArgumentParser()
-    words.add_argument("program", nargs="?", default=f"{here}/../crates/confd/out/confd")
+    words.add_argument("program", nargs="*")
     words.add_argument("--before")
     words.add_argument("--tenth", action="store_true")
     words.add_argument("--runs", type=int, default=3)
     options = words.parse_args()
-    programs = {"confd": options.program, **({"before": options.before} if options.before else {})}
-    for program in programs.values():
-        if not os.access(program, os.X_OK):
-            sys.exit(f"{program} isn't there: run `rt run` in crates/confd, or name a program")
-    print(f"{time.strftime('%Y-%m-%d')}, {os.cpu_count()} processors, {model()}", flush=True)
+    programs = programs_of(options)
+    print(machine(), flush=True)
     of_bids(programs, options.runs)
-    of_uploads(options.program, options.runs)
+    of_uploads(programs["confd"], options.runs)
 
 
 if __name__ == "__main__":

@@ -8,13 +8,13 @@ figure is one run of `confd pipe` over requests made here, of which a run withou
 least of three. Beside it stands Python's `sqlite3` (its LIKE, over the same abstracts in memory). Nothing is kept.
 """
 
-import os
 import sqlite3
 import sys
-import time
 import urllib.parse
 
-from page_cost import model, register, request, run
+from lib.program import program_named
+from lib.timing import least, machine, timed
+from lib.wire import move_to, register, request
 
 PAPERS, PAPERS_EACH, RUNS = 9_999, 20, 3
 WORDS = "we prove what we can and say what we cannot of trees graphs types words locks rows".split()
@@ -30,13 +30,13 @@ def conference(length):
     """9,999 papers in bidding, with abstracts of so many bytes; every third has a tag, and every fifth is withdrawn."""
     text = [register("alice"), register("bob"), request("POST", "/members", "alice", {"name": "bob", "role": "member"})]
     authors = [f"author-{number}" for number in range((PAPERS + PAPERS_EACH - 1) // PAPERS_EACH)]
-    text += [register(author) for author in authors] + [request("POST", "/phase", "alice", {"phase": "submission"})]
+    text += [register(author) for author in authors] + [move_to("submission")]
     for number in range(PAPERS):
         text.append(request("POST", "/papers", authors[number // PAPERS_EACH],
                             {"abstract": abstract(number)[:length], "title": f"Paper {number}"}))
     text += [request("DELETE", f"/papers/{number + 1}", authors[number // PAPERS_EACH])
              for number in range(0, PAPERS, 5)]
-    text += [request("POST", "/phase", "alice", {"phase": "bidding"})]
+    text += [move_to("bidding")]
     text += [request("PUT", f"/papers/{number + 1}/tags/hot", "bob") for number in range(0, PAPERS, 3) if number % 5]
     return b"".join(text)
 
@@ -48,7 +48,7 @@ def search(text, only_count=True):
 
 def cost(program, base, without, asked, times):
     """Seconds that one request takes."""
-    spent = min(run(program, base + asked * times) for _ in range(RUNS))
+    spent = least(program, base + asked * times, RUNS)
     return (spent - without) / times
 
 
@@ -57,23 +57,15 @@ def peer_like(needle):
     store = sqlite3.connect(":memory:")
     store.execute("CREATE TABLE paper (abstract TEXT)")
     store.executemany("INSERT INTO paper VALUES (?)", ((abstract(number),) for number in range(PAPERS)))
-    best = None
-    for _ in range(RUNS):
-        began = time.perf_counter()
-        store.execute("SELECT count(*) FROM paper WHERE abstract LIKE ?", (f"%{needle}%",)).fetchone()
-        spent = time.perf_counter() - began
-        best = spent if best is None else min(best, spent)
-    return best
+    asked = "SELECT count(*) FROM paper WHERE abstract LIKE ?"
+    return timed(lambda: store.execute(asked, (f"%{needle}%",)).fetchone(), RUNS)
 
 
 def main():
-    here = os.path.dirname(os.path.abspath(__file__))
-    program = sys.argv[1] if len(sys.argv) > 1 else f"{here}/../crates/confd/out/confd"
-    if not os.access(program, os.X_OK):
-        sys.exit(f"{program} isn't there: run `rt run` in crates/confd, or name a program")
-    print(f"{time.strftime('%Y-%m-%d')}, {os.cpu_count()} processors, {model()}")
+    program = program_named(sys.argv[1:2]).path
+    print(machine())
     short, long = conference(20), conference(5000)
-    without_short, without_long = (min(run(program, base) for _ in range(RUNS)) for base in (short, long))
+    without_short, without_long = (least(program, base, RUNS) for base in (short, long))
     for text in ("#hot status:active dec:none", "#hot -status:withdrawn (au:author-17 OR au:author-23)",
                  "au:author-499 OR au:author-1 OR #cold"):
         spent = cost(program, short, without_short, search(text), 100)

@@ -18,9 +18,7 @@ told; 0 leaves that out.
 
 import argparse
 import contextlib
-import json
 import os
-import platform
 import re
 import signal
 import socket
@@ -31,7 +29,11 @@ import sys
 import tempfile
 import time
 
-HERE = os.path.dirname(os.path.abspath(__file__))
+from lib.program import program_named
+from lib.server import free_port
+from lib.timing import machine
+from lib.wire import move_to, register, request, secret_of, submit
+
 SUBMISSIONS = 1_000
 CONNECTIONS = (1, 4, 16, 64)
 OURS, BEFORE, NGINX_NAME, FLASK_NAME = "confd", "confd before", "nginx", "Flask"
@@ -87,24 +89,8 @@ http {{
 """
 
 
-def secret_of(name):
-    return f"{name}-secret-0123456789"
-
-
-def request(method, path, who=None, body=None):
-    """One request as bytes; `who` is a name, whose secret is made of it."""
-    lines = [f"{method} {path} HTTP/1.1", "Host: c"]
-    if who is not None:
-        lines.append(f"Authorization: Bearer {who}.{secret_of(who)}")
-    content = b""
-    if body is not None:
-        content = json.dumps(body, separators=(",", ":")).encode()
-        lines += ["Content-Type: application/json", f"Content-Length: {len(content)}"]
-    return "\r\n".join(lines).encode() + b"\r\n\r\n" + content
-
-
 def submission(who):
-    return request("POST", "/papers", who, {"abstract": ABSTRACT, "title": "Proofs"})
+    return submit(who, "Proofs", ABSTRACT)
 
 
 class Client:
@@ -131,12 +117,6 @@ class Client:
         if not piece:
             raise ConnectionError("the server ended the connection")
         return piece
-
-
-def free_port():
-    with socket.socket() as probe:
-        probe.bind(("127.0.0.1", 0))
-        return probe.getsockname()[1]
 
 
 @contextlib.contextmanager
@@ -183,8 +163,8 @@ def conference(port):
     """Fills a server of confd: alice is chair, in submission, and erin submits paper 1, whose page is told."""
     client = Client(port)
     for name in ("alice", "erin"):
-        client.ask(request("POST", "/register", body={"name": name, "secret": secret_of(name)}))
-    client.ask(request("POST", "/phase", "alice", {"phase": "submission"}))
+        client.ask(register(name))
+    client.ask(move_to("submission"))
     client.ask(submission("erin"))
     return client.ask(request("GET", "/phase"))[1], client.ask(request("GET", "/papers/1", "erin"))[1]
 
@@ -195,7 +175,7 @@ def submissions_a_second(port, told_names):
     users = [f"u{number}" for number in range(SUBMISSIONS // 20)]
     if told_names:
         for name in users:
-            client.ask(request("POST", "/register", body={"name": name, "secret": secret_of(name)}))
+            client.ask(register(name))
     sent = [submission(users[number // 20]) for number in range(SUBMISSIONS)]
     began = time.perf_counter()
     for piece in sent:
@@ -273,13 +253,6 @@ def slowest(name, port, pid, requests):
           f"{(switches(pid) - before) / made:.2f} switches a request", flush=True)
 
 
-def machine():
-    """The day, and what machine this is."""
-    with open("/proc/cpuinfo", encoding="utf-8") as file:
-        model = re.search(r"model name\s*: (.*)", file.read()).group(1)
-    return f"{time.strftime('%Y-%m-%d')}, {os.cpu_count()} processors, {model}, Linux {platform.release()}"
-
-
 def words():
     """What the command line asks for."""
     found = argparse.ArgumentParser()
@@ -288,7 +261,7 @@ def words():
     found.add_argument("--connections", type=lambda text: [int(word) for word in text.split(",")], default=CONNECTIONS)
     found.add_argument("--requests", type=int, default=1_000_000)
     found.add_argument("--before")
-    found.add_argument("program", nargs="?", default=os.path.join(HERE, "../crates/confd/out/confd"))
+    found.add_argument("program", nargs="?")
     found.add_argument("folder", nargs="?")
     return found.parse_args()
 
@@ -333,7 +306,7 @@ def one_and_two_workers(program, folder, turns, seconds):
 
 def main():
     asked = words()
-    program = os.path.abspath(asked.program)
+    asked.program = program = program_named([asked.program] if asked.program else []).path
     print(machine())
     for command in (["nginx", "-v"], ["wrk", "-v"], [sys.executable, "--version"]):
         told = subprocess.run(command, capture_output=True, text=True)

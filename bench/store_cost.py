@@ -10,43 +10,21 @@ same settings. The goals are ten seconds for the opening, and half as many commi
 """
 
 import contextlib
-import json
 import os
-import platform
 import resource
 import sqlite3
-import subprocess
 import sys
 import tempfile
 import time
 
+from lib.database import PEOPLE, TABLES, TIES, opened
+from lib.program import program_named
+from lib.timing import machine, seconds
+from lib.wire import move_to, opening as begun, register, request, submit
+
 ROWS = 1_000_000
 COMMITS = 2_000
 ROW = "INSERT INTO {} VALUES (?, ?, ?, 0, 784111777, 0, x'', ?, ?, ?, 0, 0, ?, ?)"
-TABLES = PEOPLE, _, TIES, _ = "people_v3", "papers_v3", "ties_v3", "talk_v3"
-
-
-@contextlib.contextmanager
-def opened(store, **more):
-    """The file as SQLite's own library opens it; it is let go at the end."""
-    with contextlib.closing(sqlite3.connect(store, **more)) as file, file:
-        yield file
-
-
-def request(method, path, who=None, body=None):
-    """One request as bytes; `who` is a name, whose secret is made of it."""
-    lines = [f"{method} {path} HTTP/1.1", "Host: c"]
-    if who is not None:
-        lines.append(f"Authorization: Bearer {who}.{who}-secret-0123456789")
-    content = b""
-    if body is not None:
-        content = json.dumps(body, separators=(",", ":")).encode()
-        lines.append(f"Content-Length: {len(content)}")
-    return "\r\n".join(lines).encode() + b"\r\n\r\n" + content
-
-
-def register(name):
-    return request("POST", "/register", body={"name": name, "secret": f"{name}-secret-0123456789"})
 
 
 def conference():
@@ -55,21 +33,13 @@ def conference():
     return (
         register(chair) + register("bob") + register("erin")
         + request("POST", "/members", chair, {"name": "bob", "role": "member"})
-        + request("POST", "/phase", chair, {"phase": "submission"})
-        + request("POST", "/papers", "erin", {"abstract": "We prove.", "title": "Proofs"})
-        + request("POST", "/phase", chair, {"phase": "bidding"})
+        + move_to("submission") + submit("erin", "Proofs", "We prove.") + move_to("bidding")
     )
 
 
 def run(program, store, text):
     """The seconds that a run over these bytes takes, and the most memory that any run took, in bytes."""
-    began = time.perf_counter()
-    done = subprocess.run([program, "pipe", "--store", store], input=text,
-                          stdout=subprocess.PIPE, stderr=subprocess.PIPE)
-    spent = time.perf_counter() - began
-    if done.returncode != 0:
-        sys.exit(f"{program} pipe --store ended with {done.returncode}: {done.stderr.decode()}")
-    return spent, resource.getrusage(resource.RUSAGE_CHILDREN).ru_maxrss * 1024
+    return seconds(program, text, "--store", store), resource.getrusage(resource.RUSAGE_CHILDREN).ru_maxrss * 1024
 
 
 def fill(store, rows=ROWS):
@@ -100,8 +70,7 @@ def opening(program, folder):
 
 def commits(program, folder):
     store, other = os.path.join(folder, "commits"), os.path.join(folder, "peer")
-    text = register("alice") + request("POST", "/phase", "alice", {"phase": "submission"})
-    run(program, store, text)
+    run(program, store, begun())
     none, _ = run(program, store, b"")
     spent, _ = run(program, store, b"".join(register(f"user{n}") for n in range(COMMITS)))
     ours = COMMITS / (spent - none)
@@ -120,21 +89,10 @@ def commits(program, folder):
           f"ours are {ours / theirs:.2f} of it")
 
 
-def processor():
-    with open("/proc/cpuinfo") as file:
-        for line in file:
-            if line.startswith("model name"):
-                return line.split(":", 1)[1].strip()
-    return platform.machine()
-
-
 def main():
-    top = os.path.dirname(os.path.dirname(os.path.abspath(__file__)))
-    program = sys.argv[1] if len(sys.argv) > 1 else os.path.join(top, "crates", "confd", "out", "confd")
+    program = program_named(sys.argv[1:2]).path
     where = sys.argv[2] if len(sys.argv) > 2 else None
-    if not os.path.exists(program):
-        sys.exit(f"{program}: build it first, with `rt run` in crates/confd")
-    print(f"{time.strftime('%Y-%m-%d')}, {os.cpu_count()} processors, {processor()}")
+    print(machine())
     with tempfile.TemporaryDirectory(dir=where) as folder:
         opening(program, folder)
         commits(program, folder)

@@ -19,12 +19,15 @@ import sys
 import threading
 import time
 
-from own_systemd import has_come
-from serve import serving
-from store import chosen, expect, run_all
+from lib.checking import expect, run_all
+from lib.own_systemd import has_come
+from lib.places import TOP
+from lib.program import chosen
+from lib.server import free_port, serving
+from lib.wire import secret_of
 
-SECRET = "alice-secret-0123456789"
-HERE = os.path.dirname(os.path.abspath(__file__))
+
+SECRET = secret_of("alice")
 
 # What a server's configuration needs around it, in a folder of its own.
 AROUND = """
@@ -46,16 +49,10 @@ http {{
 """
 
 
-def free_port():
-    with socket.socket() as probe:
-        probe.bind(("127.0.0.1", 0))
-        return probe.getsockname()[1]
-
-
 def configuration(folder, upstream, port, is_closed):
     """deploy/nginx.conf with the addresses, the certificate and its key of this run, and if registration is closed
     with the lines that close it."""
-    with open(os.path.join(HERE, "../deploy/nginx.conf"), encoding="utf-8") as file:
+    with open(TOP / "deploy/nginx.conf", encoding="utf-8") as file:
         text = file.read()
     for old, new in (
         ("server 127.0.0.1:8080;", f"server 127.0.0.1:{upstream};"),

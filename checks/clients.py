@@ -15,10 +15,13 @@ import subprocess
 import sys
 import time
 
-from serve import Client, is_now, serving
-from store import LONG, expect, opening, program_named, run_all
+from lib.checking import expect, run_all
+from lib.program import LONG, program_named
+from lib.server import Client, is_now, serving
+from lib.wire import opening, secret_of
 
-SECRET = "alice-secret-0123456789"
+
+SECRET = secret_of("alice")
 
 
 def said(*words, text=b""):
@@ -57,7 +60,7 @@ def with_curl(program, folder):
             expect(told == (201, '{"paper":2}'), told)
         code, page = curl(*login, address(server, "/papers/1"))
         expect(code == 200 and json.loads(page)["title"] == "Proofs", page)
-        told = curl("--oauth2-bearer", "alice.wrong-secret-0123456789", address(server, "/papers/1"))
+        told = curl("--oauth2-bearer", "alice.wrong-secret-000001", address(server, "/papers/1"))
         expect(told == (401, '{"error":"unauthorized"}'), told)
         since = time.time()
         code, head = curl("--head", address(server, "/phase"))

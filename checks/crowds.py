@@ -22,8 +22,12 @@ import sys
 import threading
 import time
 
-from serve import LARGEST, Client, ask_once, at_once, serving, upload
-from store import LONG, chosen, expect, opening, register, request, rows, run_all, submit
+from lib.checking import expect, run_all
+from lib.database import rows
+from lib.program import LONG, chosen
+from lib.server import Client, ask_once, at_once, serving
+from lib.wire import LARGEST, opening, register, request, submit, upload
+
 
 WORKERS = 64
 # After how many seconds a connection gives way to another that waits: one that has sent nothing, one between two

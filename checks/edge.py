@@ -5,8 +5,8 @@ growth, addresses.
     python3 checks/edge.py [CHECK..] [PROGRAM]
 
 PROGRAM is `confd` as `rt run` builds it (crates/confd/out/confd where none is named); CHECK is a name out of CHECKS,
-all where none is told. Needs Python 3, and `cc` for checks/shim.c, which makes time run faster, cuts reads and writes
-short and counts them; without a `cc` it ends well with a line that says so. Prints a line a check, and last
+all where none is told. Needs Python 3, and `cc` for checks/lib/shim.c, which makes time run faster, cuts reads and
+writes short and counts them; without a `cc` it ends well with a line that says so. Prints a line a check, and last
 `N passed, M failed`; ends with status 0 where none failed. Takes about half a minute.
 """
 
@@ -22,10 +22,14 @@ import tempfile
 import threading
 import time
 
-from conference import beginnings, codes_of, post, raw
-from serve import LARGEST, SOON, Client, at_once, serving, upload, words_of
-from shim import DATE, MOMENT, SOCKETS, Orders, shim_for
-from store import LONG, chosen, expect, opening, register, request, rows, run_all, submit
+from lib.checking import expect, run_all
+from lib.conference import beginnings, codes_of, post
+from lib.database import rows
+from lib.program import LONG, NO_TIME, chosen
+from lib.server import SOON, Client, at_once, free_port, serving, words_of
+from lib.shim import DATE, MOMENT, SOCKETS, Orders, shim_for
+from lib.wire import LARGEST, opening, raw, register, request, submit, upload
+
 
 # For how many seconds a request or an answer may go on, and how long a kept connection may ask nothing.
 TIMEOUT, IDLE = 60, 5
@@ -37,7 +41,6 @@ LATE = 40
 BULKS, ROWS_EACH = 41, 512
 # The last moment that has a date, and what is said where the time of day can't be had.
 LAST, LAST_DATE = 253_402_300_799, "Fri, 31 Dec 9999 23:59:59 GMT"
-NO_TIME = b"confd: the clock could not be read\n"
 shim = None
 
 
@@ -362,12 +365,6 @@ def listeners(process):
                 if fields[3] == "0A" and fields[9] in sockets:
                     found.append(fields[1])
     return found
-
-
-def free_port(host, family):
-    with socket.socket(family) as taken:
-        taken.bind((host, 0))
-        return taken.getsockname()[1]
 
 
 def addresses(program, folder):

@@ -15,6 +15,7 @@ import concurrent.futures
 import contextlib
 import errno
 import itertools
+import json
 import os
 import random
 import re
@@ -28,18 +29,18 @@ import tempfile
 import threading
 import time
 
-import journal_file
-import store
-from conference import EVERY_ROUTE, text_of
-from journal_file import EMPTY, Bad, Judged, NoJournal, Row, groups_of, rows_in, rows_of, spelled
-from model_views import view_lines
-from serve import SOON, Client, Server, serving
-from shim import FILES, MOMENT, AT_ONCE, Orders, Shim, cut_power
-from store import (
-    LASTING, PASSING, TAKEN_AGAIN, answers, ask, chosen, ended, expect, line_of, opening, read, register, request,
-    run_all, said, submit,
+from lib.appends import JOURNAL, NAMES, QUESTION, appends, each, registrations
+from lib.checking import expect, run_all
+from lib.conference import EVERY_ROUTE, text_of
+from lib.database import rows as rows_of_database
+from lib.journal_file import (
+    EMPTY, NUMBERS, OPEN, TEXTS, Bad, Judged, NoJournal, Row, field, groups_of, rows_in, rows_of, spelled,
 )  # fmt: skip
-from sync import JOURNAL, NAMES, QUESTION, appends, each, registrations
+from lib.model_views import view_lines
+from lib.program import LASTING, LONG, PASSING, TAKEN_AGAIN, ask, chosen, ended, line_of, read, said
+from lib.server import SOON, Client, Server, serving
+from lib.shim import AT_ONCE, FILES, MOMENT, Orders, Shim, cut_power
+from lib.wire import answers, opening, register, request, submit
 
 NO_JOURNAL = "the file is no journal"
 BUSY = "another process has the file open"
@@ -89,7 +90,7 @@ def every_route(program, folder):
         out, status, _ = program.run(["pipe", "--store", os.path.join(folder, name)], text_of(EVERY_ROUTE))
         found[name] = re.sub(rb"\r\nDate: [^\r]*", b"", out), status
     expect(found["database"] == found["store.cj"], "other answers")
-    due = store.rows(os.path.join(folder, "database"))
+    due = rows_of_database(os.path.join(folder, "database"))
     rows = [
         (place, row.kind, row.maker, row.more, row.n1, row.b1, row.b2)
         for place, row in enumerate(rows_in(named(folder)))
@@ -229,7 +230,7 @@ def held_by_another(program, folder):
             expect(came == (b"", 6, line_of(path, BUSY)), f"the second confd: {came}")
         expect(names_in(path) == ["alice"], f"{names_in(path)}")
         child.stdin.close()
-        expect(child.wait(timeout=store.LONG) == 0, "the first confd did not end well")
+        expect(child.wait(timeout=LONG) == 0, "the first confd did not end well")
     expect(program.pipe(path, b"")[1] == 0, "opened behind it")
 
 
@@ -282,7 +283,7 @@ def no_journals(program, folder):
     ]
     tried += [content[:length] for length in range(1, len(content)) if length - 1 not in ends]
     tried += [content[:length] + b"\1" for length in ends] + [
-        EMPTY[:8] + journal_file.OPEN + journal_file.field(b"no row") + b"\0"
+        EMPTY[:8] + OPEN + field(b"no row") + b"\0"
     ]
     for wrong in tried:
         write(path, wrong)
@@ -323,8 +324,8 @@ def unread(program, folder):
 def row(kind, **fields):
     return Row(
         **{
-            **dict.fromkeys(journal_file.NUMBERS, 0),
-            **dict.fromkeys(journal_file.TEXTS, b""),
+            **dict.fromkeys(NUMBERS, 0),
+            **dict.fromkeys(TEXTS, b""),
             "kind": kind,
             "maker": 1,
             **fields,
@@ -375,8 +376,8 @@ def as_judged(program, path, content):
     expect((status, [(code, text.decode()) for code, text in told]) == (0, due), f"status {status}, {told}, due {due}")
     for _, name in model.users():
         out, status, _ = program.run(["view", "--store", path, "--user", name])
-        lines = [store.json.loads(line) for line in out.splitlines()]
-        due = [store.json.loads(line) for line in view_lines(model, name)]
+        lines = [json.loads(line) for line in out.splitlines()]
+        due = [json.loads(line) for line in view_lines(model, name)]
         for line in due:
             if "digest" in line:
                 line["digest"] = judged.digests[line["name"]]
@@ -516,8 +517,8 @@ LEFT = "; a part of a new journal is left: remove the file ahead of the next sta
 
 
 def not_made(program, room, reason, **orders):
-    """A journal can't be made: status 6 and its line, and no byte stays, or, where the cut is refused too, the line says
-    what to do."""
+    """A journal can't be made: status 6 and its line, and no byte stays, or, where the cut is refused too, the line
+    says what to do."""
     path, is_left = named(room), "refuse_truncate" in orders
     out, status, err, _ = shim.run(program, WORDS, QUESTION, room, **orders)
     due = line_of("store.cj", reason + LEFT if is_left else reason)
@@ -526,12 +527,12 @@ def not_made(program, room, reason, **orders):
         os.remove(path)
     else:
         expect(read(path) == b"", f"{orders}: {read(path)} stays")
-    expect(program.pipe(path, b"") == ([], 0) and read(path) == EMPTY, f"{orders}: made at the next start: {read(path)}")
+    expect(program.pipe(path, b"") == ([], 0) and read(path) == EMPTY, f"{orders}: at the next start: {read(path)}")
 
 
 def half_made(program, folder):
-    """A journal that is made: the write is refused, cut short, or made all the same; the sync is refused; and the cut to
-    nothing too. No byte of it stays, or the line says what to do; the next start makes it."""
+    """A journal that is made: the write is refused, cut short, or made all the same; the sync is refused; and the cut
+    to nothing too. No byte of it stays, or the line says what to do; the next start makes it."""
     no_room, failed = {"error": errno.ENOSPC, "scope": FILES}, {"error": errno.EIO}
     tried = [(NO_ROOM, {"refuse_write": 1, **no_room}), (NO_ROOM, {"refuse_write": 1, "made": 1, **no_room})]
     tried += [(NO_ROOM, {"refuse_write": 2, "most_write": size, **no_room}) for size in range(1, len(EMPTY))]

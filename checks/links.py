@@ -15,10 +15,10 @@ import fnmatch
 import functools
 import re
 import sys
-from pathlib import Path
 
-TOP = Path(__file__).resolve().parent.parent
-PAGES = [TOP / "README.md"] + sorted((TOP / "docs").glob("*.md"))
+from lib.pages import PAGES, prose
+from lib.places import TOP
+
 KINDS = (".rt", ".antt", ".py", ".sh", ".md", ".case", ".edit", ".txt", ".http", ".conf", ".service")
 # Pages on which every name in backticks is one of code; on the others those with `_` or `::` are.
 CLAIMS = ("CLAIMS.md", "CLAIMS_BY_CRATE.md")
@@ -59,16 +59,6 @@ def slug(heading):
     """The anchor of a heading, as forges make it."""
     plain = re.sub(r"[`*]|\[([^\]]*)\]\([^)]*\)", lambda m: m.group(1) or "", heading).lower()
     return re.sub(r"[^\w\- ]", "", plain).strip().replace(" ", "-")
-
-
-def prose(text):
-    """The lines outside blocks of code, each with its number."""
-    inside = False
-    for number, line in enumerate(text.split("\n"), 1):
-        if line.startswith("```"):
-            inside = not inside
-        elif not inside:
-            yield number, line
 
 
 def anchors(page):

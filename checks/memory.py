@@ -4,9 +4,9 @@
     python3 checks/memory.py [--all] [CHECK..] [PROGRAM]
 
 PROGRAM is `confd` as `rt run` builds it (crates/confd/out/confd where none is named); CHECK is a name out of CHECKS,
-all where none is told. Needs Python 3, and `cc` for
-checks/shim.c, which refuses the allocations; without a `cc` it ends well with a line that says so. Prints a line a
-check, and last `N passed, M failed`; ends with status 0 where none failed. Takes less than a minute.
+all where none is told. Needs Python 3, and `cc` for checks/lib/shim.c, which refuses the allocations; without a `cc` it
+ends well with a line that says so. Prints a line a check, and last `N passed, M failed`; ends with status 0 where none
+failed. Takes less than a minute.
 
 Each run has one allocation refused. Of a run with more than MOST allocations so many are refused, evenly; --all
 refuses each.
@@ -19,13 +19,16 @@ import shutil
 import sys
 import tempfile
 
-from conference import (
-    BEGINNING, BIDDING, CUT, DEADLINES, EVERY_ROUTE, JUDGING, RETRIES, beginnings, codes_of, rows_behind, text_of
-)
-from edge import NO_TIME
-from serve import Client, serving
-from shim import DATE, MOMENT, Orders, in_turn, sample, shim_for
-from store import chosen, expect, register, request, rows, run_all
+from lib.checking import expect, run_all
+from lib.conference import (
+    BEGINNING, BIDDING, CUT, DEADLINES, EVERY_ROUTE, JUDGING, RETRIES, beginnings, codes_of, rows_behind, text_of,
+)  # fmt: skip
+from lib.database import rows
+from lib.program import NO_TIME, chosen
+from lib.server import Client, serving
+from lib.shim import DATE, MOMENT, Orders, in_turn, sample, shim_for
+from lib.wire import register, request
+
 
 MOST = 1_000
 NO_MEMORY = (

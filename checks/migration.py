@@ -25,13 +25,15 @@ import sys
 import tempfile
 import time
 
-from conference import BEGINNING, COMMITTEE, DEADLINES, DECIDING, RESPONSE, text_of
-from serve import APART
-from shim import FILES, Shim, in_turn, sample
-from store import (
-    LAST_MOMENT, OTHER_TABLES, OTHER_VERSION, TABLES, VERSION, ask, chosen, expect, line_of, opened, read, register,
-    request, run_all, with_shim,
-)  # fmt: skip
+from lib.checking import expect, run_all, with_shim
+from lib.conference import BEGINNING, COMMITTEE, DEADLINES, DECIDING, RESPONSE, text_of
+from lib.database import OTHER_TABLES, OTHER_VERSION, TABLES, VERSION, opened
+from lib.journal_file import LAST_MOMENT
+from lib.program import ask, chosen, line_of, read
+from lib.server import APART
+from lib.shim import FILES, Shim, in_turn, sample
+from lib.wire import register, request
+
 
 HERE = os.path.dirname(os.path.abspath(__file__))
 DATA = os.path.join(HERE, "../crates/confd/data")

@@ -8,23 +8,23 @@ if none is told. Needs only Python 3. Prints a line a check, and last `N passed,
 where none failed. Takes half a minute.
 """
 
-import contextlib
 import os
 import random
 import resource
-import shutil
 import signal
-import sqlite3
 import stat
 import subprocess
 import sys
 import time
 
-import store
-from conference import EVERY_ROUTE, text_of
-from journal_file import EMPTY, groups_of, rows_in, rows_of, spelled
-from serve import upload
-from store import LONG, TOP, ask, chosen, expect, opening, read, register, request, run_all, submit
+from lib import database as databases
+from lib.checking import expect, run_all
+from lib.conference import EVERY_ROUTE, text_of
+from lib.journal_file import EMPTY, groups_of, rows_in, rows_of, spelled
+from lib.places import TOP
+from lib.program import LONG, Program, ask, chosen, read
+from lib.wire import opening, register, request, submit, upload
+
 
 SCRIPT = os.path.join(TOP, "deploy", "move_store.py")
 # A content as large as one may be.
@@ -92,7 +92,7 @@ def every_route(program, folder):
     expect(out == f"{database}: {len(rows)} rows and {len(names)} users, as in {first}\n", out)
     expect_moved(program, database, journal)
     expect(read(journal) == read(first), "the journal has other bytes")
-    expect(store.rows(database) == store.rows(due), "the database has other rows")
+    expect(databases.rows(database) == databases.rows(due), "the database has other rows")
     shown = views(program, first, names)
     expect(all(status == 0 for _, status in shown), "a view failed")
     expect(shown == views(program, database, names) == views(program, journal, names), "views differ")
@@ -116,7 +116,7 @@ def contents(program, folder):
     expect(kept == [CONTENT, CONTENT[::-1]], "the contents differ")
     back = os.path.join(folder, "back.store")
     expect_moved(program, journal, back)
-    expect(store.rows(back) == store.rows(database), "the rows differ")
+    expect(databases.rows(back) == databases.rows(database), "the rows differ")
 
 
 def none(program, folder):
@@ -145,7 +145,7 @@ def owner(program, folder):
 
 
 def changed(path, *texts):
-    with store.opened(path) as file:
+    with databases.opened(path) as file:
         for text in texts:
             file.execute(text)
 
@@ -176,7 +176,7 @@ def names(program, folder):
     expect_refused(program, database, other, "letter in it isn't a move's")
     expect(os.listdir(other + ".moving") == ["letter"], "somebody's file is gone")
     expect(read(journal) == kept, "TO was written")
-    expect_refused(store.Program("/nowhere/confd"), database, os.path.join(folder, "x.cj"), "/nowhere/confd: no such")
+    expect_refused(Program("/nowhere/confd"), database, os.path.join(folder, "x.cj"), "/nowhere/confd: no such")
 
 
 def held(program, folder):
@@ -214,9 +214,9 @@ def bad_databases(program, folder):
     for texts, why in BAD_DATABASES:
         written(database, whole)
         changed(database, *texts)
-        before = store.contents(database)
+        before = databases.contents(database)
         expect_refused(program, database, journal, why)
-        expect(store.contents(database) == before, f"{texts}: FROM has changed")
+        expect(databases.contents(database) == before, f"{texts}: FROM has changed")
     for content in (b"no database, but a text of some length" * 200, whole[:5000], EMPTY):
         written(database, content)
         expect_refused(program, database, journal, "one.store: ")
@@ -252,7 +252,7 @@ def other_views(program, folder):
     with open(liar, "w", encoding="utf-8") as file:
         file.write(f'#!/bin/sh\ncase "$*" in *made*bob) echo more;; esac\nexec {program.path} "$@"\n')
     os.chmod(liar, 0o755)
-    expect_refused(store.Program(liar), database, journal, "confd doesn't show bob the same in both stores")
+    expect_refused(Program(liar), database, journal, "confd doesn't show bob the same in both stores")
     expect_moved(program, database, journal)
 
 
@@ -299,13 +299,13 @@ def killed(program, folder):
         left += remains
         if os.path.exists(to):
             whole += 1
-            expect(store.rows(to) == store.rows(due), "what it left isn't whole")
+            expect(databases.rows(to) == databases.rows(due), "what it left isn't whole")
             os.remove(to)
             expect(not os.path.exists(to + "-wal"), "it left a log")
         expect(read(first) == read(source), "FROM has changed")
     expect(left > 0, "no kill came in the middle")
     expect_moved(program, source, to)
-    expect(store.rows(to) == store.rows(due), "the rows differ")
+    expect(databases.rows(to) == databases.rows(due), "the rows differ")
 
 
 CHECKS = (

@@ -22,7 +22,10 @@ import re
 import sys
 import urllib.parse
 
-from cases import HEADLESS, TOP, exchanges
+from lib.cases import HEADLESS, exchanges
+from lib.openapi_document import FILE, Document, examples, laid, wrong_in_itself
+from lib.places import TOP
+
 
 SYSTEM = "/usr/bin/python3"
 try:
@@ -33,7 +36,6 @@ except ImportError:
     print("python3-jsonschema isn't there: docs/openapi.json is compared with nothing")
     sys.exit(0)
 
-from openapi_document import FILE, Document, examples, laid, wrong_in_itself
 
 DATA = TOP / "crates/conformance/data"
 # What is said by a segment of the path that is none of its kind. A tag is told by bad_body.

@@ -17,7 +17,11 @@ import subprocess
 import sys
 import tempfile
 
-from store import TOP, Program, answers, expect, opening, program_named, read, run_all
+from lib.checking import expect, run_all
+from lib.places import TOP
+from lib.program import Program, program_named, read
+from lib.wire import answers, opening
+
 
 SCRIPT = os.path.join(TOP, "deploy", "package.sh")
 # What is unpacked, and which file of the repository it is, if it is one.

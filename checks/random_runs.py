@@ -23,23 +23,20 @@ import tempfile
 import time
 import urllib.parse
 
-from model import Conference, PHASES, content_of
-from model_views import view_lines
-from serve import APART, moment_of
-from shim import Orders, Shim
-from store import Program
+from lib.model import PHASES, Conference, secret_of
+from lib.model_views import view_lines
+from lib.places import CONFD
+from lib.program import Program
+from lib.server import APART
+from lib.shim import Orders, Shim
+from lib.wire import asked, moment_of
 
-TOP = os.path.dirname(os.path.dirname(os.path.abspath(__file__)))
-CONFD = os.path.join(TOP, "crates/confd/out/confd")
+
 NAMES = ["alice", "bob", "carol", "dave", "erin", "fay", "gus", "hal", "ivy"]
 STRANGERS = ["zoe", "Bob!"]
 DAY = 24 * 60 * 60
 # The moments that a clock may tell, and a deadline may be; a shim's clock doesn't stand at 0.
 FIRST, LAST, LAST_DEADLINE = 1, 253_402_300_799, 253_402_207_200
-
-
-def secret(name):
-    return f"{name}-secret-000001"
 
 
 class Run:
@@ -56,7 +53,7 @@ class Run:
         self.moments = []  # when each request comes
         self.added = []  # the places of the entries that each request added
         for name in NAMES:
-            self.ask("-", "POST", "/register", {"name": name, "secret": secret(name)})
+            self.ask("-", "POST", "/register", {"name": name, "secret": secret_of(name)})
         for name in NAMES[1:]:
             role = self.random.choice(["account", "member", "member", "chair"])
             if role != "account":
@@ -341,17 +338,6 @@ class Run:
             self.ask(anybody, "POST", "/phase", {"phase": "setup"})
 
 
-def spelled(who, method, path, body, fields):
-    """A request's bytes."""
-    lines = [f"{method} {path} HTTP/1.1", "Host: c"]
-    if who != "-":
-        lines.append(f"Authorization: Bearer {who if '.' in who else who + '.' + secret(who)}")
-    content = content_of(body)
-    lines += [f"Command-Number: {value}" for value in fields]
-    lines.append(f"Content-Length: {len(content)}")
-    return "\r\n".join(lines).encode() + b"\r\n\r\n" + content
-
-
 def told_at(moment, minutes, between):
     """The date and time of a moment at an offset from UTC; in UTC where the year has five digits there, or is ahead of
     1970."""
@@ -402,10 +388,10 @@ def piped(run, store, shim, room):
             last += 1
         if shim is not None:
             stands = {"env": shim.environment(Orders(os.path.join(room, "orders"), moment=run.moments[first]))}
-        text = b"".join(spelled(*asked[:5]) for asked in run.asked[first:last])
+        text = b"".join(asked(*one[:5]) for one in run.asked[first:last])
         child = subprocess.run([CONFD, "pipe", "--store", store], input=text, stdout=subprocess.PIPE, check=True,
                                **stands)
-        more = answers(child.stdout, [asked[1] for asked in run.asked[first:last]])
+        more = answers(child.stdout, [one[1] for one in run.asked[first:last]])
         told, moments, first = told + more[0], moments + more[1], last
     return told, moments
 
@@ -417,9 +403,9 @@ def tried(seed, shim):
     with tempfile.TemporaryDirectory(prefix="random-run-") as room:
         store = os.path.join(room, "store")
         told, moments = piped(run, store, shim, room)
-        for asked, answer in zip(run.asked, told):
-            if asked[5:] != answer:
-                return f"{' '.join(str(part) for part in asked[:5])}: came {answer}, due {asked[5:]}", 0
+        for one, answer in zip(run.asked, told):
+            if one[5:] != answer:
+                return f"{' '.join(str(part) for part in one[:5])}: came {answer}, due {one[5:]}", 0
         if len(told) != len(run.asked):
             return f"{len(told)} answers to {len(run.asked)} requests", 0
         if shim is not None and moments != run.moments:

@@ -24,7 +24,11 @@ import sys
 import tempfile
 import time
 
-from store import Program, TOP, answers, expect, opening, register, submit
+from lib.checking import expect
+from lib.places import TOP
+from lib.program import Program
+from lib.wire import answers, opening, register, submit
+
 
 # Of each file system the size of its disk in MiB, how it is made, and how it is mounted.
 SYSTEMS = {

@@ -15,8 +15,10 @@ import json
 import re
 import sys
 
-from cases import CLOSING, TOP, cases, exchanges_in
-from model import Conference
+from lib.cases import CLOSING, cases, exchanges_in
+from lib.model import Conference, secret_of
+from lib.places import TOP
+
 
 DATA = TOP / "crates/conformance/data"
 # What a request is refused for before any rule is asked.
@@ -68,7 +70,7 @@ def compared(lines):
         if request is None or not is_asked(request, answer):
             continue
         body = body_of(request)
-        if request.target == "/register" and body["secret"] != f"{body['name']}-secret-000001":
+        if request.target == "/register" and body["secret"] != secret_of(body["name"]):
             return  # the model knows everybody by that secret
         conference.now = moment_of(answer)
         code, content = conference.ask(caller(request), request.method, request.target, body,

@@ -30,11 +30,14 @@ import struct
 import threading
 import time
 
-from drills import KINDS
-from model import Conference, mark_of
-from random_runs import secret, spelled
-from serve import SOON, Server
-from store import LONG, answers, expect, opened, program_named, run_all
+from lib.checking import expect, run_all
+from lib.database import opened
+from lib.drill import KINDS
+from lib.model import Conference, mark_of, secret_of
+from lib.program import LONG, program_named
+from lib.server import SOON, Server
+from lib.wire import answers, asked
+
 
 CLIENTS = ["alice", "bob", "carol", "dave", "erin", "fay", "gus", "hal"]
 CHAIRS = ["alice", "carol"]
@@ -138,7 +141,7 @@ class Sender:
         return (found[0][0], found[0][1].decode()) if found else None
 
     def ask(self, method, path, body=None, fields=()):
-        text, begun = spelled(self.name, method, path, body, fields), time.monotonic()
+        text, begun = asked(self.name, method, path, body, fields), time.monotonic()
         while (answer := self.once(text)) is None:
             expect(time.monotonic() - begun < LONG, f"{self.name}: {method} {path} isn't answered")
             time.sleep(0.002)
@@ -290,7 +293,7 @@ class Client(Sender):
 def registrations(server):
     """Everybody's account, in order; a registration has no number."""
     for name in CLIENTS + OTHERS:
-        code, content = Sender(server.port, "-").ask("POST", "/register", {"name": name, "secret": secret(name)})
+        code, content = Sender(server.port, "-").ask("POST", "/register", {"name": name, "secret": secret_of(name)})
         expect(code == 201, f"{name}: {code} {content}")
 
 

@@ -13,9 +13,7 @@ two minutes and a half.
 
 import argparse
 import collections
-import concurrent.futures
 import contextlib
-import email.utils
 import http.client
 import itertools
 import json
@@ -24,155 +22,35 @@ import random
 import re
 import resource
 import signal
-import socket
-import subprocess
-import sys
-import tempfile
 import threading
 import time
 
-from store import LONG, expect, opening, program_named, register, request, rows, run_all, submit
+from lib.checking import expect, run_all
+from lib.database import rows
+from lib.program import LONG, program_named
+from lib.server import SOON, Client, Gone, ask_once, at_once, is_now, serving, words_of
+from lib.wire import LARGEST, moment_of, opening, register, request, submit, upload
+
 
 WORKERS = 64
 CLIENTS = 62
-# No answer that is due at once may take so many seconds.
-SOON = 20
 TIMEOUT = 60
 # For how many seconds a connection is kept on which nothing comes behind an answer.
 IDLE = 5
 # How often a wait that a signal broke off is waited again.
 AGAIN = 16
-# A body's most bytes.
-LARGEST = 4_194_304
 # The number of a connection's last request.
 LAST_REQUEST = 1_048_576
 # As many descriptors as serve a store and some of the workers.
 FEW = 40
 USAGE = re.compile(rb"usage: confd pipe\|serve\|view(\|drill)?\n")
-# By how many seconds a date may be off the system's clock.
-APART = 1
 options = None
 
 
 # ---- the server
 
 
-class Server:
-    """`confd serve` in a process of its own."""
-
-    def __init__(self, program, store, workers=4, connections=65536, listen="127.0.0.1:0", **more):
-        words = ["--listen", listen, "--workers", str(workers), "--connections", str(connections), "--store", store]
-        self.process = subprocess.Popen(
-            [program.path, "serve", *words],
-            stdin=subprocess.DEVNULL,
-            stdout=subprocess.PIPE,
-            stderr=subprocess.PIPE,
-            **more,
-        )
-        self.port = None
-        line = self.process.stderr.readline().decode()
-        found = re.fullmatch(r"confd: listening on 127\.0\.0\.1:(\d+)\n", line)
-        if found is None:
-            self.stop()
-            raise AssertionError(f"standard error began with {line!r}")
-        self.port = int(found.group(1))
-
-    def stop(self):
-        """Kills it where it runs still."""
-        self.process.kill()
-        self.process.wait()
-        self.process.stdout.close()
-        self.process.stderr.close()
-
-    def ended(self):
-        """What it wrote and its status, once it ended by itself."""
-        out, err = self.process.communicate(timeout=LONG)
-        return out, self.process.returncode, err
-
-
-@contextlib.contextmanager
-def serving(program, store, **more):
-    server = Server(program, store, **more)
-    try:
-        yield server
-    finally:
-        server.stop()
-
-
 # ---- a client
-
-
-def moment_of(date):
-    """The seconds since 1970 that the value of a field Date tells, in the one form that there is."""
-    told = email.utils.parsedate_to_datetime(date)
-    expect(email.utils.format_datetime(told, usegmt=True) == date, f"the date {date}")
-    return int(told.timestamp())
-
-
-def is_now(date, since):
-    """Whether a date is what the system's clock gave between then and now."""
-    return since - APART <= moment_of(date) <= time.time() + APART
-
-
-class Gone(Exception):
-    """The server ended the connection before its answer."""
-
-
-class Client:
-    """One connection, on which requests and answers go as bytes."""
-
-    def __init__(self, server, patience=SOON):
-        self.socket = socket.create_connection(("127.0.0.1", server.port), timeout=patience)
-        self.rest = b""
-
-    def __enter__(self):
-        return self
-
-    def __exit__(self, *_):
-        self.socket.close()
-
-    def send(self, text):
-        self.socket.sendall(text)
-
-    def answer(self, is_head=False):
-        """The next answer: its code, its fields and its content; none where the stream ended before it."""
-        while b"\r\n\r\n" not in self.rest:
-            if not self.more():
-                return None
-        head, _, self.rest = self.rest.partition(b"\r\n\r\n")
-        lines = head.split(b"\r\n")
-        fields = dict(line.split(b": ", 1) for line in lines[1:])
-        expect(lines[1].startswith(b"Date: ") and len(fields) == len(lines) - 1, f"the fields are {lines[1:]}")
-        moment_of(fields[b"Date"].decode())
-        length = 0 if is_head else int(fields[b"Content-Length"])
-        while len(self.rest) < length:
-            expect(self.more(), "an answer was cut")
-        content, self.rest = self.rest[:length], self.rest[length:]
-        return int(lines[0].split(b" ")[1]), fields, content
-
-    def more(self):
-        piece = self.socket.recv(65536)
-        self.rest += piece
-        return piece != b""
-
-    def ask(self, text, is_head=False):
-        self.send(text)
-        return self.answer(is_head)
-
-    def is_ended(self):
-        """No more bytes come; waits for the end."""
-        return self.rest == b"" and not self.more()
-
-
-def ask_once(server, text):
-    with Client(server) as client:
-        return client.ask(text)
-
-
-def at_once(count, act):
-    """Calls the act with each number below the count, all at once, and gives what they gave."""
-    with concurrent.futures.ThreadPoolExecutor(count) as pool:
-        return list(pool.map(act, range(count)))
 
 
 # ---- the checks
@@ -188,7 +66,7 @@ def one_client(program, folder):
         expect(client.ask(submit("erin", "Proofs", "We prove."))[2] == b'{"paper":1}', "paper")
         code, _, page = client.ask(request("GET", "/papers/1", "erin"))
         expect(code == 200 and json.loads(page)["title"] == "Proofs", f"{code} {page}")
-        for who in ("alice.wrong-secret-0123456789", "zoe.zoe-secret-0123456789"):
+        for who in ("alice.wrong-secret-000001", "zoe.zoe-secret-000001"):
             text = f"GET /papers/1 HTTP/1.1\r\nHost: c\r\nAuthorization: Bearer {who}\r\n\r\n"
             code, fields, content = client.ask(text.encode())
             expect((code, content) == (401, b'{"error":"unauthorized"}'), f"{who}: {code} {content}")
@@ -282,15 +160,6 @@ def dates(program, folder):
         )
         told = [moment_of(fields[b"Date"].decode()) for _, fields, _ in came]
         expect(told == sorted(told) and told[0] < told[-1], f"{told}")
-
-
-def upload(who, paper, content):
-    """An upload as bytes."""
-    head = (
-        f"PUT /papers/{paper}/content HTTP/1.1\r\nHost: c\r\nAuthorization: Bearer {who}.{who}-secret-0123456789\r\n"
-        f"Content-Length: {len(content)}\r\n\r\n"
-    )
-    return head.encode() + content
 
 
 def last_request(program, folder):
@@ -437,11 +306,6 @@ def few_descriptors(program, folder):
         expect(at_once(WORKERS, work) == [[200] * 4] * WORKERS, "answers")
         out, status, err = server.ended()
         expect((out, status, err) == (b"entries 0\n", 0, b""), f"{out} {status} {err}")
-
-
-def words_of(path, **changes):
-    words = {"listen": "127.0.0.1:0", "workers": "2", "connections": "2", "store": path, **changes}
-    return ["serve", *(word for name, value in words.items() if value is not None for word in (f"--{name}", value))]
 
 
 def refused_addresses(program, folder):

@@ -22,163 +22,23 @@ import sqlite3
 import stat
 import subprocess
 import sys
-import tempfile
 import time
 
-TOP = os.path.dirname(os.path.dirname(os.path.abspath(__file__)))
+from lib.checking import expect, run_all, with_shim
+from lib.database import OTHER_TABLES, OTHER_VERSION, PAPERS, PEOPLE, TALK, TIES, VERSION, contents, opened, rows
+from lib.program import LASTING, LONG, PASSING, TAKEN_AGAIN, ask, chosen, ended, line_of, read, said
+from lib.shim import FILES, Orders, Shim
+from lib.wire import answers, json_of, opening, register, request, submit
+
 MANY = 1_000
 PAPERS_EACH = 20
 KILLS = 50
-# Past so many seconds a run hangs.
-LONG = 120
-# The version of the stores, and its tables.
-VERSION = 3
-TABLES = PEOPLE, PAPERS, TIES, TALK = "people_v3", "papers_v3", "ties_v3", "talk_v3"
 
 
 # ---- requests and answers
 
 
-def request(method, path, who=None, body=None, number=None):
-    """One request as bytes; `who` is a name, whose secret is made of it, and `number` a command's."""
-    lines = [f"{method} {path} HTTP/1.1", "Host: c"]
-    if who is not None:
-        lines.append(f"Authorization: Bearer {who}.{who}-secret-0123456789")
-    content = b""
-    if body is not None:
-        content = json_of(body)
-        lines.append(f"Content-Length: {len(content)}")
-    if number is not None:
-        lines.append(f"Command-Number: {number}")
-    return "\r\n".join(lines).encode() + b"\r\n\r\n" + content
-
-
-def json_of(body):
-    """A body as it is sent."""
-    return json.dumps(body, separators=(",", ":")).encode()
-
-
-def register(name):
-    return request("POST", "/register", body={"name": name, "secret": f"{name}-secret-0123456789"})
-
-
-def submit(name, title, abstract=""):
-    return request("POST", "/papers", name, {"abstract": abstract, "title": title})
-
-
-def opening():
-    """A chair, and the phase in which papers come: three rows."""
-    return register("alice") + request("POST", "/phase", "alice", {"phase": "submission"})
-
-
-def answers(out):
-    """The answers that stand whole in these bytes, each as its status code and its content."""
-    found = []
-    while True:
-        head, blank, rest = out.partition(b"\r\n\r\n")
-        if not blank:
-            return found
-        fields = dict(line.split(b": ", 1) for line in head.split(b"\r\n")[1:])
-        length = int(fields.get(b"Content-Length", b"0"))
-        if len(rest) < length:
-            return found
-        found.append((int(head.split(b" ")[1]), rest[:length]))
-        out = rest[length:]
-
-
-class Program:
-    def __init__(self, path):
-        self.path = path
-
-    def run(self, words, text=b"", **more):
-        """What a run with these words over these bytes wrote, and its status."""
-        done = subprocess.run(
-            [self.path, *words], input=text, stdout=subprocess.PIPE, stderr=subprocess.PIPE, timeout=LONG, **more
-        )
-        return done.stdout, done.returncode, done.stderr
-
-    def pipe(self, store, text, **more):
-        out, status, _ = self.run(["pipe", "--store", store], text, **more)
-        return answers(out), status
-
-    @contextlib.contextmanager
-    def begin(self, store, stderr=subprocess.DEVNULL, **more):
-        """A run whose input stays open; killed at the end, where it runs still."""
-        child = subprocess.Popen(
-            [self.path, "pipe", "--store", store], stdin=subprocess.PIPE, stdout=subprocess.PIPE, stderr=stderr, **more
-        )
-        try:
-            yield child
-        finally:
-            child.kill()
-            child.wait()
-            with contextlib.suppress(BrokenPipeError):
-                child.stdin.close()
-            child.stdout.close()
-            if child.stderr is not None:
-                child.stderr.close()
-
-
-def said(child):
-    """The next line on standard error."""
-    return child.stderr.readline().decode()
-
-
-def ended(child):
-    """The status of a run whose input ends now, and what else it said on standard error."""
-    child.stdin.close()
-    status = child.wait(timeout=LONG)
-    return status, child.stderr.read().decode()
-
-
-def ask(child, text):
-    """Sends one request, and waits for its answer."""
-    child.stdin.write(text)
-    child.stdin.flush()
-    out = b""
-    while not answers(out):
-        piece = os.read(child.stdout.fileno(), 65536)
-        if not piece:
-            return None
-        out += piece
-    return answers(out)[0]
-
-
 # ---- what stands in a file
-
-
-@contextlib.contextmanager
-def opened(store, **more):
-    """The file as SQLite's own library opens it; what was changed is in it, and it is let go, at the end."""
-    with contextlib.closing(sqlite3.connect(store, **more)) as file, file:
-        yield file
-
-
-def rows(store):
-    """Every row of the four tables, by place, without its moment and its command's number."""
-    with opened(store) as file:
-        found = [
-            row
-            for table in TABLES
-            for row in file.execute(f"SELECT place, kind, maker, more, n1, b1, b2 FROM {table}")
-        ]
-    return sorted(found)
-
-
-def contents(store):
-    """All that SQLite's own library finds in the file."""
-    with opened(store) as file:
-        return list(file.iterdump())
-
-
-def read(path):
-    with open(path, "rb") as file:
-        return file.read()
-
-
-def expect(held, what):
-    if not held:
-        raise AssertionError(what)
 
 
 # ---- the checks
@@ -317,12 +177,6 @@ def full_disk(program, folder):
     expect(json.loads(told[1][1])["papers"] == papers, "papers")
 
 
-# What standard error is told of appends.
-PASSING = "confd: commands are refused (503): {}; they are taken again as soon as one can be kept\n"
-LASTING = "confd: commands are refused (503): {}; confd has to be started again, to see what the disk has\n"
-TAKEN_AGAIN = "confd: commands are taken again\n"
-
-
 def told_of_a_full_disk(program, folder):
     """A file that may grow no further, and then may: a line where commands are refused, and one where they go on."""
     store = os.path.join(folder, "grown")
@@ -358,8 +212,6 @@ def told_of_a_full_disk(program, folder):
 
 def refused_by_the_system(program, folder):
     """A full disk passes, and a failed sync doesn't, not even one for want of room: each is told in a line."""
-    from shim import FILES, Orders, Shim
-
     shim = Shim(folder)
     for name, orders, reason in (
         ("room", {"refuse_write": 1, "lasts": 1, "error": errno.ENOSPC}, PASSING.format("database or disk is full")),
@@ -495,9 +347,6 @@ def somebody_elses(program, folder):
     expect(read(store) == written, "the file was changed")
 
 
-OTHER_TABLES = "the tables are not those of a store that this confd reads"
-OTHER_VERSION = "the store says another version than that of its tables"
-
 # What is done to the six rows, and what standard error is to say; the status is 6.
 BAD_STORES = (
     (f"UPDATE meta SET version = {VERSION - 1}", OTHER_VERSION),
@@ -545,11 +394,6 @@ BAD_ROWS = (
     (f"UPDATE {PEOPLE} SET n2 = 1 WHERE place = 1", 1, 2),
     (f"DELETE FROM {PEOPLE} WHERE place >= 1; DELETE FROM {PAPERS}; DELETE FROM {TIES}", 0, 1),
 )
-
-
-def line_of(store, reason):
-    """The line on standard error that gives this reason."""
-    return f"confd: {store}: {reason}\n".encode()
 
 
 def refused(program, folder, change, due, reason):
@@ -621,49 +465,6 @@ CHECKS = (
 
 # Those that refuse calls of the system, by what cc builds.
 CHECKS_BY_SHIM = (refused_by_the_system,)
-
-
-def program_named(words):
-    """The program that the words name, else the one that `rt run` built."""
-    path = words[0] if words else os.path.join(TOP, "crates", "confd", "out", "confd")
-    if not os.path.exists(path):
-        sys.exit(f"{path}: build it first, with `rt run` in crates/confd")
-    if sqlite3.sqlite_version_info < (3, 37):
-        sys.exit(f"SQLite {sqlite3.sqlite_version} is too old for these tables: 3.37 is wanted")
-    return Program(os.path.abspath(path))
-
-
-def chosen(checks, words):
-    """The checks that the words name, all where they name none, and the program."""
-    names = {check.__name__ for check in checks}
-    named = [check for check in checks if check.__name__ in words]
-    return named or checks, program_named([word for word in words if word not in names])
-
-
-def run_all(checks, program):
-    """Runs each check in a folder of its own, prints a line for each and how many passed, and ends with the status."""
-    passed = failed = 0
-    for check in checks:
-        title = " ".join(check.__doc__.split())
-        with tempfile.TemporaryDirectory() as folder:
-            try:
-                check(program, folder)
-            except Exception as error:
-                failed += 1
-                print(f"FAILED: {title}\n    {type(error).__name__}: {error}", flush=True)
-            else:
-                passed += 1
-                print(f"ok: {title}", flush=True)
-    print(f"{passed} passed, {failed} failed")
-    sys.exit(1 if failed else 0)
-
-
-def with_shim(checks):
-    """The checks, where cc is there to build what they need; else none, which is told in a line."""
-    if shutil.which("cc") is not None:
-        return checks
-    print(f"left out, since there is no cc: {', '.join(check.__name__ for check in checks)}")
-    return ()
 
 
 if __name__ == "__main__":

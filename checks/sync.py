@@ -4,26 +4,26 @@
     python3 checks/sync.py [CHECK..] [PROGRAM]
 
 PROGRAM is `confd` as `rt run` builds it (crates/confd/out/confd where none is named); CHECK is a name out of CHECKS,
-all where none is told. Needs Python 3, and `cc` for
-checks/shim.c, which lets the calls fail; without a `cc` it ends well with a line that says so. Prints a line a check,
-and last `N passed, M failed`; ends with status 0 where none failed. Takes about half a minute.
+all where none is told. Needs Python 3, and `cc` for checks/lib/shim.c, which lets the calls fail; without a `cc` it
+ends well with a line that says so. Prints a line a check, and last `N passed, M failed`; ends with status 0 where none
+failed. Takes about half a minute.
 """
 
-import collections
 import errno
 import itertools
-import json
 import os
 import sys
 import tempfile
 
-from conference import CUT, beginnings, codes_of, text_of
-from journal_file import rows_in
-from shim import FILES, NO_FILES, cut_power, in_turn, shim_for
-from store import LASTING, PASSING, TAKEN_AGAIN, answers, chosen, expect, register, request, rows, run_all
+from lib.appends import DATABASE, JOURNAL, NAMES, QUESTION, appends, each, registrations, told_names
+from lib.checking import expect, run_all
+from lib.conference import CUT, beginnings, codes_of, text_of
+from lib.database import rows
+from lib.program import chosen
+from lib.shim import FILES, NO_FILES, cut_power, shim_for
+from lib.wire import answers, register
 
-NAMES = [f"user{number}" for number in range(12)]
-QUESTION = request("GET", "/accounts")
+
 LINE = b"confd: the input ended inside a request\n"
 WORDS = ["pipe", "--store", "store"]
 shim = None
@@ -37,88 +37,9 @@ def counted(program, words, text, name, **numbers):
         return getattr(orders, name), out, status
 
 
-def each(count, act):
-    """Has each call fail in turn."""
-    failed = in_turn(act, range(1, count + 1))
-    expect(count > 0 and not failed, f"{len(failed)} of {count}, the first: call {failed[:1]}")
-    print(f"    {count} calls failed, one a run", flush=True)
-
-
-def names_in(store):
-    return [bytes(row[5]).decode() for row in rows(store) if row[1] == 1]
-
-
-# A kind of store: what its file is named here, how the names in it are read, and what is said where a call fails, and
-# where there is no room.
-Kind = collections.namedtuple("Kind", "name names failed no_room")
-DATABASE = Kind("store", names_in, "disk I/O error", "database or disk is full")
-JOURNAL = Kind(
-    "store.cj",
-    lambda path: [row.b1.decode() for row in rows_in(path) if row.kind == 1],
-    *(f"{os.strerror(number)} (os error {number})" for number in (errno.EIO, errno.ENOSPC)),
-)
 # Of how many bytes a page of the system's memory is taken to be, and how many commands are given once confd was started
 # again.
 PAGES, GIVEN_AGAIN = (1, 512, 4096), (1, 4)
-
-
-def told(kind, program, folder):
-    """What a run says of the store that another left: the names, in their order."""
-    found, status = program.pipe(os.path.join(folder, kind.name), QUESTION)
-    expect(status == 0, f"opened again with status {status}")
-    return [account["name"] for account in json.loads(found[0][1])["accounts"]]
-
-
-def registrations():
-    """A registration and a question in turn."""
-    return b"".join(register(name) + QUESTION for name in NAMES)
-
-
-def appends(kind, program, folder, out, status, err, goes_on, may_be_left=False):
-    """A run of `registrations` in which a call on the store failed: the names that were answered 201, and what is left.
-
-    `goes_on`: whether what failed passes, so that later ones are taken again. The last write of an append to a database
-    is the exception: where that fails it isn't known what the file has, so the store is closed as it is by a failed
-    sync. `may_be_left`: whether a command that was refused last may be in the file all the same, though later ones
-    would have been taken.
-    """
-    lines = err.decode().splitlines(keepends=True)
-    reason = kind.failed
-    if goes_on and lines[:1] == [LASTING.format(kind.no_room)]:
-        goes_on, reason = False, kind.no_room
-    if status == 6:
-        expect(out == b"" and len(lines) == 1, f"status 6: {out[:80]}, {lines}")
-        expect(lines[0].startswith(f"confd: {kind.name}: "), f"status 6: {lines}")
-        expect(told(kind, program, folder) == [], "names in a store that could not be made")
-        return
-    expect(status == 0, f"status {status}, {lines}")
-    found = answers(out)
-    expect(len(found) == 2 * len(NAMES), f"{len(found)} answers")
-    codes, kept = [code for code, _ in found[::2]], []
-    for name, (code, content), (asked, accounts) in zip(NAMES, found[::2], found[1::2]):
-        if code == 201:
-            kept.append(name)
-            expect(json.loads(content) == {"user": len(kept)}, f"{name}: {content}")
-        else:
-            expect((code, content) == (503, b'{"error":"keeper_fault"}'), f"{name}: {code} {content}")
-        shown = [account["name"] for account in json.loads(accounts)["accounts"]]
-        expect(asked == 200 and shown == kept, f"behind {name}: {asked}, {shown}, due {kept}")
-    first = codes.index(503) if 503 in codes else len(codes)
-    if goes_on:
-        expect(codes.count(503) <= 1, f"one call failed, and the answers are {codes}")
-        full = PASSING.format(kind.no_room)
-        due = ([full] if first < len(codes) else []) + ([TAKEN_AGAIN] if first < len(codes) - 1 else [])
-    else:
-        expect(codes == [201] * first + [503] * (len(codes) - first), f"{codes}")
-        due = [LASTING.format(reason)] if first < len(codes) else []
-    expect(lines[: len(due)] == due, f"standard error has {lines}, due {due}")
-    # What is left over tells that the store was not shut well.
-    rest = lines[len(due) :]
-    expect(len(rest) <= 1 and all(f"{kind.name}: " in line for line in rest), f"standard error has {lines}")
-    now = told(kind, program, folder)
-    lost = NAMES[first : first + 1] if not goes_on or (may_be_left and first == len(NAMES) - 1) else []
-    expect(now in (kept, kept + lost), f"the store has {now}, due {kept}, and perhaps {lost}")
-    expect(kind.names(os.path.join(folder, kind.name)) == now, "the rows are others than the program tells")
 
 
 def syncs(program, _folder):
@@ -159,7 +80,7 @@ def failed_and_cut(kind, program, folder, number, page, many):
     out, status, err, _ = shim.run(program, words, b"".join(map(register, again)), folder, **below)
     expect(status == 0 and taken(again, out) == again, f"started again: status {status}, {err}, {out[-80:]}")
     cut_power(folder, media)
-    now = told(kind, program, folder)
+    now = told_names(kind, program, folder)
     expect(now == kept + again, f"behind the cut there are {now}; {kept} were taken, then {again}")
 
 

@@ -10,20 +10,18 @@ Prints a line a check, and last `N passed, M failed`; ends with status 0 where n
 """
 
 import contextlib
-import json
 import os
-import re
 import shutil
-import signal
 import socket
 import subprocess
 import sys
-import tempfile
 
-import confined
-import own_systemd
-from serve import Client, ask_once, serving, upload
-from store import TOP, Program, expect, opening, program_named, register, request, run_all, submit
+from lib import confined, own_systemd
+from lib.checking import expect, left_out, run_all
+from lib.places import TOP
+from lib.program import Program, program_named
+from lib.server import Client, ask_once, free_port, serving
+from lib.wire import opening, register, request, submit, upload
 
 UNIT = os.path.join(TOP, "deploy", "confd@.service")
 # The most that `systemd-analyze security` may say, ten times over.
@@ -138,9 +136,7 @@ class Conference:
 
     def __init__(self, own, name, store=None):
         self.own, self.unit, self.name = own, f"confd@{name}", name
-        with socket.socket() as probe:
-            probe.bind(("127.0.0.1", 0))
-            self.port = probe.getsockname()[1]
+        self.port = free_port()
         lines = [f"LISTEN=127.0.0.1:{self.port}"] + ([f"STORE=/var/lib/confd/{name}/{store}"] if store else [])
         with open(own.path("etc", "confd", f"{name}.env"), "w", encoding="utf-8") as file:
             file.write("\n".join(lines) + "\n")
@@ -334,14 +330,6 @@ def which_ends(own):
         file.write("LISTEN=--none\n")
     one.start()
     one.expect_failed("its words are refused")
-
-
-def left_out(checks, missing):
-    """The checks, where nothing is missing that they need; else none, which is told in a line."""
-    if missing is None:
-        return checks
-    print(f"left out, since there is no {missing}: {', '.join(check.__name__ for check in checks)}")
-    return []
 
 
 def main():

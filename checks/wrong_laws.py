@@ -27,7 +27,7 @@ import tempfile
 import traceback
 
 from planted import asked
-from planted.rows import TOP, lost, read
+from planted.rows import TOP, lost, picked_of, read
 from planted.specs import BUILT_IN, ENDS, History, Specs, applied, arity, home
 
 sys.setrecursionlimit(50000)
@@ -294,17 +294,9 @@ def by_check(row):
     return run.returncode != 0, " ".join(f"{file}.{name}" for file, name in places) or said.strip()[-300:]
 
 
-def pick(rows, picked):
-    """The rows of these names; else of these topics, or with one of these words in their name;
-    all where none is given."""
-    exact = [row for row in rows if row.name in picked]
-    return exact or [row for row in rows
-                     if not picked or row.topic in picked or any(word in row.name for word in picked)]
-
-
 def main():
     options = {word for word in sys.argv[1:] if word.startswith("--")}
-    rows = pick(read("laws"), [word for word in sys.argv[1:] if not word.startswith("--")])
+    rows = picked_of(read("laws"), [word for word in sys.argv[1:] if not word.startswith("--")])
     if not rows or options - {"--check", "--try"}:
         sys.exit(__doc__)
     gone = [(row.name, why) for row, why in ((row, lost(row)) for row in rows) if why]

@@ -25,7 +25,7 @@ import subprocess
 import sys
 import tempfile
 
-from planted.rows import TOP, lost, read
+from planted.rows import TOP, lost, picked_of, read
 from planted.specs import BUILT_IN, MEMO, PAPERS, History, Specs, applied, arity
 
 # which crate has a law
@@ -372,18 +372,10 @@ def by_check(row):
     return refused
 
 
-def pick(rows, picked):
-    """The rows of these names; else of these topics, or with one of these words in their name;
-    all where none is given."""
-    exact = [row for row in rows if row.name in picked]
-    return exact or [row for row in rows
-                     if not picked or row.topic in picked or any(word in row.name for word in picked)]
-
-
 def main():
     options = {word for word in sys.argv[1:] if word.startswith("--")}
     picked = [word for word in sys.argv[1:] if not word.startswith("--")]
-    rows = pick(read("tables"), picked)
+    rows = picked_of(read("tables"), picked)
     written = [row for row in rows if row.edits and (named(row) or "--try" in options and row.words("law"))]
     if "--check" in options:
         missing = [f"{row.name}: {said}" for row in rows for said in [what_is_lost(row)] if said]

@@ -1,6 +1,6 @@
 """A store's two formats, journals and databases, row by row: written from docs/STORE.md and from nothing else.
 
-No script of its own: move_store.py uses it, and so do checks/journal_file.py and what builds on that.
+No script of its own: move_store.py uses it, and so do checks/lib/journal_file.py and what builds on that.
 """
 
 import collections

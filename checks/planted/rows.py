@@ -111,3 +111,11 @@ def lost(row):
     except Lost as error:
         return str(error)
     return None
+
+
+def picked_of(rows, picked):
+    """The rows of these names; else of these topics, or with one of these words in their name;
+    all where none is given."""
+    exact = [row for row in rows if row.name in picked]
+    return exact or [row for row in rows
+                     if not picked or row.topic in picked or any(word in row.name for word in picked)]

@@ -1,7 +1,7 @@
 #!/usr/bin/env python3
 """Runs a program under the system call filters that a unit's lines tell, as systemd does, where systemd doesn't run.
 
-    python3 checks/confined.py UNIT COMMAND..
+    python3 checks/lib/confined.py UNIT COMMAND..
 
 The lines of UNIT that systemd makes seccomp filters of (FILTERS, and SystemCallFilter with SystemCallErrorNumber) are
 read from the file itself, by the meaning that systemd.exec(5) gives them; what its other lines do is left to checks of

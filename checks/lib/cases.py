@@ -5,9 +5,8 @@ request and no answer, and are passed over; of N connections that are alike one 
 """
 import re
 from dataclasses import dataclass, field
-from pathlib import Path
 
-TOP = Path(__file__).resolve().parent.parent
+from .model import secret_of
 
 # What refuses bytes that are no request: behind it nothing is read. The first two come before a method is known.
 HEADLESS = ("head_too_large", "bad_http")
@@ -75,7 +74,7 @@ def request_bytes(number, text):
     """The bytes of `NAME METHOD PATH [BODY]`, with this number of a command where it isn't empty."""
     name, method, path, body = (text.split(" ", 3) + [""])[:4]
     body = unescaped(body)
-    token = name if "." in name else f"{name}.{name}-secret-000001"
+    token = name if "." in name else f"{name}.{secret_of(name)}"
     login = "" if name == "-" else f"Authorization: Bearer {token}\r\n"
     told = b"Command-Number: " + unescaped(number) + b"\r\n" if number else b""
     head = f"{method} {path} HTTP/1.1\r\nHost: c\r\n{login}".encode()

@@ -3,21 +3,11 @@
 Each step is a request with the number of rows that it adds to a store.
 """
 
-from store import register, request, submit
+from .wire import numbered, raw, register, request, submit
+
 
 BULK = b"paper,action,user,tag\n2,primary,bob,\n2,conflict,dave,\n2,tag,,short\n"
 FORM = {"confidence": 3, "score": 4, "to_authors": "Good.", "to_pc": "ok"}
-
-
-def raw(method, path, who, content):
-    """A request whose content is bytes as they are."""
-    head = request(method, path, who)[:-2] + f"Content-Length: {len(content)}\r\n\r\n".encode()
-    return head + content
-
-
-def numbered(number, text):
-    """A request that gives its command a number."""
-    return text.replace(b"\r\n\r\n", f"\r\nCommand-Number: {number}\r\n\r\n".encode(), 1)
 
 
 def post(path, who, **body):

@@ -5,7 +5,7 @@ its kind, and `f` are its fields.
 """
 import hashlib
 
-from model import dump
+from .model import dump, secret_of
 
 
 def view_lines(c, who):
@@ -52,7 +52,7 @@ def view_lines(c, who):
                 shown.update(parts)
 
         if k == "registered":
-            digest = hashlib.sha256(f"{f[1]}-secret-000001".encode()).hexdigest()
+            digest = hashlib.sha256(secret_of(f[1]).encode()).hexdigest()
             row(True, {"user": f[0], "name": f[1]})
             row(mine, {"user": f[0], "name": f[1], "digest": digest})
             kind = "registered"

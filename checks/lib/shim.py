@@ -1,6 +1,6 @@
 """The shim of shim.c, built and told what to do: what checks need that refuse calls, cut them short or turn the clock.
 
-No script of its own: memory.py, sync.py, edge.py, store.py and others use it. `cc` is needed, and a program that takes
+`cc` is needed, and a program that takes
 the C library as it is loaded; where either is missing, the checks are left out, with a line that says so.
 """
 
@@ -89,7 +89,8 @@ class Shim:
 
 
 def cut_power(folder, media):
-    """The power is cut and comes back: each file is what the disk has of it, and gone where the disk has no name of it."""
+    """The power is cut and comes back: each file is what the disk has of it, and gone where the disk has no name of
+    it."""
     for name in os.listdir(media):
         path = os.path.join(folder, name)
         with open(os.path.join(media, name), "r+b") as medium:
@@ -106,7 +107,7 @@ def cut_power(folder, media):
 def shim_for(program, folder):
     """The shim; ends well, with a line, where none can be had."""
     if shutil.which("cc") is None:
-        print("left out: there is no cc to build checks/shim.c with")
+        print("left out: there is no cc to build checks/lib/shim.c with")
         sys.exit(0)
     shim = Shim(folder)
     if not shim.holds(program):

@@ -15,9 +15,9 @@ import json
 import re
 import urllib.parse
 
-import searches
-from best_plans import best_plan
-from model_reports import Reports
+from . import searches
+from .best_plans import best_plan
+from .model_reports import Reports
 
 PHASES = ["setup", "submission", "bidding", "reviewing", "response", "discussion", "notification", "closed"]
 
@@ -38,6 +38,11 @@ def err(code, name):
 def content_of(body):
     """The bytes of a body: none, a text as it is, or an object."""
     return b"" if body is None else (body if isinstance(body, str) else dump(body)).encode("utf-8", "surrogateescape")
+
+
+def secret_of(name):
+    """The secret of a user in the cases, and in what this model is asked."""
+    return f"{name}-secret-000001"
 
 
 def mark_of(method, path, body):
@@ -104,7 +109,7 @@ class Conference(Reports):
     def caller(self, who):
         """The user who calls: a name stands for her usual secret, a token `NAME.SECRET` for itself, '-' for none."""
         name, _, told = who.partition(".")
-        return self.number_of(name) if told in ("", f"{name}-secret-000001") else None
+        return self.number_of(name) if told in ("", secret_of(name)) else None
 
     def number_of(self, name):
         for u, n in self.users():

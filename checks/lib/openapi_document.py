@@ -10,11 +10,11 @@ import functools
 import io
 import json
 import re
-from pathlib import Path
 
 from jsonschema import Draft202012Validator
 
-TOP = Path(__file__).resolve().parent.parent
+from .places import TOP
+
 FILE = TOP / "docs/openapi.json"
 OPENAPI = TOP / "checks/openapi_3.1.schema.json"
 METHODS = {"GET": "get", "PUT": "put", "POST": "post", "DELETE": "delete", "HEAD": "head"}

@@ -1,6 +1,6 @@
 /* Stands between confd and the C library, so that a check can refuse a call, cut it short or turn the clock.
 
-   Built by checks/shim.py and loaded ahead of the C library (LD_PRELOAD). SHIM_ORDERS names a file with the numbers
+   Built by checks/lib/shim.py and loaded ahead of the C library (LD_PRELOAD). SHIM_ORDERS names a file with the numbers
    below: what is counted is written there, what is to be done is read from there, and both sides may look while the
    program runs. Without that file each call is handed on as it is. SHIM_MEDIA names a folder in which it keeps what the
    disk has of each file; without it nothing is kept.

@@ -1,7 +1,7 @@
 #!/usr/bin/env python3
 """Searches, by docs/API.md and by brute force: what a text is, and whether a search holds of a paper.
 
-    checks/searches.py TEXT..        the tree of each text, or the place of a bad one
+    checks/lib/searches.py TEXT..        the tree of each text, or the place of a bad one
 
 A text is read by trying the grammar at every place, and its place is found by trying its cuts, each with every number
 of closing parentheses. So it is slow, and shares nothing with the program; `random_runs.py` and the case files' tables

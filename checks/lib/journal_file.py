@@ -1,18 +1,22 @@
 """Reads and writes a journal's file (deploy/store_formats.py), and judges its rows on the small model: written from
 docs/STORE.md and from nothing else.
-
-No script of its own: journal.py and bench/journal_cost.py use it.
 """
 
-import pathlib
 import re
 import sys
 
-sys.path.append(str(pathlib.Path(__file__).resolve().parent.parent / "deploy"))
-from model import Conference, PHASES  # noqa: E402
-from store_formats import (  # noqa: E402, F401
+from .model import PHASES, Conference
+from .places import TOP
+
+sys.path.append(str(TOP / "deploy"))
+from store_formats import (  # noqa: E402
     EMPTY, NUMBERS, OPEN, TEXTS, NoJournal, Row, field, frame, groups_of, rows_in, rows_of, spelled,
 )  # fmt: skip
+
+__all__ = [
+    "EMPTY", "LAST_MOMENT", "NUMBERS", "OPEN", "TEXTS", "Bad", "Judged", "NoJournal", "Row", "field", "frame",
+    "groups_of", "rows_in", "rows_of", "spelled",
+]  # fmt: skip
 
 # 9999-12-31T23:59:59Z, behind which no row has a moment; the last number of a command, and the last of users and
 # papers.

@@ -1,0 +1,7 @@
+"""What several scripts of checks/ and bench/ share. bench/lib is a link to this folder.
+
+How checks are run: `checking`. The program: `places`, `program`, `server`, `wire`, `timing`. What it keeps: `database`,
+`journal_file`. What it is asked: `cases`, `conference`, `drill`, `planned`. What is due: the small model (`model`,
+`model_reports`, `model_views`, `searches`, `best_plans`) and `openapi_document`. What the system may do to it:
+`shim`, `appends`, `confined`, `own_systemd`.
+"""

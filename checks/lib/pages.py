@@ -1,0 +1,82 @@
+"""README.md and the pages of docs/, as checks read them: their lines outside code, and their blocks."""
+
+import re
+from dataclasses import dataclass
+
+from .places import TOP
+
+PAGES = [TOP / "README.md", *sorted(TOP.glob("CHANGELOG.md")), *sorted((TOP / "docs").glob("*.md"))]
+ITEM = re.compile(r"\s*(?:[-*+]|\d+\.)\s+")
+
+
+def prose(text):
+    """The lines outside blocks of code, each with its number."""
+    inside = False
+    for number, line in enumerate(text.split("\n"), 1):
+        if line.lstrip().startswith("```"):
+            inside = not inside
+        elif not inside:
+            yield number, line
+
+
+@dataclass
+class Block:
+    """A paragraph, an item of a list, a heading, or a row of a table: where it begins, what it is, and its text, of a
+    row its cells. A row knows the cells of its table's head."""
+
+    line: int
+    kind: str
+    text: str = ""
+    cells: tuple = ()
+    head: tuple = ()
+
+
+def cells_of(line):
+    """The cells of a row; a bar in code, or behind a backslash, ends none."""
+    kept = re.sub(r"`[^`]*`", lambda span: span.group().replace("|", "\0"), line.replace("\\|", "\0"))
+    return tuple(cell.strip().replace("\0", "|") for cell in kept.strip().strip("|").split("|"))
+
+
+def blocks(text):
+    """The blocks of a page, without its code, its comments, and the lines that part a table's head from its rows."""
+    text = re.sub(r"<!--.*?-->", lambda note: "\n" * note.group().count("\n"), text, flags=re.S)
+    found, head = [], ()
+    open_block = None
+    for number, line in prose(text):
+        is_row = line.startswith("|")
+        if not is_row:
+            head = ()
+        if not line.strip():
+            open_block = None
+        elif line.startswith("#"):
+            found.append(Block(number, "heading", line.lstrip("# ")))
+            open_block = None
+        elif is_row:
+            cells = cells_of(line)
+            if all(re.fullmatch(r":?-+:?", cell) for cell in cells):
+                continue
+            found.append(Block(number, "row" if head else "head", line, cells, head))
+            head = head or cells
+            open_block = None
+        elif open_block is None or ITEM.match(line):
+            is_item = ITEM.match(line) is not None
+            found.append(open_block := Block(number, "item" if is_item else "paragraph", ITEM.sub("", line, count=1)))
+        else:
+            open_block.text += " " + line.strip().removeprefix("> ")
+    return found
+
+
+def plain(text):
+    """A text without its marks: code is one word, a link what it shows."""
+    text = re.sub(r"`[^`]*`", "code", text)
+    text = re.sub(r"!?\[([^\]]*)\]\([^)]*\)", r"\1", text)
+    return text.replace("*", "").removeprefix("> ")
+
+
+def sentences(text):
+    """The sentences of a text without marks: each ends at a stop with a space behind it, but for an abbreviation's."""
+    return [part for part in re.split(r"(?<!\be\.g)(?<!\bi\.e)(?<!\bvs)(?<=[.!?])[)\"']*\s+", text) if part.strip()]
+
+
+def words(text):
+    return [word for word in text.split() if any(sign.isalnum() for sign in word)]
