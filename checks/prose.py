@@ -1,0 +1,94 @@
+#!/usr/bin/env python3
+"""Tries how the pages are written: short sentences, no words that this project avoids, a status on each claim.
+
+    python3 checks/prose.py [PAGE..]     the pages that are held to it (HELD) where none is named
+    python3 checks/prose.py --numbers    the words of each page, held or not, and the average length of a sentence
+
+A sentence has at most 30 words; what stands in code, in headings and in tables' heads isn't counted, and a cell of a
+table is a text of its own. The words of BANNED have a plainer one, which is told. A block or a row that cites a theorem
+(`law_..`) as a claim says that it is Proved, Tested or Assumed. Prints a line for each thing that isn't so, and last
+how many sentences were read; ends with status 0 where none is wrong. Python 3 alone is needed.
+"""
+
+import re
+import sys
+
+from lib.pages import PAGES, blocks, plain, sentences, words
+from lib.places import TOP
+
+# The pages that are written by these rules.
+HELD = ()
+MOST_WORDS = 30
+# Pages on which citing a theorem is claiming it.
+CLAIMING = ("README.md", "TRUST.md", "CLAIMS.md")
+STATUS = re.compile(r"\b(Proved|Tested|Assumed)\b")
+# What isn't written, as an expression over a plain text, and what is.
+BANNED = (
+    (r"\b[Ss]he\b|\b[Hh]ers?(?:elf)?\b", "the author, a chair, the caller; or they"),
+    (r"\b[Ww]hoever\b|\b[Ww]hom\b|(?:^|[.;:] )Who\b(?![^.?!]*\?)", "a user who, the caller"),
+    (r"\bstands?\b|\bstood\b", "is"),
+    (r"\balone\b", "only"),
+    (r"\bbut for\b", "except"),
+    (r"\bas it is\b", "unchanged"),
+    (r"\b(?:is|are) (?:asked|said)\b", "name who asks or says it"),
+    (r"\bcomes where\b|\bcome where\b", "if"),
+    (r"\bbehind\b(?! (?:nginx|a proxy|the proxy|another))", "after"),
+    (r"\b(?:see|said|told|listed|named|is) below\b|\bsaid there\b", "a link, by the section's title"),
+    (r"\bwant of memory\b", "lack of memory"),
+    (r"\bwants a login\b", "requires authentication"),
+    (r"\bsightings?\b", "what an entry shows"),
+    (r"(?:^|[.!?] )(?:Neither|Nor|So is|So are)\b", "a sentence that says who does what"),
+)
+
+
+def wrong_in(page):
+    """The sentences of a page, those of its tables apart, counted by their words, and what is wrong with it."""
+    counts, in_tables, wrong = [], [], []
+    for block in blocks(page.read_text()):
+        where = f"{page.relative_to(TOP)}:{block.line}"
+        for text in map(plain, block.cells or (block.text,)):
+            for sentence in sentences(text) if block.kind in ("paragraph", "item", "row") else ():
+                count = len(words(sentence))
+                (in_tables if block.kind == "row" else counts).append(count)
+                if count > MOST_WORDS:
+                    wrong.append(f"{where}: {count} words: {sentence[:60]}..")
+            for expression, better in BANNED:
+                found = re.search(expression, text)
+                if found:
+                    wrong.append(f"{where}: \"{found.group().strip('.;:!? ')}\": write: {better}")
+        is_claim = page.name in CLAIMING and block.kind != "heading" and "`law_" in block.text
+        if is_claim and not STATUS.search(block.text):
+            wrong.append(f"{where}: a claim without a status (Proved, Tested or Assumed)")
+    return counts, in_tables, wrong
+
+
+def numbers():
+    """Prints the words of each page, and the average length of its sentences."""
+    total = 0
+    for page in PAGES:
+        counts, in_tables, _ = wrong_in(page)
+        total += sum(counts) + sum(in_tables)
+        print(f"{page.name}: {sum(counts):,} words, {sum(counts) / max(1, len(counts)):.1f} a sentence, "
+              f"{max(counts, default=0)} at most; in tables {sum(in_tables):,}")
+    print(f"{total:,} words in all")
+
+
+def main():
+    named = sys.argv[1:]
+    if named == ["--numbers"]:
+        numbers()
+        return 0
+    pages = [page for page in PAGES if page.name in (named or HELD)]
+    if len(pages) != len(named or HELD):
+        sys.exit(f"no page of these names: {' '.join(sorted(set(named or HELD) - {page.name for page in pages}))}")
+    read, wrong = 0, []
+    for page in pages:
+        counts, in_tables, more = wrong_in(page)
+        read += len(counts) + len(in_tables)
+        wrong += more
+    print("\n".join([*wrong, f"{len(pages)} pages, {read} sentences, {len(wrong)} wrong"]))
+    return 1 if wrong else 0
+
+
+if __name__ == "__main__":
+    sys.exit(main())
